@@ -1,0 +1,2 @@
+//! The set of physical registers that nobody claims.
+#![tactic(auto)]

@@ -1,0 +1,2 @@
+//! Fields of text: decimal and hexadecimal numbers, printed and read.
+#![tactic(auto)]
