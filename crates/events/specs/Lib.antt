@@ -1,0 +1,7 @@
+pub mod Event
+pub mod History
+pub mod HistoryInside
+pub mod Kind
+pub mod Line
+pub mod Range
+pub mod Reading

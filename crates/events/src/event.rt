@@ -1,4 +1,7 @@
+ghost use Rattle.std.specs.Prelude.{◌≡◌};
+
 use crate::effect::{Effect, Outcome};
+use crate::kind::EventKind;
 
 /// The number of an instruction: how many were fetched before it.
 pub type Seq = u32;
@@ -45,4 +48,54 @@ pub enum Event {
         seq: Seq,
         effect: Effect,
     },
+}
+
+impl Event {
+    ghost use Rattle.events.specs.Event.{actor_of, seq_of};
+    ghost use Rattle.events.specs.Kind.{kind_of};
+
+    /// What it does to its instruction.
+    pub fn kind(&self) -> EventKind
+        ensures { result ≡ kind_of self.now }
+    {
+        match self {
+            Event::Fetch { .. } => EventKind::Fetch,
+            Event::Decode { .. } => EventKind::Decode,
+            Event::Rename { .. } => EventKind::Rename,
+            Event::Issue { .. } => EventKind::Issue,
+            Event::Complete { .. } => EventKind::Complete,
+            Event::Drop { .. } => EventKind::Drop,
+            Event::Retire { .. } => EventKind::Retire,
+        }
+    }
+
+    /// The actor that made it, 0 to 15.
+    pub fn actor(&self) -> u8
+        ensures { result ≡ actor_of self.now }
+    {
+        match *self {
+            Event::Fetch { actor, .. }
+            | Event::Decode { actor, .. }
+            | Event::Rename { actor, .. }
+            | Event::Issue { actor, .. }
+            | Event::Complete { actor, .. }
+            | Event::Drop { actor, .. }
+            | Event::Retire { actor, .. } => actor,
+        }
+    }
+
+    /// The number of the instruction that it moves on.
+    pub fn seq(&self) -> Seq
+        ensures { result ≡ seq_of self.now }
+    {
+        match *self {
+            Event::Fetch { seq, .. }
+            | Event::Decode { seq, .. }
+            | Event::Rename { seq, .. }
+            | Event::Issue { seq, .. }
+            | Event::Complete { seq, .. }
+            | Event::Drop { seq, .. }
+            | Event::Retire { seq, .. } => seq,
+        }
+    }
 }

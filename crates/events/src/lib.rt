@@ -1,10 +1,22 @@
 //! What the core does, one event a step: the events, what a retired instruction did, and the history that grows by them.
 //!
-//! Read in this order: `effect` (results and records), `event`.
+//! Read in this order: `effect` (results and records), `kind`, `event`, `history`, `print`, `read`,
+//! `laws` (the one is the other's inverse).
 #![tactic(auto)]
 
 pub mod effect;
 pub mod event;
+pub mod history;
+pub mod kind;
+pub mod laws;
+pub mod print;
+pub mod read;
+#[cfg(test)]
+mod tests;
 
 pub use effect::{Cause, Effect, Next, Outcome, Record, Written};
 pub use event::{Event, Phys, Seq};
+pub use history::{Full, History};
+pub use kind::EventKind;
+pub use print::{Line, print_event, print_record};
+pub use read::{Rule, read_event_line};

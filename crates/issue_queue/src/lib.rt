@@ -1,2 +1,13 @@
-//! The instructions that wait for their operands and for a unit, all harts together, oldest first.
+//! The instructions of all harts that wait for their operands or for a unit, by rising number.
+//!
+//! Read in this order: `entry` (an instruction that waits), `queue`. The oldest ready one is issued first
+//! (Tullsen and others, ISCA 1996).
 #![tactic(auto)]
+
+pub mod entry;
+pub mod queue;
+#[cfg(test)]
+mod tests;
+
+pub use entry::{Entry, Phys, Seq, Source};
+pub use queue::IssueQueue;

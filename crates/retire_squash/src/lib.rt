@@ -1,2 +1,13 @@
-//! The instructions of a hart that are in flight, in program order: cut from the young end, retired from the old.
+//! The instructions of one hart that are in flight, in program order: appended as they are renamed, retired from the
+//! old end, and cut from the young end where the hart strayed.
+//!
+//! Read in this order: `active` (an instruction in flight), `active_list`. A core keeps one list for each hart.
 #![tactic(auto)]
+
+pub mod active;
+pub mod active_list;
+#[cfg(test)]
+mod tests;
+
+pub use active::{Active, Stage};
+pub use active_list::ActiveList;

@@ -1,11 +1,22 @@
 //! The instruction words of RV32IMA, read and written.
 //!
-//! Read in this order: `instr` (what an instruction is), `op` (what is found at a pc).
+//! Read in this order: `instr` (what an instruction is), `opcodes`, `operations` and `fields` (the parts of a word),
+//! `decoder`, `encoder`, `op` (what is found at a pc), `registers` (what an instruction reads and writes).
 #![tactic(auto)]
 
+mod decoder;
+mod encoder;
+mod fields;
 pub mod instr;
 pub mod op;
+mod opcodes;
+mod operations;
+mod registers;
+#[cfg(test)]
+mod tests;
 
+pub use decoder::decode;
+pub use encoder::encode;
 pub use instr::{
     BranchOp, ImmediateOp, Instr, LoadOp, MulDivOp, Ordering, Reg, RegisterOp, ShiftOp, StoreOp,
 };

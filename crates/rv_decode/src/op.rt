@@ -1,3 +1,6 @@
+ghost use Rattle.std.specs.Prelude.{◌≡◌};
+
+use crate::decoder::decode;
 use crate::instr::Instr;
 
 /// What is found at a pc: an instruction, a word of no instruction, or no word at all.
@@ -17,4 +20,22 @@ pub enum UnitKind {
     Mul,
     /// Loads, stores and atomics.
     Mem,
+}
+
+impl Op {
+    ghost use Rattle.rv_decode.specs.Decode.{op_of_word};
+    ghost use Rattle.rv_decode.specs.Table.{OpInRange};
+
+    /// What is found where memory holds this word; `None` where it holds no whole word.
+    #[tactic(auto, unfolding(crate::specs::Decode::op_of_word, crate::specs::Decode::op_of_instr))]
+    pub fn of_word(word: Option<u32>) -> Op
+        ensures value { result ≡ op_of_word word }
+        ensures in_range { OpInRange result }
+    {
+        match word.map(decode) {
+            Some(Some(instr)) => Op::Known(instr),
+            Some(None) => Op::Illegal,
+            None => Op::NoWord,
+        }
+    }
 }

@@ -1,0 +1,3 @@
+pub mod Numbers
+pub mod Growth
+pub mod Cores

@@ -1,0 +1,5 @@
+pub mod View
+pub mod Setup
+pub mod Numbers
+pub mod State
+pub mod Agree

@@ -1,0 +1,52 @@
+ghost use Rattle.std.specs.Prelude.{◌≡◌, ℕ, ◌<◌, Bool, [], IsTrue, length};
+ghost use Rattle.core_state.specs.Numbers.{HartPasses};
+
+use crate::slot::Slot;
+use arrayvec::ArrayVec;
+use rename_map::HartMaps;
+use retire_squash::ActiveList;
+use smt_model::Status;
+
+/// What a hart has of its own.
+#[derive(Drop)]
+pub struct HartState {
+    /// Fetched instructions, in order.
+    pub decode_latch: ArrayVec<Slot, 8>,
+    /// Decoded instructions, in order.
+    pub rename_latch: ArrayVec<Slot, 8>,
+    /// Renamed instructions that are neither retired nor squashed, in order.
+    pub active: ActiveList,
+    pub maps: HartMaps,
+    /// How many of its instructions are in decode, rename and the issue queue (ICOUNT; Tullsen and others, ISCA 1996).
+    pub icount: u32,
+    pub fetch_pc: u32,
+    pub status: Status,
+}
+
+impl HartState {
+    /// Hart `hart` as it begins, at the entry of the program.
+    pub fn new(hart: u8, entry: u32) -> Self
+        requires { hart < 8 }
+        ensures decode_latch { result.decode_latch.items ≡ [] }
+        ensures rename_latch { result.rename_latch.items ≡ [] }
+        ensures active { result.active ≡ [] }
+        ensures empty { (test : ℕ → Bool) → HartPasses test result }
+    {
+        HartState {
+            decode_latch: ArrayVec::new(),
+            rename_latch: ArrayVec::new(),
+            active: ActiveList::new(),
+            maps: HartMaps::new(hart),
+            icount: 0,
+            fetch_pc: entry,
+            status: Status::Going,
+        }
+    }
+
+    /// Whether the hart may be fetched: it is going and its decode latch has room.
+    pub fn may_fetch(&self) -> bool
+        ensures { IsTrue result → length self.now.decode_latch.items < 8 }
+    {
+        self.status == Status::Going && !self.decode_latch.is_full()
+    }
+}

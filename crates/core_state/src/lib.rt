@@ -1,0 +1,21 @@
+//! The core's state: every latch, list, map and counter, kept in agreement with the history of the core's events.
+//!
+//! Read in this order: `slot` (an instruction before it is renamed), `hart` (what each hart has of its own), `parts` (what
+//! all harts share), then the steps in the order of the pipeline: `fetch`, `decode`, `rename`, `issue`, `complete`,
+//! `retire`, and `squash`, which the last two share; and `state`, which holds it all and writes the history.
+#![tactic(auto)]
+
+pub mod complete;
+pub mod decode;
+pub mod fetch;
+pub mod hart;
+pub mod issue;
+pub mod parts;
+pub mod rename;
+pub mod retire;
+pub mod sizes;
+pub mod slot;
+pub mod squash;
+pub mod state;
+
+pub use state::{CoreRefused, State};

@@ -1,0 +1,37 @@
+ghost use Rattle.std.specs.Prelude.{◌≡◌, ◌≤◌, IsTrue, ◌↔◌};
+ghost use Rattle.core_state.specs.Setup.{accepts};
+
+use events::History;
+use smt_model::{Config, Role};
+
+/// Whether a core may have these sizes and this limit on its history: 1 to 8 harts, 1 to 256 extra registers, 4 to 64 queue
+/// entries, 1 to 16 actors, at most 16,777,216 events.
+pub fn is_core(config: &Config, limit: u32) -> bool
+    ensures accepted { result ≡ accepts config.now limit }
+    ensures harts { IsTrue result → config.now.harts ≤ 8 }
+    ensures extra { IsTrue result → config.now.extra ≤ 256 }
+    ensures queue { IsTrue result → config.now.queue ≤ 64 }
+    ensures limit { IsTrue result → limit ≤ 16777216 }
+{
+    (1..=8).contains(&config.harts)
+        && (1..=256).contains(&config.extra)
+        && (4..=64).contains(&config.queue)
+        && (1..=16).contains(&config.roles.len())
+        && limit <= History::MAX_LIMIT
+}
+
+/// Whether two configurations are the same.
+pub fn is_same_config(config: &Config, other: &Config) -> bool
+    ensures { IsTrue result ↔ (config.now.harts ≡ other.now.harts) × (config.now.extra ≡ other.now.extra) × (config.now.queue ≡ other.now.queue) × (config.now.roles.items ≡ other.now.roles.items) }
+{
+    config.harts == other.harts
+        && config.extra == other.extra
+        && config.queue == other.queue
+        && have_same_roles(config.roles.as_slice(), other.roles.as_slice())
+}
+
+fn have_same_roles(roles: &[Role], others: &[Role]) -> bool
+    ensures { IsTrue result ↔ (roles.now ≡ others.now) }
+{
+    roles == others
+}

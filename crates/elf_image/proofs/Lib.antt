@@ -1,0 +1,8 @@
+pub mod Table
+pub mod Covering
+pub mod Pairs
+pub mod Loading
+pub mod Rising
+pub mod Written
+pub mod WrittenFields
+pub mod RoundTrip

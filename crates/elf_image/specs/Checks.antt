@@ -1,0 +1,47 @@
+-- The checks that a file passes before it is loaded, and which refusal a file gets.
+-- [ELF32 for the fields; the profile, its order and its bounds are this project's own choice]
+use Rattle.std.specs.Prelude.{◌≡◌, ℕ, ◌+◌, ◌*◌, ◌/◌, ◌%◌, ◌<◌, ◌≤◌, ◌⊎◌, Bool, ◌==◌, IsTrue, List, [], ◌∷◌, length, take, slice_index, All, AllPairs, count_by, false, ◌&&◌}
+use Rattle.elf_image.specs.declared.program_header.ProgramHeader.{ProgramHeader}
+use Rattle.elf_image.specs.declared.refusal.LoadRefused.{LoadRefused}
+use Rattle.elf_image.specs.declared.refusal.LoadRefused.TheVariants.{TooShort, NotElf, NotClass32, NotLittleEndian, WrongVersion, NotExecutable, NotRiscV, WrongHeaderSize, TableOutsideFile, WrongSegmentCount, SegmentOutsideFile, WrongMemorySize, SegmentOutsideRam, SegmentsOverlap, WrongCodeSegment, MisalignedCode, WrongEntry, OutOfMemory}
+use Rattle.elf_image.specs.Refusal.{number_of}
+use Rattle.elf_image.specs.Image.{ram_start}
+use Rattle.elf_image.specs.Layout.{half_at, word_at, entry_of, table_offset, table_count, loadable}
+
+-- The segment's flags have X, the lowest bit, and W, the next.
+abbrev pub is_executable : ProgramHeader → Bool
+is_executable header = header.flags % 2 == 1
+
+abbrev pub is_writable : ProgramHeader → Bool
+is_writable header = header.flags / 2 % 2 == 1
+
+-- No address is in both segments.
+abbrev pub AreApart : ProgramHeader → ProgramHeader → Type 0
+AreApart g h = (g.address + g.memory_size ≤ h.address) ⊎ (h.address + h.memory_size ≤ g.address)
+
+-- What each check asks of a file, for a RAM of so many bytes.
+abbrev pub Passes : List ℕ → ℕ → LoadRefused → Type 0
+Passes file ram TooShort = 52 ≤ length file
+Passes file ram NotElf = take 4 file ≡ 0x7f ∷ 0x45 ∷ 0x4c ∷ 0x46 ∷ []
+Passes file ram NotClass32 = slice_index file 4 ≡ 1
+Passes file ram NotLittleEndian = slice_index file 5 ≡ 1
+Passes file ram WrongVersion = (slice_index file 6 ≡ 1) × (word_at file 20 ≡ 1)
+Passes file ram NotExecutable = half_at file 16 ≡ 2
+Passes file ram NotRiscV = half_at file 18 ≡ 243
+Passes file ram WrongHeaderSize = (half_at file 40 ≡ 52) × (half_at file 42 ≡ 32)
+Passes file ram TableOutsideFile = table_offset file + 32 * table_count file ≤ length file
+Passes file ram WrongSegmentCount = (0 < length (loadable file)) × (length (loadable file) ≤ 8)
+Passes file ram SegmentOutsideFile = All (λ h. h.offset + h.file_size ≤ length file) (loadable file)
+Passes file ram WrongMemorySize = All (λ h. (0 < h.memory_size) × (h.file_size ≤ h.memory_size)) (loadable file)
+Passes file ram SegmentOutsideRam = All (λ h. (ram_start ≤ h.address) × (h.address + h.memory_size ≤ ram_start + ram)) (loadable file)
+Passes file ram SegmentsOverlap = AllPairs AreApart (loadable file)
+Passes file ram WrongCodeSegment = (count_by is_executable (loadable file) ≡ 1) × All (λ h. is_executable h && is_writable h ≡ false) (loadable file)
+Passes file ram MisalignedCode = All (λ h. IsTrue (is_executable h) → (h.address % 4 ≡ 0) × (h.memory_size % 4 ≡ 0)) (loadable file)
+Passes file ram WrongEntry = (entry_of file % 4 ≡ 0)
+    × All (λ h. IsTrue (is_executable h) → (h.address ≤ entry_of file) × (entry_of file < h.address + h.memory_size)) (loadable file)
+Passes file ram OutOfMemory = Unit {0}
+
+-- The refusal is the first check that the file fails, or want of memory where it passes all of them.
+pub record IsRefusal (file : List ℕ) (ram : ℕ) (reason : LoadRefused) : Type 0 where
+  pub fails : number_of reason < 18 → Passes file ram reason → ⊥
+  pub before : (earlier : LoadRefused) → number_of earlier < number_of reason → Passes file ram earlier

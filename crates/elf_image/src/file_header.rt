@@ -1,0 +1,81 @@
+//! The file header: what a file says of itself (ELF32, "ELF Header").
+
+ghost use Rattle.std.specs.Prelude.{◌≡◌, ℕ, ◌+◌, ◌*◌, ◌<◌, ◌≤◌, length, IfOk, IfErr, OnOk};
+ghost use Rattle.elf_image.specs.Layout.{half_at, word_at, entry_of, table_offset, table_count};
+ghost use Rattle.elf_image.specs.Refusal.{number_of};
+ghost use Rattle.elf_image.specs.declared.refusal.LoadRefused.{LoadRefused as Refusal};
+ghost use Rattle.elf_image.specs.Checks.{Passes, IsRefusal};
+
+use crate::refusal::LoadRefused;
+use byteorder::{ByteOrder, LittleEndian};
+
+/// The fields of a file header that loading goes by.
+#[derive(Clone, Copy, Debug)]
+pub(crate) struct FileHeader {
+    pub(crate) entry: u32,
+    pub(crate) table_offset: u32,
+    pub(crate) table_count: u16,
+}
+
+/// The field of two bytes at a place.
+#[tactic(auto, unfolding(crate::specs::Layout::half_at))]
+pub(crate) fn read_half(file: &[u8], place: usize) -> u16
+    requires { place + 2 ≤ length file.now }
+    ensures { result ≡ half_at file.now place }
+{
+    LittleEndian::read_u16(&file[place..])
+}
+
+/// The field of four bytes at a place.
+#[tactic(auto, unfolding(crate::specs::Layout::word_at))]
+pub(crate) fn read_word(file: &[u8], place: usize) -> u32
+    requires { place + 4 ≤ length file.now }
+    ensures { result ≡ word_at file.now place }
+{
+    LittleEndian::read_u32(&file[place..])
+}
+
+/// Makes the checks of the file header, 1 to 9.
+pub(crate) fn read_file_header(file: &[u8]) -> Result<FileHeader, LoadRefused>
+    ensures refused { IfErr result (λ reason. (ram : ℕ) → IsRefusal file.now ram reason) }
+    ensures passes { OnOk result ((ram : ℕ) (check : Refusal) → number_of check < 10 → Passes file.now ram check) }
+    ensures whole { OnOk result (52 ≤ length file.now) }
+    ensures table { OnOk result (table_offset file.now + 32 * table_count file.now ≤ length file.now) }
+    ensures entry { IfOk result (λ header. header.entry ≡ entry_of file.now) }
+    ensures offset { IfOk result (λ header. header.table_offset ≡ table_offset file.now) }
+    ensures count { IfOk result (λ header. header.table_count ≡ table_count file.now) }
+{
+    if file.len() < 52 {
+        return Err(LoadRefused::TooShort);
+    }
+    if file[..4] != [0x7f, b'E', b'L', b'F'] {
+        return Err(LoadRefused::NotElf);
+    }
+    if file[4] != 1 {
+        return Err(LoadRefused::NotClass32);
+    }
+    if file[5] != 1 {
+        return Err(LoadRefused::NotLittleEndian);
+    }
+    if file[6] != 1 || read_word(file, 20) != 1 {
+        return Err(LoadRefused::WrongVersion);
+    }
+    if read_half(file, 16) != 2 {
+        return Err(LoadRefused::NotExecutable);
+    }
+    if read_half(file, 18) != 243 {
+        return Err(LoadRefused::NotRiscV);
+    }
+    if read_half(file, 40) != 52 || read_half(file, 42) != 32 {
+        return Err(LoadRefused::WrongHeaderSize);
+    }
+    let header = FileHeader {
+        entry: read_word(file, 24),
+        table_offset: read_word(file, 28),
+        table_count: read_half(file, 44),
+    };
+    if header.table_offset as usize + 32 * header.table_count as usize > file.len() {
+        return Err(LoadRefused::TableOutsideFile);
+    }
+    Ok(header)
+}

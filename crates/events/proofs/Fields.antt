@@ -1,0 +1,128 @@
+-- The fields of an event's line: it is they, joined by spaces, and none has a space.
+
+use Rattle.std.proofs.Common.{◌≡◌, ℕ, ◌*◌, ◌^◌, ◌<◌, List, [], ◌∷◌, ◌++◌, Option, None, Some, refl, ◌∙◌, ap, arith, append_assoc}
+use Rattle.std.specs.Fmt.{decimal}
+use Rattle.std.specs.Prelude.{IfSome}
+use Rattle.text_fields.specs.Spelling.{hex, optional}
+use Rattle.text_fields.specs.Splitting.{Lacks}
+use Rattle.text_fields.proofs.LacksLaws.{Lacks-append, Lacks-decimal, Lacks-hex}
+use Rattle.events.specs.declared.effect.Next.{Next}
+use Rattle.events.specs.declared.effect.Next.TheVariants.{Pc, Ended, Stopped}
+use Rattle.events.specs.declared.effect.Written.{Written}
+use Rattle.events.specs.declared.event.Event.{Event}
+use Rattle.events.specs.declared.event.Event.TheVariants.{Fetch, Decode, Rename, Issue, Complete, Drop, Retire}
+use Rattle.events.specs.Kind.{kind_of, letter_of}
+use Rattle.events.specs.Line.{address_text, datum_text, line_of, next_text}
+use Rattle.events.specs.Range.{InRange, IsNext}
+use Rattle.events.proofs.Joining.{AllLack, joined}
+
+-- the fields after the letter
+abbrev pub fields_of : Event → List (List ℕ)
+fields_of (Fetch actor hart seq pc word predicted) =
+    decimal actor ∷ decimal hart ∷ decimal seq ∷ hex 8 pc ∷ optional (hex 8) word ∷ hex 8 predicted ∷ []
+fields_of (Decode actor seq) = decimal actor ∷ decimal seq ∷ []
+fields_of (Rename actor seq phys) = decimal actor ∷ decimal seq ∷ optional decimal phys ∷ []
+fields_of (Issue actor seq) = decimal actor ∷ decimal seq ∷ []
+fields_of (Complete actor seq o) =
+    decimal actor ∷ decimal seq ∷ optional (hex 8) o.value ∷ next_text o.next ∷ optional (hex 8) o.addr
+    ∷ optional (hex 8) o.datum ∷ optional (hex 2) o.out ∷ []
+fields_of (Drop actor seq) = decimal actor ∷ decimal seq ∷ []
+fields_of (Retire actor seq e) =
+    decimal actor ∷ decimal seq ∷ optional (hex 8) e.value ∷ next_text e.next ∷ address_text e.write
+    ∷ datum_text e.write ∷ optional (hex 2) e.out ∷ []
+
+step_joined : (letter : ℕ) (actor seq fields : List ℕ) →
+    ((letter ∷ []) ++ (32 ∷ actor) ++ (32 ∷ seq)) ++ fields ≡ letter ∷ 32 ∷ (actor ++ 32 ∷ (seq ++ fields))
+step_joined letter actor seq fields = ap (λ text. letter ∷ 32 ∷ text) (append_assoc actor (32 ∷ seq) fields)
+
+five_joined : (a b c d e : List ℕ) →
+    (32 ∷ a) ++ (32 ∷ b) ++ (32 ∷ c) ++ (32 ∷ d) ++ (32 ∷ e) ≡ 32 ∷ (a ++ 32 ∷ (b ++ 32 ∷ (c ++ 32 ∷ (d ++ 32 ∷ e))))
+five_joined a b c d e = simp append_assoc
+
+seven_joined : (letter : ℕ) (actor seq a b c d e : List ℕ) →
+    ((letter ∷ []) ++ (32 ∷ actor) ++ (32 ∷ seq)) ++ ((32 ∷ a) ++ (32 ∷ b) ++ (32 ∷ c) ++ (32 ∷ d) ++ (32 ∷ e))
+    ≡ joined ((letter ∷ []) ∷ actor ∷ seq ∷ a ∷ b ∷ c ∷ d ∷ e ∷ [])
+seven_joined letter actor seq a b c d e =
+    step_joined letter actor seq ((32 ∷ a) ++ (32 ∷ b) ++ (32 ∷ c) ++ (32 ∷ d) ++ (32 ∷ e))
+    ∙ ap (λ text. letter ∷ 32 ∷ (actor ++ 32 ∷ (seq ++ text))) (five_joined a b c d e)
+
+pub line_of-joined : (e : Event) → line_of e ≡ joined ((letter_of (kind_of e) ∷ []) ∷ fields_of e)
+line_of-joined (Fetch actor hart seq pc word predicted) = simp append_assoc
+line_of-joined (Decode actor seq) = simp append_assoc
+line_of-joined (Rename actor seq phys) = simp append_assoc
+line_of-joined (Issue actor seq) = simp append_assoc
+line_of-joined (Complete actor seq o) =
+    seven_joined 67 (decimal actor) (decimal seq) (optional (hex 8) o.value) (next_text o.next) (optional (hex 8) o.addr)
+    (optional (hex 8) o.datum) (optional (hex 2) o.out)
+line_of-joined (Drop actor seq) = simp append_assoc
+line_of-joined (Retire actor seq e) =
+    seven_joined 84 (decimal actor) (decimal seq) (optional (hex 8) e.value) (next_text e.next) (address_text e.write)
+    (datum_text e.write) (optional (hex 2) e.out)
+
+-- the fields lack spaces
+pub next_lacks : (n : Next) → IsNext n → Lacks 32 (next_text n)
+next_lacks (Pc pc) within = Lacks-append 32 (112 ∷ []) (hex 8 pc) refl (Lacks-hex 32 8 pc refl)
+next_lacks (Ended status) within = Lacks-append 32 (101 ∷ []) (hex 8 status) refl (Lacks-hex 32 8 status refl)
+next_lacks (Stopped cause) within = Lacks-append 32 (115 ∷ []) (decimal cause) refl (Lacks-decimal 32 cause refl (omega arith))
+
+pub optional_hex_lacks : (count : ℕ) (o : Option ℕ) → Lacks 32 (optional (hex count) o)
+optional_hex_lacks count None = refl
+optional_hex_lacks count (Some n) = Lacks-hex 32 count n refl
+
+pub address_lacks : (w : Option Written) → Lacks 32 (address_text w)
+address_lacks None = refl
+address_lacks (Some w) = Lacks-hex 32 8 w.addr refl
+
+pub datum_lacks : (w : Option Written) → Lacks 32 (datum_text w)
+datum_lacks None = refl
+datum_lacks (Some w) = Lacks-hex 32 (2 * w.n) w.datum refl
+
+pub phys_lacks : (phys : Option ℕ) → IfSome phys (λ p. p < 504) → Lacks 32 (optional decimal phys)
+phys_lacks None within = refl
+phys_lacks (Some p) within = Lacks-decimal 32 p refl (omega arith)
+
+pub number_lacks : (n : ℕ) → n < 2 ^ 24 → Lacks 32 (decimal n)
+number_lacks n small = Lacks-decimal 32 n refl (omega arith)
+
+pub fields_lack : (e : Event) → InRange e → AllLack (fields_of e)
+fields_lack (Fetch actor hart seq pc word predicted) within = (
+  number_lacks actor (omega arith),
+  (number_lacks hart (omega arith), (number_lacks seq (omega arith), (Lacks-hex 32 8 pc refl, (optional_hex_lacks 8 word, (Lacks-hex 32 8 predicted refl, tt))))),
+)
+fields_lack (Decode actor seq) within = (number_lacks actor (omega arith), (number_lacks seq (omega arith), tt))
+fields_lack (Rename actor seq phys) within =
+    (number_lacks actor (omega arith), (number_lacks seq (omega arith), (phys_lacks phys within.1, tt)))
+fields_lack (Issue actor seq) within = (number_lacks actor (omega arith), (number_lacks seq (omega arith), tt))
+fields_lack (Complete actor seq o) within = (
+  number_lacks actor (omega arith),
+  (
+    number_lacks seq (omega arith),
+    (
+      optional_hex_lacks 8 o.value,
+      (
+        next_lacks o.next within.1.next,
+        (
+          optional_hex_lacks 8 o.addr,
+          (optional_hex_lacks 8 o.datum, (optional_hex_lacks 2 o.out, tt)),
+        ),
+      ),
+    ),
+  ),
+)
+fields_lack (Drop actor seq) within = (number_lacks actor (omega arith), (number_lacks seq (omega arith), tt))
+fields_lack (Retire actor seq e) within = (
+  number_lacks actor (omega arith),
+  (
+    number_lacks seq (omega arith),
+    (
+      optional_hex_lacks 8 e.value,
+      (
+        next_lacks e.next within.1.next,
+        (
+          address_lacks e.write,
+          (datum_lacks e.write, (optional_hex_lacks 2 e.out, tt)),
+        ),
+      ),
+    ),
+  ),
+)

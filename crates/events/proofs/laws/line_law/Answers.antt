@@ -1,0 +1,13 @@
+use Rattle.events.proofs.LineOnly.{event_of_only}
+use Rattle.events.proofs.RangeLaws.{HasShortWrite-in_range}
+use Rattle.events.proofs.ReadBack.{event_of-line_of}
+use Rattle.events.proofs.laws.line_law.Goals as goal
+
+pub returns-clause-printed : goal.returns-clause-printed
+returns-clause-printed c = HasShortWrite-in_range
+
+pub returns-clause-back : goal.returns-clause-back
+returns-clause-back c = event_of-line_of
+
+pub returns-clause-only : goal.returns-clause-only
+returns-clause-only c = event_of_only

@@ -1,0 +1,317 @@
+//! Reading: the event of a line.
+
+ghost use Rattle.std.specs.Prelude.{◌≡◌, ◌<◌, IfOk, IfSome};
+ghost use Rattle.text_fields.specs.Reading.{decimal_field, hex_field, optional_field};
+ghost use Rattle.events.specs.Reading.{number_of, next_of, pc_of, ended_of, stopped_of, sized_field, write_of, outcome_of, effect_of, fetch_of, decode_of, rename_of, issue_of, complete_of, drop_of, retire_of, event_fields, kind_named, event_of};
+
+use crate::effect::{Effect, Next, Outcome, Written};
+use crate::event::{Event, Phys, Seq};
+use crate::kind::EventKind;
+use text_fields::{
+    FieldError, field_count, read_decimal, read_hex, read_optional_decimal, read_optional_hex,
+    split_field,
+};
+use thiserror::Error;
+
+/// The first rule that a line of a trace breaks.
+#[derive(Clone, Copy, Debug, PartialEq, Eq, Drop, Error)]
+pub enum Rule {
+    #[error("unknown letter")]
+    UnknownLetter,
+    #[error("wrong number of fields")]
+    FieldCount,
+    #[error("a field is {0}")]
+    Field(FieldError),
+}
+
+impl Rule {
+    /// Its number: 3 an unknown letter, 4 a wrong number of fields, 5 a field spelled otherwise, 6 a number out of range.
+    pub fn number(self) -> u8
+        ensures { result ≡ number_of self }
+    {
+        match self {
+            Rule::UnknownLetter => 3,
+            Rule::FieldCount => 4,
+            Rule::Field(FieldError::Misspelled) => 5,
+            Rule::Field(FieldError::OutOfRange) => 6,
+        }
+    }
+}
+
+fn read_actor(text: &[u8]) -> Result<u8, FieldError>
+    ensures { result ≡ decimal_field 15 text.now }
+{
+    Ok(read_decimal(text, 15)? as u8)
+}
+
+fn read_hart(text: &[u8]) -> Result<u8, FieldError>
+    ensures { result ≡ decimal_field 7 text.now }
+{
+    Ok(read_decimal(text, 7)? as u8)
+}
+
+fn read_seq(text: &[u8]) -> Result<Seq, FieldError>
+    ensures { result ≡ decimal_field 16777215 text.now }
+{
+    read_decimal(text, 16_777_215)
+}
+
+fn read_phys(text: &[u8]) -> Result<Option<Phys>, FieldError>
+    ensures { result ≡ optional_field (decimal_field 503) text.now }
+{
+    Ok(match read_optional_decimal(text, 503)? {
+        None => None,
+        Some(number) => Some(number as Phys),
+    })
+}
+
+fn read_optional_word(text: &[u8]) -> Result<Option<u32>, FieldError>
+    ensures { result ≡ optional_field (hex_field 8) text.now }
+{
+    read_optional_hex(text, 8)
+}
+
+fn read_optional_byte(text: &[u8]) -> Result<Option<u8>, FieldError>
+    ensures { result ≡ optional_field (hex_field 2) text.now }
+{
+    Ok(match read_optional_hex(text, 2)? {
+        None => None,
+        Some(number) => Some(number as u8),
+    })
+}
+
+#[tactic(auto, unfolding(crate::specs::Reading::decode_of))]
+fn read_decode(fields: &[u8]) -> Result<Event, FieldError>
+    ensures { result ≡ decode_of fields.now }
+{
+    let (actor, seq) = split_field(fields, b' ');
+    Ok(Event::Decode {
+        actor: read_actor(actor)?,
+        seq: read_seq(seq)?,
+    })
+}
+
+#[tactic(auto, unfolding(crate::specs::Reading::rename_of))]
+fn read_rename(fields: &[u8]) -> Result<Event, FieldError>
+    ensures { result ≡ rename_of fields.now }
+{
+    let (actor, fields) = split_field(fields, b' ');
+    let (seq, phys) = split_field(fields, b' ');
+    Ok(Event::Rename {
+        actor: read_actor(actor)?,
+        seq: read_seq(seq)?,
+        phys: read_phys(phys)?,
+    })
+}
+
+#[tactic(auto, unfolding(crate::specs::Reading::issue_of))]
+fn read_issue(fields: &[u8]) -> Result<Event, FieldError>
+    ensures { result ≡ issue_of fields.now }
+{
+    let (actor, seq) = split_field(fields, b' ');
+    Ok(Event::Issue {
+        actor: read_actor(actor)?,
+        seq: read_seq(seq)?,
+    })
+}
+
+#[tactic(auto, unfolding(crate::specs::Reading::drop_of))]
+fn read_drop(fields: &[u8]) -> Result<Event, FieldError>
+    ensures { result ≡ drop_of fields.now }
+{
+    let (actor, seq) = split_field(fields, b' ');
+    Ok(Event::Drop {
+        actor: read_actor(actor)?,
+        seq: read_seq(seq)?,
+    })
+}
+
+#[tactic(auto, unfolding(crate::specs::Reading::fetch_of))]
+fn read_fetch(fields: &[u8]) -> Result<Event, FieldError>
+    ensures { result ≡ fetch_of fields.now }
+{
+    let (actor, fields) = split_field(fields, b' ');
+    let (hart, fields) = split_field(fields, b' ');
+    let (seq, fields) = split_field(fields, b' ');
+    let (pc, fields) = split_field(fields, b' ');
+    let (word, predicted) = split_field(fields, b' ');
+    Ok(Event::Fetch {
+        actor: read_actor(actor)?,
+        hart: read_hart(hart)?,
+        seq: read_seq(seq)?,
+        pc: read_hex(pc, 8)?,
+        word: read_optional_word(word)?,
+        predicted: read_hex(predicted, 8)?,
+    })
+}
+
+#[tactic(auto, unfolding(crate::specs::Reading::pc_of))]
+fn read_pc(digits: &[u8]) -> Result<Next, FieldError>
+    ensures { result ≡ pc_of digits.now }
+{
+    Ok(Next::Pc(read_hex(digits, 8)?))
+}
+
+#[tactic(auto, unfolding(crate::specs::Reading::ended_of))]
+fn read_ended(digits: &[u8]) -> Result<Next, FieldError>
+    ensures { result ≡ ended_of digits.now }
+{
+    Ok(Next::Ended(read_hex(digits, 8)?))
+}
+
+#[tactic(auto, unfolding(crate::specs::Reading::stopped_of))]
+fn read_stopped(digits: &[u8]) -> Result<Next, FieldError>
+    ensures { result ≡ stopped_of digits.now }
+{
+    match read_decimal(digits, 8) {
+        Ok(cause) => Ok(Next::Stopped(cause as u8)),
+        Err(_) => Err(FieldError::Misspelled),
+    }
+}
+
+#[tactic(auto, unfolding(crate::specs::Reading::next_of))]
+fn read_next(text: &[u8]) -> Result<Next, FieldError>
+    ensures { result ≡ next_of text.now }
+{
+    match text.first() {
+        Some(b'p') => read_pc(&text[1..]),
+        Some(b'e') => read_ended(&text[1..]),
+        Some(b's') => read_stopped(&text[1..]),
+        _ => Err(FieldError::Misspelled),
+    }
+}
+
+// The number of a write, and of how many bytes it is.
+#[tactic(auto, unfolding(crate::specs::Reading::sized_field))]
+fn read_sized(text: &[u8]) -> Result<(u8, u32), FieldError>
+    ensures { result ≡ sized_field text.now }
+{
+    if text.len() != 2 && text.len() != 4 && text.len() != 8 {
+        return Err(FieldError::Misspelled);
+    }
+    let datum = read_hex(text, text.len())?;
+    Ok(((text.len() / 2) as u8, datum))
+}
+
+#[tactic(auto, unfolding(text_fields::specs::Reading::optional_field))]
+fn read_optional_sized(text: &[u8]) -> Result<Option<(u8, u32)>, FieldError>
+    ensures { result ≡ optional_field sized_field text.now }
+{
+    if text.len() == 1 && text[0] == b'-' {
+        return Ok(None);
+    }
+    Ok(Some(read_sized(text)?))
+}
+
+#[tactic(auto, unfolding(crate::specs::Reading::write_of))]
+fn read_write(address: &[u8], datum: &[u8]) -> Result<Option<Written>, FieldError>
+    ensures { result ≡ write_of address.now datum.now }
+{
+    let addr = read_optional_word(address)?;
+    let number = read_optional_sized(datum)?;
+    match (addr, number) {
+        (None, None) => Ok(None),
+        (Some(addr), Some((n, datum))) => Ok(Some(Written { addr, n, datum })),
+        _ => Err(FieldError::Misspelled),
+    }
+}
+
+#[tactic(auto, unfolding(crate::specs::Reading::outcome_of))]
+fn read_outcome(fields: &[u8]) -> Result<Outcome, FieldError>
+    ensures { result ≡ outcome_of fields.now }
+{
+    let (value, fields) = split_field(fields, b' ');
+    let (next, fields) = split_field(fields, b' ');
+    let (addr, fields) = split_field(fields, b' ');
+    let (datum, out) = split_field(fields, b' ');
+    Ok(Outcome {
+        value: read_optional_word(value)?,
+        next: read_next(next)?,
+        addr: read_optional_word(addr)?,
+        datum: read_optional_word(datum)?,
+        out: read_optional_byte(out)?,
+    })
+}
+
+#[tactic(auto, unfolding(crate::specs::Reading::effect_of))]
+fn read_effect(fields: &[u8]) -> Result<Effect, FieldError>
+    ensures { result ≡ effect_of fields.now }
+{
+    let (value, fields) = split_field(fields, b' ');
+    let (next, fields) = split_field(fields, b' ');
+    let (address, fields) = split_field(fields, b' ');
+    let (datum, out) = split_field(fields, b' ');
+    Ok(Effect {
+        value: read_optional_word(value)?,
+        next: read_next(next)?,
+        write: read_write(address, datum)?,
+        out: read_optional_byte(out)?,
+    })
+}
+
+#[tactic(auto, unfolding(crate::specs::Reading::complete_of))]
+fn read_complete(fields: &[u8]) -> Result<Event, FieldError>
+    ensures { result ≡ complete_of fields.now }
+{
+    let (actor, fields) = split_field(fields, b' ');
+    let (seq, outcome) = split_field(fields, b' ');
+    Ok(Event::Complete {
+        actor: read_actor(actor)?,
+        seq: read_seq(seq)?,
+        outcome: read_outcome(outcome)?,
+    })
+}
+
+#[tactic(auto, unfolding(crate::specs::Reading::retire_of))]
+fn read_retire(fields: &[u8]) -> Result<Event, FieldError>
+    ensures { result ≡ retire_of fields.now }
+{
+    let (actor, fields) = split_field(fields, b' ');
+    let (seq, effect) = split_field(fields, b' ');
+    Ok(Event::Retire {
+        actor: read_actor(actor)?,
+        seq: read_seq(seq)?,
+        effect: read_effect(effect)?,
+    })
+}
+
+fn read_fields(kind: EventKind, fields: &[u8]) -> Result<Event, FieldError>
+    ensures { result ≡ event_fields kind fields.now }
+{
+    match kind {
+        EventKind::Fetch => read_fetch(fields),
+        EventKind::Decode => read_decode(fields),
+        EventKind::Rename => read_rename(fields),
+        EventKind::Issue => read_issue(fields),
+        EventKind::Complete => read_complete(fields),
+        EventKind::Drop => read_drop(fields),
+        EventKind::Retire => read_retire(fields),
+    }
+}
+
+fn kind_named(text: &[u8]) -> Option<EventKind>
+    ensures { result ≡ kind_named text.now }
+{
+    if text.len() != 1 {
+        return None;
+    }
+    EventKind::from_letter(text[0])
+}
+
+/// The event of a line without its newline, or the first rule that the line breaks, its fields from left to right.
+#[tactic(auto, unfolding(crate::specs::Reading::event_of))]
+pub fn read_event_line(line: &[u8]) -> Result<Event, Rule>
+    ensures { result ≡ event_of line.now }
+{
+    let (letter, fields) = split_field(line, b' ');
+    let Some(kind) = kind_named(letter) else {
+        return Err(Rule::UnknownLetter);
+    };
+    if field_count(fields, b' ') != kind.fields_after() {
+        return Err(Rule::FieldCount);
+    }
+    match read_fields(kind, fields) {
+        Ok(event) => Ok(event),
+        Err(error) => Err(Rule::Field(error)),
+    }
+}

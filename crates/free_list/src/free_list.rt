@@ -1,0 +1,98 @@
+ghost use Rattle.std.specs.Prelude.{◌≡◌, ℕ, ◌+◌, ◌*◌, ◌<◌, ◌≤◌, ◌==◌, ◌&&◌, ◌||◌, not, false, nat_le, nat_lt, IsTrue, IfSome, IfNone};
+ghost use Rattle.free_list.specs.Flags.{holds, IsLeast};
+
+use std::marker::Model;
+
+/// The number of a physical register, 0 to 511.
+pub type Phys = u16;
+
+/// Which of the physical registers 0 to 511 are free. A clause sees a flag for each, and reads it by `holds`.
+#[derive(Drop)]
+pub struct FreeList {
+    words: [u64; 8],
+}
+
+impl Model for FreeList {
+    ghost use Rattle.std.specs.Prelude.{◌≡◌, List, Bool, length};
+    ghost use Rattle.free_list.specs.Flags.{flags};
+
+    ghost Value = { List Bool };
+
+    ghost view = { λ a. flags a.words };
+
+    ghost invariant = { λ a. length a.words ≡ 8 };
+}
+
+impl FreeList {
+    /// The list of a core that begins: it holds `extra` registers, those above the 31 of each of its `harts` harts.
+    pub fn new(harts: u8, extra: u16) -> Self
+        requires harts_fit { harts ≤ 8 }
+        requires extra_fit { extra ≤ 256 }
+        ensures { (q : ℕ) → holds result q ≡ (nat_le (31 * harts) q && nat_lt q (31 * harts + extra)) }
+    {
+        let first = 31 * u16::from(harts);
+        let mut list = FreeList { words: [0; 8] };
+        for register in first..first + extra {
+            list.give(register);
+        }
+        list
+    }
+
+    /// Whether `register` is free. None from 512 on is.
+    pub fn holds(&self, register: Phys) -> bool
+        ensures value { result ≡ holds self.now register }
+        ensures range { IsTrue result → register < 512 }
+    {
+        match self.words.get(usize::from(register / 64)) {
+            Some(word) => word >> (register % 64) & 1 == 1,
+            None => false,
+        }
+    }
+
+    /// The free register of the least number, if one is free.
+    pub fn least(&self) -> Option<Phys>
+        ensures some { IfSome result (IsLeast self.now) }
+        ensures none { IfNone result ((q : ℕ) → holds self.now q ≡ false) }
+    {
+        for (i, word) in self.words.iter().enumerate() {
+            if *word != 0 {
+                return Some(64 * i as u16 + word.trailing_zeros() as u16);
+            }
+        }
+        None
+    }
+
+    /// Takes the free register of the least number out of the list, if one is free.
+    pub fn take(&mut self) -> Option<Phys>
+        ensures least { IfSome result (IsLeast self.old) }
+        ensures taken { IfSome result (λ p. (q : ℕ) → holds self.new q ≡ (holds self.old q && not (q == p))) }
+        ensures none { IfNone result ((q : ℕ) → holds self.old q ≡ false) }
+        ensures unchanged { IfNone result (self.new ≡ self.old) }
+    {
+        let register = self.least()?;
+        self.take_this(register);
+        Some(register)
+    }
+
+    /// Takes `register` out of the list, and tells whether it was there.
+    pub fn take_this(&mut self, register: Phys) -> bool
+        ensures was { result ≡ holds self.old register }
+        ensures range { IsTrue result → register < 512 }
+        ensures taken { (q : ℕ) → holds self.new q ≡ (holds self.old q && not (q == register)) }
+    {
+        let was = self.holds(register);
+        if was {
+            self.words[usize::from(register / 64)] &= !(1 << (register % 64));
+        }
+        was
+    }
+
+    /// Puts `register`, which isn't in the list, back into it.
+    pub fn give(&mut self, register: Phys)
+        requires range { register < 512 }
+        requires absent { holds self.old register ≡ false }
+        ensures { (q : ℕ) → holds self.new q ≡ (holds self.old q || (q == register)) }
+    {
+        self.words[usize::from(register / 64)] |= 1 << (register % 64);
+    }
+}

@@ -1,0 +1,42 @@
+-- The instructions of all harts that wait, by rising number.
+use Rattle.std.specs.Prelude.{◌≡◌, ℕ, ◌<◌, ◌≤◌, ◌==◌, ◌&&◌, not, nat_lt, Bool, true, List, [], ◌∷◌, Option, find, if◌then◌else◌}
+use Rattle.std.specs.List.{AllByRecursion, list_any}
+use Rattle.rv_decode.specs.declared.op.UnitKind.{UnitKind}
+use Rattle.issue_queue.specs.declared.entry.Entry.{Entry}
+use Rattle.issue_queue.specs.Entry.{can_issue}
+
+-- a queue: how many entries it has room for, and those it has
+pub record Queue : Type 0 where
+  pub size : ℕ
+  pub entries : List Entry
+
+-- each number is above those before it
+abbrev pub IsRising : List Entry → Type 0
+IsRising [] = Unit {0}
+IsRising (x ∷ xs) = AllByRecursion (λ y. x.seq < y.seq) xs × IsRising xs
+
+-- an entry has this number
+abbrev pub has_number : ℕ → List Entry → Bool
+has_number seq xs = list_any (λ x. x.seq == seq) xs
+
+-- the entries with one more, before the first of a higher number
+abbrev pub inserted : Entry → List Entry → List Entry
+inserted e [] = e ∷ []
+inserted e (x ∷ xs) = if nat_lt e.seq x.seq then e ∷ x ∷ xs else x ∷ inserted e xs
+
+-- the first entry that a unit of this kind may take up
+abbrev pub first_ready : UnitKind → List Entry → Option Entry
+first_ready kind xs = find (can_issue kind) xs
+
+-- a unit of this kind may take up e, and no entry of a lower number
+pub record IsOldest (kind : UnitKind) (xs : List Entry) (e : Entry) : Type 0 where
+  pub ready : can_issue kind e ≡ true
+  pub oldest : AllByRecursion (λ x. can_issue kind x ≡ true → e.seq ≤ x.seq) xs
+
+-- it has another number
+abbrev pub is_other : ℕ → Entry → Bool
+is_other seq x = not (x.seq == seq)
+
+-- it isn't a younger one of the hart than that
+abbrev pub stays : ℕ → ℕ → Entry → Bool
+stays hart after x = not (x.hart == hart && nat_lt after x.seq)

@@ -1,0 +1,86 @@
+ghost use Rattle.std.specs.Prelude.{◌≡◌};
+
+use rv_decode::{Op, UnitKind};
+
+/// The number of an instruction: how many were fetched before it.
+pub type Seq = u32;
+
+/// The number of a physical register.
+pub type Phys = u16;
+
+/// An operand of an instruction that waits.
+#[derive(Clone, Copy, Debug, PartialEq, Eq, Drop)]
+pub enum Source {
+    /// Its value is known. A source that is x0, and one that the instruction doesn't have, is 0.
+    Value(u32),
+    /// It is what this physical register will hold.
+    Waits(Phys),
+}
+
+impl Source {
+    ghost use Rattle.issue_queue.specs.Entry.{is_value, woken};
+
+    /// Whether the value is known.
+    pub fn is_value(self) -> bool
+        ensures { result ≡ is_value self }
+    {
+        matches!(self, Source::Value(_))
+    }
+
+    fn woken(self, register: Phys, value: u32) -> Source
+        ensures { result ≡ woken register value self }
+    {
+        match self {
+            Source::Waits(waited) if waited == register => Source::Value(value),
+            _ => self,
+        }
+    }
+}
+
+/// An instruction that waits in the queue.
+#[derive(Clone, Copy, Debug, PartialEq, Eq, Drop)]
+pub struct Entry {
+    pub seq: Seq,
+    pub hart: u8,
+    pub op: Op,
+    pub pc: u32,
+    /// What `rs1` and `rs2` read.
+    pub sources: [Source; 2],
+}
+
+impl Entry {
+    ghost use Rattle.issue_queue.specs.Entry.{is_ready, can_issue, woken_entry};
+
+    /// Whether both operands are known.
+    pub fn is_ready(&self) -> bool
+        ensures { result ≡ is_ready self.now }
+    {
+        self.sources.iter().all(|source| source.is_value())
+    }
+
+    /// Whether a unit of this kind may take it up.
+    pub fn can_issue(&self, kind: UnitKind) -> bool
+        ensures { result ≡ can_issue kind self.now }
+    {
+        self.op.unit() == kind && self.is_ready()
+    }
+
+    pub(crate) fn wake(&mut self, register: Phys, value: u32)
+        ensures { self.new ≡ woken_entry register value self.old }
+    {
+        self.sources = self.sources.map(|source| source.woken(register, value));
+    }
+}
+
+// What an unused place of a queue holds: no clause sees it.
+impl Default for Entry {
+    fn default() -> Self {
+        Entry {
+            seq: 0,
+            hart: 0,
+            op: Op::NoWord,
+            pc: 0,
+            sources: [Source::Value(0); 2],
+        }
+    }
+}

@@ -1,0 +1,169 @@
+ghost use Rattle.std.specs.Prelude.{◌≡◌, ℕ, ◌<◌, ◌≤◌, ◌==◌, [], length, insert, map, filter, count_by, false, IfSome, IfNone};
+ghost use Rattle.std.specs.List.{AllByRecursion};
+ghost use Rattle.std.specs.Option.{option_map};
+ghost use Rattle.issue_queue.specs.Entry.{woken_entry, can_issue};
+ghost use Rattle.issue_queue.specs.Queue.{has_number, inserted, first_ready, IsOldest, IsRising, is_other, stays};
+
+use crate::entry::{Entry, Phys, Seq};
+use arrayvec::ArrayVec;
+use rv_decode::UnitKind;
+use std::marker::Model;
+
+/// The instructions of all harts that wait, by rising number, and how many there is room for: 4 to 64 in a core.
+/// A clause sees both.
+#[derive(Drop)]
+pub struct IssueQueue {
+    size: usize,
+    entries: ArrayVec<Entry, 64>,
+}
+
+impl Model for IssueQueue {
+    ghost use Rattle.issue_queue.specs.Queue.{Queue, IsRising};
+    ghost use Rattle.std.specs.Prelude.{◌≤◌, length};
+
+    ghost Value = { Queue };
+
+    ghost view = { λ a. record { size = a.size; entries = a.entries.items } };
+
+    ghost invariant = { λ a. (a.size ≤ 64) × (length a.entries.items ≤ a.size) × IsRising a.entries.items };
+}
+
+impl IssueQueue {
+    /// An empty queue with room for `size` entries.
+    pub fn new(size: u8) -> Self
+        requires { size ≤ 64 }
+        ensures { result ≡ record { size = size; entries = [] } }
+    {
+        IssueQueue {
+            size: usize::from(size),
+            entries: ArrayVec::new(),
+        }
+    }
+
+    /// How many instructions wait.
+    pub fn len(&self) -> usize
+        ensures value { result ≡ length self.now.entries }
+        ensures bound { result ≤ self.now.size }
+    {
+        self.entries.len()
+    }
+
+    /// Whether none waits.
+    pub fn is_empty(&self) -> bool
+        ensures { result ≡ (length self.now.entries == 0) }
+    {
+        self.entries.is_empty()
+    }
+
+    /// Whether there is no room for another.
+    pub fn is_full(&self) -> bool
+        ensures value { result ≡ (length self.now.entries == self.now.size) }
+        ensures bound { length self.now.entries ≤ self.now.size }
+    {
+        self.len() == self.size
+    }
+
+    /// The instructions, by rising number.
+    pub fn entries(&self) -> &[Entry]
+        ensures entries { result.now ≡ self.now.entries }
+        ensures bound { length result.now ≤ 64 }
+        ensures rising { IsRising result.now }
+    {
+        self.entries.as_slice()
+    }
+
+    /// Whether the instruction of this number waits.
+    pub fn holds(&self, seq: Seq) -> bool
+        ensures { result ≡ has_number seq self.now.entries }
+    {
+        self.entries.iter().any(|entry| entry.seq == seq)
+    }
+
+    /// How many of a hart's instructions wait.
+    pub fn count(&self, hart: u8) -> usize
+        ensures { result ≡ count_by (λ x. x.hart == hart) self.now.entries }
+    {
+        self.entries
+            .iter()
+            .filter(|entry| entry.hart == hart)
+            .count()
+    }
+
+    /// Adds an instruction that doesn't wait yet.
+    pub fn insert(&mut self, entry: Entry)
+        requires room { length self.old.entries < self.old.size }
+        requires absent { has_number entry.seq self.old.entries ≡ false }
+        ensures { self.new ≡ record self.old { entries = inserted entry self.old.entries } }
+    {
+        let index = place_of(&entry, self.entries());
+        self.entries.insert(index, entry);
+    }
+
+    /// A physical register has its value: every source that waits for it has that value now.
+    pub fn wake(&mut self, register: Phys, value: u32)
+        ensures { self.new ≡ record self.old { entries = map (woken_entry register value) self.old.entries } }
+    {
+        wake_all(self.entries.as_mut_slice(), register, value);
+    }
+
+    /// The number that `take_oldest` would take.
+    pub fn oldest(&self, kind: UnitKind) -> Option<Seq>
+        ensures { result ≡ option_map (λ x. x.seq) (first_ready kind self.now.entries) }
+    {
+        first_ready(kind, self.entries()).map(|entry| entry.seq)
+    }
+
+    /// Takes out the ready instruction of the lowest number that a unit of this kind executes.
+    pub fn take_oldest(&mut self, kind: UnitKind) -> Option<Entry>
+        ensures value { result ≡ first_ready kind self.old.entries }
+        ensures oldest { IfSome result (IsOldest kind self.old.entries) }
+        ensures taken { IfSome result (λ x. self.new ≡ record self.old { entries = filter (is_other x.seq) self.old.entries }) }
+        ensures none { IfNone result (self.new ≡ self.old) }
+    {
+        let entry = first_ready(kind, self.entries())?;
+        self.remove(entry.seq);
+        Some(entry)
+    }
+
+    /// Takes out the instruction of this number, if it waits.
+    pub fn remove(&mut self, seq: Seq)
+        ensures { self.new ≡ record self.old { entries = filter (is_other seq) self.old.entries } }
+    {
+        self.entries.retain(|entry| entry.seq != seq);
+    }
+
+    /// Takes out a hart's instructions that are younger than `after`.
+    pub fn squash(&mut self, hart: u8, after: Seq)
+        ensures { self.new ≡ record self.old { entries = filter (stays hart after) self.old.entries } }
+    {
+        self.entries
+            .retain(|entry| !(entry.hart == hart && after < entry.seq));
+    }
+}
+
+// Where an entry belongs among these.
+fn place_of(entry: &Entry, entries: &[Entry]) -> usize
+    ensures bound { result ≤ length entries.now }
+    ensures place { inserted entry.now entries.now ≡ insert entries.now result entry.now }
+{
+    for (i, other) in entries.iter().enumerate() {
+        if entry.seq < other.seq {
+            return i;
+        }
+    }
+    entries.len()
+}
+
+fn first_ready(kind: UnitKind, entries: &[Entry]) -> Option<Entry>
+    ensures { result ≡ first_ready kind entries.now }
+{
+    entries.iter().copied().find(|entry| entry.can_issue(kind))
+}
+
+fn wake_all(entries: &mut [Entry], register: Phys, value: u32)
+    ensures { entries.new ≡ map (woken_entry register value) entries.old }
+{
+    for entry in entries.iter_mut() {
+        entry.wake(register, value);
+    }
+}

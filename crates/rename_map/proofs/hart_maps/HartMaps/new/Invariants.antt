@@ -1,0 +1,6 @@
+use Rattle.std.proofs.Common.{◌≡◌, ℕ, ◌+◌, ◌-◌, ◌*◌, ◌<◌, length, slice_index}
+use Rattle.rename_map.proofs.hart_maps.HartMaps.new.Given as goal
+
+-- the places written so far
+abbrev pub invariant-loop-register : goal.invariant-loop-register
+invariant-loop-register l = (length l.map ≡ 32) × ((r : ℕ) → 0 < r → r < l.register → slice_index l.map r ≡ 31 * l.hart + r - 1)

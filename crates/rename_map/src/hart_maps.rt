@@ -1,0 +1,102 @@
+ghost use Rattle.std.specs.Prelude.{◌≡◌, ℕ, ◌+◌, ◌-◌, ◌*◌, ◌<◌, ◌==◌, if◌then◌else◌, All};
+ghost use Rattle.rename_map.specs.Maps.{lookup, committed_of, renamed_by, IsWritable};
+
+use std::marker::Model;
+
+/// The number of a register, 0 to 31. Those of a map are 1 to 31, since x0 isn't renamed.
+pub type Reg = u8;
+
+/// The number of a physical register.
+pub type Phys = u16;
+
+/// Where a hart's registers x1 to x31 are: the speculative map and the committed one. A clause sees both.
+#[derive(Drop)]
+pub struct HartMaps {
+    // By register; place 0 is unused.
+    speculative: [Phys; 32],
+    committed: [Phys; 32],
+}
+
+impl Model for HartMaps {
+    ghost use Rattle.std.specs.Prelude.{◌≡◌, length};
+    ghost use Rattle.rename_map.specs.Maps.{Maps};
+
+    ghost Value = { Maps };
+
+    ghost view = { λ a. record { speculative = a.speculative; committed = a.committed } };
+
+    ghost invariant = { λ a. (length a.speculative ≡ 32) × (length a.committed ≡ 32) };
+}
+
+impl HartMaps {
+    /// The maps of a hart that begins: both have its 31 registers in the 31 physical registers from `31 * hart` on.
+    pub fn new(hart: u8) -> Self
+        ensures speculative { (r : ℕ) → 0 < r → r < 32 → lookup result r ≡ 31 * hart + r - 1 }
+        ensures committed { (r : ℕ) → 0 < r → r < 32 → committed_of result r ≡ 31 * hart + r - 1 }
+    {
+        let mut map = [0; 32];
+        for register in 1..32 {
+            map[register] = 31 * u16::from(hart) + register as u16 - 1;
+        }
+        HartMaps {
+            speculative: map,
+            committed: map,
+        }
+    }
+
+    /// Where the youngest value of `register` is, or will be.
+    pub fn lookup(&self, register: Reg) -> Phys
+        requires { IsWritable register }
+        ensures { result ≡ lookup self.now register }
+    {
+        self.speculative[usize::from(register)]
+    }
+
+    /// Where the retired value of `register` is.
+    pub fn committed(&self, register: Reg) -> Phys
+        requires { IsWritable register }
+        ensures { result ≡ committed_of self.now register }
+    {
+        self.committed[usize::from(register)]
+    }
+
+    /// An instruction that will write `register` has `phys` for it.
+    pub fn rename(&mut self, register: Reg, phys: Phys)
+        requires { IsWritable register }
+        ensures renamed { (r : ℕ) → lookup self.new r ≡ (if r == register then phys else lookup self.old r) }
+        ensures committed { self.new.committed ≡ self.old.committed }
+    {
+        self.speculative[usize::from(register)] = phys;
+    }
+
+    /// An instruction that wrote `register` at `phys` retires. Answers where the value before it was, which is free now.
+    pub fn commit(&mut self, register: Reg, phys: Phys) -> Phys
+        requires { IsWritable register }
+        ensures before { result ≡ committed_of self.old register }
+        ensures committed { (r : ℕ) → committed_of self.new r ≡ (if r == register then phys else committed_of self.old r) }
+        ensures speculative { self.new.speculative ≡ self.old.speculative }
+    {
+        let before = self.committed[usize::from(register)];
+        self.committed[usize::from(register)] = phys;
+        before
+    }
+
+    /// The speculative map becomes the committed one.
+    pub fn restore(&mut self)
+        ensures { self.new ≡ record self.old { speculative = self.old.committed } }
+    {
+        self.speculative = self.committed;
+    }
+
+    /// The speculative map becomes the committed one with these renamings, the oldest first.
+    pub fn rebuild(&mut self, renamings: &[(Reg, Phys)])
+        requires { All (λ x. IsWritable x.0) renamings.now }
+        ensures rebuilt { (r : ℕ) → lookup self.new r ≡ renamed_by renamings.now r (committed_of self.old r) }
+        ensures committed { self.new.committed ≡ self.old.committed }
+    {
+        self.restore();
+        for &(register, phys) in renamings {
+            self.rename(register, phys);
+        }
+    }
+}

@@ -1,0 +1,153 @@
+ghost use Rattle.std.specs.Prelude.{◌≡◌, ◌↔◌, ◌<◌, ◌≤◌, ◌==◌, [], ◌∷◌, ◌++◌, length, drop, find, IsTrue, IfSome, IfNone};
+ghost use Rattle.retire_squash.specs.Active.{Above, Within, IsRising, with_stage};
+
+use crate::active::{Active, Stage};
+use arrayvec::ArrayVec;
+use events::{Outcome, Seq};
+use std::marker::Model;
+
+/// The instructions of a hart in flight, at most 64, oldest first. A clause sees it as their list.
+#[derive(Drop)]
+pub struct ActiveList {
+    items: ArrayVec<Active, 64>,
+}
+
+impl Model for ActiveList {
+    ghost use Rattle.std.specs.Prelude.{List};
+    ghost use Rattle.retire_squash.specs.declared.active.Active.{Active};
+    ghost use Rattle.retire_squash.specs.Active.{IsRising};
+
+    ghost Value = { List Active };
+
+    ghost view = { λ a. a.items.items };
+
+    ghost invariant = { λ a. IsRising a.items.items };
+}
+
+impl ActiveList {
+    /// An empty list.
+    pub fn new() -> Self
+        ensures { result ≡ [] }
+    {
+        ActiveList {
+            items: ArrayVec::new(),
+        }
+    }
+
+    /// How many instructions are in flight.
+    pub fn len(&self) -> usize
+        ensures value { result ≡ length self.now }
+        ensures bound { result ≤ 64 }
+    {
+        self.items.len()
+    }
+
+    /// Whether none is in flight.
+    pub fn is_empty(&self) -> bool
+        ensures { result ≡ (length self.now == 0) }
+    {
+        self.items.is_empty()
+    }
+
+    /// Whether there is no room for another.
+    pub fn is_full(&self) -> bool
+        ensures value { result ≡ (length self.now == 64) }
+        ensures bound { length self.now ≤ 64 }
+    {
+        self.items.is_full()
+    }
+
+    /// The instructions, oldest first.
+    pub fn items(&self) -> &[Active]
+        ensures items { result.now ≡ self.now }
+        ensures bound { length result.now ≤ 64 }
+        ensures rising { IsRising result.now }
+    {
+        self.items.as_slice()
+    }
+
+    /// The oldest instruction in flight.
+    pub fn head(&self) -> Option<Active>
+        ensures some { IfSome result (λ oldest. self.now ≡ oldest ∷ drop 1 self.now) }
+        ensures none { IfNone result (self.now ≡ []) }
+    {
+        self.items.first().copied()
+    }
+
+    /// The instruction of this number.
+    pub fn find(&self, seq: Seq) -> Option<Active>
+        ensures { result ≡ find (λ x. x.seq == seq) self.now }
+    {
+        self.items.iter().copied().find(|active| active.seq == seq)
+    }
+
+    /// Whether an instruction of this number may be added: there is room, and all in flight are older.
+    pub fn may_append(&self, seq: Seq) -> bool
+        ensures { IsTrue result ↔ (length self.now < 64) × Above seq self.now }
+    {
+        self.len() < 64 && are_older(self.items(), seq)
+    }
+
+    /// Adds an instruction, which is younger than all that are in flight.
+    pub fn append(&mut self, active: Active)
+        requires room { length self.old < 64 }
+        requires above { Above active.seq self.old }
+        ensures { self.new ≡ self.old ++ active ∷ [] }
+    {
+        self.items.push(active);
+    }
+
+    /// Takes the oldest instruction out, which there must be.
+    pub fn pop(&mut self) -> Active
+        requires { 0 < length self.old }
+        ensures value { self.old ≡ result ∷ self.new }
+        ensures rest { self.new ≡ drop 1 self.old }
+    {
+        self.items.remove(0)
+    }
+
+    /// A unit has taken up the instruction of this number, if it is in flight.
+    pub fn issue(&mut self, seq: Seq)
+        ensures { self.new ≡ with_stage seq Stage.Issued self.old }
+    {
+        set_stage(self.items.as_mut_slice(), seq, Stage::Issued);
+    }
+
+    /// The instruction of this number has its outcome, if it is in flight.
+    pub fn complete(&mut self, seq: Seq, outcome: Outcome)
+        ensures { self.new ≡ with_stage seq (Stage.Completed outcome) self.old }
+    {
+        set_stage(self.items.as_mut_slice(), seq, Stage::Completed(outcome));
+    }
+
+    /// Takes the youngest instruction out, if its number is above `after`.
+    ///
+    /// Called until it answers `None` it cuts off all younger ones than `after`, and hands over one after another.
+    pub fn cut_youngest(&mut self, after: Seq) -> Option<Active>
+        ensures some { IfSome result (λ cut. (self.old ≡ self.new ++ cut ∷ []) × (after < cut.seq)) }
+        ensures none { IfNone result ((self.new ≡ self.old) × Within after self.old) }
+    {
+        let youngest = self.items.last()?;
+        if youngest.seq <= after {
+            return None;
+        }
+        self.items.pop()
+    }
+}
+
+// Whether every number is below this one.
+fn are_older(items: &[Active], seq: Seq) -> bool
+    ensures { IsTrue result ↔ Above seq items.now }
+{
+    items.iter().all(|active| active.seq < seq)
+}
+
+fn set_stage(items: &mut [Active], seq: Seq, stage: Stage)
+    ensures { items.new ≡ with_stage seq stage items.old }
+{
+    for active in items.iter_mut() {
+        if active.seq == seq {
+            active.stage = stage;
+        }
+    }
+}

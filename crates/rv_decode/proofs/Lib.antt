@@ -1,0 +1,2 @@
+pub mod DecodedLemmas
+mod Rows

@@ -1,0 +1,5 @@
+pub mod FieldLaws
+pub mod InstrLaws
+pub mod Names
+pub mod RowLaws
+pub mod TextLaws

@@ -1,0 +1,3 @@
+pub mod Mnemonic
+pub mod Reading
+pub mod Spelling

@@ -1,0 +1,285 @@
+ghost use Rattle.std.specs.Prelude.{◌≡◌, ◌≤◌, length, IfSome, IfNone, Some};
+ghost use Rattle.rv_text.specs.Mnemonic.{
+  branch_name,
+  load_name,
+  store_name,
+  immediate_name,
+  shift_name,
+  register_name,
+  mul_div_name,
+  amo_name,
+  atomic_name,
+  ordering_name,
+  name_of,
+  IsPlain,
+};
+
+use rv_decode::{BranchOp, ImmediateOp, LoadOp, MulDivOp, Ordering, RegisterOp, ShiftOp, StoreOp};
+use rv_word::AmoKind;
+
+/// The name that a line of text begins with. The ordering bits of an atomic are a part of its name.
+#[derive(Clone, Copy, Debug, PartialEq, Eq, Drop)]
+pub enum Mnemonic {
+    Lui,
+    Auipc,
+    Jal,
+    Jalr,
+    Branch(BranchOp),
+    Load(LoadOp),
+    Store(StoreOp),
+    Immediate(ImmediateOp),
+    Shift(ShiftOp),
+    Register(RegisterOp),
+    MulDiv(MulDivOp),
+    Fence,
+    Ecall,
+    Ebreak,
+    Atomic(AtomicOp, Ordering),
+}
+
+/// The name of an atomic before its width and its ordering bits.
+#[derive(Clone, Copy, Debug, PartialEq, Eq, Drop)]
+pub enum AtomicOp {
+    LoadReserved,
+    StoreConditional,
+    Amo(AmoKind),
+}
+
+pub(crate) fn branch_name(op: BranchOp) -> &'static str
+    ensures name { result.now ≡ branch_name op }
+    ensures short { length result.now ≤ 7 }
+{
+    match op {
+        BranchOp::Beq => "beq",
+        BranchOp::Bne => "bne",
+        BranchOp::Blt => "blt",
+        BranchOp::Bge => "bge",
+        BranchOp::Bltu => "bltu",
+        BranchOp::Bgeu => "bgeu",
+    }
+}
+
+pub(crate) fn load_name(op: LoadOp) -> &'static str
+    ensures name { result.now ≡ load_name op }
+    ensures short { length result.now ≤ 7 }
+{
+    match op {
+        LoadOp::Lb => "lb",
+        LoadOp::Lh => "lh",
+        LoadOp::Lw => "lw",
+        LoadOp::Lbu => "lbu",
+        LoadOp::Lhu => "lhu",
+    }
+}
+
+pub(crate) fn store_name(op: StoreOp) -> &'static str
+    ensures name { result.now ≡ store_name op }
+    ensures short { length result.now ≤ 7 }
+{
+    match op {
+        StoreOp::Sb => "sb",
+        StoreOp::Sh => "sh",
+        StoreOp::Sw => "sw",
+    }
+}
+
+pub(crate) fn immediate_name(op: ImmediateOp) -> &'static str
+    ensures name { result.now ≡ immediate_name op }
+    ensures short { length result.now ≤ 7 }
+{
+    match op {
+        ImmediateOp::Addi => "addi",
+        ImmediateOp::Slti => "slti",
+        ImmediateOp::Sltiu => "sltiu",
+        ImmediateOp::Xori => "xori",
+        ImmediateOp::Ori => "ori",
+        ImmediateOp::Andi => "andi",
+    }
+}
+
+pub(crate) fn shift_name(op: ShiftOp) -> &'static str
+    ensures name { result.now ≡ shift_name op }
+    ensures short { length result.now ≤ 7 }
+{
+    match op {
+        ShiftOp::Slli => "slli",
+        ShiftOp::Srli => "srli",
+        ShiftOp::Srai => "srai",
+    }
+}
+
+pub(crate) fn register_name(op: RegisterOp) -> &'static str
+    ensures name { result.now ≡ register_name op }
+    ensures short { length result.now ≤ 7 }
+{
+    match op {
+        RegisterOp::Add => "add",
+        RegisterOp::Sub => "sub",
+        RegisterOp::Sll => "sll",
+        RegisterOp::Slt => "slt",
+        RegisterOp::Sltu => "sltu",
+        RegisterOp::Xor => "xor",
+        RegisterOp::Srl => "srl",
+        RegisterOp::Sra => "sra",
+        RegisterOp::Or => "or",
+        RegisterOp::And => "and",
+    }
+}
+
+pub(crate) fn mul_div_name(op: MulDivOp) -> &'static str
+    ensures name { result.now ≡ mul_div_name op }
+    ensures short { length result.now ≤ 7 }
+{
+    match op {
+        MulDivOp::Mul => "mul",
+        MulDivOp::Mulh => "mulh",
+        MulDivOp::Mulhsu => "mulhsu",
+        MulDivOp::Mulhu => "mulhu",
+        MulDivOp::Div => "div",
+        MulDivOp::Divu => "divu",
+        MulDivOp::Rem => "rem",
+        MulDivOp::Remu => "remu",
+    }
+}
+
+fn amo_name(kind: AmoKind) -> &'static str
+    ensures name { result.now ≡ amo_name kind }
+    ensures short { length result.now ≤ 7 }
+{
+    match kind {
+        AmoKind::Swap => "amoswap",
+        AmoKind::Add => "amoadd",
+        AmoKind::Xor => "amoxor",
+        AmoKind::And => "amoand",
+        AmoKind::Or => "amoor",
+        AmoKind::Min => "amomin",
+        AmoKind::Max => "amomax",
+        AmoKind::Minu => "amominu",
+        AmoKind::Maxu => "amomaxu",
+    }
+}
+
+pub(crate) fn atomic_name(op: AtomicOp) -> &'static str
+    ensures name { result.now ≡ atomic_name op }
+    ensures short { length result.now ≤ 7 }
+{
+    match op {
+        AtomicOp::LoadReserved => "lr",
+        AtomicOp::StoreConditional => "sc",
+        AtomicOp::Amo(kind) => amo_name(kind),
+    }
+}
+
+pub(crate) fn ordering_name(ordering: Ordering) -> &'static str
+    ensures name { result.now ≡ ordering_name ordering }
+    ensures short { length result.now ≤ 7 }
+{
+    match (ordering.aq, ordering.rl) {
+        (false, false) => "w",
+        (true, false) => "w.aq",
+        (false, true) => "w.rl",
+        (true, true) => "w.aqrl",
+    }
+}
+
+fn plain(text: &str) -> Option<Mnemonic>
+    ensures found { IfSome result (λ m. (text.now ≡ name_of m) × IsPlain m) }
+    ensures none { IfNone result ((m : _) → IsPlain m → text.now ≡ name_of m → ⊥) }
+{
+    Some(match text {
+        "lui" => Mnemonic::Lui,
+        "auipc" => Mnemonic::Auipc,
+        "jal" => Mnemonic::Jal,
+        "jalr" => Mnemonic::Jalr,
+        "fence" => Mnemonic::Fence,
+        "ecall" => Mnemonic::Ecall,
+        "ebreak" => Mnemonic::Ebreak,
+        "beq" => Mnemonic::Branch(BranchOp::Beq),
+        "bne" => Mnemonic::Branch(BranchOp::Bne),
+        "blt" => Mnemonic::Branch(BranchOp::Blt),
+        "bge" => Mnemonic::Branch(BranchOp::Bge),
+        "bltu" => Mnemonic::Branch(BranchOp::Bltu),
+        "bgeu" => Mnemonic::Branch(BranchOp::Bgeu),
+        "lb" => Mnemonic::Load(LoadOp::Lb),
+        "lh" => Mnemonic::Load(LoadOp::Lh),
+        "lw" => Mnemonic::Load(LoadOp::Lw),
+        "lbu" => Mnemonic::Load(LoadOp::Lbu),
+        "lhu" => Mnemonic::Load(LoadOp::Lhu),
+        "sb" => Mnemonic::Store(StoreOp::Sb),
+        "sh" => Mnemonic::Store(StoreOp::Sh),
+        "sw" => Mnemonic::Store(StoreOp::Sw),
+        "addi" => Mnemonic::Immediate(ImmediateOp::Addi),
+        "slti" => Mnemonic::Immediate(ImmediateOp::Slti),
+        "sltiu" => Mnemonic::Immediate(ImmediateOp::Sltiu),
+        "xori" => Mnemonic::Immediate(ImmediateOp::Xori),
+        "ori" => Mnemonic::Immediate(ImmediateOp::Ori),
+        "andi" => Mnemonic::Immediate(ImmediateOp::Andi),
+        "slli" => Mnemonic::Shift(ShiftOp::Slli),
+        "srli" => Mnemonic::Shift(ShiftOp::Srli),
+        "srai" => Mnemonic::Shift(ShiftOp::Srai),
+        "add" => Mnemonic::Register(RegisterOp::Add),
+        "sub" => Mnemonic::Register(RegisterOp::Sub),
+        "sll" => Mnemonic::Register(RegisterOp::Sll),
+        "slt" => Mnemonic::Register(RegisterOp::Slt),
+        "sltu" => Mnemonic::Register(RegisterOp::Sltu),
+        "xor" => Mnemonic::Register(RegisterOp::Xor),
+        "srl" => Mnemonic::Register(RegisterOp::Srl),
+        "sra" => Mnemonic::Register(RegisterOp::Sra),
+        "or" => Mnemonic::Register(RegisterOp::Or),
+        "and" => Mnemonic::Register(RegisterOp::And),
+        "mul" => Mnemonic::MulDiv(MulDivOp::Mul),
+        "mulh" => Mnemonic::MulDiv(MulDivOp::Mulh),
+        "mulhsu" => Mnemonic::MulDiv(MulDivOp::Mulhsu),
+        "mulhu" => Mnemonic::MulDiv(MulDivOp::Mulhu),
+        "div" => Mnemonic::MulDiv(MulDivOp::Div),
+        "divu" => Mnemonic::MulDiv(MulDivOp::Divu),
+        "rem" => Mnemonic::MulDiv(MulDivOp::Rem),
+        "remu" => Mnemonic::MulDiv(MulDivOp::Remu),
+        _ => return None,
+    })
+}
+
+fn atomic(text: &str) -> Option<AtomicOp>
+    ensures found { IfSome result (λ op. text.now ≡ atomic_name op) }
+    ensures none { IfNone result ((op : _) → text.now ≡ atomic_name op → ⊥) }
+{
+    Some(match text {
+        "lr" => AtomicOp::LoadReserved,
+        "sc" => AtomicOp::StoreConditional,
+        "amoswap" => AtomicOp::Amo(AmoKind::Swap),
+        "amoadd" => AtomicOp::Amo(AmoKind::Add),
+        "amoxor" => AtomicOp::Amo(AmoKind::Xor),
+        "amoand" => AtomicOp::Amo(AmoKind::And),
+        "amoor" => AtomicOp::Amo(AmoKind::Or),
+        "amomin" => AtomicOp::Amo(AmoKind::Min),
+        "amomax" => AtomicOp::Amo(AmoKind::Max),
+        "amominu" => AtomicOp::Amo(AmoKind::Minu),
+        "amomaxu" => AtomicOp::Amo(AmoKind::Maxu),
+        _ => return None,
+    })
+}
+
+fn ordering(text: &str) -> Option<Ordering>
+    ensures found { IfSome result (λ ordering. text.now ≡ ordering_name ordering) }
+    ensures none { IfNone result ((ordering : _) → text.now ≡ ordering_name ordering → ⊥) }
+{
+    let (aq, rl) = match text {
+        "w" => (false, false),
+        "w.aq" => (true, false),
+        "w.rl" => (false, true),
+        "w.aqrl" => (true, true),
+        _ => return None,
+    };
+    Some(Ordering { aq, rl })
+}
+
+/// The row whose name the text is.
+pub(crate) fn mnemonic_named(text: &str) -> Option<Mnemonic>
+    ensures found { IfSome result (λ m. text.now ≡ name_of m) }
+    ensures only { (m : _) → text.now ≡ name_of m → result ≡ Some m }
+{
+    let Some((name, bits)) = text.split_once('.') else {
+        return plain(text);
+    };
+    Some(Mnemonic::Atomic(atomic(name)?, ordering(bits)?))
+}

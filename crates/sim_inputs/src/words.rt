@@ -1,0 +1,55 @@
+ghost use Rattle.std.specs.Prelude.{◌≡◌, List, map, IfOk, IfErr, IfSome, IfNone};
+ghost use Rattle.clap.specs.Words.{kind_of, subcommand_rows_of};
+ghost use Rattle.sim_inputs.specs.declared.line.Line.{Line as AnyLine};
+ghost use Rattle.sim_inputs.specs.CommandLine.{Names, Asks, IsRefusedFor, IsRefusalOf};
+
+use crate::description::describe;
+use crate::line::{Line, WordsRefused};
+use clap::error::ErrorKind;
+use clap::{ArgMatches, Error};
+use std::alloc::Global;
+
+/// Reads the program's words, its own name first.
+pub fn read_words<'a>(words: &'a [&'a str], alloc: Global) -> Result<Line<'a>, WordsRefused>
+    ensures ok { IfOk result (Asks (map (λ word. word.now) words.entry.now)) }
+    ensures refused { IfErr result (IsRefusedFor (map (λ word. word.now) words.entry.now)) }
+{
+    let Ok(command) = describe(alloc) else {
+        return Err(WordsRefused::Memory);
+    };
+    match command.try_get_matches_from(words) {
+        Ok(matches) => line_in(&matches).ok_or(WordsRefused::Refused),
+        Err(error) => Err(refusal(error, alloc)),
+    }
+}
+
+/// The line that the matches hold.
+fn line_in<'a>(matches: &ArgMatches<'a>) -> Option<Line<'a>>
+    ensures held { IfSome result (Names (subcommand_rows_of matches.now)) }
+    ensures none { IfNone result ((line : AnyLine) → Names (subcommand_rows_of matches.now) line → ⊥) }
+{
+    let Some(step) = matches.subcommand_matches("step") else {
+        return None;
+    };
+    let Some(image) = step.get_str("IMAGE") else {
+        return None;
+    };
+    let Some(script) = step.get_str("SCRIPT") else {
+        return None;
+    };
+    Some(Line::Step { image, script })
+}
+
+/// What is made of an error of `clap`.
+fn refusal(error: Error, alloc: Global) -> WordsRefused
+    ensures { IsRefusalOf (kind_of error) result }
+{
+    match error.kind() {
+        ErrorKind::OutOfMemory => WordsRefused::Memory,
+        ErrorKind::DisplayHelp => match error.to_string(alloc) {
+            Ok(text) => WordsRefused::Help(text),
+            Err(_) => WordsRefused::Memory,
+        },
+        _ => WordsRefused::Refused,
+    }
+}

@@ -1,0 +1,51 @@
+ghost use Rattle.std.specs.Prelude.{◌≡◌, ℕ, ◌≤◌, ◌<◌, ◌==◌, ◌&&◌, ◌||◌, nat_lt, ◌∷◌, ◌++◌, length, slice_index, Some, IfSome};
+ghost use Rattle.std.specs.Fmt.{decimal};
+
+use crate::splitting::split_at_byte;
+use std::str;
+
+/// An actor, 0 to 15.
+pub fn read_actor(text: &[u8]) -> Option<u8>
+    ensures found { IfSome result (λ actor. (actor ≤ 15) × (text.now ≡ decimal actor)) }
+    ensures only { (actor : ℕ) → actor ≤ 15 → text.now ≡ decimal actor → result ≡ Some actor }
+{
+    read_number(text, 15).map(|number| number as u8)
+}
+
+/// An actor, a point, and a hart, 0 to 7.
+pub fn read_actor_and_hart(text: &[u8]) -> Option<(u8, u8)>
+    ensures found { IfSome result (λ p. (p.0 ≤ 15) × (p.1 ≤ 7) × (text.now ≡ decimal p.0 ++ 46 ∷ decimal p.1)) }
+    ensures only { (actor hart : ℕ) → actor ≤ 15 → hart ≤ 7 → text.now ≡ decimal actor ++ 46 ∷ decimal hart →
+        result ≡ Some (actor, hart) }
+{
+    let (actor, hart) = split_at_byte(text, b'.')?;
+    Some((read_actor(actor)?, read_number(hart, 7)? as u8))
+}
+
+/// A decimal number of at most `max`, without leading zeros.
+pub fn read_number(text: &[u8], max: u32) -> Option<u32>
+    ensures found { IfSome result (λ n. (n ≤ max) × (text.now ≡ decimal n)) }
+    ensures only { (n : ℕ) → n ≤ max → text.now ≡ decimal n → result ≡ Some n }
+{
+    if begins_otherwise(text) {
+        return None;
+    }
+    let Ok(text) = str::from_utf8(text) else {
+        return None;
+    };
+    match text.parse::<u32>() {
+        Ok(number) if number <= max => Some(number),
+        _ => None,
+    }
+}
+
+// A plus sign, or a zero before other digits: the standard library's `parse` takes them.
+fn begins_otherwise(text: &[u8]) -> bool
+    ensures { result ≡ (slice_index text.now 0 == 43 || (slice_index text.now 0 == 48 && nat_lt 1 (length text.now))) }
+{
+    match text.first() {
+        Some(b'+') => true,
+        Some(b'0') => text.len() > 1,
+        _ => false,
+    }
+}

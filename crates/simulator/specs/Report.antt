@@ -1,0 +1,55 @@
+-- What the report says of a core. (This project's own choice.)
+use Rattle.std.specs.Prelude.{ℕ, ◌+◌, Bool, true, false, ◌==◌, if◌then◌else◌, List, [], ◌∷◌, ◌++◌, codes, flat_map}
+use Rattle.std.specs.List.{list_any, list_all}
+use Rattle.std.specs.Fmt.{decimal}
+use Rattle.text_fields.specs.Spelling.{hex}
+use Rattle.smt_model.specs.declared.config.Status.{Status}
+use Rattle.smt_model.specs.declared.config.Status.TheVariants.{Going, Ended, Stopped}
+
+-- The hart goes on; it has ended with 0.
+abbrev pub is_going : Status → Bool
+is_going Going = true
+is_going (Ended number) = false
+is_going (Stopped cause) = false
+
+abbrev pub has_ended_well : Status → Bool
+has_ended_well Going = false
+has_ended_well (Ended number) = number == 0
+has_ended_well (Stopped cause) = false
+
+-- The exit status of a simulation: 3 where some hart is going; else 0 where each has ended with 0; else 1.
+abbrev pub status_number : List Status → ℕ
+status_number statuses = if list_any is_going statuses then 3 else (if list_all has_ended_well statuses then 0 else 1)
+
+-- A name, a number and a newline.
+abbrev pub count_line : List ℕ → ℕ → List ℕ
+count_line name count = name ++ 32 ∷ (decimal count ++ 10 ∷ [])
+
+-- How a hart stands, with the number that it has ended with or the cause for which it has stopped.
+abbrev pub status_text : Status → List ℕ
+status_text Going = codes " going"
+status_text (Ended number) = codes " ended " ++ decimal number
+status_text (Stopped cause) = codes " stopped " ++ decimal cause
+
+-- A line for each hart, in order, from the hart of this number on.
+abbrev pub hart_line : ℕ → Status → List ℕ
+hart_line hart status = codes "hart " ++ (decimal hart ++ (status_text status ++ 10 ∷ []))
+
+abbrev pub hart_lines : ℕ → List Status → List ℕ
+hart_lines hart [] = []
+hart_lines hart (status ∷ others) = hart_line hart status ++ hart_lines (hart + 1) others
+
+-- The bytes that were put out, two hexadecimal digits each; a dash where there are none.
+abbrev pub bytes_text : List ℕ → List ℕ
+bytes_text [] = codes "-"
+bytes_text (byte ∷ others) = flat_map (hex 2) (byte ∷ others)
+
+abbrev pub output_line : List ℕ → List ℕ
+output_line output = codes "output " ++ (bytes_text output ++ 10 ∷ [])
+
+-- The whole report: how many events there are, how many instructions have retired and how many jobs are with units, how
+-- each hart stands, and the bytes that were put out.
+abbrev pub report_text : ℕ → ℕ → ℕ → List Status → List ℕ → List ℕ
+report_text events retired lent statuses output =
+    count_line (codes "events") events ++ (count_line (codes "retired") retired ++ (count_line (codes "lent") lent
+    ++ (hart_lines 0 statuses ++ output_line output)))

@@ -1,0 +1,20 @@
+//! The core: eight calls that each make one step of the pipeline or say why there is none.
+//!
+//! Read in this order: `predict` (what a branch predictor is), `answer` (what the calls answer), `account` (what a history
+//! comes to), `calls`.
+#![tactic(auto)]
+
+pub mod account;
+pub mod answer;
+pub mod calls;
+pub mod predict;
+#[cfg(test)]
+mod tests;
+
+pub use account::Account;
+pub use answer::{Answer, CompleteAnswer, IssueAnswer};
+pub use calls::Core;
+pub use core_state::CoreRefused;
+pub use exec_units::{Done, Job, work};
+pub use predict::Predict;
+pub use smt_model::{Config, Role, Status};

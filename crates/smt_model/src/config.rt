@@ -1,0 +1,70 @@
+ghost use Rattle.std.specs.Prelude.{◌≡◌, ◌≤◌, length};
+
+use arrayvec::ArrayVec;
+use events::Cause;
+
+/// What an actor does in its turns. Only `Alu`, `Mul` and `Mem` issue instructions, each for its own kind of unit;
+/// every other step may be made by any actor.
+#[derive(Clone, Copy, Debug, PartialEq, Eq, Default, Drop)]
+pub enum Role {
+    #[default]
+    Fetch,
+    Front,
+    Retire,
+    Alu,
+    Mul,
+    Mem,
+}
+
+/// The sizes of a core: 1 to 8 harts, 1 to 256 extra physical registers beside the 31 of each hart, 4 to 64 entries
+/// in the issue queue, and the roles of its 1 to 16 actors.
+#[derive(Debug, Drop)]
+pub struct Config {
+    pub harts: u8,
+    pub extra: u16,
+    pub queue: u8,
+    pub roles: ArrayVec<Role, 16>,
+}
+
+impl Config {
+    /// The same configuration again.
+    pub fn copied(&self) -> Config
+        ensures sizes { (result.harts ≡ self.now.harts) × (result.extra ≡ self.now.extra) × (result.queue ≡ self.now.queue) }
+        ensures roles { result.roles.items ≡ self.now.roles.items }
+    {
+        Config {
+            harts: self.harts,
+            extra: self.extra,
+            queue: self.queue,
+            roles: copy_of(self.roles.as_slice()),
+        }
+    }
+}
+
+fn copy_of(roles: &[Role]) -> ArrayVec<Role, 16>
+    requires { length roles.now ≤ 16 }
+    ensures { result.items ≡ roles.now }
+{
+    let mut copy = ArrayVec::new();
+    for role in roles {
+        copy.push(*role);
+    }
+    copy
+}
+
+/// How a hart stands.
+#[derive(Clone, Copy, Debug, PartialEq, Eq, Drop)]
+pub enum Status {
+    Going,
+    /// It has ended with this number.
+    Ended(u32),
+    /// It has stopped for this cause.
+    Stopped(Cause),
+}
+
+/// A hart goes until it ends or stops.
+impl Default for Status {
+    fn default() -> Self {
+        Status::Going
+    }
+}

@@ -1,0 +1,87 @@
+//! The program `smtsim`: reads its words and files, and has `simulator` do the rest.
+#![tactic(auto)]
+
+use sim_inputs::{Line, WordsRefused, read_words};
+use simulator::{InOrder, Inputs, Refused, Settings, perform};
+use std::io::{BufWriter, Write};
+use std::process::ExitCode;
+use std::{env, fs, io};
+
+fn main(rt: HostRuntime) -> ExitCode {
+    ExitCode::from(answer(&rt))
+}
+
+/// The exit status: what the words ask for, or 2 for a wrong command line and 5 for want of memory.
+fn answer(rt: &HostRuntime) -> u8 {
+    let Ok(words) = arguments(rt) else {
+        return refuse(rt, "command line", 2);
+    };
+    let Ok(words) = texts(rt, &words) else {
+        return refuse(rt, "memory", 5);
+    };
+    match read_words(words.as_slice(), rt.alloc()) {
+        Ok(line) => run(rt, &line),
+        Err(WordsRefused::Help(text)) => help(rt, text.as_str()),
+        Err(WordsRefused::Refused) => refuse(rt, "command line", 2),
+        Err(WordsRefused::Memory) => refuse(rt, "memory", 5),
+    }
+}
+
+fn arguments(rt: &HostRuntime) -> io::Result<Vec<String>> {
+    let mut words = Vec::new(rt.alloc());
+    for word in env::args(rt)? {
+        words.push(word)?;
+    }
+    Ok(words)
+}
+
+fn texts<'a>(rt: &HostRuntime, words: &'a [String]) -> io::Result<Vec<&'a str>> {
+    let mut texts = Vec::new(rt.alloc());
+    for word in words {
+        texts.push(word.as_str())?;
+    }
+    Ok(texts)
+}
+
+/// Prints `clap`'s help.
+fn help(rt: &HostRuntime, text: &str) -> u8 {
+    match print!(rt; "{text}") {
+        Ok(()) => 0,
+        Err(_) => refuse(rt, "file", 5),
+    }
+}
+
+/// Says on one line of standard error why there is no report.
+fn refuse(rt: &HostRuntime, why: &str, status: u8) -> u8 {
+    let _ = eprintln!(rt; "smtsim: {why}");
+    status
+}
+
+fn run(rt: &HostRuntime, line: &Line<'_>) -> u8 {
+    let Line::Step { image, script } = line;
+    let image = fs::read(rt, image).ok();
+    let script = fs::read(rt, script).ok();
+    let inputs = Inputs {
+        image: image.as_deref(),
+        second: script.as_deref(),
+    };
+    let Some(settings) = Settings::single_hart() else {
+        return refuse(rt, "config refused", 2);
+    };
+    let Ok(mut out) = BufWriter::new(rt.alloc(), io::writer(rt)) else {
+        return refuse(rt, "memory", 5);
+    };
+    let status = perform(
+        line,
+        &inputs,
+        &settings,
+        &mut InOrder,
+        &mut out,
+        &mut rt.stderr(),
+        rt.alloc(),
+    );
+    match out.flush() {
+        Ok(()) => status,
+        Err(_) => refuse(rt, "file", 5),
+    }
+}

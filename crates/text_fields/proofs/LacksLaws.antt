@@ -1,0 +1,45 @@
+-- Fields lack each byte that stands between fields: the space, the comma, the newline and more.
+
+use Rattle.std.proofs.Common.{◌≡◌, ℕ, suc, ◌^◌, ◌<◌, Bool, true, false, not, ◌==◌, List, [], ◌∷◌, ◌++◌, Option, None, Some, ℤ, pos, negsuc, refl, ◌∙◌, arith}
+use Rattle.std.proofs.lemmas.Bool.Decides.{nat_tests}
+use Rattle.std.proofs.lemmas.List.Folds.{list_all-append}
+use Rattle.std.specs.Char.{is_ascii_digit}
+use Rattle.std.specs.Fmt.{decimal, signed_decimal}
+use Rattle.std.specs.List.{list_all}
+use Rattle.std.specs.Prelude.{IfSome}
+use Rattle.std.specs.Int.Signed.{mag}
+use Rattle.text_fields.specs.Reading.{is_hex_digit}
+use Rattle.text_fields.specs.Spelling.{dash, hex, optional}
+use Rattle.text_fields.specs.Splitting.{Lacks}
+use Rattle.text_fields.proofs.DecimalLaws.{decimal_digits}
+use Rattle.text_fields.proofs.HexLaws.{hex_digits}
+
+-- bytes that all pass a test lack one that does not
+pub Lacks-from_all : (p : ℕ → Bool) (s : ℕ) (text : List ℕ) → p s ≡ false → list_all p text ≡ true → Lacks s text
+Lacks-from_all p s [] fails passes = refl
+Lacks-from_all p s (c ∷ cs) fails passes =
+    let parts : (p c ≡ true) × (list_all p cs ≡ true) = (grind arith, grind arith) in
+    let other : (c == s) ≡ false = grind (arith, nat_tests) in
+    rw other (Lacks-from_all p s cs fails parts.1)
+
+pub Lacks-append : (s : ℕ) (a b : List ℕ) → Lacks s a → Lacks s b → Lacks s (a ++ b)
+Lacks-append s a b first second = list_all-append (λ byte. not (byte == s)) a b ∙ rw (first, second) refl
+
+pub Lacks-decimal : (s n : ℕ) → is_ascii_digit s ≡ false → n < 2 ^ 64 → Lacks s (decimal n)
+Lacks-decimal s n other small = Lacks-from_all is_ascii_digit s (decimal n) other (decimal_digits n small)
+
+pub Lacks-hex : (s count n : ℕ) → is_hex_digit s ≡ false → Lacks s (hex count n)
+Lacks-hex s count n other = Lacks-from_all is_hex_digit s (hex count n) other (hex_digits count n)
+
+pub Lacks-dash : (s : ℕ) → (45 == s) ≡ false → Lacks s dash
+Lacks-dash s other = rw other refl
+
+pub Lacks-optional : {A : Type 0} (s : ℕ) (spelling : A → List ℕ) (o : Option A) → (45 == s) ≡ false →
+    IfSome o (λ value. Lacks s (spelling value)) → Lacks s (optional spelling o)
+Lacks-optional s spelling None other given = Lacks-dash s other
+Lacks-optional s spelling (Some value) other given = given
+
+-- the size of a signed number fits 63 bits
+pub Lacks-signed_decimal : (s : ℕ) (z : ℤ) → (45 == s) ≡ false → is_ascii_digit s ≡ false → mag z < 2 ^ 63 → Lacks s (signed_decimal z)
+Lacks-signed_decimal s (pos n) dash_other other small = Lacks-decimal s n other (omega arith)
+Lacks-signed_decimal s (negsuc n) dash_other other small = Lacks-append s dash (decimal (suc n)) (Lacks-dash s dash_other) (Lacks-decimal s (suc n) other (omega arith))
