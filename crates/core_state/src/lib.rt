@@ -5,17 +5,17 @@
 //! `retire`, and `squash`, which the last two share; and `state`, which holds it all and writes the history.
 #![tactic(auto)]
 
-pub mod complete;
-pub mod decode;
-pub mod fetch;
-pub mod hart;
-pub mod issue;
-pub mod parts;
-pub mod rename;
-pub mod retire;
-pub mod sizes;
-pub mod slot;
-pub mod squash;
-pub mod state;
+mod complete;
+mod decode;
+mod fetch;
+mod hart;
+mod issue;
+mod parts;
+mod rename;
+mod retire;
+mod sizes;
+mod slot;
+mod squash;
+mod state;
 
 pub use state::{CoreRefused, State};
