@@ -15,6 +15,8 @@ use Rattle.retire_squash.specs.declared.active.Stage.TheVariants as stage
 use Rattle.smt_model.specs.Kinds.{destination, first_source, second_source}
 use Rattle.smt_model.specs.Fates.{Fetched, Renamed, Issued, Completed}
 use Rattle.smt_model.specs.Picture.{Picture}
+use Rattle.smt_model.specs.Steps.{filled_value}
+use Rattle.issue_queue.specs.Entry.{woken}
 use Rattle.core_state.specs.declared.slot.Slot.{Slot}
 use Rattle.core_state.specs.declared.slot.OpenJob.{OpenJob}
 use Rattle.core_state.specs.declared.hart.HartState.{HartState}
@@ -122,3 +124,26 @@ pub record From (x : Parts) (h : ℕ) (Step : Picture → Picture → Type 0) : 
   pub inside : h < length x.harts.items
   pub agrees : PartsAgree before x
   pub step : Step before after
+
+-- A step changes neither how many harts there are nor how much room the queue has.
+pub record KeepsSizes (old new : Parts) : Type 0 where
+  pub harts : length new.harts.items ≡ length old.harts.items
+  pub queue : new.queue.size ≡ old.queue.size
+
+-- An entry's source once register `register` has been given the number `filled`, if any.
+abbrev pub filled_source : Option ℕ → Option ℕ → Source → Source
+filled_source None filled source = source
+filled_source (Some register) None source = source
+filled_source (Some register) (Some number) source = woken register number source
+
+abbrev pub filled_entry : Option ℕ → Option ℕ → Entry → Entry
+filled_entry register filled e = record e { sources = map (filled_source register filled) e.sources }
+
+-- A number has been given to a register and to the entries that wait for it; nothing else has changed.
+pub record IsFilled (register filled : Option ℕ) (old new : Parts) : Type 0 where
+  pub harts : new.harts ≡ old.harts
+  pub queue : new.queue ≡ record old.queue { entries = map (filled_entry register filled) old.queue.entries }
+  pub free : new.free ≡ old.free
+  pub count : length new.values ≡ length old.values
+  pub values : (x : ℕ) (d : Option ℕ) → x < length old.values → slice_index_or new.values x d ≡ filled_value register filled x (slice_index_or old.values x d)
+  pub jobs : new.jobs ≡ old.jobs

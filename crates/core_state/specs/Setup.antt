@@ -2,10 +2,11 @@
 use Rattle.std.specs.Prelude.{ℕ, Bool, ◌&&◌, nat_le, length}
 use Rattle.elf_image.specs.Image.{ProgramImage}
 use Rattle.smt_model.specs.declared.config.Config.{Config}
+use Rattle.smt_model.specs.Exec.{covered_yet}
 use Rattle.smt_model.specs.Setup.{Setup, are_core_sizes}
 
 abbrev pub setup_of : ProgramImage → Config → Setup
-setup_of image config = record { image = image; harts = config.harts; extra = config.extra; queue = config.queue; roles = config.roles.items }
+setup_of image config = record { image = image; harts = config.harts; extra = config.extra; queue = config.queue; roles = config.roles.items; covers = covered_yet }
 
 -- The sizes and the limit are a core's.
 abbrev pub accepts : Config → ℕ → Bool

@@ -1,88 +1,130 @@
-ghost use Rattle.core_state.specs.Numbers.{HartKeeps, Keeps};
+ghost use Rattle.std.specs.Prelude.{◌≡◌, ℕ, ◌<◌, ◌==◌, ◌↔◌, IsTrue, IfSome, IfNone, Some, None, Option, false, length, slice_index_or};
+ghost use Rattle.std.specs.List.{list_any};
+ghost use Rattle.retire_squash.specs.Active.{with_stage};
+ghost use Rattle.smt_model.specs.Picture.{Picture};
+ghost use Rattle.smt_model.specs.Steps.{IsComplete, IsDrop};
+ghost use Rattle.core_state.specs.Agree.{IsActive, PartsAgree, KeepsSizes, From};
+ghost use Rattle.core_state.specs.Complete.{IsSameJob, strayed_to, IsFinish};
+ghost use Rattle.core_state.specs.declared.slot.OpenJob.{OpenJob as Open};
 
 use crate::hart::HartState;
 use crate::parts::{Parts, set_job};
 use crate::slot::OpenJob;
 use events::{Next, Outcome};
-use exec_units::Done;
-use retire_squash::Active;
-
-/// What became of a job that was handed back.
-pub enum HandedBack {
-    Completed(Outcome),
-    /// The instruction was squashed meanwhile.
-    Dropped,
-}
+use exec_units::{Done, Job};
+use retire_squash::{Active, Stage};
 
 impl OpenJob {
     /// Whether it is the job that was worked.
-    pub fn is_job_of(&self, done: &Done) -> bool {
-        let job = done.job();
-        self.seq == job.seq()
-            && self.op == job.op()
-            && self.pc == job.pc()
-            && self.first == job.first()
-            && self.second == job.second()
+    pub fn is_job_of(&self, done: &Done) -> bool
+        ensures { IsTrue result ↔ IsSameJob self.now done.now.job }
+    {
+        self.has_instruction(done.job()) && self.has_operands(done.job())
+    }
+
+    /// The same instruction, at the same pc.
+    fn has_instruction(&self, job: &Job) -> bool
+        ensures { IsTrue result ↔ (self.now.seq ≡ job.now.seq) × (self.now.op ≡ job.now.op) × (self.now.pc ≡ job.now.pc) }
+    {
+        self.op == job.op() && self.is_at(job)
+    }
+
+    fn is_at(&self, job: &Job) -> bool
+        ensures { IsTrue result ↔ (self.now.seq ≡ job.now.seq) × (self.now.pc ≡ job.now.pc) }
+    {
+        self.seq == job.seq() && self.pc == job.pc()
+    }
+
+    /// The same numbers of both sources.
+    fn has_operands(&self, job: &Job) -> bool
+        ensures { IsTrue result ↔ (self.now.first ≡ job.now.first) × (self.now.second ≡ job.now.second) }
+    {
+        self.first == job.first() && self.second == job.second()
     }
 }
 
 impl HartState {
-    fn complete(&mut self, seq: u32, outcome: Outcome)
-        ensures numbers { HartKeeps self.old self.new }
+    /// The instruction of this number has its outcome, and the hart is fetched from `goes_on`.
+    fn complete(&mut self, seq: u32, outcome: Outcome, goes_on: u32)
+        ensures { self.new ≡ record self.old { active = with_stage seq (Stage.Completed outcome) self.old.active; fetch_pc = goes_on } }
     {
         self.active.complete(seq, outcome);
+        self.fetch_pc = goes_on;
     }
 }
 
 impl Parts {
-    /// Takes back the job of actor `actor`, which has been worked. None where the actor has no such job, and then nothing changes.
-    pub fn complete(&mut self, actor: usize, done: &Done) -> Option<HandedBack>
-        ensures numbers { Keeps self.old.harts.items self.new.harts.items }
+    /// The open job of actor `actor`, where it is the one that was worked.
+    pub fn handed_back(&self, actor: u8, done: &Done) -> Option<OpenJob>
+        ensures some { IfSome result (λ job. slice_index_or self.now.jobs actor None ≡ Some job) }
+        ensures same { IfSome result (λ job. IsSameJob job done.now.job) }
+        ensures none { IfNone result ((job : Open) → slice_index_or self.now.jobs actor None ≡ Some job → IsSameJob job done.now.job → ⊥) }
     {
-        let job = (*self.jobs.get(actor)?)?;
+        let job = (*self.jobs.get(usize::from(actor))?)?;
         if !job.is_job_of(done) {
             return None;
         }
-        set_job(&mut self.jobs, actor, None);
-        let hart = job.hart;
-        match self.harts.get(usize::from(hart))?.active.find(job.seq) {
-            Some(active) => {
-                let outcome = done.outcome();
-                self.finish(hart, active, outcome);
-                Some(HandedBack::Completed(outcome))
-            }
-            None => Some(HandedBack::Dropped),
-        }
+        Some(job)
     }
 
-    /// Writes the outcome of an instruction in flight; where it goes elsewhere than was predicted, all younger ones of its
-    /// hart are squashed and the hart is fetched from there.
-    fn finish(&mut self, hart: u8, active: Active, outcome: Outcome)
-        ensures numbers { Keeps self.old.harts.items self.new.harts.items }
+    /// The instruction of number `seq`, where hart `hart` has it in flight.
+    pub fn in_flight(&self, hart: u8, seq: u32) -> Option<Active>
+        requires { hart < length self.now.harts.items }
+        ensures some { IfSome result (λ a. (p : Picture) → PartsAgree p self.now → IsActive p hart a × (a.seq ≡ seq)) }
+        ensures none { IfNone result ((p : Picture) → PartsAgree p self.now → list_any (λ s. s == seq) (p.flight hart) ≡ false) }
     {
-        self.note(hart, active.seq, outcome);
+        self.harts[usize::from(hart)].active.find(seq)
+    }
+
+    /// Hart `hart`'s instruction `active`, which is actor `actor`'s job, has its outcome. Where it goes elsewhere than was
+    /// predicted, all younger ones of its hart are squashed, and the hart is fetched from there.
+    pub fn finish(&mut self, actor: u8, hart: u8, active: &Active, outcome: Outcome)
+        requires step { From self.old hart (λ p q. IsFinish p q hart actor active.now outcome) }
+        ensures agrees { (p q : Picture) → PartsAgree p self.old → IsFinish p q hart actor active.now outcome → PartsAgree q self.new }
+        ensures sizes { KeepsSizes self.old self.new }
+    {
+        let Some(pc) = strayed_to(outcome.next, active.predicted) else {
+            let pc = self.harts[usize::from(hart)].fetch_pc;
+            self.write_outcome(actor, hart, active, outcome, pc);
+            return;
+        };
+        self.write_outcome(actor, hart, active, outcome, pc);
+        self.squash(hart, active.seq);
+    }
+
+    /// The outcome is written, its number handed on, the actor rid of the job, and the hart is fetched from `goes_on`.
+    fn write_outcome(
+        &mut self,
+        actor: u8,
+        hart: u8,
+        active: &Active,
+        outcome: Outcome,
+        goes_on: u32,
+    )
+        requires inside { hart < length self.old.harts.items }
+        ensures agrees { (p q : Picture) → PartsAgree p self.old → IsComplete p q hart active.now.seq actor outcome goes_on → active.now.phys ≡ p.phys active.now.seq → PartsAgree q self.new }
+        ensures sizes { KeepsSizes self.old self.new }
+    {
         self.fill(active.phys, outcome.value);
-        if let Next::Pc(pc) = outcome.next {
-            if pc != active.predicted {
-                self.go_to(hart, pc);
-                self.squash(hart, active.seq);
-            }
-        }
+        set_job(&mut self.jobs, usize::from(actor), None);
+        self.harts[usize::from(hart)].complete(active.seq, outcome, goes_on);
     }
 
-    fn note(&mut self, hart: u8, seq: u32, outcome: Outcome)
-        ensures numbers { Keeps self.old.harts.items self.new.harts.items }
+    /// Actor `actor` is rid of its job, whose instruction was squashed.
+    pub fn drop_job(&mut self, actor: u8)
+        ensures agrees { (p q : Picture) (n : ℕ) → PartsAgree p self.old → IsDrop p q n actor → PartsAgree q self.new }
+        ensures sizes { KeepsSizes self.old self.new }
     {
-        if let Some(state) = self.harts.get_mut(usize::from(hart)) {
-            state.complete(seq, outcome);
-        }
+        set_job(&mut self.jobs, usize::from(actor), None);
     }
+}
 
-    fn go_to(&mut self, hart: u8, pc: u32)
-        ensures numbers { Keeps self.old.harts.items self.new.harts.items }
-    {
-        if let Some(state) = self.harts.get_mut(usize::from(hart)) {
-            state.fetch_pc = pc;
-        }
+/// Where an instruction goes on that goes elsewhere than was predicted.
+fn strayed_to(next: Next, predicted: u32) -> Option<u32>
+    ensures { result ≡ strayed_to next predicted }
+{
+    match next {
+        Next::Pc(pc) if pc != predicted => Some(pc),
+        Next::Pc(_) | Next::Ended(_) | Next::Stopped(_) => None,
     }
 }

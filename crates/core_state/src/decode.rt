@@ -1,25 +1,19 @@
-ghost use Rattle.std.specs.Prelude.{◌≡◌, IfSome, IfNone};
-ghost use Rattle.core_state.specs.Numbers.{HartKeeps, IsInHart, Keeps};
+ghost use Rattle.std.specs.Prelude.{ℕ, ◌<◌, length, IfSome, IfNone};
+ghost use Rattle.smt_model.specs.Picture.{Picture};
+ghost use Rattle.smt_model.specs.Steps.{IsDecode};
+ghost use Rattle.core_state.specs.Agree.{PartsAgree, From, KeepsSizes};
+ghost use Rattle.core_state.specs.Decode.{CanDecode, Decodes, IsDecoded};
 
 use crate::hart::HartState;
 use crate::parts::Parts;
 
 impl Parts {
-    /// Decodes hart `hart`'s oldest fetched instruction, and tells its number; none where there is no such instruction, room
-    /// or hart, and then nothing changes.
-    pub fn decode(&mut self, hart: u8) -> Option<u32>
-        ensures number { IfSome result (λ s. IsInHart self.old.harts.items hart s) }
-        ensures numbers { Keeps self.old.harts.items self.new.harts.items }
-        ensures none { IfNone result (self.new ≡ self.old) }
-    {
-        let seq = self.next_to_decode(hart)?;
-        self.move_on(hart);
-        Some(seq)
-    }
-
-    /// The number of the oldest fetched instruction, where the rename latch has room.
-    fn next_to_decode(&self, hart: u8) -> Option<u32>
-        ensures { IfSome result (λ s. IsInHart self.now.harts.items hart s) }
+    /// The number of hart `hart`'s oldest fetched instruction, where it can be decoded: the rename latch has room. None
+    /// where there is no such instruction, room or hart.
+    pub fn next_to_decode(&self, hart: u8) -> Option<u32>
+        ensures inside { IfSome result (λ s. hart < length self.now.harts.items) }
+        ensures some { IfSome result (λ s. (p : Picture) → PartsAgree p self.now → CanDecode p hart s) }
+        ensures none { IfNone result ((p : Picture) → PartsAgree p self.now → hart < length self.now.harts.items → (s : ℕ) → CanDecode p hart s → ⊥) }
     {
         let state = self.harts.get(usize::from(hart))?;
         let slot = state.decode_latch.first()?;
@@ -30,23 +24,24 @@ impl Parts {
         }
     }
 
-    fn move_on(&mut self, hart: u8)
-        ensures numbers { Keeps self.old.harts.items self.new.harts.items }
+    /// Decodes hart `hart`'s oldest fetched instruction.
+    pub fn decode(&mut self, hart: u8)
+        requires step { From self.old hart (λ p q. Decodes p q hart) }
+        ensures agrees { (p q : Picture) → PartsAgree p self.old → (n : ℕ) → IsDecode p q hart n → PartsAgree q self.new }
+        ensures sizes { KeepsSizes self.old self.new }
     {
-        if let Some(state) = self.harts.get_mut(usize::from(hart)) {
-            state.move_on();
-        }
+        self.harts[usize::from(hart)].decode();
     }
 }
 
 impl HartState {
     /// Moves the oldest fetched instruction to the rename latch.
-    fn move_on(&mut self)
-        ensures numbers { HartKeeps self.old self.new }
+    fn decode(&mut self)
+        requires some { 0 < length self.old.decode_latch.items }
+        requires room { length self.old.rename_latch.items < 8 }
+        ensures { IsDecoded self.old self.new }
     {
-        if !self.decode_latch.is_empty() && !self.rename_latch.is_full() {
-            let slot = self.decode_latch.remove(0);
-            self.rename_latch.push(slot);
-        }
+        let slot = self.decode_latch.remove(0);
+        self.rename_latch.push(slot);
     }
 }

@@ -1,39 +1,48 @@
-ghost use Rattle.std.specs.Prelude.{◌≡◌, ℕ, ◌<◌, ◌≤◌, Bool, true, length, IfSome};
-ghost use Rattle.core_state.specs.Numbers.{HartPasses, EachPasses};
+ghost use Rattle.std.specs.Prelude.{◌≡◌, ℕ, ◌<◌, ◌≤◌, length, IfSome};
+ghost use Rattle.rv_decode.specs.Decode.{op_of_word};
+ghost use Rattle.smt_model.specs.Picture.{Picture};
+ghost use Rattle.smt_model.specs.Steps.{IsFetch};
+ghost use Rattle.core_state.specs.Agree.{PartsAgree, From, KeepsSizes};
+ghost use Rattle.core_state.specs.Fetch.{next_hart, is_better, better_of, from_to, fetched_of, Fetches, IsFetchedInto};
 
 use crate::hart::HartState;
 use crate::parts::Parts;
 use crate::slot::Slot;
 
-/// The better of `best` and the harts `from..to` to fetch: one that may be fetched and has a lower ICOUNT.
+/// The best of `best` and the harts `from..to` to fetch, in this order.
 fn better(harts: &[HartState], from: usize, to: usize, best: Option<usize>) -> Option<usize>
+    requires range { from ≤ to }
     requires end { to ≤ length harts.now }
     requires inside { IfSome best (λ h. h < length harts.now) }
-    ensures { IfSome result (λ h. h < length harts.now) }
+    ensures value { result ≡ better_of harts.now best (from_to from to) }
+    ensures inside { IfSome result (λ h. h < length harts.now) }
 {
     let mut best = best;
     for hart in from..to {
-        if harts[hart].may_fetch() && is_better(harts, hart, best) {
+        if is_better(harts, hart, best) {
             best = Some(hart);
         }
     }
     best
 }
 
+/// Whether hart `hart` may be fetched and comes before `best`: it has a lower ICOUNT.
 fn is_better(harts: &[HartState], hart: usize, best: Option<usize>) -> bool
     requires hart_inside { hart < length harts.now }
     requires best_inside { IfSome best (λ h. h < length harts.now) }
+    ensures { result ≡ is_better harts.now hart best }
 {
     match best {
-        Some(best) => harts[hart].icount < harts[best].icount,
-        None => true,
+        Some(best) => harts[hart].may_fetch() && harts[hart].icount < harts[best].icount,
+        None => harts[hart].may_fetch(),
     }
 }
 
 /// The hart to fetch: of those that are going and have room in their decode latch, the one with the lowest ICOUNT, and of
 /// equals the first after the hart that was fetched last, going round (Tullsen and others, ISCA 1996).
 pub fn choose(harts: &[HartState], last: Option<u8>) -> Option<usize>
-    ensures { IfSome result (λ h. h < length harts.now) }
+    ensures value { result ≡ next_hart harts.now last }
+    ensures inside { IfSome result (λ h. h < length harts.now) }
 {
     let next = match last {
         Some(last) => harts.len().min(usize::from(last) + 1),
@@ -44,24 +53,26 @@ pub fn choose(harts: &[HartState], last: Option<u8>) -> Option<usize>
 }
 
 impl Parts {
-    /// Takes a fetched instruction into hart `hart`'s decode latch, if it has room.
+    /// Takes an instruction that hart `hart` has fetched into its decode latch.
     pub fn fetch(&mut self, hart: usize, slot: Slot)
-        requires { hart < length self.old.harts.items }
-        ensures count { length self.new.harts.items ≡ length self.old.harts.items }
-        ensures numbers { (test : ℕ → ℕ → Bool) → test hart slot.seq ≡ true → EachPasses test self.old.harts.items → EachPasses test self.new.harts.items }
+        requires step { From self.old hart (λ p q. Fetches p q hart slot) }
+        requires op { slot.op ≡ op_of_word slot.word }
+        ensures agrees { (p q : Picture) → PartsAgree p self.old → IsFetch p q slot.seq (fetched_of hart slot) → PartsAgree q self.new }
+        ensures sizes { KeepsSizes self.old self.new }
     {
         self.harts[hart].fetch(slot);
     }
 }
 
 impl HartState {
-    /// Takes a fetched instruction into the decode latch, if it has room.
-    pub fn fetch(&mut self, slot: Slot)
-        ensures numbers { (test : ℕ → Bool) → test slot.seq ≡ true → HartPasses test self.old → HartPasses test self.new }
+    /// Takes a fetched instruction into the decode latch.
+    fn fetch(&mut self, slot: Slot)
+        requires room { length self.old.decode_latch.items < 8 }
+        requires few { self.old.icount < 16777216 }
+        ensures { IsFetchedInto slot self.old self.new }
     {
-        if self.decode_latch.try_push(slot).is_ok() {
-            self.icount = self.icount.saturating_add(1);
-            self.fetch_pc = slot.predicted;
-        }
+        self.decode_latch.push(slot);
+        self.icount += 1;
+        self.fetch_pc = slot.predicted;
     }
 }

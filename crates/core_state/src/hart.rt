@@ -1,5 +1,6 @@
-ghost use Rattle.std.specs.Prelude.{◌≡◌, ℕ, ◌<◌, Bool, [], IsTrue, length};
-ghost use Rattle.core_state.specs.Numbers.{HartPasses};
+ghost use Rattle.std.specs.Prelude.{◌≡◌, ◌<◌};
+ghost use Rattle.core_state.specs.Fetch.{has_room};
+ghost use Rattle.core_state.specs.First.{IsNew};
 
 use crate::slot::Slot;
 use arrayvec::ArrayVec;
@@ -27,10 +28,7 @@ impl HartState {
     /// Hart `hart` as it begins, at the entry of the program.
     pub fn new(hart: u8, entry: u32) -> Self
         requires { hart < 8 }
-        ensures decode_latch { result.decode_latch.items ≡ [] }
-        ensures rename_latch { result.rename_latch.items ≡ [] }
-        ensures active { result.active ≡ [] }
-        ensures empty { (test : ℕ → Bool) → HartPasses test result }
+        ensures { IsNew hart entry result }
     {
         HartState {
             decode_latch: ArrayVec::new(),
@@ -45,8 +43,8 @@ impl HartState {
 
     /// Whether the hart may be fetched: it is going and its decode latch has room.
     pub fn may_fetch(&self) -> bool
-        ensures { IsTrue result → length self.now.decode_latch.items < 8 }
+        ensures { result ≡ has_room self.now }
     {
-        self.status == Status::Going && !self.decode_latch.is_full()
+        matches!(self.status, Status::Going) && !self.decode_latch.is_full()
     }
 }

@@ -2,7 +2,7 @@
 //!
 //! Read in this order: `slot` (an instruction before it is renamed), `hart` (what each hart has of its own), `parts` (what
 //! all harts share), then the steps in the order of the pipeline: `fetch`, `decode`, `rename`, `issue`, `complete`,
-//! `retire`, and `squash`, which the last two share; and `state`, which holds it all and writes the history.
+//! `retire`, and `squash`, which the last two share; and `state`, which holds it all and writes the history by `log`.
 #![tactic(auto)]
 
 mod complete;
@@ -10,7 +10,9 @@ mod decode;
 mod fetch;
 mod hart;
 mod issue;
+mod log;
 mod parts;
+mod refused;
 mod rename;
 mod retire;
 mod sizes;
@@ -18,4 +20,5 @@ mod slot;
 mod squash;
 mod state;
 
-pub use state::{CoreRefused, State};
+pub use refused::CoreRefused;
+pub use state::State;

@@ -1,10 +1,16 @@
-ghost use Rattle.std.specs.Prelude.{◌≡◌, ℕ, ◌≤◌, Bool, length, IfOk};
-ghost use Rattle.core_state.specs.Numbers.{EachPasses};
+ghost use Rattle.std.specs.Prelude.{◌≡◌, ℕ, ◌<◌, ◌≤◌, ◌==◌, ◌||◌, Bool, false, List, Option, Some, None, length, IfOk, IfSome, slice_index_or, slice_set};
+ghost use Rattle.free_list.specs.Flags.{holds};
+ghost use Rattle.smt_model.specs.Basics.{same_number};
+ghost use Rattle.smt_model.specs.Setup.{first_number};
+ghost use Rattle.core_state.specs.Agree.{IsFilled};
+ghost use Rattle.core_state.specs.First.{BeginsAs, first_values};
+ghost use Rattle.core_state.specs.Listed.{listed};
 
 use crate::hart::HartState;
 use crate::slot::OpenJob;
+use arrayvec::ArrayVec;
 use free_list::FreeList;
-use issue_queue::{IssueQueue, Source};
+use issue_queue::IssueQueue;
 use std::alloc::{AllocError, Global};
 
 /// The parts of the core that its steps move instructions through.
@@ -31,8 +37,9 @@ impl Parts {
         requires harts_fit { harts ≤ 8 }
         requires extra_fit { extra ≤ 256 }
         requires queue_fits { queue ≤ 64 }
+        ensures begins { IfOk result (BeginsAs harts extra entry) }
         ensures harts { IfOk result (λ parts. length parts.harts.items ≡ harts) }
-        ensures empty { IfOk result (λ parts. (test : ℕ → ℕ → Bool) → EachPasses test parts.harts.items) }
+        ensures queue { IfOk result (λ parts. parts.queue.size ≡ queue) }
     {
         let mut each = Vec::with_capacity(alloc, usize::from(harts))?;
         let mut values = [None; 512];
@@ -49,76 +56,90 @@ impl Parts {
         })
     }
 
-    /// Writes an instruction's number into its register, and hands it to the entries that wait for it.
+    /// Puts an instruction's number into its register, if it has both, and hands it to the entries that wait for it. A register
+    /// that is given none holds none.
     pub fn fill(&mut self, register: Option<u16>, value: Option<u32>)
-        ensures harts { self.new.harts ≡ self.old.harts }
+        ensures { IsFilled register value self.old self.new }
     {
-        if let (Some(register), Some(value)) = (register, value) {
-            set_value(&mut self.values, register, Some(value));
+        let Some(register) = register else {
+            return;
+        };
+        set_value(&mut self.values, register, value);
+        if let Some(value) = value {
             self.queue.wake(register, value);
-        }
-    }
-
-    /// What an instruction of hart `hart` reads from its register `register` now: 0 for x0 or none, else the number that the
-    /// hart's map leads to, or the physical register to wait for.
-    pub fn source(&self, hart: &HartState, register: Option<u8>) -> Source {
-        match register {
-            Some(register @ 1..32) => self.read(hart.maps.lookup(register)),
-            _ => Source::Value(0),
-        }
-    }
-
-    fn read(&self, register: u16) -> Source {
-        match value_of(&self.values, register) {
-            Some(value) => Source::Value(value),
-            None => Source::Waits(register),
         }
     }
 }
 
 /// Writes what hart `hart`'s registers 1 to 31 hold at the start: x10 its number, x11 how many harts there are, others 0.
-fn set_first_values(values: &mut [Option<u32>; 512], hart: u8, harts: u8) {
+fn set_first_values(values: &mut [Option<u32>; 512], hart: u8, harts: u8)
+    requires { hart < 8 }
+    ensures { (x : ℕ) (d : Option ℕ) → x < 512 → slice_index_or values.new x d ≡ first_values harts hart x (slice_index_or values.old x d) }
+{
     for register in 1..32u8 {
-        let number = match register {
-            10 => u32::from(hart),
-            11 => u32::from(harts),
-            _ => 0,
-        };
-        set_value(
-            values,
-            31 * u16::from(hart) + u16::from(register) - 1,
-            Some(number),
-        );
+        let place = 31 * usize::from(hart) + usize::from(register) - 1;
+        values[place] = Some(first_number(register, hart, harts));
+    }
+}
+
+/// What hart `hart`'s register `register` holds at the start.
+fn first_number(register: u8, hart: u8, harts: u8) -> u32
+    ensures { result ≡ first_number harts hart register }
+{
+    match register {
+        10 => u32::from(hart),
+        11 => u32::from(harts),
+        _ => 0,
     }
 }
 
 /// The number in a physical register, where it has one.
-pub fn value_of(values: &[Option<u32>; 512], register: u16) -> Option<u32> {
+pub fn value_of(values: &[Option<u32>; 512], register: u16) -> Option<u32>
+    ensures { result ≡ slice_index_or values.now register None }
+{
     match values.get(usize::from(register)) {
         Some(value) => *value,
         None => None,
     }
 }
 
-/// Puts a number into a physical register, or takes it away.
-pub fn set_value(values: &mut [Option<u32>; 512], register: u16, value: Option<u32>) {
-    if let Some(place) = values.get_mut(usize::from(register)) {
-        *place = value;
+/// Puts a number into a physical register, or takes it away. There is no register from 512 on, and then nothing changes.
+pub fn set_value(values: &mut [Option<u32>; 512], register: u16, value: Option<u32>)
+    ensures { values.new ≡ slice_set values.old register value }
+{
+    if register < 512 {
+        values[usize::from(register)] = value;
     }
 }
 
-/// Gives an actor a job, or takes it away.
-pub fn set_job(jobs: &mut [Option<OpenJob>; 16], actor: usize, job: Option<OpenJob>) {
-    if let Some(place) = jobs.get_mut(actor) {
-        *place = job;
+/// Gives an actor a job, or takes it away. There is no actor from 16 on, and then nothing changes.
+pub fn set_job(jobs: &mut [Option<OpenJob>; 16], actor: usize, job: Option<OpenJob>)
+    ensures { jobs.new ≡ slice_set jobs.old actor job }
+{
+    if actor < 16 {
+        jobs[actor] = job;
     }
 }
 
 /// Puts an instruction's register back among the free ones.
-pub fn give_back(free: &mut FreeList, register: Option<u16>) {
+pub fn give_back(free: &mut FreeList, register: Option<u16>)
+    requires { IfSome register (λ r. (r < 512) × (holds free.old r ≡ false)) }
+    ensures { (x : ℕ) → holds free.new x ≡ (holds free.old x || same_number register (Some x)) }
+{
     if let Some(register) = register {
-        if register < 512 && !free.holds(register) {
-            free.give(register);
+        free.give(register);
+    }
+}
+
+/// The registers of a free list, rising.
+pub fn registers_in(free: &FreeList) -> ArrayVec<u16, 512>
+    ensures { result.items ≡ listed (λ x. holds free.now x) }
+{
+    let mut registers = ArrayVec::new();
+    for register in 0..512 {
+        if free.holds(register) {
+            registers.push(register);
         }
     }
+    registers
 }

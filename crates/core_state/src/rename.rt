@@ -1,10 +1,22 @@
-ghost use Rattle.std.specs.Prelude.{◌≡◌, ℕ, ◌<◌, Bool, true, IfSome};
-ghost use Rattle.core_state.specs.Numbers.{HartPasses, EachPasses, IsInHart, Keeps};
+ghost use Rattle.std.specs.Prelude.{◌≡◌, ℕ, ◌<◌, ◌&&◌, Option, not, ◌==◌, length, IfSome, IfNone};
+ghost use Rattle.free_list.specs.Flags.{holds};
+ghost use Rattle.issue_queue.specs.declared.entry.Source.{Source};
+ghost use Rattle.rename_map.specs.Maps.{lookup, IsWritable};
+ghost use Rattle.retire_squash.specs.Active.{Above};
+ghost use Rattle.rv_decode.specs.Table.{OpInRange};
+ghost use Rattle.smt_model.specs.Basics.{first, or_zero};
+ghost use Rattle.smt_model.specs.Kinds.{destination, kind_of, is_loading, is_storing};
+ghost use Rattle.smt_model.specs.Picture.{Picture};
+ghost use Rattle.smt_model.specs.Steps.{renamed_map, is_taken};
+ghost use Rattle.core_state.specs.Agree.{PartsAgree, KeepsSizes, From};
+ghost use Rattle.core_state.specs.Renaming.{CanRename, IsLeastIn, IsRenaming, CanEnter, HasRenamed, has_full_memory_queue, source_in, emptied};
 
 use crate::hart::HartState;
-use crate::parts::{Parts, set_value};
+use crate::parts::Parts;
 use crate::slot::Slot;
-use issue_queue::{Entry, IssueQueue};
+use free_list::FreeList;
+use issue_queue::{Entry, Source};
+use rename_map::HartMaps;
 use retire_squash::{Active, Stage};
 use rv_decode::{Instr, Op};
 
@@ -12,129 +24,166 @@ use rv_decode::{Instr, Op};
 const MEMORY_QUEUE: usize = 16;
 
 impl Parts {
-    /// Renames hart `hart`'s oldest decoded instruction into the issue queue and its active list, with the least free
-    /// register where it writes one. Tells its number and that register; none where there is no such instruction or no
-    /// room or register for it, and then nothing changes.
-    pub fn rename(&mut self, hart: u8) -> Option<(u32, Option<u16>)>
-        ensures number { IfSome result (λ r. IsInHart self.old.harts.items hart r.0) }
-        ensures numbers { Keeps self.old.harts.items self.new.harts.items }
+    /// What a rename of hart `hart` takes: the number of its oldest decoded instruction, and the least free register where that
+    /// one writes a register. None where there is no such instruction, no room, register or hart.
+    pub fn next_to_rename(&self, hart: u8) -> Option<(u32, Option<u16>)>
+        ensures inside { IfSome result (λ r. hart < length self.now.harts.items) }
+        ensures some { IfSome result (λ r. (p : Picture) → PartsAgree p self.now → CanRename p self.now.queue.size hart r.0 r.1) }
+        ensures least { IfSome result (λ r. (p : Picture) → PartsAgree p self.now → IsLeastIn p r.1) }
+        ensures none { IfNone result ((p : Picture) → PartsAgree p self.now → hart < length self.now.harts.items → (n : ℕ) (taken : Option ℕ) → CanRename p self.now.queue.size hart n taken → ⊥) }
     {
-        let slot = self.next_to_rename(hart)?;
-        if destination(slot.op).is_none() {
-            self.enter(hart, slot, None);
+        let slot = self.harts.get(usize::from(hart))?.next_to_rename()?;
+        if self.queue.is_full() {
+            return None;
+        }
+        if !writes_register(slot.op) {
             return Some((slot.seq, None));
         }
-        let phys = self.free.take()?;
-        self.enter(hart, slot, Some(phys));
-        Some((slot.seq, Some(phys)))
+        let register = self.free.least()?;
+        Some((slot.seq, Some(register)))
     }
 
-    /// The oldest decoded instruction, where every list that it enters has room.
-    fn next_to_rename(&self, hart: u8) -> Option<Slot>
-        ensures { IfSome result (λ s. IsInHart self.now.harts.items hart s.seq) }
+    /// Moves hart `hart`'s oldest decoded instruction into the active list and the queue, with the register `phys` where it
+    /// writes one. Its sources are looked up before its own register enters the map.
+    pub fn rename(&mut self, hart: u8, phys: Option<u16>)
+        requires step { From self.old hart (λ p q. IsRenaming p q self.old.queue.size hart phys) }
+        ensures agrees { (p q : Picture) → PartsAgree p self.old → IsRenaming p q self.old.queue.size hart phys → PartsAgree q self.new }
+        ensures sizes { KeepsSizes self.old self.new }
     {
-        let state = self.harts.get(usize::from(hart))?;
-        let slot = *state.rename_latch.first()?;
-        if self.queue.is_full() || state.active.is_full() || state.has_full_memory_queue(slot.op) {
-            None
-        } else {
-            Some(slot)
-        }
-    }
-
-    /// Moves the oldest decoded instruction into the active list and the queue. Its sources are looked up before its own
-    /// register enters the map.
-    fn enter(&mut self, hart: u8, slot: Slot, phys: Option<u16>)
-        requires number { IsInHart self.old.harts.items hart slot.seq }
-        ensures numbers { Keeps self.old.harts.items self.new.harts.items }
-    {
-        let Some(state) = self.harts.get(usize::from(hart)) else {
-            return;
-        };
+        let state = &self.harts[usize::from(hart)];
+        let slot = state.rename_latch[0];
         let sources = [
-            self.source(state, slot.op.rs1()),
-            self.source(state, slot.op.rs2()),
+            source(&state.maps, &self.values, slot.op.rs1()),
+            source(&state.maps, &self.values, slot.op.rs2()),
         ];
-        wait(
-            &mut self.queue,
-            Entry {
-                seq: slot.seq,
-                hart,
-                op: slot.op,
-                pc: slot.pc,
-                sources,
-            },
-        );
-        lose_value(&mut self.values, phys);
-        if let Some(state) = self.harts.get_mut(usize::from(hart)) {
-            state.enter(slot, phys);
+        self.queue.insert(Entry {
+            seq: slot.seq,
+            hart,
+            op: slot.op,
+            pc: slot.pc,
+            sources,
+        });
+        take(&mut self.free, &mut self.values, phys);
+        self.harts[usize::from(hart)].rename(slot, phys);
+    }
+}
+
+/// What an instruction reads from its register `register` now: 0 for x0 or none, else the number that the map leads to, or
+/// the physical register to wait for.
+fn source(maps: &HartMaps, values: &[Option<u32>; 512], register: Option<u8>) -> Source
+    requires below { IfSome register (λ r. r < 32) }
+    requires mapped { (r : ℕ) → 0 < r → r < 32 → lookup maps.now r < 512 }
+    ensures { result ≡ source_in values.now maps.now (or_zero register) }
+{
+    match register {
+        None | Some(0) => Source::Value(0),
+        Some(register) => {
+            let phys = maps.lookup(register);
+            match values[usize::from(phys)] {
+                Some(value) => Source::Value(value),
+                None => Source::Waits(phys),
+            }
         }
     }
 }
 
-/// An instruction's register has no number yet.
-fn lose_value(values: &mut [Option<u32>; 512], register: Option<u16>) {
+/// An instruction is given this register, if any: it is no longer free, and has no number yet.
+fn take(free: &mut FreeList, values: &mut [Option<u32>; 512], register: Option<u16>)
+    requires { IfSome register (λ x. x < 512) }
+    ensures free { (x : ℕ) → holds free.new x ≡ (holds free.old x && not (is_taken register x)) }
+    ensures values { values.new ≡ emptied register values.old }
+{
     if let Some(register) = register {
-        set_value(values, register, None);
-    }
-}
-
-/// Takes an instruction into the queue, where it isn't yet.
-fn wait(queue: &mut IssueQueue, entry: Entry) {
-    if !queue.is_full() && !queue.holds(entry.seq) {
-        queue.insert(entry);
+        free.take_this(register);
+        values[usize::from(register)] = None;
     }
 }
 
 impl HartState {
-    fn enter(&mut self, slot: Slot, phys: Option<u16>)
-        ensures numbers { (test : ℕ → Bool) → test slot.seq ≡ true → HartPasses test self.old → HartPasses test self.new }
+    /// The oldest decoded instruction, where the active list has room for it, and for another load or store where it is one.
+    fn next_to_rename(&self) -> Option<Slot>
+        ensures some { IfSome result (CanEnter self.now) }
+        ensures none { IfNone result ((slot : Slot) → CanEnter self.now slot → ⊥) }
     {
-        if !self.rename_latch.is_empty() {
-            self.rename_latch.remove(0);
+        let slot = *self.rename_latch.first()?;
+        if self.active.is_full() || has_full_memory_queue(self.active.items(), slot.op) {
+            return None;
         }
-        if self.active.may_append(slot.seq) {
-            self.active.append(Active {
-                seq: slot.seq,
-                rd: destination(slot.op).unwrap_or(0),
-                phys,
-                op: slot.op,
-                pc: slot.pc,
-                word: slot.word,
-                predicted: slot.predicted,
-                stage: Stage::Renamed,
-            });
-        }
-        if let (Some(rd), Some(phys)) = (destination(slot.op), phys) {
-            self.maps.rename(rd, phys);
-        }
+        Some(slot)
     }
 
-    /// Whether an instruction that is a load or a store finds as many of them in flight as may be.
-    fn has_full_memory_queue(&self, op: Op) -> bool {
-        let active = self.active.items();
-        (is_load(op) && active.iter().filter(|other| is_load(other.op)).count() >= MEMORY_QUEUE)
-            || (is_store(op)
-                && active.iter().filter(|other| is_store(other.op)).count() >= MEMORY_QUEUE)
+    /// Moves `slot`, the oldest decoded instruction, into the active list, and its register into the map.
+    fn rename(&mut self, slot: Slot, phys: Option<u16>)
+        requires oldest { first self.old.rename_latch.items ≡ Some slot }
+        requires room { length self.old.active < 64 }
+        requires younger { Above slot.seq self.old.active }
+        requires in_range { OpInRange slot.op }
+        requires writes { IfSome phys (λ x. 0 < destination slot.op) }
+        ensures { HasRenamed slot phys self.old self.new }
+    {
+        self.rename_latch.remove(0);
+        let rd = destination(slot.op);
+        self.active.append(Active {
+            seq: slot.seq,
+            rd,
+            phys,
+            op: slot.op,
+            pc: slot.pc,
+            word: slot.word,
+            predicted: slot.predicted,
+            stage: Stage::Renamed,
+        });
+        enter(&mut self.maps, rd, phys);
     }
 }
 
-/// The register that the instruction writes, 1 to 31; none where that is x0.
-pub fn destination(op: Op) -> Option<u8>
-    ensures { IfSome result (λ rd. (0 < rd) × (rd < 32)) }
+/// The register `rd` is in `phys` from now on, where an instruction writes it.
+fn enter(maps: &mut HartMaps, rd: u8, phys: Option<u16>)
+    requires { IfSome phys (λ x. IsWritable rd) }
+    ensures speculative { (r : ℕ) → 0 < r → r < 32 → lookup maps.new r ≡ renamed_map rd phys r (lookup maps.old r) }
+    ensures committed { maps.new.committed ≡ maps.old.committed }
 {
-    match op.rd() {
-        Some(rd @ 1..32) => Some(rd),
-        _ => None,
+    if let Some(phys) = phys {
+        maps.rename(rd, phys);
     }
+}
+
+/// Whether as many loads are in flight as may be and another comes, or as many stores.
+fn has_full_memory_queue(active: &[Active], op: Op) -> bool
+    ensures { result ≡ has_full_memory_queue op active.now }
+{
+    (is_load(op) && active.iter().filter(|other| is_load(other.op)).count() >= MEMORY_QUEUE)
+        || (is_store(op)
+            && active.iter().filter(|other| is_store(other.op)).count() >= MEMORY_QUEUE)
+}
+
+/// The register that the instruction writes, 1 to 31; 0 where it writes none.
+#[tactic(auto, unfolding(smt_model::specs::Kinds::destination))]
+fn destination(op: Op) -> u8
+    ensures { result ≡ destination op }
+{
+    op.rd().unwrap_or(0)
+}
+
+/// Whether the instruction writes a register: x0 is none.
+fn writes_register(op: Op) -> bool
+    ensures { result ≡ not (destination op == 0) }
+{
+    destination(op) != 0
 }
 
 /// LB, LH, LW, LBU, LHU.
-fn is_load(op: Op) -> bool {
+#[tactic(auto, unfolding(smt_model::specs::Kinds::kind_of))]
+fn is_load(op: Op) -> bool
+    ensures { result ≡ is_loading (kind_of op) }
+{
     matches!(op, Op::Known(Instr::Load { .. }))
 }
 
 /// SB, SH, SW.
-fn is_store(op: Op) -> bool {
+#[tactic(auto, unfolding(smt_model::specs::Kinds::kind_of))]
+fn is_store(op: Op) -> bool
+    ensures { result ≡ is_storing (kind_of op) }
+{
     matches!(op, Op::Known(Instr::Store { .. }))
 }

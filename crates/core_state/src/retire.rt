@@ -1,54 +1,34 @@
-ghost use Rattle.std.specs.Prelude.{◌≡◌, None, IfSome};
-ghost use Rattle.core_state.specs.Numbers.{HartKeeps, IsInHart, Keeps};
+ghost use Rattle.std.specs.Prelude.{◌≡◌, ℕ, ◌<◌, IfSome, IfNone, length};
+ghost use Rattle.rename_map.specs.Maps.{IsWritable};
+ghost use Rattle.smt_model.specs.Picture.{Picture};
+ghost use Rattle.core_state.specs.Agree.{PartsAgree, KeepsSizes, From};
+ghost use Rattle.core_state.specs.Retirement.{effect_from, CanRetire, NoneCanRetire, Retires, Commits, Ends, Leaves, HasCommitted, HasLeft};
 
 use crate::hart::HartState;
 use crate::parts::{Parts, give_back};
-use events::{Effect, Next, Outcome, Record};
-use free_list::FreeList;
+use events::{Effect, Next, Outcome};
 use retire_squash::{Active, Stage};
 use smt_model::Status;
 
-/// An instruction that has retired, and its record.
-#[derive(Clone, Copy, Drop)]
-pub struct Retired {
-    pub seq: u32,
-    pub record: Record,
+/// What an instruction does that retires with this outcome. None of those that are executed writes memory.
+pub fn effect_of(outcome: Outcome) -> Effect
+    ensures { result ≡ effect_from outcome }
+{
+    Effect {
+        value: outcome.value,
+        next: outcome.next,
+        write: None,
+        out: outcome.out,
+    }
 }
 
 impl Parts {
-    /// Retires hart `hart`'s oldest instruction in flight, where it is completed; else none, and then nothing changes.
-    pub fn retire(&mut self, hart: u8) -> Option<Retired>
-        ensures number { IfSome result (λ r. IsInHart self.old.harts.items hart r.seq) }
-        ensures numbers { Keeps self.old.harts.items self.new.harts.items }
-        ensures reads { IfSome result (λ r. r.record.effect.write ≡ None) }
-    {
-        let (active, outcome) = self.first_completed(hart)?;
-        let effect = Effect {
-            value: outcome.value,
-            next: outcome.next,
-            write: None,
-            out: outcome.out,
-        };
-        match outcome.next {
-            Next::Pc(_) => self.commit(hart, active, effect),
-            Next::Ended(status) => self.halt(hart, active, Status::Ended(status)),
-            Next::Stopped(cause) => self.halt(hart, active, Status::Stopped(cause)),
-        }
-        let record = Record {
-            hart: hart,
-            pc: active.pc,
-            word: active.word,
-            effect,
-        };
-        Some(Retired {
-            seq: active.seq,
-            record,
-        })
-    }
-
-    /// Hart `hart`'s oldest instruction in flight and its outcome, where it is completed.
-    fn first_completed(&self, hart: u8) -> Option<(Active, Outcome)>
-        ensures { IfSome result (λ r. IsInHart self.now.harts.items hart r.0.seq) }
+    /// Hart `hart`'s oldest instruction in flight and its outcome, where it is completed. None where it isn't, where there is
+    /// none, and where there is no such hart.
+    pub fn next_to_retire(&self, hart: u8) -> Option<(Active, Outcome)>
+        ensures inside { IfSome result (λ r. hart < length self.now.harts.items) }
+        ensures some { IfSome result (λ r. (p : Picture) → PartsAgree p self.now → CanRetire p hart r.0 r.1) }
+        ensures none { IfNone result (hart < length self.now.harts.items → (p : Picture) → PartsAgree p self.now → NoneCanRetire p hart) }
     {
         let active = self.harts.get(usize::from(hart))?.active.head()?;
         match active.stage {
@@ -57,59 +37,69 @@ impl Parts {
         }
     }
 
-    /// The register that was committed before becomes free.
-    fn commit(&mut self, hart: u8, active: Active, effect: Effect)
-        ensures numbers { Keeps self.old.harts.items self.new.harts.items }
+    /// Retires hart `hart`'s oldest instruction in flight, `active`, with this effect: it commits, or ends or stops its hart.
+    pub fn retire(&mut self, hart: u8, active: Active, effect: Effect)
+        requires step { From self.old hart (λ p q. Retires p q hart active effect) }
+        ensures agrees { (p q : Picture) → PartsAgree p self.old → Retires p q hart active effect → PartsAgree q self.new }
+        ensures sizes { KeepsSizes self.old self.new }
     {
-        self.fill(active.phys, effect.value);
-        if let Some(state) = self.harts.get_mut(usize::from(hart)) {
-            state.commit(active.rd, active.phys, &mut self.free);
+        match effect.next {
+            Next::Pc(_) => self.commit(hart, active, effect),
+            Next::Ended(status) => self.halt(hart, active, Status::Ended(status)),
+            Next::Stopped(cause) => self.halt(hart, active, Status::Stopped(cause)),
         }
+    }
+
+    /// Its register becomes the committed one, and the one before becomes free.
+    fn commit(&mut self, hart: u8, active: Active, effect: Effect)
+        requires step { From self.old hart (λ p q. Commits p q hart active effect) }
+        ensures agrees { (p q : Picture) → PartsAgree p self.old → Commits p q hart active effect → PartsAgree q self.new }
+        ensures sizes { KeepsSizes self.old self.new }
+    {
+        let replaced = self.harts[usize::from(hart)].commit(active.rd, active.phys);
+        give_back(&mut self.free, replaced);
+        self.fill(active.phys, effect.value);
     }
 
     /// Nothing is committed: its own register becomes free, and all younger ones are squashed.
     fn halt(&mut self, hart: u8, active: Active, status: Status)
-        ensures numbers { Keeps self.old.harts.items self.new.harts.items }
+        requires step { From self.old hart (λ p q. Ends p q hart active status) }
+        ensures agrees { (p q : Picture) → PartsAgree p self.old → Ends p q hart active status → PartsAgree q self.new }
+        ensures sizes { KeepsSizes self.old self.new }
     {
-        give_back(&mut self.free, active.phys);
-        self.stand(hart, status);
+        self.leave(hart, active, status);
         self.squash(hart, active.seq);
     }
 
-    /// Hart `hart` loses its oldest instruction, and stands like this from now on.
-    fn stand(&mut self, hart: u8, status: Status)
-        ensures numbers { Keeps self.old.harts.items self.new.harts.items }
+    /// Hart `hart` loses its oldest instruction, whose register becomes free, and stands like this from now on.
+    fn leave(&mut self, hart: u8, active: Active, status: Status)
+        requires step { From self.old hart (λ p q. Leaves p q hart active status) }
+        ensures agrees { (p q : Picture) → PartsAgree p self.old → Leaves p q hart active status → PartsAgree q self.new }
+        ensures sizes { KeepsSizes self.old self.new }
     {
-        if let Some(state) = self.harts.get_mut(usize::from(hart)) {
-            state.stand(status);
-        }
+        self.harts[usize::from(hart)].leave(status);
+        give_back(&mut self.free, active.phys);
     }
 }
 
 impl HartState {
-    /// Its oldest instruction's register becomes the committed one, and the one before becomes free.
-    fn commit(&mut self, rd: u8, phys: Option<u16>, free: &mut FreeList)
-        ensures numbers { HartKeeps self.old self.new }
+    /// Its oldest instruction, which writes `rd`, leaves with its register `phys` as the committed one. Answers the one before.
+    fn commit(&mut self, rd: u8, phys: Option<u16>) -> Option<u16>
+        requires flies { 0 < length self.old.active }
+        requires writes { IfSome phys (λ register. IsWritable rd) }
+        ensures { HasCommitted self.old self.new rd phys result }
     {
-        self.lose_first();
-        if let (rd @ 1..32, Some(phys)) = (rd, phys) {
-            let replaced = self.maps.commit(rd, phys);
-            give_back(free, Some(replaced));
-        }
+        self.active.pop();
+        let phys = phys?;
+        Some(self.maps.commit(rd, phys))
     }
 
-    fn stand(&mut self, status: Status)
-        ensures numbers { HartKeeps self.old self.new }
+    /// Its oldest instruction leaves, and it stands like this from now on.
+    fn leave(&mut self, status: Status)
+        requires { 0 < length self.old.active }
+        ensures { HasLeft self.old self.new status }
     {
-        self.lose_first();
+        self.active.pop();
         self.status = status;
-    }
-
-    fn lose_first(&mut self)
-        ensures numbers { HartKeeps self.old self.new }
-    {
-        if !self.active.is_empty() {
-            self.active.pop();
-        }
     }
 }

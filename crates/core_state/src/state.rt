@@ -1,33 +1,37 @@
-ghost use Rattle.std.specs.Prelude.{◌≡◌, ◌∷◌, ◌++◌, [], ℕ, ◌<◌, ◌≤◌, ◌↔◌, length, IsTrue, IfSome, IfNone, IfOk, IfErr, false, true, Err, reverse, is_some, nat_lt, ◌+◌, vec_len, vec_capacity};
+ghost use Rattle.std.specs.Prelude.{◌≡◌, ◌∷◌, ◌++◌, [], ℕ, ◌<◌, ◌≤◌, ◌+◌, ◌↔◌, ◌==◌, ◌&&◌, length, IsTrue, IfSome, IfNone, IfOk, IfErr, None, Some, false, true, Err, reverse, is_some, nat_lt, if◌then◌else◌, vec_len, vec_capacity};
 ghost use Rattle.events.specs.Range.{HasShortWrite};
+ghost use Rattle.core_state.specs.Listed.{listed};
+ghost use Rattle.core_state.specs.Agree.{IsActive};
 ghost use Rattle.core_state.specs.View.{CoreView, grown};
+ghost use Rattle.core_state.specs.Answers.{AllowsNone, PredictsNext, TakesLeast, IsJobOf, IsStrange};
+ghost use Rattle.smt_model.specs.Account.{records, lent, committed_value};
 ghost use Rattle.smt_model.specs.Asks.{answers, AskFetch, AskDecode, AskRename, AskIssue, AskComplete, AskRetire};
-ghost use Rattle.smt_model.specs.Setup.{is_accepted, unit_of_role};
+ghost use Rattle.smt_model.specs.Basics.{how_many};
+ghost use Rattle.smt_model.specs.Flights.{icount};
+ghost use Rattle.smt_model.specs.Memory.{status, output};
+ghost use Rattle.smt_model.specs.Picture.{is_free, picture};
+ghost use Rattle.smt_model.specs.Registers.{claims};
+ghost use Rattle.smt_model.specs.Rules.{refused, is_actor, is_legal};
+ghost use Rattle.smt_model.specs.Setup.{is_accepted, registers_of, unit_of_role};
 ghost use Rattle.core_state.specs.Setup.{setup_of, accepts};
 
-use crate::complete::HandedBack;
 use crate::fetch::choose;
-use crate::hart::HartState;
-use crate::parts::{Parts, value_of};
+use crate::issue::{count_jobs, unit_of};
+use crate::log::{append, put_out};
+use crate::parts::{Parts, registers_in, value_of};
+use crate::refused::CoreRefused;
+use crate::retire::effect_of;
 use crate::sizes::{is_core, is_same_config};
 use crate::slot::Slot;
 use arrayvec::ArrayVec;
 use elf_image::Image;
-use events::{Event, History, Record};
+use events::{Event, History, Outcome, Record};
 use exec_units::{Done, Job};
-use rv_decode::{Op, UnitKind};
-use smt_model::{Config, Role, Status};
+use retire_squash::Active;
+use rv_decode::Op;
+use smt_model::{Config, Status};
 use std::alloc::{AllocError, Global};
 use std::marker::Model;
-
-/// Why there is no core.
-#[derive(Clone, Copy, Debug, PartialEq, Eq, Drop)]
-pub enum CoreRefused {
-    /// The configuration or the limit isn't one of a core.
-    Config,
-    /// There isn't enough memory.
-    Memory,
-}
 
 /// The state of a core, and the history of its events.
 #[derive(Drop)]
@@ -57,8 +61,7 @@ impl Model for State {
 }
 
 impl State {
-    /// The core of an image and a configuration before its first event. All room for `limit` events is made here; no step
-    /// takes memory.
+    /// The core of an image and a configuration before its first event. All room for `limit` events is made here.
     ///
     /// Refused are sizes that aren't a core's and a limit above 16,777,216, before any memory is taken.
     pub fn new(
@@ -124,8 +127,11 @@ impl State {
     pub fn fetch(&mut self, actor: u8) -> Option<Event>
         requires { length self.old.past < self.old.limit }
         ensures made { IfSome result (λ e. self.new ≡ grown e self.old) }
+        ensures allowed { IfSome result (λ e. refused self.old.setup self.old.past e ≡ None) }
         ensures answer { IfSome result (λ e. answers (AskFetch actor) self.old.past e ≡ true) }
         ensures short { IfSome result HasShortWrite }
+        ensures predicts { IfSome result PredictsNext }
+        ensures idle { IfNone result (AllowsNone self.old.setup (AskFetch actor) self.old.past) }
         ensures none { IfNone result (self.new ≡ self.old) }
     {
         if !self.has_actor(actor) {
@@ -161,14 +167,17 @@ impl State {
     pub fn decode(&mut self, actor: u8, hart: u8) -> Option<Event>
         requires { length self.old.past < self.old.limit }
         ensures made { IfSome result (λ e. self.new ≡ grown e self.old) }
+        ensures allowed { IfSome result (λ e. refused self.old.setup self.old.past e ≡ None) }
         ensures answer { IfSome result (λ e. answers (AskDecode actor hart) self.old.past e ≡ true) }
         ensures short { IfSome result HasShortWrite }
+        ensures idle { IfNone result (AllowsNone self.old.setup (AskDecode actor hart) self.old.past) }
         ensures none { IfNone result (self.new ≡ self.old) }
     {
         if !self.has_actor(actor) {
             return None;
         }
-        let seq = self.parts.decode(hart)?;
+        let seq = self.parts.next_to_decode(hart)?;
+        self.parts.decode(hart);
         let event = Event::Decode { actor, seq };
         append(&mut self.history, event);
         Some(event)
@@ -179,14 +188,18 @@ impl State {
     pub fn rename(&mut self, actor: u8, hart: u8) -> Option<Event>
         requires { length self.old.past < self.old.limit }
         ensures made { IfSome result (λ e. self.new ≡ grown e self.old) }
+        ensures allowed { IfSome result (λ e. refused self.old.setup self.old.past e ≡ None) }
         ensures answer { IfSome result (λ e. answers (AskRename actor hart) self.old.past e ≡ true) }
         ensures short { IfSome result HasShortWrite }
+        ensures least { IfSome result (TakesLeast self.old.setup self.old.past) }
+        ensures idle { IfNone result (AllowsNone self.old.setup (AskRename actor hart) self.old.past) }
         ensures none { IfNone result (self.new ≡ self.old) }
     {
         if !self.has_actor(actor) {
             return None;
         }
-        let (seq, phys) = self.parts.rename(hart)?;
+        let (seq, phys) = self.parts.next_to_rename(hart)?;
+        self.parts.rename(hart, phys);
         let event = Event::Rename { actor, seq, phys };
         append(&mut self.history, event);
         Some(event)
@@ -197,12 +210,16 @@ impl State {
     pub fn issue(&mut self, actor: u8) -> Option<(Job, Event)>
         requires { length self.old.past < self.old.limit }
         ensures made { IfSome result (λ r. self.new ≡ grown r.1 self.old) }
+        ensures allowed { IfSome result (λ r. refused self.old.setup self.old.past r.1 ≡ None) }
         ensures answer { IfSome result (λ r. answers (AskIssue actor) self.old.past r.1 ≡ true) }
         ensures short { IfSome result (λ r. HasShortWrite r.1) }
+        ensures job { IfSome result (λ r. IsJobOf self.new.setup self.new.past actor r.0) }
+        ensures idle { IfNone result (AllowsNone self.old.setup (AskIssue actor) self.old.past) }
         ensures none { IfNone result (self.new ≡ self.old) }
     {
         let kind = unit_of(*self.config.roles.get(usize::from(actor))?)?;
-        let job = self.parts.issue(usize::from(actor), kind)?;
+        let entry = self.parts.next_to_issue(actor, kind)?;
+        let job = self.parts.issue(actor, entry);
         let event = Event::Issue {
             actor,
             seq: job.seq(),
@@ -216,23 +233,49 @@ impl State {
     pub fn complete(&mut self, actor: u8, done: &Done) -> Option<Event>
         requires { length self.old.past < self.old.limit }
         ensures made { IfSome result (λ e. self.new ≡ grown e self.old) }
+        ensures allowed { IfSome result (λ e. refused self.old.setup self.old.past e ≡ None) }
         ensures answer { IfSome result (λ e. answers (AskComplete actor) self.old.past e ≡ true) }
         ensures short { IfSome result HasShortWrite }
+        ensures job { IfSome result (λ e. IsJobOf self.old.setup self.old.past actor done.now.job) }
+        ensures stranger { IfNone result (IsStrange self.old.setup self.old.past actor done.now.job) }
         ensures none { IfNone result (self.new ≡ self.old) }
     {
-        let event = match self.parts.complete(usize::from(actor), done)? {
-            HandedBack::Completed(outcome) => Event::Complete {
-                actor,
-                seq: done.job().seq(),
-                outcome,
-            },
-            HandedBack::Dropped => Event::Drop {
-                actor,
-                seq: done.job().seq(),
-            },
+        let job = self.parts.handed_back(actor, done)?;
+        let Some(active) = self.parts.in_flight(job.hart, job.seq) else {
+            return Some(self.drop_job(actor, job.seq));
+        };
+        Some(self.finish(actor, job.hart, &active, done.outcome()))
+    }
+
+    /// Writes the completion of an instruction in flight, which may come next.
+    fn finish(&mut self, actor: u8, hart: u8, active: &Active, outcome: Outcome) -> Event
+        requires room { length self.old.past < self.old.limit }
+        requires allowed { refused self.old.setup self.old.past (Event.Complete actor active.now.seq outcome) ≡ None }
+        requires active { IsActive (picture self.old.setup self.old.past) hart active.now }
+        ensures event { result ≡ Event.Complete actor active.now.seq outcome }
+        ensures made { self.new ≡ grown result self.old }
+    {
+        self.parts.finish(actor, hart, active, outcome);
+        let event = Event::Complete {
+            actor,
+            seq: active.seq,
+            outcome,
         };
         append(&mut self.history, event);
-        Some(event)
+        event
+    }
+
+    /// Writes the drop of a squashed instruction, which may come next.
+    fn drop_job(&mut self, actor: u8, seq: u32) -> Event
+        requires room { length self.old.past < self.old.limit }
+        requires allowed { refused self.old.setup self.old.past (Event.Drop actor seq) ≡ None }
+        ensures event { result ≡ Event.Drop actor seq }
+        ensures made { self.new ≡ grown result self.old }
+    {
+        self.parts.drop_job(actor);
+        let event = Event::Drop { actor, seq };
+        append(&mut self.history, event);
+        event
     }
 
     /// Retires hart `hart`'s oldest instruction in flight. None where there is none, it isn't completed, or there is no such
@@ -240,20 +283,29 @@ impl State {
     pub fn retire(&mut self, actor: u8, hart: u8) -> Option<Event>
         requires { length self.old.past < self.old.limit }
         ensures made { IfSome result (λ e. self.new ≡ grown e self.old) }
+        ensures allowed { IfSome result (λ e. refused self.old.setup self.old.past e ≡ None) }
         ensures answer { IfSome result (λ e. answers (AskRetire actor hart) self.old.past e ≡ true) }
         ensures short { IfSome result HasShortWrite }
+        ensures idle { IfNone result (AllowsNone self.old.setup (AskRetire actor hart) self.old.past) }
         ensures none { IfNone result (self.new ≡ self.old) }
     {
         if !self.has_actor(actor) {
             return None;
         }
-        let retired = self.parts.retire(hart)?;
-        self.records.push_reserved(retired.record);
-        put_out(&mut self.output, retired.record.effect.out);
+        let (active, outcome) = self.parts.next_to_retire(hart)?;
+        let effect = effect_of(outcome);
+        self.parts.retire(hart, active, effect);
+        self.records.push_reserved(Record {
+            hart,
+            pc: active.pc,
+            word: active.word,
+            effect,
+        });
+        put_out(&mut self.output, effect.out);
         let event = Event::Retire {
             actor,
-            seq: retired.seq,
-            effect: retired.record.effect,
+            seq: active.seq,
+            effect,
         };
         append(&mut self.history, event);
         Some(event)
@@ -261,41 +313,51 @@ impl State {
 
     /// The retired instructions, in the order of retirement.
     pub fn records(&self) -> &[Record]
-        ensures { length result.now ≤ length self.now.past }
+        ensures { result.now ≡ reverse (records self.now.past) }
     {
         self.records.as_slice()
     }
 
     /// The bytes that the program has put out, in order.
     pub fn output(&self) -> &[u8]
-        ensures { length result.now ≤ length self.now.past }
+        ensures { result.now ≡ output self.now.past }
     {
         self.output.as_slice()
     }
 
     /// How hart `hart` stands; none where there is no such hart.
     pub fn status(&self, hart: u8) -> Option<Status>
-        ensures { is_some result ≡ nat_lt hart self.now.setup.harts }
+        ensures { result ≡ (if nat_lt hart self.now.setup.harts then Some (status self.now.past hart) else None) }
     {
         Some(self.parts.harts.get(usize::from(hart))?.status)
     }
 
+    /// How many instructions of hart `hart` are in decode, rename and the issue queue; none where there is no such hart.
+    pub fn icount(&self, hart: u8) -> Option<u32>
+        ensures { result ≡ (if nat_lt hart self.now.setup.harts then Some (icount self.now.past hart) else None) }
+    {
+        Some(self.parts.harts.get(usize::from(hart))?.icount)
+    }
+
+    /// The free physical registers, rising.
+    pub fn free_registers(&self) -> ArrayVec<u16, 512>
+        ensures free { result.items ≡ listed (is_free self.now.setup self.now.past) }
+        ensures once { (p : ℕ) → p < registers_of self.now.setup → claims self.now.setup self.now.past p + how_many (λ x. x == p) result.items ≡ 1 }
+    {
+        registers_in(&self.parts.free)
+    }
+
     /// How many actors have a job.
     pub fn lent(&self) -> u32
-        ensures { result ≤ 16 }
+        ensures { result ≡ lent self.now.setup self.now.past }
     {
-        let mut lent = 0;
-        for job in &self.parts.jobs {
-            if job.is_some() {
-                lent += 1;
-            }
-        }
-        lent
+        count_jobs(&self.parts.jobs) as u32
     }
 
     /// The events so far, the oldest first.
     pub fn history(&self) -> &[Event]
         ensures events { reverse result.now ≡ self.now.past }
+        ensures legal { is_legal self.now.setup self.now.past }
         ensures within { length result.now ≤ self.now.limit }
         ensures limit { self.now.limit ≤ 16777216 }
     {
@@ -312,7 +374,9 @@ impl State {
 
     /// What hart `hart`'s register `register` holds as its retired instructions leave it; none where there is no such hart or
     /// register. x0 is 0.
-    pub fn register(&self, hart: u8, register: u8) -> Option<u32> {
+    pub fn register(&self, hart: u8, register: u8) -> Option<u32>
+        ensures { result ≡ (if nat_lt hart self.now.setup.harts && nat_lt register 32 then committed_value self.now.setup self.now.past hart register else None) }
+    {
         let state = self.parts.harts.get(usize::from(hart))?;
         match register {
             0 => Some(0),
@@ -328,38 +392,9 @@ impl State {
         self.image.same_as(image) && is_same_config(&self.config, config)
     }
 
-    fn has_actor(&self, actor: u8) -> bool {
+    fn has_actor(&self, actor: u8) -> bool
+        ensures { result ≡ is_actor self.now.setup actor }
+    {
         usize::from(actor) < self.config.roles.len()
-    }
-}
-
-/// Writes an event into the history, which has room for it.
-fn append(history: &mut History, event: Event)
-    requires { length history.old.items < history.old.limit }
-    ensures { history.new ≡ record history.old { items = history.old.items ++ event ∷ [] } }
-{
-    history.push(event).unwrap();
-}
-
-/// Puts out a byte, where there is one. There is room for it.
-fn put_out(output: &mut Vec<u8>, byte: Option<u8>)
-    requires { vec_len output.old < vec_capacity output.old }
-    ensures length { vec_len output.new ≤ vec_len output.old + 1 }
-    ensures capacity { vec_capacity output.new ≡ vec_capacity output.old }
-{
-    if let Some(byte) = byte {
-        output.push_reserved(byte);
-    }
-}
-
-/// The kind of unit that an actor of this role is, where it is one.
-fn unit_of(role: Role) -> Option<UnitKind>
-    ensures { result ≡ unit_of_role role }
-{
-    match role {
-        Role::Fetch | Role::Front | Role::Retire => None,
-        Role::Alu => Some(UnitKind::Alu),
-        Role::Mul => Some(UnitKind::Mul),
-        Role::Mem => Some(UnitKind::Mem),
     }
 }

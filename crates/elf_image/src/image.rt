@@ -1,6 +1,6 @@
 //! An image: what memory holds at the start, where the code is, and the entry.
 
-ghost use Rattle.std.specs.Prelude.{◌≡◌, ◌+◌, ◌%◌, ◌<◌, ◌≤◌, ◌↔◌, Some, IsTrue, IsSome, IfSome, IfOk, length};
+ghost use Rattle.std.specs.Prelude.{◌≡◌, ◌+◌, ◌%◌, ◌^◌, ◌<◌, ◌≤◌, ◌↔◌, Some, IsTrue, IsSome, IfSome, IfOk, length};
 ghost use Rattle.elf_image.specs.Image.{IsWellFormed, ram_start, in_ram, byte_in, code_segment, code_start, code_size, in_code, word_in, has_code_word, code_word};
 
 use crate::file_header::read_word;
@@ -63,6 +63,7 @@ impl Image {
         ensures size { result.1 ≡ code_size self.now }
         ensures aligned { (result.0 % 4 ≡ 0) × (result.1 % 4 ≡ 0) }
         ensures within { (ram_start ≤ result.0) × (result.0 + result.1 ≤ ram_start + self.now.ram) }
+        ensures fits { result.0 + result.1 < 2 ^ 32 }
     {
         let code = self.code_segment();
         (code.address(), code.bytes().len() as u32)

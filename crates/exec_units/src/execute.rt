@@ -1,7 +1,7 @@
 //! What an instruction computes from its operands, by its form (RISC-V Unprivileged ISA, chapters "RV32I", "M" and "A").
 
 ghost use Rattle.std.specs.Prelude.{◌≡◌};
-ghost use Rattle.smt_model.specs.Exec.{extended, computed_of, is_executed, exec};
+ghost use Rattle.smt_model.specs.Exec.{extended, computed_of, covered_yet, is_executed, exec};
 
 use crate::computed::{Computed, jump_to, next_pc};
 use crate::operations::{
@@ -15,7 +15,7 @@ use rv_word::add;
 /// stops with cause 2, and no word with cause 1.
 #[tactic(auto, unfolding(smt_model::specs::Exec::exec))]
 pub fn execute(op: Op, pc: u32, a: u32, b: u32) -> Computed
-    ensures { result ≡ exec op pc a b }
+    ensures { result ≡ exec covered_yet op pc a b }
 {
     match op {
         Op::Known(instr) if is_executed(instr) => computed_of(instr, pc, a, b),
@@ -27,7 +27,7 @@ pub fn execute(op: Op, pc: u32, a: u32, b: u32) -> Computed
 /// Whether the simulator executes the instruction yet.
 #[tactic(auto, unfolding(smt_model::specs::Exec::is_executed))]
 fn is_executed(instr: Instr) -> bool
-    ensures { result ≡ is_executed instr }
+    ensures { result ≡ is_executed covered_yet instr }
 {
     matches!(
         instr,

@@ -1,7 +1,8 @@
 -- No two rows have the same name: a search of the rows by name finds each row by its own.
-use Rattle.std.proofs.Common.{◌≡◌, ℕ, Bool, true, false, ◌&&◌, ◌==◌, if◌then◌else◌, List, [], ◌∷◌, ◌++◌, length, Option, Some, None, refl, sym, ap, ◌∙◌, arith}
+use Rattle.std.proofs.Common.{◌≡◌, ℕ, Bool, true, false, ◌==◌, if◌then◌else◌, List, [], ◌∷◌, ◌++◌, length, Option, Some, None, refl, sym, ap, ◌∙◌, arith}
 use Rattle.std.specs.Prelude.{IfSome, IfNone}
 use Rattle.std.specs.List.{flat_map, position_or_len}
+use Rattle.std.specs.Str.{bytes_eq}
 use Rattle.std.proofs.lemmas.List.{length-append}
 use Rattle.rv_word.specs.declared.amo_kind.AmoKind.{AmoKind}
 use Rattle.rv_word.specs.declared.amo_kind.AmoKind.TheVariants as kinds
@@ -26,15 +27,9 @@ use Rattle.rv_text.specs.declared.mnemonic.AtomicOp.{AtomicOp}
 use Rattle.rv_text.specs.declared.mnemonic.AtomicOp.TheVariants.{LoadReserved, StoreConditional, Amo}
 use Rattle.rv_text.specs.Mnemonic.{name_of, atomic_name, ordering_name, IsPlain}
 
-same : List ℕ → List ℕ → Bool
-same [] [] = true
-same [] (y ∷ ys) = false
-same (x ∷ xs) [] = false
-same (x ∷ xs) (y ∷ ys) = x == y && same xs ys
-
 first_named : List ℕ → List Mnemonic → Option Mnemonic
 first_named text [] = None
-first_named text (m ∷ ms) = if same (name_of m) text then Some m else first_named text ms
+first_named text (m ∷ ms) = if bytes_eq (name_of m) text then Some m else first_named text ms
 
 ordering_of : Bool → Bool → Ordering
 ordering_of a r = record { aq = a; rl = r }
@@ -55,62 +50,62 @@ rows = Lui ∷ Auipc ∷ Jal ∷ Jalr ∷ Fence ∷ Ecall ∷ Ebreak
     ∷ Atomic op (ordering_of false true) ∷ Atomic op (ordering_of true true) ∷ []) atomics
 
 found_branch : (op : BranchOp) → first_named (name_of (Branch op)) rows ≡ Some (Branch op)
-unfolding same first_named rows
+unfolding first_named rows
 found_branch Beq = refl
 found_branch _ = refl
 
 found_load : (op : LoadOp) → first_named (name_of (Load op)) rows ≡ Some (Load op)
-unfolding same first_named rows
+unfolding first_named rows
 found_load Lb = refl
 found_load _ = refl
 
 found_store : (op : StoreOp) → first_named (name_of (Store op)) rows ≡ Some (Store op)
-unfolding same first_named rows
+unfolding first_named rows
 found_store Sb = refl
 found_store _ = refl
 
 found_immediate : (op : ImmediateOp) → first_named (name_of (Immediate op)) rows ≡ Some (Immediate op)
-unfolding same first_named rows
+unfolding first_named rows
 found_immediate Addi = refl
 found_immediate _ = refl
 
 found_shift : (op : ShiftOp) → first_named (name_of (Shift op)) rows ≡ Some (Shift op)
-unfolding same first_named rows
+unfolding first_named rows
 found_shift Slli = refl
 found_shift _ = refl
 
 found_register : (op : RegisterOp) → first_named (name_of (Register op)) rows ≡ Some (Register op)
-unfolding same first_named rows
+unfolding first_named rows
 found_register Add = refl
 found_register _ = refl
 
 found_mul_div : (op : MulDivOp) → first_named (name_of (MulDiv op)) rows ≡ Some (MulDiv op)
-unfolding same first_named rows
+unfolding first_named rows
 found_mul_div Mul = refl
 found_mul_div _ = refl
 
 found_amo_plain_plain : (kind : AmoKind) → first_named (name_of (Atomic (Amo kind) (ordering_of false false))) rows ≡ Some (Atomic (Amo kind) (ordering_of false false))
-unfolding same first_named rows atomics ordering_of
+unfolding first_named rows atomics ordering_of
 found_amo_plain_plain kinds.Swap = refl
 found_amo_plain_plain _ = refl
 
 found_amo_plain_rl : (kind : AmoKind) → first_named (name_of (Atomic (Amo kind) (ordering_of false true))) rows ≡ Some (Atomic (Amo kind) (ordering_of false true))
-unfolding same first_named rows atomics ordering_of
+unfolding first_named rows atomics ordering_of
 found_amo_plain_rl kinds.Swap = refl
 found_amo_plain_rl _ = refl
 
 found_amo_aq_plain : (kind : AmoKind) → first_named (name_of (Atomic (Amo kind) (ordering_of true false))) rows ≡ Some (Atomic (Amo kind) (ordering_of true false))
-unfolding same first_named rows atomics ordering_of
+unfolding first_named rows atomics ordering_of
 found_amo_aq_plain kinds.Swap = refl
 found_amo_aq_plain _ = refl
 
 found_amo_aq_rl : (kind : AmoKind) → first_named (name_of (Atomic (Amo kind) (ordering_of true true))) rows ≡ Some (Atomic (Amo kind) (ordering_of true true))
-unfolding same first_named rows atomics ordering_of
+unfolding first_named rows atomics ordering_of
 found_amo_aq_rl kinds.Swap = refl
 found_amo_aq_rl _ = refl
 
 found_atomic : (op : AtomicOp) (a r : Bool) → first_named (name_of (Atomic op (ordering_of a r))) rows ≡ Some (Atomic op (ordering_of a r))
-unfolding same first_named rows atomics ordering_of
+unfolding first_named rows atomics ordering_of
 found_atomic (Amo kind) false false = found_amo_plain_plain kind
 found_atomic (Amo kind) false true = found_amo_plain_rl kind
 found_atomic (Amo kind) true false = found_amo_aq_plain kind
@@ -125,7 +120,7 @@ found_atomic _ true false = refl
 found_atomic _ true true = refl
 
 found : (m : Mnemonic) → first_named (name_of m) rows ≡ Some m
-unfolding same first_named rows
+unfolding first_named rows
 found (Branch op) = found_branch op
 found (Load op) = found_load op
 found (Store op) = found_store op

@@ -3,7 +3,8 @@
 //! The tables of results were made by hand with qemu-riscv32 7.2 (Debian 12): a program in assembly, put together by
 //! the GNU assembler 2.40 for rv32ima, runs each instruction on each pair of PAIRS (for an atomic the memory holds the
 //! first of the pair and rs2 the second) and writes the words that come out. A sign extension of n bits is there SLLI and
-//! SRAI by 32 - n, and for 8 and 16 bits the program compared it with LB and LH.
+//! SRAI by 32 - n, and for 8 and 16 bits the program compared it with LB and LH. The folder tools/word_values has a program
+//! that gives all these words again.
 
 use super::*;
 use std::process::Abort;

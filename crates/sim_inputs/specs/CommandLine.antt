@@ -4,30 +4,44 @@ use Rattle.clap.specs.Words.{App, Row, Rule, Text, IsAmong, fault_of, first_of, 
 use Rattle.clap.specs.declared.error.kind.ErrorKind.{ErrorKind}
 use Rattle.clap.specs.declared.error.kind.ErrorKind.TheVariants.{DisplayHelp, OutOfMemory}
 use Rattle.sim_inputs.specs.declared.line.Line.{Line}
-use Rattle.sim_inputs.specs.declared.line.Line.TheVariants.{Step}
+use Rattle.sim_inputs.specs.declared.line.Line.TheVariants as lines
 use Rattle.sim_inputs.specs.declared.line.WordsRefused.{WordsRefused}
 use Rattle.sim_inputs.specs.declared.line.WordsRefused.TheVariants.{Help, Refused, Memory}
 
--- `smtsim step IMAGE SCRIPT`: both files must be there, and so must the subcommand. `clap` adds `--help` and `help`.
+-- An argument that names a file and must be there: the image, and the script.
+abbrev pub file_rule : Text → Rule
+file_rule name = record (new_rule name) { required = true }
+
 abbrev pub image : Rule
-image = record (new_rule (codes "IMAGE")) { required = true }
+image = file_rule (codes "IMAGE")
 
 abbrev pub script : Rule
-script = record (new_rule (codes "SCRIPT")) { required = true }
+script = file_rule (codes "SCRIPT")
 
+-- The subcommand `step IMAGE SCRIPT`.
 abbrev pub step : App
 step = with_rule (with_rule (new_app (codes "step")) image) script
 
+-- The subcommand `list IMAGE`.
+abbrev pub list : App
+list = with_rule (new_app (codes "list")) image
+
+-- The whole command line: one of the two subcommands must be there. `clap` adds `--help` and `help`.
 abbrev pub top : App
 top = let app = new_app (codes "smtsim") in record app { top = record app.top { subcommand_required = true } }
 
 abbrev pub smtsim : App
-smtsim = with_subcommand top step.top
+smtsim = with_subcommand (with_subcommand top step.top) list.top
 
--- The subcommand that was found, with what was found for its arguments, is this line.
+-- A subcommand of this name, with what was found for its arguments, is the line.
+abbrev pub IsLineOf : Text → List Row → Line → Type 0
+IsLineOf name rows (lines.Step image script) = (name ≡ codes "step")
+    × (first_of (codes "IMAGE") rows ≡ Some image.now) × (first_of (codes "SCRIPT") rows ≡ Some script.now)
+IsLineOf name rows (lines.List image) = (name ≡ codes "list") × (first_of (codes "IMAGE") rows ≡ Some image.now)
+
+-- A subcommand was found, and it is the line.
 abbrev pub Names : Option (Text × List Row) → Line → Type 0
-Names found (Step image script) = IsSomeAnd found (λ p. (p.0 ≡ codes "step")
-    × (first_of (codes "IMAGE") p.1 ≡ Some image.now) × (first_of (codes "SCRIPT") p.1 ≡ Some script.now))
+Names found line = IsSomeAnd found (λ p. IsLineOf p.0 p.1 line)
 
 -- The words, the program's name first, ask for the line: the command line takes them without a fault, and they hold the
 -- line's subcommand and files.

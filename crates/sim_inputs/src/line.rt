@@ -5,6 +5,8 @@ use thiserror::Error;
 pub enum Line<'a> {
     /// `step IMAGE SCRIPT`: the script's asks are made in order, without threads.
     Step { image: &'a str, script: &'a str },
+    /// `list IMAGE`: each word of the image's code is printed.
+    List { image: &'a str },
 }
 
 /// Why there is nothing to do.

@@ -16,8 +16,16 @@ fn step_takes_an_image_and_a_script(rt: HostRuntime) -> Result<(), Fail> {
 }
 
 #[test]
+fn list_takes_an_image(rt: HostRuntime) -> Result<(), Fail> {
+    let words = ["smtsim", "list", "p3.elf"];
+    let line = read_words(words.as_slice(), rt.alloc())?;
+    assert_eq!(rt; line, Line::List { image: "p3.elf" });
+    Ok(())
+}
+
+#[test]
 fn other_words_are_refused(rt: HostRuntime) {
-    let rows: [&[&str]; 7] = [
+    let rows: [&[&str]; 9] = [
         &[],
         &["smtsim"],
         &["smtsim", "walk", "p1.elf", "row1.script"],
@@ -25,6 +33,8 @@ fn other_words_are_refused(rt: HostRuntime) {
         &["smtsim", "step", "p1.elf"],
         &["smtsim", "step", "p1.elf", "row1.script", "more"],
         &["smtsim", "step", "--fast", "p1.elf", "row1.script"],
+        &["smtsim", "list"],
+        &["smtsim", "list", "p1.elf", "row1.script"],
     ];
     for words in rows {
         let refused = read_words(words, rt.alloc());

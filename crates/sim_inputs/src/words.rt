@@ -1,7 +1,7 @@
-ghost use Rattle.std.specs.Prelude.{◌≡◌, List, map, IfOk, IfErr, IfSome, IfNone};
-ghost use Rattle.clap.specs.Words.{kind_of, subcommand_rows_of};
+ghost use Rattle.std.specs.Prelude.{◌≡◌, List, codes, map, IfOk, IfErr, IfSome, IfNone};
+ghost use Rattle.clap.specs.Words.{found_of, kind_of, rows_of, subcommand_rows_of};
 ghost use Rattle.sim_inputs.specs.declared.line.Line.{Line as AnyLine};
-ghost use Rattle.sim_inputs.specs.CommandLine.{Names, Asks, IsRefusedFor, IsRefusalOf};
+ghost use Rattle.sim_inputs.specs.CommandLine.{IsLineOf, Names, Asks, IsRefusedFor, IsRefusalOf};
 
 use crate::description::describe;
 use crate::line::{Line, WordsRefused};
@@ -28,9 +28,20 @@ fn line_in<'a>(matches: &ArgMatches<'a>) -> Option<Line<'a>>
     ensures held { IfSome result (Names (subcommand_rows_of matches.now)) }
     ensures none { IfNone result ((line : AnyLine) → Names (subcommand_rows_of matches.now) line → ⊥) }
 {
-    let Some(step) = matches.subcommand_matches("step") else {
+    if let Some(step) = matches.subcommand_matches("step") {
+        return step_line(step);
+    }
+    let Some(list) = matches.subcommand_matches("list") else {
         return None;
     };
+    list_line(list)
+}
+
+/// The line of the subcommand `step`, from what was found for its arguments.
+fn step_line<'a>(step: &ArgMatches<'a>) -> Option<Line<'a>>
+    ensures held { IfSome result (IsLineOf (codes "step") (rows_of (found_of step.now))) }
+    ensures none { IfNone result ((line : AnyLine) → IsLineOf (codes "step") (rows_of (found_of step.now)) line → ⊥) }
+{
     let Some(image) = step.get_str("IMAGE") else {
         return None;
     };
@@ -38,6 +49,17 @@ fn line_in<'a>(matches: &ArgMatches<'a>) -> Option<Line<'a>>
         return None;
     };
     Some(Line::Step { image, script })
+}
+
+/// The line of the subcommand `list`.
+fn list_line<'a>(list: &ArgMatches<'a>) -> Option<Line<'a>>
+    ensures held { IfSome result (IsLineOf (codes "list") (rows_of (found_of list.now))) }
+    ensures none { IfNone result ((line : AnyLine) → IsLineOf (codes "list") (rows_of (found_of list.now)) line → ⊥) }
+{
+    let Some(image) = list.get_str("IMAGE") else {
+        return None;
+    };
+    Some(Line::List { image })
 }
 
 /// What is made of an error of `clap`.

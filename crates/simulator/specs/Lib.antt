@@ -1,2 +1,4 @@
 pub mod Refusals
 pub mod Report
+pub mod Listing
+pub mod Lines

@@ -5,7 +5,7 @@ use Rattle.elf_image.specs.Checks.{Passes, IsRefusal}
 use Rattle.elf_image.specs.Refusal.{number_of}
 use Rattle.elf_image.specs.Image.{ProgramImage}
 use Rattle.core_state.specs.Setup.{setup_of}
-use Rattle.smt_core.specs.Answers.{is_accepted_yet}
+use Rattle.smt_model.specs.Setup.{is_accepted}
 use Rattle.sim_script.specs.Script.{IsFirstMisspelled}
 use Rattle.simulator.specs.declared.settings.Settings.{Settings}
 use Rattle.simulator.specs.declared.refused.Refused.{Refused}
@@ -24,10 +24,10 @@ pub record IsFirstFailed (file : List ℕ) (ram : ℕ) (number : ℕ) : Type 0 w
 
 -- The sizes and the limit are those of a core, whatever image it is made of; or they are those of none.
 abbrev pub AreAccepted : Settings → Type 0
-AreAccepted settings = (image : ProgramImage) → is_accepted_yet (setup_of image settings.config) settings.limit ≡ true
+AreAccepted settings = (image : ProgramImage) → is_accepted (setup_of image settings.config) settings.limit ≡ true
 
 abbrev pub AreRefused : Settings → Type 0
-AreRefused settings = (image : ProgramImage) → is_accepted_yet (setup_of image settings.config) settings.limit ≡ false
+AreRefused settings = (image : ProgramImage) → is_accepted (setup_of image settings.config) settings.limit ≡ false
 
 -- When each refusal comes: the image is looked at first, then the sizes, then the script. Of memory and the output nothing
 -- is said.

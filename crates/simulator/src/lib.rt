@@ -1,11 +1,12 @@
-//! The simulator as its program uses it: a script's asks made of a core, and the report.
+//! The simulator as its program uses it: a script's asks made of a core, the report, and the listing of an image.
 //!
 //! Read in this order: `settings`, `refused` (why there is no report), `hands` (what the actors hold), `stepping` (the asks of a
-//! script), `reporting`, `performing` (all that the program does once its files are read).
+//! script), `reporting`, `listing`, `performing` (all that the program does once its files are read).
 #![tactic(auto)]
 
 mod hands;
 mod in_order;
+mod listing;
 mod performing;
 mod refused;
 mod reporting;
@@ -15,6 +16,7 @@ mod stepping;
 mod tests;
 
 pub use in_order::InOrder;
+pub use listing::list;
 pub use performing::{Inputs, perform};
 pub use refused::Refused;
 pub use reporting::{report, status_of};

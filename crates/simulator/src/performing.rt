@@ -5,7 +5,9 @@ ghost use Rattle.sim_script.specs.Script.{IsScript};
 ghost use Rattle.simulator.specs.declared.refused.Refused.{Refused as AnyRefused};
 ghost use Rattle.simulator.specs.declared.refused.Refused.TheVariants.{Output};
 ghost use Rattle.simulator.specs.Refusals.{PassesAll, AreAccepted, IsImageRefusal, IsRefusedFor, exit_status_of, says_harts};
+ghost use Rattle.simulator.specs.Lines.{IsStep, IsList, IsListed, IsListRefusal, IsLineRefusal};
 
+use crate::listing::list;
 use crate::refused::Refused;
 use crate::reporting::{report, status_of};
 use crate::settings::Settings;
@@ -19,12 +21,12 @@ use std::io::Write;
 #[derive(Clone, Copy, Drop)]
 pub struct Inputs<'a> {
     pub image: Option<&'a [u8]>,
-    /// The script.
+    /// The script; empty where the line names none.
     pub second: Option<&'a [u8]>,
 }
 
-/// Does all that the program does once its files are read, and answers its exit status: how the harts stand, 2 for a refused
-/// input, 5 where memory or a file failed. A refusal is one line on `err`.
+/// Does all that the program does once its files are read, and answers its exit status: how the harts stand, 0 for a
+/// listing, 2 for a refused input, 5 where memory or a file failed. A refusal is one line on `err`.
 pub fn perform<P: Predict, W: Write, E: Write>(
     line: &Line<'_>,
     inputs: &Inputs<'_>,
@@ -37,19 +39,76 @@ pub fn perform<P: Predict, W: Write, E: Write>(
     ensures known { IsTrue (says_harts result) ⊎ (result ≡ 2) ⊎ (result ≡ 5) }
     ensures unread { IfNone inputs.now.image (result ≡ 5) }
     ensures refused { result ≡ 2 → IfSome inputs.now.image (λ image. (reason : AnyRefused) × (exit_status_of reason ≡ 2)
-        × IsRefusedFor image.now settings.now (option_map_or (λ script. script.now) inputs.now.second []) reason) }
+        × IsLineRefusal line.now image.now settings.now (option_map_or (λ script. script.now) inputs.now.second []) reason) }
     ensures passed { IsTrue (says_harts result) → IfSome inputs.now.image (λ image. PassesAll image.now settings.now.ram) }
-    ensures accepted { IsTrue (says_harts result) → AreAccepted settings.now }
-    ensures script_read { IsTrue (says_harts result) → IsSome inputs.now.second }
-    ensures script { IsTrue (says_harts result) → IfSome inputs.now.second (λ script. (words : List AnyWord) × IsScript script.now words) }
+    ensures accepted { IsStep line.now → IsTrue (says_harts result) → AreAccepted settings.now }
+    ensures script_read { IsStep line.now → IsTrue (says_harts result) → IsSome inputs.now.second }
+    ensures script { IsStep line.now → IsTrue (says_harts result)
+        → IfSome inputs.now.second (λ script. (words : List AnyWord) × IsScript script.now words) }
+    ensures zero { IsList line.now → IsTrue (says_harts result) → result ≡ 0 }
+    ensures listed { IsList line.now → IsTrue (says_harts result) → IfSome inputs.now.image (λ image.
+        IsListed image.now settings.now.ram (W.contents out.old) (W.contents out.new)) }
 {
-    let Line::Step { .. } = line;
-    match step_and_report(inputs, settings, predict, out, alloc) {
+    match answer(line, inputs, settings, predict, out, alloc) {
         Ok(status) => status,
         Err(refused) => {
             let _ = writeln!(err, "smtsim: {refused}");
             refused.exit_status()
         }
+    }
+}
+
+/// The exit status of a line whose inputs are accepted.
+fn answer<P: Predict, W: Write>(
+    line: &Line<'_>,
+    inputs: &Inputs<'_>,
+    settings: &Settings,
+    predict: &mut P,
+    out: &mut W,
+    alloc: Global,
+) -> Result<u8, Refused>
+    ensures unread { IfNone inputs.now.image (result ≡ Err Output) }
+    ensures refused { IfErr result (λ reason. IfSome inputs.now.image (λ image.
+        IsLineRefusal line.now image.now settings.now (option_map_or (λ script. script.now) inputs.now.second []) reason)) }
+    ensures passed { OnOk result (IfSome inputs.now.image (λ image. PassesAll image.now settings.now.ram)) }
+    ensures accepted { IsStep line.now → OnOk result (AreAccepted settings.now) }
+    ensures script_read { IsStep line.now → OnOk result (IsSome inputs.now.second) }
+    ensures script { IsStep line.now
+        → OnOk result (IfSome inputs.now.second (λ script. (words : List AnyWord) × IsScript script.now words)) }
+    ensures zero { IsList line.now → IfOk result (λ status. status ≡ 0) }
+    ensures listed { IsList line.now → OnOk result (IfSome inputs.now.image (λ image.
+        IsListed image.now settings.now.ram (W.contents out.old) (W.contents out.new))) }
+    ensures status { IfOk result (λ status. IsTrue (says_harts status)) }
+{
+    match line {
+        Line::Step { .. } => step_and_report(inputs, settings, predict, out, alloc),
+        Line::List { .. } => {
+            read_and_list(inputs, settings, out, alloc)?;
+            Ok(0)
+        }
+    }
+}
+
+/// Writes the listing of the image's code.
+fn read_and_list<W: Write>(
+    inputs: &Inputs<'_>,
+    settings: &Settings,
+    out: &mut W,
+    alloc: Global,
+) -> Result<(), Refused>
+    ensures unread { IfNone inputs.now.image (result ≡ Err Output) }
+    ensures refused { IfErr result (λ reason. IfSome inputs.now.image (λ image. IsListRefusal image.now settings.now.ram reason)) }
+    ensures passed { OnOk result (IfSome inputs.now.image (λ image. PassesAll image.now settings.now.ram)) }
+    ensures listed { OnOk result (IfSome inputs.now.image (λ image.
+        IsListed image.now settings.now.ram (W.contents out.old) (W.contents out.new))) }
+{
+    let Some(file) = inputs.image else {
+        return Err(Refused::Output);
+    };
+    let image = read_image(file, settings, alloc)?;
+    match list(&image, out) {
+        Ok(()) => Ok(()),
+        Err(_) => Err(Refused::Output),
     }
 }
 

@@ -1,3 +1,5 @@
+mod listing;
+
 use crate::{InOrder, Inputs, Settings, perform};
 use sim_inputs::Line;
 use std::alloc::{AllocError, Global};

@@ -1,9 +1,12 @@
 -- What the calls of a core answer, and what they change.
-use Rattle.std.specs.Prelude.{◌≡◌, ◌<◌, ℕ, Bool, true, ◌==◌, ◌&&◌, length, Option, Some, None}
+use Rattle.std.specs.Prelude.{◌≡◌, ◌<◌, ℕ, true, List, length, None}
 use Rattle.events.specs.declared.event.Event.{Event}
 use Rattle.events.specs.Range.{HasShortWrite}
-use Rattle.smt_model.specs.Setup.{Setup, is_accepted}
-use Rattle.smt_model.specs.Asks.{Ask, AskIssue, AskComplete, answers}
+use Rattle.smt_model.specs.Setup.{Setup}
+use Rattle.exec_units.specs.Job.{JobView}
+use Rattle.smt_model.specs.Asks.{Ask, AskFetch, AskRename, AskIssue, AskComplete, answers}
+use Rattle.smt_model.specs.Rules.{refused}
+use Rattle.core_state.specs.Answers.{AllowsNone, PredictsNext, TakesLeast, IsJobOf, IsStrange}
 use Rattle.core_state.specs.View.{CoreView, grown}
 use Rattle.smt_core.specs.declared.answer.Answer.{Answer}
 use Rattle.smt_core.specs.declared.answer.Answer.TheVariants as plain
@@ -12,21 +15,26 @@ use Rattle.smt_core.specs.declared.answer.IssueAnswer.TheVariants as issue
 use Rattle.smt_core.specs.declared.answer.CompleteAnswer.{CompleteAnswer}
 use Rattle.smt_core.specs.declared.answer.CompleteAnswer.TheVariants as complete
 
--- A core is made of these sizes and this limit; one hart is all that is accepted yet.
-abbrev pub is_accepted_yet : Setup → ℕ → Bool
-is_accepted_yet setup limit = (setup.harts == 1) && is_accepted setup limit
+-- What the rules leave open and a core decides: a fetch predicts the instruction behind, a rename takes the least free register.
+abbrev pub Decides : Ask → Setup → List Event → Event → Type 0
+Decides (AskFetch actor) setup past e = PredictsNext e
+Decides (AskRename actor hart) setup past e = TakesLeast setup past e
+Decides _ setup past e = Unit {0}
 
--- The step was made: there was room, the event is one that was asked for, the history has grown by it alone, and it fits
--- the line of an event.
+-- The step was made: there was room, the event is allowed and one that was asked for, the history has grown by it alone, and it
+-- fits the line of an event.
 pub record IsMade (ask : Ask) (old : CoreView) (e : Event) (new : CoreView) : Type 0 where
   pub room : length old.past < old.limit
+  pub allowed : refused old.setup old.past e ≡ None
   pub asked : answers ask old.past e ≡ true
+  pub decided : Decides ask old.setup old.past e
   pub grows : new ≡ grown e old
   pub printable : HasShortWrite e
 
--- No step was made, though there was room: nothing has changed.
-pub record IsIdle (old new : CoreView) : Type 0 where
+-- No step was made, though there was room: no event that answers the ask is allowed, and nothing has changed.
+pub record IsIdle (ask : Ask) (old new : CoreView) : Type 0 where
   pub room : length old.past < old.limit
+  pub idle : AllowsNone old.setup ask old.past
   pub unchanged : new ≡ old
 
 -- There was no room: nothing has changed.
@@ -36,18 +44,34 @@ pub record IsFull (old new : CoreView) : Type 0 where
 
 abbrev pub Answered : Ask → CoreView → Answer → CoreView → Type 0
 Answered ask old (plain.Done e) new = IsMade ask old e new
-Answered ask old plain.Idle new = IsIdle old new
+Answered ask old plain.Idle new = IsIdle ask old new
 Answered ask old plain.Full new = IsFull old new
 
+-- An issue lends the job that the history now has open for the actor.
+pub record IsLent (actor : ℕ) (old : CoreView) (job : JobView) (e : Event) (new : CoreView) : Type 0 where
+  pub made : IsMade (AskIssue actor) old e new
+  pub lent : IsJobOf new.setup new.past actor job
+
 abbrev pub IssueAnswered : ℕ → CoreView → IssueAnswer → CoreView → Type 0
-IssueAnswered actor old (issue.Job job e) new = IsMade (AskIssue actor) old e new
-IssueAnswered actor old issue.Idle new = IsIdle old new
+IssueAnswered actor old (issue.Job job e) new = IsLent actor old job e new
+IssueAnswered actor old issue.Idle new = IsIdle (AskIssue actor) old new
 IssueAnswered actor old issue.Full new = IsFull old new
 
-abbrev pub CompleteAnswered : ℕ → CoreView → CompleteAnswer → CoreView → Type 0
-CompleteAnswered actor old (complete.Done e) new = IsMade (AskComplete actor) old e new
-CompleteAnswered actor old complete.Stranger new = IsIdle old new
-CompleteAnswered actor old complete.Full new = IsFull old new
+-- A job is taken back where it is the one that the history has open for the actor.
+pub record IsTaken (actor : ℕ) (job : JobView) (old : CoreView) (e : Event) (new : CoreView) : Type 0 where
+  pub made : IsMade (AskComplete actor) old e new
+  pub lent : IsJobOf old.setup old.past actor job
+
+-- There was room, and the actor has no such job open: nothing has changed.
+pub record IsStranger (actor : ℕ) (job : JobView) (old new : CoreView) : Type 0 where
+  pub room : length old.past < old.limit
+  pub strange : IsStrange old.setup old.past actor job
+  pub unchanged : new ≡ old
+
+abbrev pub CompleteAnswered : ℕ → JobView → CoreView → CompleteAnswer → CoreView → Type 0
+CompleteAnswered actor job old (complete.Done e) new = IsTaken actor job old e new
+CompleteAnswered actor job old complete.Stranger new = IsStranger actor job old new
+CompleteAnswered actor job old complete.Full new = IsFull old new
 
 -- An answer's event, where there is one, fits the line of an event.
 abbrev pub IsPrintable : Answer → Type 0

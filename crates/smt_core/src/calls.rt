@@ -1,8 +1,18 @@
-ghost use Rattle.std.specs.Prelude.{◌≡◌, ◌∷◌, [], ◌<◌, ◌≤◌, ◌↔◌, ◌⊎◌, length, reverse, IsTrue, IfSome, IfOk, Err, true, false};
+ghost use Rattle.std.specs.Prelude.{◌≡◌, ◌∷◌, [], ◌<◌, ◌≤◌, ◌↔◌, ◌⊎◌, length, reverse, map, IsTrue, IfSome, IfOk, Err, None, Some, true, false, ℕ, ◌+◌, ◌==◌, ◌&&◌, nat_lt, if◌then◌else◌};
 ghost use Rattle.core_state.specs.Setup.{setup_of};
 ghost use Rattle.core_state.specs.View.{CoreView};
 ghost use Rattle.smt_model.specs.Asks.{AskFetch, AskDecode, AskRename, AskIssue, AskComplete, AskRetire};
-ghost use Rattle.smt_core.specs.Answers.{Answered, IssueAnswered, CompleteAnswered, is_accepted_yet};
+ghost use Rattle.smt_model.specs.Account.{records, lent, committed_value};
+ghost use Rattle.core_state.specs.Listed.{listed};
+ghost use Rattle.smt_model.specs.Basics.{below, how_many};
+ghost use Rattle.smt_model.specs.Flights.{icount};
+ghost use Rattle.smt_model.specs.Picture.{is_free};
+ghost use Rattle.smt_model.specs.Registers.{claims};
+ghost use Rattle.smt_model.specs.Memory.{status, output};
+ghost use Rattle.smt_model.specs.Rules.{is_legal};
+ghost use Rattle.smt_core.specs.Headline.{IsPlainRun, IsPlainRegister};
+ghost use Rattle.smt_core.specs.Answers.{Answered, IssueAnswered, CompleteAnswered};
+ghost use Rattle.smt_model.specs.Setup.{is_accepted, registers_of};
 
 use crate::account::Account;
 use crate::answer::{Answer, CompleteAnswer, IssueAnswer};
@@ -12,7 +22,8 @@ use core_state::{CoreRefused, State};
 use elf_image::Image;
 use events::Event;
 use exec_units::Done;
-use smt_model::Config;
+use smt_laws::laws::refines_the_plain_machine;
+use smt_model::{Config, Status};
 use std::alloc::Global;
 use std::marker::Model;
 
@@ -33,7 +44,7 @@ impl Model for Core {
 impl Core {
     /// The core of an image and a configuration, with room for `limit` events. No later call takes memory.
     ///
-    /// Refused are a configuration or limit that isn't a core's, before any memory is taken. One hart is all that is accepted yet.
+    /// Refused are a configuration or limit that isn't a core's, before any memory is taken.
     pub fn new(
         image: &Image,
         config: Config,
@@ -41,12 +52,9 @@ impl Core {
         alloc: Global,
     ) -> Result<Core, CoreRefused>
         ensures made { IfOk result (λ core. core ≡ record { setup = setup_of image.now config; limit = limit; past = [] }) }
-        ensures accepted { IfOk result (λ core. is_accepted_yet core.setup limit ≡ true) }
-        ensures refused { (result ≡ Err CoreRefused.Config) ↔ (is_accepted_yet (setup_of image.now config) limit ≡ false) }
+        ensures accepted { IfOk result (λ core. is_accepted core.setup limit ≡ true) }
+        ensures refused { (result ≡ Err CoreRefused.Config) ↔ (is_accepted (setup_of image.now config) limit ≡ false) }
     {
-        if config.harts != 1 {
-            return Err(CoreRefused::Config);
-        }
         match State::new(image, config, limit, alloc) {
             Ok(state) => Ok(Core { state }),
             Err(CoreRefused::Config) => Err(CoreRefused::Config),
@@ -109,7 +117,7 @@ impl Core {
 
     /// Takes back a job that was worked. It is spent in each case.
     pub fn complete(&mut self, actor: u8, done: Done) -> CompleteAnswer
-        ensures { CompleteAnswered actor self.old result self.new }
+        ensures { CompleteAnswered actor done.job self.old result self.new }
     {
         let answered = self.complete_by(actor, &done);
         done.abandon();
@@ -117,7 +125,7 @@ impl Core {
     }
 
     fn complete_by(&mut self, actor: u8, done: &Done) -> CompleteAnswer
-        ensures { CompleteAnswered actor self.old result self.new }
+        ensures { CompleteAnswered actor done.now.job self.old result self.new }
     {
         if self.state.is_full() {
             return CompleteAnswer::Full;
@@ -143,18 +151,19 @@ impl Core {
 
     /// What the history comes to.
     pub fn account(&self) -> Account<'_>
+        ensures records { result.records.now ≡ reverse (records self.now.past) }
+        ensures output { result.output.now ≡ output self.now.past }
+        ensures statuses { result.statuses.items ≡ map (status self.now.past) (below self.now.setup.harts) }
+        ensures lent { result.lent ≡ lent self.now.setup self.now.past }
         ensures events { result.events ≡ length self.now.past }
+        ensures sequential { IsPlainRun self.now.setup result.records.now result.output.now result.statuses.items }
     {
-        let mut statuses = ArrayVec::new();
-        for hart in 0..self.state.harts() {
-            if let Some(status) = self.state.status(hart) {
-                let _ = statuses.try_push(status);
-            }
-        }
+        // Its contract is the headline: of every legal history, so of this one.
+        refines_the_plain_machine();
         Account {
             records: self.state.records(),
             output: self.state.output(),
-            statuses,
+            statuses: self.statuses(),
             lent: self.state.lent(),
             events: self.history().len() as u32,
         }
@@ -162,13 +171,47 @@ impl Core {
 
     /// What hart `hart`'s register `register` holds as its retired instructions leave it; none where there is no such hart or
     /// register.
-    pub fn register(&self, hart: u8, register: u8) -> Option<u32> {
+    pub fn register(&self, hart: u8, register: u8) -> Option<u32>
+        ensures value { result ≡ (if nat_lt hart self.now.setup.harts && nat_lt register 32 then committed_value self.now.setup self.now.past hart register else None) }
+        ensures sequential { IfSome result (IsPlainRegister self.now hart register) }
+    {
+        refines_the_plain_machine();
+        // The history is legal: that is a clause of this call.
+        let _events = self.history();
         self.state.register(hart, register)
+    }
+
+    /// How many instructions of hart `hart` are in decode, rename and the issue queue (ICOUNT); none where there is no such hart.
+    pub fn icount(&self, hart: u8) -> Option<u32>
+        ensures { result ≡ (if nat_lt hart self.now.setup.harts then Some (icount self.now.past hart) else None) }
+    {
+        self.state.icount(hart)
+    }
+
+    /// The free physical registers, rising. Each register of the core is here once, or claimed once: by an instruction in flight or
+    /// by a register of a hart.
+    pub fn free_registers(&self) -> ArrayVec<u16, 512>
+        ensures free { result.items ≡ listed (is_free self.now.setup self.now.past) }
+        ensures once { (p : ℕ) → p < registers_of self.now.setup → claims self.now.setup self.now.past p + how_many (λ x. x == p) result.items ≡ 1 }
+    {
+        self.state.free_registers()
+    }
+
+    /// How each hart stands.
+    fn statuses(&self) -> ArrayVec<Status, 8>
+        ensures { result.items ≡ map (status self.now.past) (below self.now.setup.harts) }
+    {
+        let mut statuses = ArrayVec::new();
+        for hart in 0..self.state.harts() {
+            statuses.push(self.state.status(hart).unwrap());
+        }
+        statuses
     }
 
     /// The events so far, the oldest first.
     pub fn history(&self) -> &[Event]
         ensures events { reverse result.now ≡ self.now.past }
+        ensures legal { is_legal self.now.setup self.now.past }
         ensures within { length result.now ≤ self.now.limit }
         ensures small { self.now.limit ≤ 16777216 }
     {

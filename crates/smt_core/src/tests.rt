@@ -149,6 +149,12 @@ fn the_first_program_runs_to_its_end(rt: HostRuntime) -> Result<(), Fail> {
         assert_eq!(rt; core.register(0, register), number);
     }
     assert_eq!(rt; core.register(1, 10), None);
+    // Two of the 64 registers beyond the hart's own hold x10 and x17 now; their first ones are free instead.
+    let free = core.free_registers();
+    assert_eq!(rt; free.len(), 64);
+    assert_eq!(rt; free.as_slice().get(..4), Some([9, 16, 33, 34].as_slice()));
+    assert_eq!(rt; core.icount(0), Some(0));
+    assert_eq!(rt; core.icount(1), None);
     assert_eq!(rt; core.history().len(), 18);
     assert!(rt; core.is_of(&image, &sizes));
     assert!(rt; !core.is_of(&image, &config(1, 65, 16, 1)));
@@ -160,7 +166,7 @@ fn sizes_that_are_not_a_cores_are_refused(rt: HostRuntime) -> Result<(), Fail> {
     let image = first_image(rt.alloc())?;
     let rows = [
         (0, 64, 16, 1),
-        (2, 64, 16, 1),
+        (9, 64, 16, 1),
         (1, 0, 16, 1),
         (1, 257, 16, 1),
         (1, 64, 3, 1),
@@ -177,7 +183,7 @@ fn sizes_that_are_not_a_cores_are_refused(rt: HostRuntime) -> Result<(), Fail> {
             Err(CoreRefused::Config)
         )
     );
-    assert!(rt; Core::new(&image, config(1, 256, 64, 16), 1000, rt.alloc()).is_ok());
+    assert!(rt; Core::new(&image, config(8, 256, 64, 16), 1000, rt.alloc()).is_ok());
     Ok(())
 }
 

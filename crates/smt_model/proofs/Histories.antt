@@ -16,7 +16,7 @@ use Rattle.smt_model.specs.declared.config.Status.{Status}
 use Rattle.smt_model.specs.Basics.{below}
 use Rattle.smt_model.specs.Setup.{Setup}
 use Rattle.smt_model.specs.Kinds.{kind_of, destination, first_source, second_source, access_size}
-use Rattle.smt_model.specs.Exec.{exec, computed_of, is_executed}
+use Rattle.smt_model.specs.Exec.{exec, computed_of, covered_yet, is_executed, WholeSet}
 use Rattle.smt_model.specs.Fields.{fault, checked, read_value, number_at, write_of}
 use Rattle.smt_model.specs.Plain.{Run, run, read_register}
 use Rattle.smt_model.specs.Fates.{same_hart, strays, corrects}
@@ -49,7 +49,11 @@ one_of_each = role.Fetch ∷ role.Front ∷ role.Retire ∷ role.Alu ∷ role.Mu
 
 -- So many harts on a program, with 64 registers beyond their own and 16 entries in the queue.
 abbrev pub core : ℕ → List ℕ → Setup
-core harts words = record { image = program words; harts = harts; extra = 64; queue = 16; roles = one_of_each }
+core harts words = record { image = program words; harts = harts; extra = 64; queue = 16; roles = one_of_each; covers = covered_yet }
+
+-- The same of a machine that executes all of RV32IMA.
+abbrev pub wide : ℕ → List ℕ → Setup
+wide harts words = record (core harts words) { covers = WholeSet }
 
 -- One hart on one word.
 abbrev pub one_word : ℕ → Setup

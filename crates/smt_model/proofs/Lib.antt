@@ -8,6 +8,10 @@ pub mod RowsOfUnits
 pub mod RowsOfCalls
 pub mod RowsOfResults
 pub mod RowsOfAccesses
+pub mod RowsOfLooks
+pub mod RowsOfForwarding
+pub mod RowsOfReservations
+pub mod RowsOfMemory
 pub mod Lists
 pub mod Allowed
 pub mod Moves

@@ -125,7 +125,7 @@ and_false : (b : Bool) → (b && false) ≡ false
 and_false true = refl
 and_false false = refl
 
-calm-Complete : (past : List Event) (actor n : ℕ) (outcome : Outcome) → strays past n outcome.next ≡ false → IsCalm past (Complete actor n outcome)
+pub calm-Complete : (past : List Event) (actor n : ℕ) (outcome : Outcome) → strays past n outcome.next ≡ false → IsCalm past (Complete actor n outcome)
 calm-Complete past actor n outcome straight s = rw straight refl
 
 pc-Complete : (setup : Setup) (past : List Event) (actor n : ℕ) (outcome : Outcome) (g : ℕ)

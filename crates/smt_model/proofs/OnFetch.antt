@@ -33,7 +33,7 @@ grounded-still : (past : List Event) (actor h n pc : ℕ) (word : Option ℕ) (p
     → is_in_flight (fate (Fetch actor h n pc word predicted ∷ past) n) ≡ is_in_flight (fate past n)
 grounded-still past actor h n pc word predicted was = grind (arith, nat_tests)
 
-own_fetched : (past : List Event) (actor h n pc : ℕ) (word : Option ℕ) (predicted : ℕ)
+pub own_fetched : (past : List Event) (actor h n pc : ℕ) (word : Option ℕ) (predicted : ℕ)
     → fetching (Fetch actor h n pc word predicted ∷ past) n ≡ Some (record { hart = h; pc = pc; word = word; predicted = predicted })
 own_fetched past actor h n pc word predicted = let same : (n == n) ≡ true = grind (arith, nat_tests) in rw same refl
 
@@ -76,7 +76,7 @@ queue-Fetch setup past legal actor h n pc word predicted ok =
     ap (λ f. is f Renamed) (fate-other e past s (λ same. absurd (omega arith)) refl))))
 
 -- A place of the hart with the new instruction behind it.
-place-Fetch : (setup : Setup) (past : List Event) → is_legal setup past → (actor h n pc : ℕ) (word : Option ℕ) (predicted : ℕ)
+pub place-Fetch : (setup : Setup) (past : List Event) → is_legal setup past → (actor h n pc : ℕ) (word : Option ℕ) (predicted : ℕ)
     → refused setup past (Fetch actor h n pc word predicted) ≡ None → (test : Fate → Bool)
     → filter (λ s. test (fate (Fetch actor h n pc word predicted ∷ past) s)) (numbers (Fetch actor h n pc word predicted ∷ past) h)
     ≡ filter (λ s. test (fate past s)) (numbers past h) ++ (if test InDecode then n ∷ [] else [])

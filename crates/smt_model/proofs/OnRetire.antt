@@ -39,7 +39,7 @@ use Rattle.smt_model.proofs.Filling.{value-filled, reads-woken}
 use Rattle.smt_model.proofs.Retiring.{was-Retire, result-Retire, goes_on, committed-other, committed-Retire, writes_elsewhere, own_register, fits, free-Retire}
 
 -- What becomes of the instruction.
-now-Retire : (setup : Setup) (past : List Event) (actor n : ℕ) (effect : Effect) → refused setup past (Retire actor n effect) ≡ None
+pub now-Retire : (setup : Setup) (past : List Event) (actor n : ℕ) (effect : Effect) → refused setup past (Retire actor n effect) ≡ None
     → is_last effect.next ≡ false → fate (Retire actor n effect ∷ past) n ≡ Retired
 now-Retire setup past actor n effect ok going =
     let was = retire_was setup past actor n effect ok in
@@ -51,7 +51,7 @@ own-Retire : (setup : Setup) (past : List Event) (actor n : ℕ) (effect : Effec
 own-Retire setup past actor n effect ok going test same =
     ap test (now-Retire setup past actor n effect ok going) ∙ (same ∙ ap test (sym (was-Retire setup past actor n effect ok)))
 
-calm-Retire : (past : List Event) (actor n : ℕ) (effect : Effect) → corrects past n effect ≡ false → IsCalm past (Retire actor n effect)
+pub calm-Retire : (past : List Event) (actor n : ℕ) (effect : Effect) → corrects past n effect ≡ false → IsCalm past (Retire actor n effect)
 calm-Retire past actor n effect straight s = rw straight refl
 
 leaves-Retire : (setup : Setup) (past : List Event) → is_legal setup past → (actor n : ℕ) (effect : Effect)

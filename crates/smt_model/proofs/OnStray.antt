@@ -95,7 +95,7 @@ completes setup past legal actor n o ok h goes_on of_n = record {
 
 -- ---- The second half
 
-cutting-Complete : (setup : Setup) (past : List Event) → is_legal setup past → (actor n : ℕ) (o : Outcome) → refused setup past (Complete actor n o) ≡ None
+pub cutting-Complete : (setup : Setup) (past : List Event) → is_legal setup past → (actor n : ℕ) (o : Outcome) → refused setup past (Complete actor n o) ≡ None
     → strays past n o.next ≡ true → (h : ℕ) → is_of past h n ≡ true → IsCutting past (Complete actor n o) h
 cutting-Complete setup past legal actor n o ok astray h of_n = record {
   of_hart = of_n;

@@ -40,7 +40,7 @@ reading-stays setup past legal e ok h r s high of_s was still v reads_it =
           rw some (value-stays setup past legal e ok h r s is_register of_s was still v (rw some at reads_it))
     ]
 
-reading_by-is : (setup : Setup) (which : Op → ℕ) (past : List Event) (s : ℕ) (f : Fetched) → fetching past s ≡ Some f
+pub reading_by-is : (setup : Setup) (which : Op → ℕ) (past : List Event) (s : ℕ) (f : Fetched) → fetching past s ≡ Some f
     → reads setup which past s ≡ reading setup past f.hart (which (op_of_fetched (Some f))) s
 reading_by-is setup which past s f at = ap (reading_by setup which past s) at
 

@@ -115,11 +115,11 @@ same_computed : (setup : Setup) (past : List Event) (s : ℕ) (f : Fetched) → 
     → operand setup second_source past s ≡ reads setup second_source past s
     → computed_at setup past s f
     ≡ checked setup.image (op_of_fetched (Some f))
-    (exec (op_of_fetched (Some f)) f.pc (or_zero (reads setup first_source past s)) (or_zero (reads setup second_source past s)))
+    (exec setup.covers (op_of_fetched (Some f)) f.pc (or_zero (reads setup first_source past s)) (or_zero (reads setup second_source past s)))
 same_computed setup past s f one two =
     let op = op_of_fetched (Some f) in
-    ap (λ a. checked setup.image op (exec op f.pc (or_zero a) (or_zero (operand setup second_source past s)))) one
-    ∙ ap (λ b. checked setup.image op (exec op f.pc (or_zero (reads setup first_source past s)) (or_zero b))) two
+    ap (λ a. checked setup.image op (exec setup.covers op f.pc (or_zero a) (or_zero (operand setup second_source past s)))) one
+    ∙ ap (λ b. checked setup.image op (exec setup.covers op f.pc (or_zero (reads setup first_source past s)) (or_zero b))) two
 
 some-one : {A : Type 0} → (a b : A) → Some a ≡ Some b → a ≡ b
 some-one a b same = cc

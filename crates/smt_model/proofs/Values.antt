@@ -120,8 +120,8 @@ computed-kept setup past e ok s f late =
     let op = op_of_fetched (Some f) in
     let one = operand-kept setup past e ok first_source s late in
     let two = operand-kept setup past e ok second_source s late in
-    ap (λ a. checked setup.image op (exec op f.pc (or_zero a) (or_zero (operand setup second_source (e ∷ past) s)))) one
-    ∙ ap (λ b. checked setup.image op (exec op f.pc (or_zero (operand setup first_source past s)) (or_zero b))) two
+    ap (λ a. checked setup.image op (exec setup.covers op f.pc (or_zero a) (or_zero (operand setup second_source (e ∷ past) s)))) one
+    ∙ ap (λ b. checked setup.image op (exec setup.covers op f.pc (or_zero (operand setup first_source past s)) (or_zero b))) two
 
 -- An event that is neither its completion nor its retirement leaves a completed one as it was.
 completed-kept : (setup : Setup) (past : List Event) → is_legal setup past → (e : Event) → refused setup past e ≡ None → (s : ℕ)

@@ -133,14 +133,24 @@ computed_of (instr.LoadReserved rd rs1 ordering) pc a b = touches pc a 0
 computed_of (instr.StoreConditional rd rs1 rs2 ordering) pc a b = touches pc a b
 computed_of (instr.Amo kind rd rs1 rs2 ordering) pc a b = touches pc a b
 
--- The instructions that the simulator executes yet. Every other one stops its hart as an illegal word does.
-unfoldable pub is_executed : Instr → Bool
-is_executed (instr.Immediate Addi _ _ _) = true
-is_executed instr.Ecall = true
-is_executed _ = false
+-- Which instructions a machine executes: ADDI and ECALL alone, or all of them.
+pub data Coverage : Type 0 where
+  AddiAndEcall : Coverage
+  WholeSet : Coverage
+
+-- What the simulator executes yet.
+abbrev pub covered_yet : Coverage
+covered_yet = AddiAndEcall
+
+-- The instruction is one of them. Every other one stops its hart as an illegal word does.
+unfoldable pub is_executed : Coverage → Instr → Bool
+is_executed WholeSet i = true
+is_executed AddiAndEcall (instr.Immediate Addi _ _ _) = true
+is_executed AddiAndEcall instr.Ecall = true
+is_executed AddiAndEcall _ = false
 
 -- The same of what was found at the pc. Cause 1: there is no word there. Cause 2: the word is no instruction.
-unfoldable pub exec : Op → ℕ → ℕ → ℕ → Computed
-exec (Known i) pc a b = if is_executed i then computed_of i pc a b else just_next (Stopped 2)
-exec Illegal pc a b = just_next (Stopped 2)
-exec NoWord pc a b = just_next (Stopped 1)
+unfoldable pub exec : Coverage → Op → ℕ → ℕ → ℕ → Computed
+exec covers (Known i) pc a b = if is_executed covers i then computed_of i pc a b else just_next (Stopped 2)
+exec covers Illegal pc a b = just_next (Stopped 2)
+exec covers NoWord pc a b = just_next (Stopped 1)

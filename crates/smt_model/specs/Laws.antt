@@ -138,7 +138,7 @@ pub record SaysTheRules (setup : Setup) (past : List Event) (s : ℕ) (f : Fetch
       outcome
       ≡ outcome_of (op_of_fetched (Some f))
       (checked setup.image (op_of_fetched (Some f))
-      (exec (op_of_fetched (Some f)) f.pc (or_zero (reads setup first_source past s)) (or_zero (reads setup second_source past s))))
+      (exec setup.covers (op_of_fetched (Some f)) f.pc (or_zero (reads setup first_source past s)) (or_zero (reads setup second_source past s))))
       (Some look)
   pub holds : result_of past s ≡ outcome.value
 

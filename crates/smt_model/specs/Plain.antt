@@ -55,7 +55,7 @@ op_at_pc setup s h = op_of_word (word_at_pc setup s h)
 abbrev pub computes : Setup → Plain → ℕ → Computed
 computes setup s h =
     let op = op_at_pc setup s h in
-    checked setup.image op (exec op (s.pcs h) (read_register s h (first_source op)) (read_register s h (second_source op)))
+    checked setup.image op (exec setup.covers op (s.pcs h) (read_register s h (first_source op)) (read_register s h (second_source op)))
 
 -- Its effect on the machine as it stands.
 abbrev pub effect_at : Setup → Plain → ℕ → Effect

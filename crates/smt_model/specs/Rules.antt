@@ -77,7 +77,7 @@ same_effect a b =
 abbrev pub computed_at : Setup → List Event → ℕ → Fetched → Computed
 computed_at setup past s f =
     let op = op_of_fetched (Some f) in
-    checked setup.image op (exec op f.pc (or_zero (operand setup first_source past s)) (or_zero (operand setup second_source past s)))
+    checked setup.image op (exec setup.covers op f.pc (or_zero (operand setup first_source past s)) (or_zero (operand setup second_source past s)))
 
 abbrev pub outcome_now : Setup → List Event → ℕ → Fetched → Outcome
 outcome_now setup past s f =

@@ -58,12 +58,11 @@ fn refuse(rt: &HostRuntime, why: &str, status: u8) -> u8 {
 }
 
 fn run(rt: &HostRuntime, line: &Line<'_>) -> u8 {
-    let Line::Step { image, script } = line;
-    let image = fs::read(rt, image).ok();
-    let script = fs::read(rt, script).ok();
+    let image = read_image(rt, line);
+    let second = read_second(rt, line);
     let inputs = Inputs {
         image: image.as_deref(),
-        second: script.as_deref(),
+        second: second.as_deref(),
     };
     let Some(settings) = Settings::single_hart() else {
         return refuse(rt, "config refused", 2);
@@ -83,5 +82,20 @@ fn run(rt: &HostRuntime, line: &Line<'_>) -> u8 {
     match out.flush() {
         Ok(()) => status,
         Err(_) => refuse(rt, "file", 5),
+    }
+}
+
+/// The image that the line names; none where it can't be read.
+fn read_image(rt: &HostRuntime, line: &Line<'_>) -> Option<Vec<u8>> {
+    match line {
+        Line::Step { image, .. } | Line::List { image } => fs::read(rt, image).ok(),
+    }
+}
+
+/// The other file that the line names; none where it can't be read, and empty where the line names none.
+fn read_second(rt: &HostRuntime, line: &Line<'_>) -> Option<Vec<u8>> {
+    match line {
+        Line::Step { script, .. } => fs::read(rt, script).ok(),
+        Line::List { .. } => Some(Vec::new(rt.alloc())),
     }
 }

@@ -1,7 +1,17 @@
-use Rattle.core_state.proofs.Numbers.{each_set}
+-- The hart that fetches agrees with the picture after it, and so does all that it leaves.
+use Rattle.std.proofs.Common.{refl}
+use Rattle.core_state.proofs.Agreeing.{each_set}
+use Rattle.core_state.proofs.Keeping.{rest_kept}
+use Rattle.core_state.proofs.FetchedParts.{keeps_rest, own_fetch, other_fetch}
 use Rattle.core_state.proofs.parts.Parts.fetch.Goals as goal
 
-pub returns-clause-numbers : goal.returns-clause-numbers
-returns-clause-numbers c = λ test new pass.
-    let h = c.index_mut.ensures.value in
-    each_set test c.args.self.now.harts.items c.args.hart _ _ c.requires h (c.fetch.ensures.numbers (test c.args.hart) new) pass
+pub returns-clause-agrees : goal.returns-clause-agrees
+returns-clause-agrees c = λ p q agrees step.
+    let h = c.args.hart in
+    let slot = c.args.slot in
+    let x = c.index_mut.result.now in
+    let y = c.fetch.new.self in
+    rest_kept p q c.args.self.now _ (keeps_rest p q h slot step) agrees
+    (each_set p q c.args.self.now.harts.items h x y c.requires.step.inside c.index_mut.ensures.value
+    (own_fetch p q h slot x y c.requires.op step c.fetch.ensures) (λ g other z. other_fetch p q h slot g z other step) agrees.harts)
+    refl refl refl refl

@@ -1,9 +1,21 @@
-use Rattle.std.proofs.Common.{ap}
-use Rattle.core_state.proofs.Numbers.{keeps_same, keeps_both}
+use Rattle.std.proofs.Common.{◌∙◌, sym, subst, ◌<◌}
 use Rattle.core_state.proofs.parts.Parts.finish.Goals as goal
 
-pub returns-then-pc-active : goal.returns-then-pc-active
-returns-then-pc-active c =
-    let filled = keeps_same c.note.new.self.harts.items c.fill.new.self.harts.items (ap (λ v. v.items) c.fill.ensures.harts) in
-    let noted = keeps_both _ _ _ c.note.ensures.numbers filled in
-    record { numbers = keeps_both _ _ _ noted (keeps_both _ _ _ c.go_to.ensures.numbers c.squash.ensures.numbers) }
+pub squash-requires : goal.squash-requires
+squash-requires c =
+    let from = c.requires.step in
+    let stray = from.step.strays c.in-Some.pc (sym c.strayed_to.ensures ∙ c.in-Some.is) in
+    record {
+      step = record {
+        before = stray.middle;
+        after = from.after;
+        inside = subst (λ n. c.args.hart < n) (sym c.write_outcome-2.ensures.sizes.harts) from.inside;
+        agrees = c.write_outcome-2.ensures.agrees from.before stray.middle from.agrees stray.complete from.step.phys;
+        step = stray.squash;
+      };
+    }
+
+pub returns-clause-agrees : goal.returns-clause-agrees
+returns-clause-agrees c = λ p q agrees step.
+    let stray = step.strays c.in-Some.pc (sym c.strayed_to.ensures ∙ c.in-Some.is) in
+    c.squash.ensures.agrees stray.middle q (c.write_outcome-2.ensures.agrees p stray.middle agrees stray.complete step.phys) stray.squash

@@ -1,12 +1,38 @@
-use Rattle.std.proofs.Common.{subst, sym, arith}
-use Rattle.std.proofs.lemmas.Grind.{common_steps}
-use Rattle.core_state.specs.Numbers.{EachPasses}
-use Rattle.core_state.proofs.Numbers.{each_push}
+-- One hart more is new and has its first numbers; and the parts of all of them agree with the empty history.
+use Rattle.std.proofs.Common.{◌≡◌, ◌∙◌, None, length, refl, ap, sym, subst, arith, ◌+◌}
+use Rattle.std.proofs.lemmas.List.{get_or-replicate, length_push}
+use Rattle.std.proofs.Math.ListN.{replicate}
+use Rattle.issue_queue.specs.Queue.{Queue}
+use Rattle.core_state.specs.First.{IsNew}
+use Rattle.core_state.proofs.Beginning.{AreNew, AreFirst, first_start, first_more, new_more, begins}
 use Rattle.core_state.proofs.parts.Parts.new.Goals as goal
 
+pub loop-hart-init : goal.loop-hart-init
+loop-hart-init c =
+    let empty = c.in_ok-each.ensures.items in
+    let none : length c.in_ok-each.each.items ≡ 0 = ap length empty in (
+      none,
+      λ h d inside. absurd (omega arith),
+      first_start c.args.harts (replicate 512 None) (λ x d inside. get_or-replicate 512 x None d inside),
+      refl,
+    )
+
 pub loop-hart-preserved : goal.loop-hart-preserved
-loop-hart-preserved c = (
-  grind (arith, common_steps),
-  λ test. subst (EachPasses test) (sym c.in_ok-push.ensures.items)
-      (each_push test _ _ (λ h. c.new.ensures.empty (test h)) (c.loop-hart.invariant.1 test)),
-)
+loop-hart-preserved c =
+    let more = c.in_ok-push.ensures.items in
+    let count = c.loop-hart.invariant.0 in
+    let new : IsNew (length c.loop-hart.each.items) c.args.entry c.new.result = subst (λ n. IsNew n c.args.entry c.new.result) (sym count) c.new.ensures in (
+      ap length more ∙ (length_push c.loop-hart.each.items c.new.result ∙ ap (λ n. n + 1) count),
+      subst (AreNew c.args.entry) (sym more) (new_more c.args.entry c.loop-hart.each.items c.new.result new c.loop-hart.invariant.1),
+      first_more c.args.harts c.loop-hart.hart c.loop-hart.values c.set_first_values.new.values c.set_first_values.ensures c.loop-hart.invariant.2,
+      c.set_first_values.array_long,
+    )
+
+pub returns-clause-begins : goal.returns-clause-begins
+returns-clause-begins c =
+    let upto = c.loop-hart.auto.hart-end in
+    let end = c.loop-hart-test.false in
+    let all : c.loop-hart.hart ≡ c.args.harts = omega arith in
+    let kept = c.loop-hart.invariant in
+    begins c.args.harts c.args.extra c.args.entry _ (kept.0 ∙ all) kept.1 (ap (λ (q : Queue). q.entries) c.new-2.ensures) c.new-3.ensures kept.3
+    (subst (λ n. AreFirst c.args.harts n c.loop-hart.values) all kept.2) refl (λ k d inside. get_or-replicate 16 k None d inside)

@@ -1,5 +1,66 @@
+-- What the parts decode is what the history allows to be decoded.
+use Rattle.std.proofs.Common.{◌≡◌, true, None, subst, arith}
+use Rattle.events.specs.declared.event.Event.TheVariants.{Decode}
+use Rattle.smt_model.specs.Asks.{AskDecode, answers}
+use Rattle.smt_model.specs.Rules.{refused, is_actor}
+use Rattle.core_state.specs.Answers.{AllowsNone}
+use Rattle.core_state.specs.State.{past_of, setup_in}
+use Rattle.core_state.specs.View.{CoreView}
 use Rattle.core_state.proofs.Cores.{core_grown, quiet_decode}
+use Rattle.core_state.proofs.DecodeRules.{decode_idle}
+use Rattle.core_state.proofs.DecodedState.{decode_in, decode_ok, decode_answers, decode_starts, decode_grows, none_decodes}
 use Rattle.core_state.proofs.state.State.decode.Goals as goal
 
-pub invariant_of-self-2 : goal.invariant_of-self-2
-invariant_of-self-2 c = core_grown c.self.inside c.decode.new.self c.append.new.history _ c.self.invariant c.decode.ensures.numbers (quiet_decode _ _) c.append.ensures
+pub returns-then-not-has_actor-clause-idle : goal.returns-then-not-has_actor-clause-idle
+returns-then-not-has_actor-clause-idle c =
+    let i = c.self.inside in
+    let tested = c.has_actor.ensures in
+    let none = c.if-not-has_actor.true in
+    subst (λ (v : CoreView). AllowsNone v.setup (AskDecode c.args.actor c.args.hart) v.past) c.self.view_is
+    (decode_idle (setup_in i) (past_of i) c.self.invariant.legal c.args.actor c.args.hart (λ is_one there s can.
+    let seen = subst (λ (v : CoreView). is_actor v.setup c.args.actor ≡ true) c.self.view_is is_one in
+    absurd (grind arith)))
+
+pub returns-in_err-seq-clause-idle : goal.returns-in_err-seq-clause-idle
+returns-in_err-seq-clause-idle c =
+    let i = c.self.inside in
+    rw c.from_residual.ensures
+    (subst (λ (v : CoreView). AllowsNone v.setup (AskDecode c.args.actor c.args.hart) v.past) c.self.view_is
+    (decode_idle (setup_in i) (past_of i) c.self.invariant.legal c.args.actor c.args.hart
+    (none_decodes i c.self.invariant c.args.actor c.args.hart c.in_err-seq.ensures.none)))
+
+pub decode-requires : goal.decode-requires
+decode-requires c =
+    let i = c.self.inside in
+    let found = c.in_ok-seq.ensures in
+    let is = decode_in i c.args.self.now c.self.view_is c.args.actor c.args.hart c.in_ok-seq.seq c.has_actor.result c.has_actor.ensures
+    c.if-not-has_actor.false found.inside found.some in
+    record { step = decode_starts i c.self.invariant c.args.actor c.args.hart c.in_ok-seq.seq is }
+
+pub invariant_of-self : goal.invariant_of-self
+invariant_of-self c =
+    let i = c.self.inside in
+    let found = c.in_ok-seq.ensures in
+    let is = decode_in i c.args.self.now c.self.view_is c.args.actor c.args.hart c.in_ok-seq.seq c.has_actor.result c.has_actor.ensures
+    c.if-not-has_actor.false found.inside found.some in
+    core_grown i c.decode.new.self c.append.new.history (Decode c.args.actor c.in_ok-seq.seq) c.self.invariant
+    (decode_grows i c.self.invariant c.args.actor c.args.hart c.in_ok-seq.seq c.decode.new.self is c.decode.ensures.agrees c.decode.ensures.sizes)
+    (quiet_decode c.args.actor c.in_ok-seq.seq) c.append.ensures
+
+pub returns-clause-allowed : goal.returns-clause-allowed
+returns-clause-allowed c =
+    let i = c.self.inside in
+    let found = c.in_ok-seq.ensures in
+    let is = decode_in i c.args.self.now c.self.view_is c.args.actor c.args.hart c.in_ok-seq.seq c.has_actor.result c.has_actor.ensures
+    c.if-not-has_actor.false found.inside found.some in
+    subst (λ (v : CoreView). refused v.setup v.past (Decode c.args.actor c.in_ok-seq.seq) ≡ None) c.self.view_is
+    (decode_ok i c.self.invariant c.args.actor c.args.hart c.in_ok-seq.seq is)
+
+pub returns-clause-answer : goal.returns-clause-answer
+returns-clause-answer c =
+    let i = c.self.inside in
+    let found = c.in_ok-seq.ensures in
+    let is = decode_in i c.args.self.now c.self.view_is c.args.actor c.args.hart c.in_ok-seq.seq c.has_actor.result c.has_actor.ensures
+    c.if-not-has_actor.false found.inside found.some in
+    subst (λ (v : CoreView). answers (AskDecode c.args.actor c.args.hart) v.past (Decode c.args.actor c.in_ok-seq.seq) ≡ true) c.self.view_is
+    (decode_answers i c.self.invariant c.args.actor c.args.hart c.in_ok-seq.seq is)

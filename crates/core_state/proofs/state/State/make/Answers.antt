@@ -1,4 +1,5 @@
-use Rattle.std.proofs.Common.{refl, arith}
+-- The first state is a core's: its history is empty, and its parts agree with that.
+use Rattle.std.proofs.Common.{refl, sym, arith}
 use Rattle.std.proofs.lemmas.Grind.{common_steps}
 use Rattle.core_state.proofs.state.State.make.Goals as goal
 
@@ -7,8 +8,13 @@ invariant_of-result c = rw c.in_ok-history.ensures (record {
   sizes = c.requires.accepted;
   limit = c.requires.limit;
   harts = c.in_ok-parts.ensures.harts;
+  queue = c.in_ok-parts.ensures.queue;
+  legal = tt;
+  agrees = c.in_ok-parts.ensures.begins _ refl refl (sym c.entry.ensures.value);
   fetched = refl;
-  numbers = c.in_ok-parts.ensures.empty _;
+  last = refl;
+  records = c.in_ok-records.ensures.items;
+  output = c.in_ok-output.ensures.items;
   records_fit = grind (arith, common_steps);
   output_fit = grind (arith, common_steps);
   records_room = grind (arith, common_steps);

@@ -1,8 +1,56 @@
-use Rattle.core_state.proofs.Cores.{core_moved, core_grown, quiet_rename}
+use Rattle.std.specs.Prelude.{◌≡◌, true, false, None}
+use Rattle.std.proofs.Common.{◌∙◌, sym, ap, subst}
+use Rattle.events.specs.declared.event.Event.TheVariants.{Rename}
+use Rattle.smt_model.specs.Asks.{AskRename}
+use Rattle.smt_model.specs.Fates.{is_of}
+use Rattle.smt_model.specs.Rules.{refused, is_actor}
+use Rattle.core_state.specs.Answers.{AllowsNone, IsLeastFree}
+use Rattle.core_state.specs.State.{setup_in}
+use Rattle.core_state.specs.View.{CoreView}
+use Rattle.core_state.proofs.Cores.{core_grown, quiet_rename}
+use Rattle.core_state.proofs.StateRename.{rename_of, rename_allowed_now, rename_from, rename_grows, rename_answers, least_now, no_actor, nothing_to_rename}
 use Rattle.core_state.proofs.state.State.rename.Goals as goal
 
-pub invariant_of-self : goal.invariant_of-self
-invariant_of-self c = core_moved c.self.inside c.rename.new.self c.self.invariant c.rename.ensures.numbers
+pub returns-then-not-has_actor-clause-idle : goal.returns-then-not-has_actor-clause-idle
+returns-then-not-has_actor-clause-idle c =
+    let i = c.self.inside in
+    let none : is_actor (setup_in i) c.args.actor ≡ false = ap (λ (v : CoreView). is_actor v.setup c.args.actor) c.self.view_is ∙ (sym c.has_actor.ensures ∙ c.if-not-has_actor.true) in
+    subst (λ (v : CoreView). AllowsNone v.setup (AskRename c.args.actor c.args.hart) v.past) c.self.view_is (no_actor i c.args.actor c.args.hart none)
 
-pub invariant_of-self-2 : goal.invariant_of-self-2
-invariant_of-self-2 c = core_grown c.self.inside c.rename.new.self c.append.new.history _ c.self.invariant c.rename.ensures.numbers (quiet_rename _ _ _) c.append.ensures
+pub returns-in_err-seq-clause-idle : goal.returns-in_err-seq-clause-idle
+returns-in_err-seq-clause-idle c =
+    rw c.from_residual.ensures
+    (subst (λ (v : CoreView). AllowsNone v.setup (AskRename c.args.actor c.args.hart) v.past) c.self.view_is
+    (nothing_to_rename c.self.inside c.args.actor c.args.hart c.self.invariant c.in_err-seq.ensures.none))
+
+pub rename-requires : goal.rename-requires
+rename-requires c =
+    let i = c.self.inside in
+    let actor : is_actor (setup_in i) c.args.actor ≡ true = ap (λ (v : CoreView). is_actor v.setup c.args.actor) c.self.view_is ∙ (sym c.has_actor.ensures ∙ c.if-not-has_actor.false) in
+    record { step = rename_from i c.args.actor c.args.hart c.in_ok-seq.seq c.in_ok-seq.phys c.self.invariant actor c.in_ok-seq.ensures.inside c.in_ok-seq.ensures.some }
+
+pub invariant_of-self : goal.invariant_of-self
+invariant_of-self c =
+    let i = c.self.inside in
+    let actor : is_actor (setup_in i) c.args.actor ≡ true = ap (λ (v : CoreView). is_actor v.setup c.args.actor) c.self.view_is ∙ (sym c.has_actor.ensures ∙ c.if-not-has_actor.false) in
+    core_grown i c.rename.new.self c.append.new.history (Rename c.args.actor c.in_ok-seq.seq c.in_ok-seq.phys) c.self.invariant
+    (rename_grows i c.rename.new.self c.args.actor c.args.hart c.in_ok-seq.seq c.in_ok-seq.phys c.self.invariant actor c.in_ok-seq.ensures.some c.rename.ensures.agrees c.rename.ensures.sizes)
+    (quiet_rename c.args.actor c.in_ok-seq.seq c.in_ok-seq.phys) c.append.ensures
+
+pub returns-clause-allowed : goal.returns-clause-allowed
+returns-clause-allowed c =
+    let i = c.self.inside in
+    let actor : is_actor (setup_in i) c.args.actor ≡ true = ap (λ (v : CoreView). is_actor v.setup c.args.actor) c.self.view_is ∙ (sym c.has_actor.ensures ∙ c.if-not-has_actor.false) in
+    subst (λ (v : CoreView). refused v.setup v.past (Rename c.args.actor c.in_ok-seq.seq c.in_ok-seq.phys) ≡ None) c.self.view_is
+    (rename_allowed_now i c.args.actor c.args.hart c.in_ok-seq.seq c.in_ok-seq.phys c.self.invariant actor c.in_ok-seq.ensures.some)
+
+pub returns-clause-answer : goal.returns-clause-answer
+returns-clause-answer c =
+    rename_answers c.args.self.now.past c.args.actor c.args.hart c.in_ok-seq.seq
+    (subst (λ (v : CoreView). is_of v.past c.args.hart c.in_ok-seq.seq ≡ true) c.self.view_is
+    (rename_of c.self.inside c.args.hart c.in_ok-seq.seq c.in_ok-seq.phys c.self.invariant c.in_ok-seq.ensures.some))
+
+pub returns-clause-least : goal.returns-clause-least
+returns-clause-least c =
+    subst (λ (v : CoreView). IsLeastFree v.setup v.past c.in_ok-seq.phys) c.self.view_is
+    (least_now c.self.inside c.in_ok-seq.phys c.self.invariant c.in_ok-seq.ensures.least)

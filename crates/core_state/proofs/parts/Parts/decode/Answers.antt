@@ -1,0 +1,20 @@
+-- The hart that decodes agrees with the picture after it, and so does all that it leaves.
+use Rattle.std.proofs.Common.{◌<◌, length, refl, subst, sym}
+use Rattle.smt_model.specs.Steps.{IsDecode}
+use Rattle.core_state.proofs.Agreeing.{each_set}
+use Rattle.core_state.proofs.Keeping.{rest_kept}
+use Rattle.core_state.proofs.DecodedParts.{keeps_rest, own_decode, other_decode}
+use Rattle.core_state.proofs.parts.Parts.decode.Goals as goal
+
+pub returns-clause-agrees : goal.returns-clause-agrees
+returns-clause-agrees c = λ p q agrees n step.
+    let h = c.from.result in
+    let same = sym c.from.ensures in
+    let here = subst (λ k. IsDecode p q k n) same step in
+    let inside = subst (λ k. k < length c.args.self.now.harts.items) same c.requires.step.inside in
+    let x = c.index_mut.result.now in
+    let y = c.decode.new.self in
+    rest_kept p q c.args.self.now _ (keeps_rest p q h n here) agrees
+    (each_set p q c.args.self.now.harts.items h x y inside c.index_mut.ensures.value
+    (own_decode p q h n x y here c.decode.ensures) (λ g other z. other_decode p q h n g z other here) agrees.harts)
+    refl refl refl refl

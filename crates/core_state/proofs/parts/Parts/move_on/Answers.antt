@@ -1,5 +1,0 @@
-use Rattle.core_state.proofs.Numbers.{keeps_set}
-use Rattle.core_state.proofs.parts.Parts.move_on.Goals as goal
-
-pub returns-in-Some : goal.returns-in-Some
-returns-in-Some c = let h = c.in-Some.ensures.item in record { numbers = keeps_set _ _ _ _ h.3.0 h.1 c.move_on.ensures.numbers }

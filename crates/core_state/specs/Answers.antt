@@ -1,0 +1,45 @@
+-- What a step of the state answers, in the words of the rules: which event it made, or that none could be made.
+use Rattle.std.specs.Prelude.{◌≡◌, ℕ, ◌<◌, true, false, List, Option, Some, None, is_some}
+use Rattle.events.specs.declared.event.Event.{Event}
+use Rattle.events.specs.declared.event.Event.TheVariants.{Fetch, Rename}
+use Rattle.exec_units.specs.Job.{JobView}
+use Rattle.smt_model.specs.Setup.{Setup}
+use Rattle.smt_model.specs.Exec.{next_pc}
+use Rattle.smt_model.specs.Kinds.{first_source, second_source}
+use Rattle.smt_model.specs.Fates.{Fetched, fetching, op_of_fetched}
+use Rattle.smt_model.specs.Registers.{operand}
+use Rattle.smt_model.specs.Rules.{refused, job}
+use Rattle.smt_model.specs.Asks.{Ask, answers}
+use Rattle.smt_model.specs.Picture.{is_free}
+
+-- No event that answers this ask is allowed.
+abbrev pub AllowsNone : Setup → Ask → List Event → Type 0
+AllowsNone setup ask past = (e : Event) → answers ask past e ≡ true → is_some (refused setup past e) ≡ true
+
+-- A fetch predicts the instruction behind.
+abbrev pub PredictsNext : Event → Type 0
+PredictsNext (Fetch actor hart seq pc word predicted) = predicted ≡ next_pc pc
+PredictsNext _ = Unit {0}
+
+-- The register that a rename takes is the least free one.
+abbrev pub IsLeastFree : Setup → List Event → Option ℕ → Type 0
+IsLeastFree setup past None = Unit {0}
+IsLeastFree setup past (Some x) = (y : ℕ) → y < x → is_free setup past y ≡ false
+
+abbrev pub TakesLeast : Setup → List Event → Event → Type 0
+TakesLeast setup past (Rename actor seq phys) = IsLeastFree setup past phys
+TakesLeast setup past _ = Unit {0}
+
+-- The job is the one that actor k has open: its number, its instruction and pc as they were fetched, and its operands.
+pub record IsJobOf (setup : Setup) (past : List Event) (k : ℕ) (view : JobView) : Type 0 where
+  pub lent : job past k ≡ Some view.seq
+  pub instruction : Fetched
+  pub fetched : fetching past view.seq ≡ Some instruction
+  pub pc : view.pc ≡ instruction.pc
+  pub op : view.op ≡ op_of_fetched (Some instruction)
+  pub first : operand setup first_source past view.seq ≡ Some view.first
+  pub second : operand setup second_source past view.seq ≡ Some view.second
+
+-- It isn't that job.
+abbrev pub IsStrange : Setup → List Event → ℕ → JobView → Type 0
+IsStrange setup past k view = IsJobOf setup past k view → ⊥

@@ -1,0 +1,35 @@
+-- A core before its first event.
+use Rattle.std.specs.Prelude.{◌≡◌, ℕ, ◌+◌, ◌-◌, ◌*◌, ◌<◌, ◌&&◌, nat_le, nat_lt, if◌then◌else◌, [], Option, Some}
+use Rattle.rename_map.specs.Maps.{lookup, committed_of}
+use Rattle.smt_model.specs.declared.config.Status.TheVariants.{Going}
+use Rattle.smt_model.specs.Picture.{picture}
+use Rattle.smt_model.specs.Registers.{first_register}
+use Rattle.smt_model.specs.Setup.{Setup, first_number}
+use Rattle.core_state.specs.Agree.{PartsAgree}
+use Rattle.core_state.specs.declared.hart.HartState.{HartState}
+use Rattle.core_state.specs.declared.parts.Parts.{Parts}
+
+-- Hart h as it begins: nothing in it, its registers in its own physical ones, and it goes from the entry.
+pub record IsNew (h entry : ℕ) (x : HartState) : Type 0 where
+  pub decode_latch : x.decode_latch.items ≡ []
+  pub rename_latch : x.rename_latch.items ≡ []
+  pub active : x.active ≡ []
+  pub icount : x.icount ≡ 0
+  pub speculative : (r : ℕ) → 0 < r → r < 32 → lookup x.maps r ≡ first_register h r
+  pub committed : (r : ℕ) → 0 < r → r < 32 → committed_of x.maps r ≡ first_register h r
+  pub fetch_pc : x.fetch_pc ≡ entry
+  pub status : x.status ≡ Going
+
+-- What physical register x holds once hart h's registers below r have their first numbers.
+abbrev pub first_values_below : ℕ → ℕ → ℕ → ℕ → Option ℕ → Option ℕ
+first_values_below r harts h x before =
+    if nat_le (31 * h) x && nat_lt (x + 1) (31 * h + r) then Some (first_number harts h (x - 31 * h + 1)) else before
+
+-- The same of all its registers.
+abbrev pub first_values : ℕ → ℕ → ℕ → Option ℕ → Option ℕ
+first_values harts h x before = first_values_below 32 harts h x before
+
+-- The parts agree with the empty history of every setup of these sizes and this entry.
+abbrev pub BeginsAs : ℕ → ℕ → ℕ → Parts → Type 0
+BeginsAs harts extra entry parts =
+    (setup : Setup) → setup.harts ≡ harts → setup.extra ≡ extra → setup.image.entry ≡ entry → PartsAgree (picture setup []) parts

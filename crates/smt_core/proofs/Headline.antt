@@ -1,0 +1,131 @@
+-- From the headline over legal histories to what a core's account and registers say.
+use Rattle.std.specs.Prelude.{◌≡◌, ℕ, zero, suc, ◌+◌, ◌<◌, ◌≤◌, ◌==◌, ◌&&◌, true, nat_lt, if◌then◌else◌, List, [], ◌∷◌, ◌++◌, length, map, reverse, Option, Some, None, IfSome}
+use native.Mathlib.Numerals.{unary_clauses}
+use Rattle.std.proofs.Common.{◌∙◌, refl, sym, ap, subst, inl, inr, arith}
+use Rattle.std.proofs.lemmas.Bool.{cases_Bool}
+use Rattle.std.proofs.lemmas.Bool.Decides.{nat_tests}
+use Rattle.std.proofs.lemmas.List.{length-map, length_push, map-append, reverse-reverse}
+use Rattle.events.specs.declared.effect.Record.{Record}
+use Rattle.events.specs.declared.event.Event.{Event}
+use Rattle.smt_model.specs.declared.config.Status.{Status}
+use Rattle.smt_model.specs.Account.{records, committed_value}
+use Rattle.smt_model.specs.Basics.{below}
+use Rattle.smt_model.specs.Memory.{status, output}
+use Rattle.smt_model.specs.Plain.{run, read_register}
+use Rattle.smt_model.specs.Registers.{value, committed}
+use Rattle.smt_model.specs.Rules.{is_legal}
+use Rattle.smt_model.specs.Setup.{Setup}
+use Rattle.smt_laws.specs.Sequential.{IsSequential, EachIsSequential}
+use Rattle.core_state.specs.View.{CoreView}
+use Rattle.smt_core.specs.Headline.{IsPlainRun, IsPlainRegister}
+
+-- ---- The account
+
+pub below_next : (n : ℕ) → below (n + 1) ≡ below n ++ n ∷ []
+below_next n = simp unary_clauses refl
+
+length_below : (n : ℕ) → length (below n) ≡ n
+length_below zero = refl
+length_below (suc n) =
+    let rest = length_below n in
+    let joined = length_push (below n) n in
+    omega arith
+
+-- One more hart's status.
+pub statuses_next : (past : List Event) (n : ℕ) (xs : List Status) → xs ≡ map (status past) (below n)
+    → xs ++ status past n ∷ [] ≡ map (status past) (below (n + 1))
+statuses_next past n xs is =
+    ap (λ ys. ys ++ status past n ∷ []) is ∙ sym (map-append (status past) (below n) (n ∷ [])) ∙ ap (map (status past)) (sym (below_next n))
+
+same_status : (a b : Status) → Some a ≡ Some b → b ≡ a
+same_status a b same = grind arith
+
+-- The status that is answered for a hart that is there.
+pub status_is : (past : List Event) (h n : ℕ) (s : Status) (o : Option Status) → h < n
+    → o ≡ (if nat_lt h n then Some (status past h) else None) → o ≡ Some s → s ≡ status past h
+status_is past h n s o there said is =
+    let under : nat_lt h n ≡ true = grind (arith, nat_tests) in
+    let known : o ≡ Some (status past h) = rw under at said in
+    same_status (status past h) s (sym known ∙ is)
+
+-- The same over two names of one view.
+pub status_in : (a b : CoreView) (h : ℕ) (s : Status) (o : Option Status) → a ≡ b → h < a.setup.harts
+    → o ≡ (if nat_lt h a.setup.harts then Some (status a.past h) else None) → o ≡ Some s → s ≡ status b.past h
+status_in a b h s o same there said is =
+    subst (λ (v : CoreView). s ≡ status v.past h) same (status_is a.past h a.setup.harts s o there said is)
+
+pub statuses_fit : (past : List Event) (n : ℕ) (xs : List Status) → xs ≡ map (status past) (below n) → length xs ≡ n
+statuses_fit past n xs is = ap length is ∙ length-map (below n) (status past) ∙ length_below n
+
+same_on : {Y : Type 0} (f g : ℕ → Y) → ((x : ℕ) → f x ≡ g x) → (xs : List ℕ) → map f xs ≡ map g xs
+same_on f g same [] = refl
+same_on f g same (x ∷ xs) = rw (same x, same_on f g same xs) refl
+
+plain_run : (setup : Setup) (past : List Event) → IsSequential setup past
+    → IsPlainRun setup (reverse (records past)) (output past) (map (status past) (below setup.harts))
+plain_run setup past is = record {
+  ran = is.ran;
+  runs = ap (λ xs. run setup (map (λ r. r.hart) xs)) (reverse-reverse (records past)) ∙ is.runs;
+  records = ap reverse is.records;
+  output = is.output;
+  stands = same_on is.ran.state.statuses (status past) is.statuses (below setup.harts);
+}
+
+pub account_runs : EachIsSequential → (core : CoreView) → is_legal core.setup core.past → (said : List Record) (bytes : List ℕ) (statuses : List Status)
+    → said ≡ reverse (records core.past) → bytes ≡ output core.past → statuses ≡ map (status core.past) (below core.setup.harts)
+    → IsPlainRun core.setup said bytes statuses
+account_runs headline core legal said bytes statuses is_said is_put is_status =
+    rw (is_said, is_put, is_status) (plain_run core.setup core.past (headline core.setup core.past legal))
+
+-- ---- The registers
+
+same_inside : (a b : ℕ) → Some a ≡ Some b → a ≡ b
+same_inside a b same = grind arith
+
+number_is : (core : CoreView) (h r : ℕ) (number : ℕ) (is : IsSequential core.setup core.past) → h < core.setup.harts → r < 32
+    → committed_value core.setup core.past h r ≡ Some number → read_register is.ran.state h r ≡ number
+number_is core h r number is hart inside said =
+    elim (cases_Bool (r == 0)) [
+      | inl first ↦
+          let none : Some 0 ≡ Some number = rw first at said in
+          rw first (same_inside 0 number none)
+      | inr other ↦
+          let there : value core.setup core.past (committed core.past h r) ≡ Some number = rw other at said in
+          let low : 1 ≤ r = grind (arith, nat_tests) in
+          rw other (same_inside (is.ran.state.registers h r) number (sym (is.registers h r hart low inside) ∙ there))
+    ]
+
+pub register_runs : (core : CoreView) (h r : ℕ) (number : ℕ) → IsSequential core.setup core.past → h < core.setup.harts → r < 32
+    → committed_value core.setup core.past h r ≡ Some number → IsPlainRegister core h r number
+register_runs core h r number is hart inside said = record {
+  hart = hart;
+  register = inside;
+  ran = is.ran;
+  runs = is.runs;
+  holds = number_is core h r number is hart inside said;
+}
+
+-- The register that a core answers, where it answers one.
+pub some_register : (core : CoreView) (h r : ℕ) (number : ℕ) → EachIsSequential → is_legal core.setup core.past
+    → (if nat_lt h core.setup.harts && nat_lt r 32 then committed_value core.setup core.past h r else None) ≡ Some number
+    → IsPlainRegister core h r number
+some_register core h r number headline legal said =
+    elim (cases_Bool (nat_lt h core.setup.harts && nat_lt r 32)) [
+      | inl there ↦
+          let at : committed_value core.setup core.past h r ≡ Some number = rw there at said in
+          register_runs core h r number (headline core.setup core.past legal) (grind (arith, nat_tests)) (grind (arith, nat_tests)) at
+      | inr gone ↦ let none : None ≡ Some number = rw gone at said in absurd (grind arith)
+    ]
+
+pub register_answered : (core : CoreView) (h r : ℕ) (o : Option ℕ) → EachIsSequential → is_legal core.setup core.past
+    → o ≡ (if nat_lt h core.setup.harts && nat_lt r 32 then committed_value core.setup core.past h r else None)
+    → IfSome o (IsPlainRegister core h r)
+register_answered core h r None headline legal is = tt
+register_answered core h r (Some number) headline legal is = some_register core h r number headline legal (sym is)
+
+-- The same over two names of one view.
+pub register_in : (a b : CoreView) (h r : ℕ) (o : Option ℕ) → a ≡ b
+    → o ≡ (if nat_lt h a.setup.harts && nat_lt r 32 then committed_value a.setup a.past h r else None)
+    → o ≡ (if nat_lt h b.setup.harts && nat_lt r 32 then committed_value b.setup b.past h r else None)
+register_in a b h r o same is =
+    subst (λ (v : CoreView). o ≡ (if nat_lt h v.setup.harts && nat_lt r 32 then committed_value v.setup v.past h r else None)) same is

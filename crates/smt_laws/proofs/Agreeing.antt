@@ -1,0 +1,202 @@
+-- What a retiring instruction finds, where the history so far is a run of the plain machine: the plain machine's pc, word,
+-- operands, memory and reservation. So it does what the plain machine does.
+use Rattle.std.specs.Prelude.{◌≡◌, ℕ, zero, suc, ◌+◌, ◌<◌, ◌≤◌, true, ◌==◌, List, [], ◌∷◌, Option, Some, None}
+use Rattle.std.proofs.Common.{◌∙◌, refl, sym, ap, subst, inl, inr, arith}
+use Rattle.std.proofs.lemmas.Bool.{cases_Bool}
+use Rattle.std.proofs.lemmas.Bool.Decides.{nat_tests}
+use Rattle.elf_image.specs.Image.{code_word}
+use Rattle.rv_decode.specs.Decode.{op_of_word}
+use Rattle.rv_decode.specs.declared.op.Op.{Op}
+use Rattle.events.specs.declared.effect.Effect.{Effect}
+use Rattle.events.specs.declared.event.Event.{Event}
+use Rattle.events.specs.declared.event.Event.TheVariants.{Fetch, Decode, Rename, Issue, Complete, Drop, Retire}
+use Rattle.smt_model.specs.Basics.{first, or_zero}
+use Rattle.smt_model.specs.Setup.{Setup}
+use Rattle.smt_model.specs.Kinds.{first_source, second_source, access_size}
+use Rattle.smt_model.specs.Exec.{exec}
+use Rattle.smt_model.specs.Fields.{checked, effect_of, read, read_value, number_at, holds_word}
+use Rattle.smt_model.specs.Plain.{Plain, is_going_status, read_register, word_at_pc, op_at_pc, computes, effect_at}
+use Rattle.smt_model.specs.Fates.{Fetched, fetching, is_of, is_live, is_in_flight, op_of_fetched}
+use Rattle.smt_model.specs.Flights.{live}
+use Rattle.smt_model.specs.Registers.{source, committer, committed, seen, register_by, first_register, value, reading, operand}
+use Rattle.smt_model.specs.Memory.{byte_at, is_going}
+use Rattle.smt_model.specs.Rules.{refused, is_legal, computed_at}
+use Rattle.smt_model.proofs.Allowed.{fetch_allowed}
+use Rattle.smt_model.proofs.Moves.{same_number-is, retire_was}
+use Rattle.smt_model.proofs.Order.{retire_front}
+use Rattle.smt_model.proofs.Sources.{source-is, source-committed, source-none}
+use Rattle.smt_model.proofs.Choosing.{hart_there, left}
+use Rattle.smt_model.proofs.Below.{first_source-below, second_source-below}
+use Rattle.smt_model.proofs.Operands.{IsSourceName, IsReady, reading_by-is, first_ready, second_ready}
+use Rattle.smt_model.proofs.Freeing.{true_false}
+use Rattle.smt_model.proofs.Retiring.{was-Retire}
+use Rattle.smt_laws.specs.Sequential.{IsSequential, retired_pc}
+use Rattle.smt_laws.specs.Chain.{Hop, hop, IsChain, next_of}
+use Rattle.smt_laws.proofs.Paths.{chain-first}
+use Rattle.smt_laws.proofs.Done.{IsDone, some_one}
+use Rattle.smt_laws.proofs.Live.{live-front}
+use Rattle.smt_laws.proofs.Chains.{chained, hop-done}
+
+-- ---- The word is the one that stands at the pc
+
+pub fetched-word : (setup : Setup) (past : List Event) → is_legal setup past → (s : ℕ) (f : Fetched) → fetching past s ≡ Some f
+    → f.word ≡ code_word setup.image f.pc
+fetched-word setup [] legal s f at = absurd (grind arith)
+fetched-word setup (Fetch actor hart n pc word predicted ∷ past) legal s f at =
+    elim (cases_Bool (n == s)) [
+      | inl here ↦
+          let mine : Fetched = record { hart = hart; pc = pc; word = word; predicted = predicted } in
+          subst (λ z. z.word ≡ code_word setup.image z.pc) (some_one mine f (rw here at at))
+          (same_number-is word (code_word setup.image pc) (fetch_allowed setup past actor hart n pc word predicted legal.0).word_is)
+      | inr other ↦ fetched-word setup past legal.1 s f (rw other at at)
+    ]
+fetched-word setup (Decode actor n ∷ past) legal s f at = fetched-word setup past legal.1 s f at
+fetched-word setup (Rename actor n register ∷ past) legal s f at = fetched-word setup past legal.1 s f at
+fetched-word setup (Issue actor n ∷ past) legal s f at = fetched-word setup past legal.1 s f at
+fetched-word setup (Complete actor n o ∷ past) legal s f at = fetched-word setup past legal.1 s f at
+fetched-word setup (Drop actor n ∷ past) legal s f at = fetched-word setup past legal.1 s f at
+fetched-word setup (Retire actor n x ∷ past) legal s f at = fetched-word setup past legal.1 s f at
+
+-- ---- Its sources are the committed registers
+
+source_first_by : (setup : Setup) (past : List Event) → is_legal setup past → (actor n : ℕ) (x : Effect)
+    → refused setup past (Retire actor n x) ≡ None → (h r : ℕ) → is_of past h n ≡ true → (o : Option ℕ) → source past h r n ≡ o
+    → source past h r n ≡ committer past h r
+source_first_by setup past legal actor n x ok h r of_n None found =
+    found ∙ sym (source-none setup past legal h r n of_n (ap is_in_flight (was-Retire setup past actor n x ok)) found)
+source_first_by setup past legal actor n x ok h r of_n (Some w) found =
+    let at = source-is past h r n w found in
+    let landed = retire_front setup past legal actor n x ok h w at.of_hart of_n at.older in
+    found ∙ sym (source-committed setup past legal h r n w of_n (ap is_in_flight (was-Retire setup past actor n x ok)) found landed)
+
+pub source-first : (setup : Setup) (past : List Event) → is_legal setup past → (actor n : ℕ) (x : Effect)
+    → refused setup past (Retire actor n x) ≡ None → (h r : ℕ) → is_of past h n ≡ true → source past h r n ≡ committer past h r
+source-first setup past legal actor n x ok h r of_n = source_first_by setup past legal actor n x ok h r of_n (source past h r n) refl
+
+-- So it reads the plain registers.
+plain-reading : (setup : Setup) (past : List Event) → is_legal setup past → (k : IsSequential setup past) → (actor n : ℕ) (x : Effect)
+    → refused setup past (Retire actor n x) ≡ None → (h r : ℕ) → is_of past h n ≡ true → r < 32
+    → reading setup past h r n ≡ Some (read_register k.ran.state h r)
+plain-reading setup past legal k actor n x ok h r of_n high =
+    elim (cases_Bool (r == 0)) [
+      | inl none ↦ rw none refl
+      | inr some ↦
+          let low : 1 ≤ r = grind (arith, nat_tests) in
+          let there = hart_there setup past legal h n of_n in
+          let same : seen past h r n ≡ committed past h r =
+          ap (register_by past (first_register h r)) (source-first setup past legal actor n x ok h r of_n) in
+          let holds : value setup past (seen past h r n) ≡ Some (k.ran.state.registers h r) =
+          ap (value setup past) same ∙ k.registers h r there low high in
+          rw some holds
+    ]
+
+plain-operand : (setup : Setup) (past : List Event) → is_legal setup past → (k : IsSequential setup past) → (actor n : ℕ) (x : Effect)
+    → refused setup past (Retire actor n x) ≡ None → (done : IsDone setup past n x) → (which : Op → ℕ) → IsSourceName which → IsReady setup which past n
+    → or_zero (operand setup which past n) ≡ read_register k.ran.state done.fetch.hart (which (op_of_fetched (Some done.fetch)))
+plain-operand setup past legal k actor n x ok done which names is_ready =
+    let f = done.fetch in
+    let r = which (op_of_fetched (Some f)) in
+    ap or_zero (is_ready.operand_is
+    ∙ (sym is_ready.reading_is
+    ∙ (reading_by-is setup which past n f done.fetched
+    ∙ plain-reading setup past legal k actor n x ok f.hart r done.of_hart (names f.word))))
+
+-- ---- Memory that is the same reads the same
+
+number-same : (f g : ℕ → ℕ) → ((a : ℕ) → f a ≡ g a) → (addr n : ℕ) → number_at f addr n ≡ number_at g addr n
+number-same f g same addr zero = refl
+number-same f g same addr (suc n) = rw (same addr, number-same f g same (addr + 1) n) refl
+
+pub read-same : (f g : ℕ → ℕ) → ((a : ℕ) → f a ≡ g a) → (op : Op) (addr : ℕ) → read op f addr ≡ read op g addr
+read-same f g same op addr = ap (read_value op) (number-same f g same addr (access_size op))
+
+-- ---- The plain machine's step
+
+chain-front : (hops : ℕ → Option Hop) (xs : List ℕ) (n : ℕ) (one : Hop) → first xs ≡ Some n → hops n ≡ Some one → (from end : ℕ)
+    → IsChain hops xs from end → one.pc ≡ from
+chain-front hops [] n one front at from end chain = absurd (grind arith)
+chain-front hops (y ∷ ys) n one front at from end chain =
+    let here : y ≡ n = grind arith in (chain-first hops y ys one (ap hops here ∙ at) from end chain).0
+
+-- Who retires is of a hart that goes.
+pub goes-yet : (setup : Setup) (past : List Event) → is_legal setup past → (actor n : ℕ) (x : Effect)
+    → refused setup past (Retire actor n x) ≡ None → (h : ℕ) → is_of past h n ≡ true → is_going past h ≡ true
+goes-yet setup past legal actor n x ok h of_n =
+    elim (cases_Bool (is_going past h)) [
+      | inl going ↦ going
+      | inr gone ↦ absurd (true_false (sym (ap is_live (was-Retire setup past actor n x ok)) ∙ left setup past legal h gone n of_n))
+    ]
+
+pub record IsStep (setup : Setup) (past : List Event) (n : ℕ) (x : Effect) (s : Plain) (f : Fetched) : Type 0 where
+  pub there : f.hart < setup.harts
+  pub going : is_going_status (s.statuses f.hart) ≡ true
+  pub pc : s.pcs f.hart ≡ f.pc
+  pub word : word_at_pc setup s f.hart ≡ f.word
+  pub op : op_at_pc setup s f.hart ≡ op_of_fetched (Some f)
+  pub computed : computes setup s f.hart ≡ computed_at setup past n f
+  pub effect : effect_at setup s f.hart ≡ x
+
+step-pc : (setup : Setup) (past : List Event) → is_legal setup past → (k : IsSequential setup past) → (actor n : ℕ) (x : Effect)
+    → refused setup past (Retire actor n x) ≡ None → (done : IsDone setup past n x) → k.ran.state.pcs done.fetch.hart ≡ done.fetch.pc
+step-pc setup past legal k actor n x ok done =
+    let h = done.fetch.hart in
+    let going = goes-yet setup past legal actor n x ok h done.of_hart in
+    let one : Hop = record { pc = done.fetch.pc; next = next_of (Some done.outcome) done.fetch.predicted } in
+    let front : one.pc ≡ retired_pc setup past h =
+    chain-front (hop past) (live past h) n one (live-front setup past legal actor n x ok h done.of_hart) (hop-done setup past n x done)
+    (retired_pc setup past h) _ (chained setup past legal h going) in
+    k.pcs h ∙ sym front
+
+step-computed : (setup : Setup) (past : List Event) → is_legal setup past → (k : IsSequential setup past) → (actor n : ℕ) (x : Effect)
+    → refused setup past (Retire actor n x) ≡ None → (done : IsDone setup past n x)
+    → k.ran.state.pcs done.fetch.hart ≡ done.fetch.pc → op_at_pc setup k.ran.state done.fetch.hart ≡ op_of_fetched (Some done.fetch)
+    → computes setup k.ran.state done.fetch.hart ≡ computed_at setup past n done.fetch
+step-computed setup past legal k actor n x ok done pc same_op =
+    let s = k.ran.state in
+    let f = done.fetch in
+    let h = f.hart in
+    let op = op_of_fetched (Some f) in
+    let at = retire_was setup past actor n x ok in
+    let one = plain-operand setup past legal k actor n x ok done first_source first_source-below
+    (first_ready setup past legal n (omega arith) (omega arith)) in
+    let two = plain-operand setup past legal k actor n x ok done second_source second_source-below
+    (second_ready setup past legal n (omega arith) (omega arith)) in
+    ap (λ o. checked setup.image o (exec setup.covers o (s.pcs h) (read_register s h (first_source o)) (read_register s h (second_source o)))) same_op
+    ∙ (ap (λ p. checked setup.image op (exec setup.covers op p (read_register s h (first_source op)) (read_register s h (second_source op)))) pc
+    ∙ (ap (λ a. checked setup.image op (exec setup.covers op f.pc a (read_register s h (second_source op)))) (sym one)
+    ∙ ap (λ b. checked setup.image op (exec setup.covers op f.pc (or_zero (operand setup first_source past n)) b)) (sym two)))
+
+step-effect : (setup : Setup) (past : List Event) → (k : IsSequential setup past) → (n : ℕ) (x : Effect) → (done : IsDone setup past n x)
+    → op_at_pc setup k.ran.state done.fetch.hart ≡ op_of_fetched (Some done.fetch)
+    → computes setup k.ran.state done.fetch.hart ≡ computed_at setup past n done.fetch → effect_at setup k.ran.state done.fetch.hart ≡ x
+step-effect setup past k n x done same_op same =
+    let s = k.ran.state in
+    let f = done.fetch in
+    let h = f.hart in
+    let op = op_of_fetched (Some f) in
+    let c = computed_at setup past n f in
+    let before = computes setup s h in
+    ap (λ o. effect_of o before (read o s.bytes before.addr) (holds_word (s.reserved h) before.addr)) same_op
+    ∙ (ap (λ d. effect_of op d (read op s.bytes d.addr) (holds_word (s.reserved h) d.addr)) same
+    ∙ (ap (λ now. effect_of op c now (holds_word (s.reserved h) c.addr)) (read-same s.bytes (byte_at setup past) k.bytes op c.addr)
+    ∙ (ap (λ held. effect_of op c (read op (byte_at setup past) c.addr) (holds_word held c.addr)) (k.reserved h)
+    ∙ sym done.effect_is)))
+
+pub step-is : (setup : Setup) (past : List Event) → is_legal setup past → (k : IsSequential setup past) → (actor n : ℕ) (x : Effect)
+    → refused setup past (Retire actor n x) ≡ None → (done : IsDone setup past n x) → IsStep setup past n x k.ran.state done.fetch
+step-is setup past legal k actor n x ok done =
+    let f = done.fetch in
+    let pc_same = step-pc setup past legal k actor n x ok done in
+    let word_same : word_at_pc setup k.ran.state f.hart ≡ f.word =
+    ap (code_word setup.image) pc_same ∙ sym (fetched-word setup past legal n f done.fetched) in
+    let op_same : op_at_pc setup k.ran.state f.hart ≡ op_of_fetched (Some f) = ap op_of_word word_same in
+    let same = step-computed setup past legal k actor n x ok done pc_same op_same in
+    record {
+      there = hart_there setup past legal f.hart n done.of_hart;
+      going = ap is_going_status (k.statuses f.hart) ∙ goes-yet setup past legal actor n x ok f.hart done.of_hart;
+      pc = pc_same;
+      word = word_same;
+      op = op_same;
+      computed = same;
+      effect = step-effect setup past k n x done op_same same;
+    }

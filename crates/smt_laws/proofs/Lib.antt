@@ -1,0 +1,10 @@
+pub mod Paths
+pub mod Done
+pub mod Live
+pub mod Chains
+pub mod Agreeing
+pub mod Stepping
+pub mod Sequential
+pub mod PlainLaws
+pub mod Executions
+pub mod Rows

@@ -1,0 +1,4 @@
+pub mod Sequential
+pub mod Chain
+pub mod PlainLaws
+pub mod Execution
