@@ -18,16 +18,17 @@ use Rattle.smt_model.specs.Picture.{picture}
 use Rattle.smt_model.specs.Rules.{refused, is_actor, is_legal}
 use Rattle.smt_model.specs.Setup.{Setup}
 use Rattle.smt_model.proofs.Allowed.{fetch_allowed, fetch_allows}
-use Rattle.smt_model.proofs.Choosing.{chosen}
+use Rattle.smt_model.proofs.Choosing.{fetch_chosen}
 use Rattle.smt_model.proofs.Claims.{member-below}
 use Rattle.smt_model.proofs.Lists.{member, member-append, member-behind, member-filter, filter-same}
 use Rattle.smt_model.proofs.Moves.{same_number-is}
 use Rattle.smt_model.proofs.OnFetch.{steps-Fetch}
 use Rattle.core_state.specs.Agree.{HartAgrees, EachAgrees, PartsAgree, From}
-use Rattle.core_state.specs.Answers.{AllowsNone}
+use Rattle.core_state.specs.Answers.{AllowsNone, CanFetch}
 use Rattle.core_state.specs.Fetch.{has_room, may_fetch_at, count_at, next_hart, Fetches}
 use Rattle.core_state.specs.declared.hart.HartState.{HartState}
 use Rattle.core_state.specs.declared.parts.Parts.{Parts}
+use Rattle.core_state.specs.declared.point.FetchPoint.{FetchPoint}
 use Rattle.core_state.specs.declared.slot.Slot.{Slot}
 use Rattle.core_state.proofs.Asked.{some_of, same_self}
 
@@ -93,25 +94,24 @@ choice-is setup past harts last agrees count same =
 
 -- ---- A fetch that is allowed
 
--- The event of a fetch of hart h.
-pub record IsNextFetch (setup : Setup) (past : List Event) (h : ℕ) (slot : Slot) : Type 0 where
-  pub chosen : choice setup past ≡ Some h
-  pub seq : slot.seq ≡ fetches past
-  pub pc : slot.pc ≡ fetch_pc setup past h
-  pub word : slot.word ≡ code_word setup.image slot.pc
+-- Where the next fetch is.
+pub record IsNextFetch (setup : Setup) (past : List Event) (point : FetchPoint) : Type 0 where
+  pub chosen : choice setup past ≡ Some point.hart
+  pub pc : point.pc ≡ fetch_pc setup past point.hart
+  pub word : point.word ≡ code_word setup.image point.pc
 
 equal : (m n : ℕ) → m ≡ n → (m == n) ≡ true
 equal m n same = grind (arith, nat_tests)
 
-pub fetch_can : (setup : Setup) (past : List Event) (actor h : ℕ) (slot : Slot) → is_actor setup actor ≡ true → IsNextFetch setup past h slot
-    → refused setup past (Fetch actor h slot.seq slot.pc slot.word slot.predicted) ≡ None
-fetch_can setup past actor h slot is_one is =
-    fetch_allows setup past actor h slot.seq slot.pc slot.word slot.predicted (record {
+pub fetch_can : (setup : Setup) (past : List Event) (actor : ℕ) (point : FetchPoint) → is_actor setup actor ≡ true
+    → IsNextFetch setup past point → CanFetch setup past actor point
+fetch_can setup past actor point is_one is = λ predicted.
+    fetch_allows setup past actor point.hart (fetches past) point.pc point.word predicted (record {
       actor_is = is_one;
-      chosen = rw is.chosen (same_self (Some h));
-      next_number = equal slot.seq (fetches past) is.seq;
-      pc_is = equal slot.pc (fetch_pc setup past h) is.pc;
-      word_is = subst (λ w. same_number slot.word w ≡ true) is.word (same_self slot.word);
+      chosen = rw is.chosen (same_self (Some point.hart));
+      next_number = equal (fetches past) (fetches past) refl;
+      pc_is = equal point.pc (fetch_pc setup past point.hart) is.pc;
+      word_is = subst (λ w. same_number point.word w ≡ true) is.word (same_self point.word);
     })
 
 how_many-within : (test : ℕ → Bool) (xs : List ℕ) → how_many test xs ≤ length xs
@@ -138,17 +138,19 @@ pub icount-within : (past : List Event) (h : ℕ) → icount past h ≤ length p
 icount-within past h = omega (arith, how_many-within (λ s. is_counted (fate past s)) (numbers past h), numbers-within past h)
 
 pub fetch_from : (setup : Setup) (past : List Event) → is_legal setup past → (parts : Parts) → PartsAgree (picture setup past) parts
-    → (actor h : ℕ) (slot : Slot) → h < length parts.harts.items → length past < 16777216 → choice setup past ≡ Some h
+    → length parts.harts.items ≡ setup.harts → (actor h : ℕ) (slot : Slot) → length past < 16777216
     → refused setup past (Fetch actor h slot.seq slot.pc slot.word slot.predicted) ≡ None → From parts h (λ p q. Fetches p q h slot)
-fetch_from setup past legal parts agrees actor h slot inside short named ok =
+fetch_from setup past legal parts agrees count actor h slot short ok =
     let few = icount-within past h in
+    let is_chosen = fetch_chosen setup past actor h slot.seq slot.pc slot.word slot.predicted ok in
+    let there = is_chosen.there in
     record {
       before = picture setup past;
       after = picture setup (Fetch actor h slot.seq slot.pc slot.word slot.predicted ∷ past);
-      inside = inside;
+      inside = omega arith;
       agrees = agrees;
       step = record {
-        room = (chosen setup past h named).room;
+        room = is_chosen.room;
         few = omega arith;
         is = steps-Fetch setup past legal actor h slot.seq slot.pc slot.word slot.predicted ok;
       };

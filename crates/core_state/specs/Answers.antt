@@ -4,22 +4,25 @@ use Rattle.events.specs.declared.event.Event.{Event}
 use Rattle.events.specs.declared.event.Event.TheVariants.{Fetch, Rename}
 use Rattle.exec_units.specs.Job.{JobView}
 use Rattle.smt_model.specs.Setup.{Setup}
-use Rattle.smt_model.specs.Exec.{next_pc}
 use Rattle.smt_model.specs.Kinds.{first_source, second_source}
-use Rattle.smt_model.specs.Fates.{Fetched, fetching, op_of_fetched}
+use Rattle.smt_model.specs.Fates.{Fetched, fetching, fetches, op_of_fetched}
 use Rattle.smt_model.specs.Registers.{operand}
 use Rattle.smt_model.specs.Rules.{refused, job}
 use Rattle.smt_model.specs.Asks.{Ask, answers}
 use Rattle.smt_model.specs.Picture.{is_free}
+use Rattle.core_state.specs.declared.point.FetchPoint.{FetchPoint}
 
 -- No event that answers this ask is allowed.
 abbrev pub AllowsNone : Setup → Ask → List Event → Type 0
 AllowsNone setup ask past = (e : Event) → answers ask past e ≡ true → is_some (refused setup past e) ≡ true
 
--- A fetch predicts the instruction behind.
-abbrev pub PredictsNext : Event → Type 0
-PredictsNext (Fetch actor hart seq pc word predicted) = predicted ≡ next_pc pc
-PredictsNext _ = Unit {0}
+-- The fetch by an actor at this point: it takes the next number, and goes on where it is predicted to.
+abbrev pub fetched_at : ℕ → FetchPoint → ℕ → List Event → Event
+fetched_at actor point predicted past = Fetch actor point.hart (fetches past) point.pc point.word predicted
+
+-- The actor may fetch there, whatever is predicted.
+abbrev pub CanFetch : Setup → List Event → ℕ → FetchPoint → Type 0
+CanFetch setup past actor point = (predicted : ℕ) → refused setup past (fetched_at actor point predicted past) ≡ None
 
 -- The register that a rename takes is the least free one.
 abbrev pub IsLeastFree : Setup → List Event → Option ℕ → Type 0

@@ -6,6 +6,8 @@ use Rattle.smt_model.specs.Fetching.{turn}
 use Rattle.smt_model.specs.Picture.{Picture}
 use Rattle.smt_model.specs.Plain.{is_going_status}
 use Rattle.smt_model.specs.Steps.{IsFetch}
+use Rattle.rv_decode.specs.Decode.{op_of_word}
+use Rattle.core_state.specs.declared.point.FetchPoint.{FetchPoint}
 use Rattle.core_state.specs.declared.slot.Slot.{Slot}
 use Rattle.core_state.specs.declared.hart.HartState.{HartState}
 
@@ -40,6 +42,10 @@ better_of harts best (h ∷ rest) = better_of harts (if is_better harts h best t
 -- The numbers from the one to below the other.
 abbrev pub from_to : ℕ → ℕ → List ℕ
 from_to from to = filter (nat_le from) (below to)
+
+-- What enters the decode latch by a fetch at this point.
+abbrev pub slot_at : ℕ → FetchPoint → ℕ → Slot
+slot_at seq point predicted = record { seq = seq; pc = point.pc; word = point.word; op = op_of_word point.word; predicted = predicted }
 
 -- What is fetched by hart h.
 abbrev pub fetched_of : ℕ → Slot → Fetched

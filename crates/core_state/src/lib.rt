@@ -1,8 +1,9 @@
 //! The core's state: every latch, list, map and counter, kept in agreement with the history of the core's events.
 //!
 //! Read in this order: `slot` (an instruction before it is renamed), `hart` (what each hart has of its own), `parts` (what
-//! all harts share), then the steps in the order of the pipeline: `fetch`, `decode`, `rename`, `issue`, `complete`,
-//! `retire`, and `squash`, which the last two share; and `state`, which holds it all and writes the history by `log`.
+//! all harts share), then the steps in the order of the pipeline: `fetch` with `point` (where the next fetch is), `decode`,
+//! `rename`, `issue`, `complete`, `retire`, and `squash`, which the last two share; and `state`, which holds it all and writes the
+//! history by `log`.
 #![tactic(auto)]
 
 mod complete;
@@ -12,6 +13,7 @@ mod hart;
 mod issue;
 mod log;
 mod parts;
+mod point;
 mod refused;
 mod rename;
 mod retire;
@@ -20,5 +22,6 @@ mod slot;
 mod squash;
 mod state;
 
+pub use point::FetchPoint;
 pub use refused::CoreRefused;
 pub use state::State;

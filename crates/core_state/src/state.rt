@@ -3,7 +3,7 @@ ghost use Rattle.events.specs.Range.{HasShortWrite};
 ghost use Rattle.core_state.specs.Listed.{listed};
 ghost use Rattle.core_state.specs.Agree.{IsActive};
 ghost use Rattle.core_state.specs.View.{CoreView, grown};
-ghost use Rattle.core_state.specs.Answers.{AllowsNone, PredictsNext, TakesLeast, IsJobOf, IsStrange};
+ghost use Rattle.core_state.specs.Answers.{AllowsNone, CanFetch, fetched_at, TakesLeast, IsJobOf, IsStrange};
 ghost use Rattle.smt_model.specs.Account.{records, lent, committed_value};
 ghost use Rattle.smt_model.specs.Asks.{answers, AskFetch, AskDecode, AskRename, AskIssue, AskComplete, AskRetire};
 ghost use Rattle.smt_model.specs.Basics.{how_many};
@@ -15,20 +15,21 @@ ghost use Rattle.smt_model.specs.Rules.{refused, is_actor, is_legal};
 ghost use Rattle.smt_model.specs.Setup.{is_accepted, registers_of, unit_of_role};
 ghost use Rattle.core_state.specs.Setup.{setup_of, accepts};
 
+mod tables;
+
 use crate::fetch::choose;
 use crate::issue::{count_jobs, unit_of};
 use crate::log::{append, put_out};
 use crate::parts::{Parts, registers_in, value_of};
+use crate::point::FetchPoint;
 use crate::refused::CoreRefused;
 use crate::retire::effect_of;
 use crate::sizes::{is_core, is_same_config};
-use crate::slot::Slot;
 use arrayvec::ArrayVec;
 use elf_image::Image;
 use events::{Event, History, Outcome, Record};
 use exec_units::{Done, Job};
 use retire_squash::Active;
-use rv_decode::Op;
 use smt_model::{Config, Status};
 use std::alloc::{AllocError, Global};
 use std::marker::Model;
@@ -122,44 +123,38 @@ impl State {
         self.history.is_full()
     }
 
-    /// Fetches for actor `actor`: the hart to choose, at its fetch pc. None where no hart qualifies or there is no such actor,
-    /// and then nothing changes.
-    pub fn fetch(&mut self, actor: u8) -> Option<Event>
-        requires { length self.old.past < self.old.limit }
-        ensures made { IfSome result (λ e. self.new ≡ grown e self.old) }
-        ensures allowed { IfSome result (λ e. refused self.old.setup self.old.past e ≡ None) }
-        ensures answer { IfSome result (λ e. answers (AskFetch actor) self.old.past e ≡ true) }
-        ensures short { IfSome result HasShortWrite }
-        ensures predicts { IfSome result PredictsNext }
-        ensures idle { IfNone result (AllowsNone self.old.setup (AskFetch actor) self.old.past) }
-        ensures none { IfNone result (self.new ≡ self.old) }
+    /// Where actor `actor` fetches next: the hart to choose, at its fetch pc. None where no hart qualifies or there is no such
+    /// actor.
+    pub fn next_to_fetch(&self, actor: u8) -> Option<FetchPoint>
+        ensures allowed { IfSome result (CanFetch self.now.setup self.now.past actor) }
+        ensures idle { IfNone result (AllowsNone self.now.setup (AskFetch actor) self.now.past) }
     {
         if !self.has_actor(actor) {
             return None;
         }
         let hart = choose(&self.parts.harts, self.last)?;
         let pc = self.parts.harts[hart].fetch_pc;
-        let word = self.image.code_word(pc);
-        let slot = Slot {
-            seq: self.fetched,
-            pc,
-            word,
-            op: Op::of_word(word),
-            predicted: pc.wrapping_add(4),
-        };
-        self.parts.fetch(hart, slot);
-        self.last = Some(hart as u8);
-        self.fetched += 1;
-        let event = Event::Fetch {
-            actor,
+        Some(FetchPoint {
             hart: hart as u8,
-            seq: slot.seq,
             pc,
-            word,
-            predicted: slot.predicted,
-        };
+            word: self.image.code_word(pc),
+        })
+    }
+
+    /// Fetches at `point` for actor `actor`, where it fetches next, and goes on at `predicted`.
+    pub fn fetch(&mut self, actor: u8, point: FetchPoint, predicted: u32) -> Event
+        requires room { length self.old.past < self.old.limit }
+        requires allowed { refused self.old.setup self.old.past (fetched_at actor point predicted self.old.past) ≡ None }
+        ensures event { result ≡ fetched_at actor point predicted self.old.past }
+        ensures made { self.new ≡ grown result self.old }
+    {
+        let slot = point.slot(self.fetched, predicted);
+        let event = point.event(actor, slot.seq, predicted);
+        self.parts.fetch(usize::from(point.hart), slot);
+        self.last = Some(point.hart);
+        self.fetched += 1;
         append(&mut self.history, event);
-        Some(event)
+        event
     }
 
     /// Decodes hart `hart`'s oldest fetched instruction. None where there is none, the rename latch is full, or there is no such
@@ -360,7 +355,9 @@ impl State {
         ensures legal { is_legal self.now.setup self.now.past }
         ensures within { length result.now ≤ self.now.limit }
         ensures limit { self.now.limit ≤ 16777216 }
+        ensures actors { length self.now.setup.roles ≤ 16 }
     {
+        let _actors = self.config.roles.len();
         self.history.events()
     }
 

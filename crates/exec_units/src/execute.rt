@@ -8,7 +8,7 @@ use crate::operations::{
     immediate_value, is_taken, muldiv_value, register_value, shift_value, stored_part,
 };
 use events::Next;
-use rv_decode::{ImmediateOp, Instr, Op};
+use rv_decode::{Instr, Op};
 use rv_word::add;
 
 /// What is computed at `pc` by what was found there: a word that is no instruction, or none that is executed yet,
@@ -24,17 +24,18 @@ pub fn execute(op: Op, pc: u32, a: u32, b: u32) -> Computed
     }
 }
 
-/// Whether the simulator executes the instruction yet.
+/// Whether the simulator executes the instruction yet: every one that touches no memory.
 #[tactic(auto, unfolding(smt_model::specs::Exec::is_executed))]
 fn is_executed(instr: Instr) -> bool
     ensures { result ≡ is_executed covered_yet instr }
 {
-    matches!(
+    !matches!(
         instr,
-        Instr::Immediate {
-            op: ImmediateOp::Addi,
-            ..
-        } | Instr::Ecall
+        Instr::Load { .. }
+            | Instr::Store { .. }
+            | Instr::LoadReserved { .. }
+            | Instr::StoreConditional { .. }
+            | Instr::Amo { .. }
     )
 }
 

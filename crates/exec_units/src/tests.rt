@@ -1,6 +1,6 @@
 use crate::{Job, work};
 use events::{Next, Outcome};
-use rv_decode::{ImmediateOp, Instr, MulDivOp, Op};
+use rv_decode::{BranchOp, ImmediateOp, Instr, LoadOp, MulDivOp, Op};
 
 const PC: u32 = 0x8000_0000;
 
@@ -20,15 +20,34 @@ const MUL: Op = Op::Known(Instr::MulDiv {
     rs2: 7,
 });
 
+// jal x5,2
+const JAL_ASTRAY: Op = Op::Known(Instr::Jal { rd: 5, offset: 2 });
+
+// beq x0,x0,8
+const BEQ: Op = Op::Known(Instr::Branch {
+    op: BranchOp::Beq,
+    rs1: 0,
+    rs2: 0,
+    offset: 8,
+});
+
+// lw x5,0(x6)
+const LW: Op = Op::Known(Instr::Load {
+    op: LoadOp::Lw,
+    rd: 5,
+    rs1: 6,
+    offset: 0,
+});
+
 const ECALL: Op = Op::Known(Instr::Ecall);
+
+const EBREAK: Op = Op::Known(Instr::Ebreak);
 
 fn goes_on(value: Option<u32>, out: Option<u8>) -> Outcome {
     Outcome {
         value,
-        next: Next::Pc(0x8000_0004),
-        addr: None,
-        datum: None,
         out,
+        ..is_over(Next::Pc(0x8000_0004))
     }
 }
 
@@ -52,7 +71,11 @@ fn a_unit_hands_back_what_the_instruction_computes(rt: HostRuntime) {
         ("unknown call", ECALL, 7, 0, is_over(Next::Stopped(8))),
         ("no word", Op::NoWord, 0, 0, is_over(Next::Stopped(1))),
         ("illegal", Op::Illegal, 0, 0, is_over(Next::Stopped(2))),
-        ("not executed yet", MUL, 6, 7, is_over(Next::Stopped(2))),
+        ("product", MUL, 6, 7, goes_on(Some(42), None)),
+        ("taken branch", BEQ, 0, 0, is_over(Next::Pc(0x8000_0008))),
+        ("bad target", JAL_ASTRAY, 0, 0, is_over(Next::Stopped(0))),
+        ("break", EBREAK, 0, 0, is_over(Next::Stopped(3))),
+        ("not executed yet", LW, 0, 0, is_over(Next::Stopped(2))),
     ];
     for (name, op, first, second, expected) in rows {
         let done = work(Job::new(3, op, PC, first, second));

@@ -1,2 +1,6 @@
+pub mod Described
 pub mod Found
+pub mod Keys
+pub mod Names
 pub mod Refusals
+pub mod Rows

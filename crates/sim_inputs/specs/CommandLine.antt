@@ -1,6 +1,12 @@
 -- The command line as data, and what its words ask for.
-use Rattle.std.specs.Prelude.{◌≡◌, ◌≢◌, true, List, [], ◌∷◌, Option, Some, IsSomeAnd, codes}
-use Rattle.clap.specs.Words.{App, Row, Rule, Text, IsAmong, fault_of, first_of, new_app, new_rule, subcommand_of, with_rule, with_subcommand}
+use Rattle.std.specs.Prelude.{None, ◌≡◌, ◌≢◌, Bool, true, false, List, [], ◌∷◌, Option, Some, IsSomeAnd, option_map, codes}
+use Rattle.std.specs.Option.{option_map_or}
+use Rattle.std.specs.Str.{bytes_eq}
+use Rattle.clap.specs.Words.{App, Row, Rule, Text, IsAmong, app_of, rule_of, fault_of, first_of, new_app, new_rule, subcommand_of, with_rule, with_subcommand}
+use Rattle.clap.specs.declared.builder.arg.Arg.{Arg}
+use Rattle.clap.specs.declared.builder.command.Command.{Command}
+use Rattle.clap.specs.declared.builder.command.Command.TheViews.{out-Command}
+use Rattle.clap.specs.declared.builder.action.ArgAction.TheVariants.{SetTrue}
 use Rattle.clap.specs.declared.error.kind.ErrorKind.{ErrorKind}
 use Rattle.clap.specs.declared.error.kind.ErrorKind.TheVariants.{DisplayHelp, OutOfMemory}
 use Rattle.sim_inputs.specs.declared.line.Line.{Line}
@@ -12,19 +18,35 @@ use Rattle.sim_inputs.specs.declared.line.WordsRefused.TheVariants.{Help, Refuse
 abbrev pub file_rule : Text → Rule
 file_rule name = record (new_rule name) { required = true }
 
-abbrev pub image : Rule
-image = file_rule (codes "IMAGE")
+-- An option that names a file, and a flag.
+abbrev pub file_option_rule : Text → Rule
+file_option_rule name = record (new_rule name) { long = Some name; value_names = 1 }
 
-abbrev pub script : Rule
-script = file_rule (codes "SCRIPT")
+abbrev pub flag_rule : Text → Rule
+flag_rule name = record (new_rule name) { long = Some name; action = Some SetTrue }
 
--- The subcommand `step IMAGE SCRIPT`.
+abbrev pub image_rule : Rule
+image_rule = file_rule (codes "IMAGE")
+
+abbrev pub script_rule : Rule
+script_rule = file_rule (codes "SCRIPT")
+
+abbrev pub config_rule : Rule
+config_rule = file_option_rule (codes "config")
+
+abbrev pub records_rule : Rule
+records_rule = flag_rule (codes "records")
+
+abbrev pub show_rule : Rule
+show_rule = flag_rule (codes "show")
+
+-- The subcommand `step IMAGE SCRIPT`, with the options `--config FILE`, `--records` and `--show`.
 abbrev pub step : App
-step = with_rule (with_rule (new_app (codes "step")) image) script
+step = with_rule (with_rule (with_rule (with_rule (with_rule (new_app (codes "step")) image_rule) script_rule) config_rule) records_rule) show_rule
 
--- The subcommand `list IMAGE`.
+-- The subcommand `list IMAGE`, with the option `--config FILE`.
 abbrev pub list : App
-list = with_rule (new_app (codes "list")) image
+list = with_rule (with_rule (new_app (codes "list")) image_rule) config_rule
 
 -- The whole command line: one of the two subcommands must be there. `clap` adds `--help` and `help`.
 abbrev pub top : App
@@ -33,18 +55,34 @@ top = let app = new_app (codes "smtsim") in record app { top = record app.top { 
 abbrev pub smtsim : App
 smtsim = with_subcommand (with_subcommand top step.top) list.top
 
--- A subcommand of this name, with what was found for its arguments, is the line.
+-- What `clap` is told: an argument and a command as data, neither of them for the commands below too.
+pub record IsArgument (described : Rule) (argument : Arg) : Type 0 where
+  pub rule : rule_of argument ≡ described
+  pub local : argument.global ≡ false
+
+pub record IsCommand (described : App) (command : Command) : Type 0 where
+  pub app : app_of command ≡ described
+  pub local : (out-Command command).has_globals ≡ false
+
+-- A flag is set: its value is "true".
+abbrev pub is_set : Text → List Row → Bool
+is_set name rows = option_map_or (λ value. bytes_eq value (codes "true")) (first_of name rows) false
+
+-- A subcommand of this name, with what was found for its arguments and options, is the line.
 abbrev pub IsLineOf : Text → List Row → Line → Type 0
-IsLineOf name rows (lines.Step image script) = (name ≡ codes "step")
+IsLineOf name rows (lines.Step image script config records show) = (name ≡ codes "step")
     × (first_of (codes "IMAGE") rows ≡ Some image.now) × (first_of (codes "SCRIPT") rows ≡ Some script.now)
-IsLineOf name rows (lines.List image) = (name ≡ codes "list") × (first_of (codes "IMAGE") rows ≡ Some image.now)
+    × (first_of (codes "config") rows ≡ option_map (λ file. file.now) config)
+    × (is_set (codes "records") rows ≡ records) × (is_set (codes "show") rows ≡ show)
+IsLineOf name rows (lines.List image config) = (name ≡ codes "list")
+    × (first_of (codes "IMAGE") rows ≡ Some image.now) × (first_of (codes "config") rows ≡ option_map (λ file. file.now) config)
 
 -- A subcommand was found, and it is the line.
 abbrev pub Names : Option (Text × List Row) → Line → Type 0
 Names found line = IsSomeAnd found (λ p. IsLineOf p.0 p.1 line)
 
 -- The words, the program's name first, ask for the line: the command line takes them without a fault, and they hold the
--- line's subcommand and files.
+-- line's subcommand, files and options.
 pub record Asks (words : List Text) (line : Line) : Type 0 where
   pub taken : fault_of smtsim words ≡ []
   pub holds : Names (subcommand_of smtsim words) line
@@ -65,3 +103,16 @@ abbrev pub IsRefusalOf : ErrorKind → WordsRefused → Type 0
 IsRefusalOf kind (Help text) = kind ≡ DisplayHelp
 IsRefusalOf kind Refused = (kind ≢ DisplayHelp) × (kind ≢ OutOfMemory)
 IsRefusalOf kind Memory = Unit {0}
+
+-- The options of a line.
+abbrev pub config_of : Line → Option Text
+config_of (lines.Step image script config records show) = option_map (λ file. file.now) config
+config_of (lines.List image config) = option_map (λ file. file.now) config
+
+abbrev pub image_of : Line → Text
+image_of (lines.Step image script config records show) = image.now
+image_of (lines.List image config) = image.now
+
+abbrev pub script_of : Line → Option Text
+script_of (lines.Step image script config records show) = Some script.now
+script_of (lines.List image config) = None

@@ -1,14 +1,21 @@
-//! What the program is asked to do: its words, read by `clap`. No other crate sees `clap`.
+//! What the program is asked to do, and with which settings: its words, read by `clap`, and its configuration, read by
+//! `toml`. No other crate sees `clap` or `toml`.
 //!
 //! Read in this order: `line` (what the words may ask for), `words` (how they are read), `description` (the command line
-//! as it is described to `clap`).
+//! as it is described to `clap`); then `settings`, `configuration` (how they are read), `roles` and `numbers` (its parts).
 #![tactic(auto)]
 
+mod configuration;
 mod description;
 mod line;
+mod numbers;
+mod roles;
+mod settings;
 #[cfg(test)]
 mod tests;
 mod words;
 
+pub use configuration::{ConfigRefused, read_config};
 pub use line::{Line, WordsRefused};
+pub use settings::Settings;
 pub use words::read_words;

@@ -1,12 +1,59 @@
+ghost use Rattle.std.specs.Prelude.{◌≡◌, option_map};
+
 use thiserror::Error;
 
-/// What the program is asked to do, with the names of its files.
+/// What the program is asked to do, with the names of its files and its options.
 #[derive(Clone, Copy, Debug, PartialEq, Eq, Drop)]
 pub enum Line<'a> {
     /// `step IMAGE SCRIPT`: the script's asks are made in order, without threads.
-    Step { image: &'a str, script: &'a str },
+    Step {
+        image: &'a str,
+        script: &'a str,
+        /// `--config FILE`: the file of the configuration.
+        config: Option<&'a str>,
+        /// `--records`: a line for each record is printed before the report.
+        records: bool,
+        /// `--show`: the core's tables are printed between the asks and the report.
+        show: bool,
+    },
     /// `list IMAGE`: each word of the image's code is printed.
-    List { image: &'a str },
+    List {
+        image: &'a str,
+        /// `--config FILE`: the file of the configuration.
+        config: Option<&'a str>,
+    },
+}
+
+impl<'a> Line<'a> {
+    ghost use Rattle.sim_inputs.specs.CommandLine.{config_of, image_of, script_of};
+
+    /// The file of the configuration, where the line names one.
+    pub fn config(&self) -> Option<&'a str>
+        ensures { option_map (λ file. file.now) result ≡ config_of self.now }
+    {
+        match *self {
+            Line::Step { config, .. } | Line::List { config, .. } => config,
+        }
+    }
+
+    /// The file of the image.
+    pub fn image(&self) -> &'a str
+        ensures { result.now ≡ image_of self.now }
+    {
+        match *self {
+            Line::Step { image, .. } | Line::List { image, .. } => image,
+        }
+    }
+
+    /// The file of the script, where the line names one.
+    pub fn script(&self) -> Option<&'a str>
+        ensures { option_map (λ file. file.now) result ≡ script_of self.now }
+    {
+        match *self {
+            Line::Step { script, .. } => Some(script),
+            Line::List { .. } => None,
+        }
+    }
 }
 
 /// Why there is nothing to do.

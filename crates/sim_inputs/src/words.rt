@@ -1,7 +1,7 @@
 ghost use Rattle.std.specs.Prelude.{◌≡◌, List, codes, map, IfOk, IfErr, IfSome, IfNone};
 ghost use Rattle.clap.specs.Words.{found_of, kind_of, rows_of, subcommand_rows_of};
 ghost use Rattle.sim_inputs.specs.declared.line.Line.{Line as AnyLine};
-ghost use Rattle.sim_inputs.specs.CommandLine.{IsLineOf, Names, Asks, IsRefusedFor, IsRefusalOf};
+ghost use Rattle.sim_inputs.specs.CommandLine.{is_set, IsLineOf, Names, Asks, IsRefusedFor, IsRefusalOf};
 
 use crate::description::describe;
 use crate::line::{Line, WordsRefused};
@@ -48,7 +48,13 @@ fn step_line<'a>(step: &ArgMatches<'a>) -> Option<Line<'a>>
     let Some(script) = step.get_str("SCRIPT") else {
         return None;
     };
-    Some(Line::Step { image, script })
+    Some(Line::Step {
+        image,
+        script,
+        config: step.get_str("config"),
+        records: is_set(step, "records"),
+        show: is_set(step, "show"),
+    })
 }
 
 /// The line of the subcommand `list`.
@@ -59,7 +65,20 @@ fn list_line<'a>(list: &ArgMatches<'a>) -> Option<Line<'a>>
     let Some(image) = list.get_str("IMAGE") else {
         return None;
     };
-    Some(Line::List { image })
+    Some(Line::List {
+        image,
+        config: list.get_str("config"),
+    })
+}
+
+/// Whether a flag is set. (`get_flag` says it for the values "true" and "false" alone.)
+fn is_set(found: &ArgMatches<'_>, name: &str) -> bool
+    ensures { result ≡ is_set name.now (rows_of (found_of found.now)) }
+{
+    match found.get_str(name) {
+        Some(value) => value == "true",
+        None => false,
+    }
 }
 
 /// What is made of an error of `clap`.

@@ -1,2 +1,4 @@
 pub mod Appending
+pub mod RecordLines
+pub mod Refusing
 pub mod WordLines

@@ -7,7 +7,7 @@ use Rattle.elf_image.specs.Image.{ProgramImage}
 use Rattle.core_state.specs.Setup.{setup_of}
 use Rattle.smt_model.specs.Setup.{is_accepted}
 use Rattle.sim_script.specs.Script.{IsFirstMisspelled}
-use Rattle.simulator.specs.declared.settings.Settings.{Settings}
+use Rattle.sim_inputs.specs.declared.settings.Settings.{Settings}
 use Rattle.simulator.specs.declared.refused.Refused.{Refused}
 use Rattle.simulator.specs.declared.refused.Refused.TheVariants.{Image, Config, Script, Memory, Output}
 

@@ -3,6 +3,8 @@ use Rattle.std.specs.Prelude.{ℕ, ◌+◌, Bool, true, false, ◌==◌, if◌th
 use Rattle.std.specs.List.{list_any, list_all}
 use Rattle.std.specs.Fmt.{decimal}
 use Rattle.text_fields.specs.Spelling.{hex}
+use Rattle.events.specs.declared.effect.Record.{Record}
+use Rattle.events.specs.Line.{record_text_of}
 use Rattle.smt_model.specs.declared.config.Status.{Status}
 use Rattle.smt_model.specs.declared.config.Status.TheVariants.{Going, Ended, Stopped}
 
@@ -46,6 +48,13 @@ bytes_text (byte ∷ others) = flat_map (hex 2) (byte ∷ others)
 
 abbrev pub output_line : List ℕ → List ℕ
 output_line output = codes "output " ++ (bytes_text output ++ 10 ∷ [])
+
+-- A line for each record, where they are wanted.
+abbrev pub record_line : Record → List ℕ
+record_line r = record_text_of r ++ 10 ∷ []
+
+abbrev pub records_text : Bool → List Record → List ℕ
+records_text wanted records = if wanted then flat_map record_line records else []
 
 -- The whole report: how many events there are, how many instructions have retired and how many jobs are with units, how
 -- each hart stands, and the bytes that were put out.

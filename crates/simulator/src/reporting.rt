@@ -4,8 +4,9 @@ ghost use Rattle.std.specs.Io.KnownBytes.{Appends};
 ghost use Rattle.arrayvec.specs.ArrayString.{array_string_len};
 ghost use Rattle.text_fields.specs.Spelling.{hex};
 ghost use Rattle.simulator.specs.Refusals.{says_harts};
-ghost use Rattle.simulator.specs.Report.{is_going, has_ended_well, status_number, count_line, status_text, hart_line, hart_lines, output_line, report_text};
+ghost use Rattle.simulator.specs.Report.{is_going, has_ended_well, status_number, count_line, status_text, hart_line, hart_lines, output_line, records_text, report_text};
 
+use crate::recording::report_records;
 use arrayvec::ArrayString;
 use smt_core::{Account, Status};
 use std::io;
@@ -15,12 +16,13 @@ use text_fields::{push_ascii, push_decimal, push_hex};
 /// Room for the name of a line with its number, or for the line of a hart.
 type Line = ArrayString<64>;
 
-/// Writes the report of an account: how many events and retired instructions there are, how many jobs are with units, how
+/// Writes the report of an account: with `records` a line for each retired instruction, then how many events and retired instructions there are, how many jobs are with units, how
 /// each hart stands, and the output's bytes in hexadecimal.
-pub fn report<W: Write>(account: &Account<'_>, out: &mut W) -> io::Result<()>
-    ensures { OnOk result (Appends (W.contents out.old) (W.contents out.new)
-        (report_text account.now.events (length account.now.records.now) account.now.lent account.now.statuses.items account.now.output.now)) }
+pub fn report<W: Write>(account: &Account<'_>, records: bool, out: &mut W) -> io::Result<()>
+    ensures { OnOk result (Appends (W.contents out.old) (W.contents out.new) (records_text records account.now.records.now
+        ++ report_text account.now.events (length account.now.records.now) account.now.lent account.now.statuses.items account.now.output.now)) }
 {
+    report_records(records, account.records, out)?;
     report_count("events", u64::from(account.events), out)?;
     report_count("retired", account.records.len() as u64, out)?;
     report_count("lent", u64::from(account.lent), out)?;

@@ -1,53 +1,103 @@
-ghost use Rattle.std.specs.Prelude.{◌≡◌, List, IfOk, IfErr, OnOk};
+ghost use Rattle.std.specs.Prelude.{◌≡◌, ◌≤◌, List, All, IsTrue, IfOk, IfErr, OnOk, length, sum};
 ghost use Rattle.elf_image.specs.Loaded.{IsImageOf};
 ghost use Rattle.events.specs.Range.{HasShortWrite};
 ghost use Rattle.core_state.specs.Setup.{setup_of};
-ghost use Rattle.smt_core.specs.Answers.{IsPrintable};
+ghost use Rattle.core_lock.specs.Shown.{Shown};
 ghost use Rattle.sim_script.specs.declared.actions.Word.{Word as AnyWord};
-ghost use Rattle.sim_script.specs.Script.{IsScript};
+ghost use Rattle.sim_script.specs.Script.{IsScript, IsInRange};
+ghost use Rattle.simulator.specs.declared.refused.Refused.TheVariants.{Output};
 ghost use Rattle.simulator.specs.Refusals.{PassesAll, AreAccepted, IsRefusedFor, IsImageRefusal, IsConfigRefusal, IsScriptRefusal};
 
 use crate::hands::Hands;
 use crate::refused::Refused;
-use crate::settings::Settings;
 use arrayvec::ArrayString;
+use core_lock::{Ask, Finished, LockedCore, Origin, Pass, Said};
 use elf_image::{Image, LoadRefused, load};
 use events::{Event, print_event};
+use sim_inputs::Settings;
 use sim_script::{Action, ScriptRefused, Word, read_script};
-use smt_core::{Answer, CompleteAnswer, Core, CoreRefused, IssueAnswer, Predict, work};
+use smt_core::{Config, Core, CoreRefused, Predict, work};
 use std::alloc::Global;
 use std::io;
 use std::io::Write;
+use std::marker::Brand;
+use std::sync::Wait;
+use std::sync::ledger::{Blank, Ledger};
 
-/// Makes the asks of a script in order, each of them of one core, and prints a line for each. The whole script is read
-/// before the first ask.
+/// Makes the asks of a script in order, each of them of one core behind one lock, and prints a line for each. The whole script is
+/// read before the first ask.
 ///
 /// Refused are, in this order, the image, the configuration, and the first word of the script that says nothing; then
-/// nothing is printed. `Output` is answered where `out` failed.
-pub fn step_bytes<P: Predict, W: Write>(
+/// nothing is printed. `Output` is answered where `out` failed. What is finished is the core of this image and these settings,
+/// and its `counts` add up to the events of its history.
+pub fn step_bytes<P: Predict, W: Write, R: Wait>(
+    rt: &R,
     image: &[u8],
     settings: &Settings,
     script: &[u8],
     predict: &mut P,
     out: &mut W,
     alloc: Global,
-) -> Result<Core, Refused>
+) -> Result<Finished, Refused>
     ensures refused { IfErr result (IsRefusedFor image.now settings.now script.now) }
     ensures passed { OnOk result (PassesAll image.now settings.now.ram) }
     ensures accepted { OnOk result (AreAccepted settings.now) }
     ensures script { OnOk result ((words : List AnyWord) × IsScript script.now words) }
-    ensures image { IfOk result (λ core. IsImageOf image.now settings.now.ram core.setup.image) }
-    ensures setup { IfOk result (λ core. core.setup ≡ setup_of core.setup.image settings.now.config) }
-    ensures limit { IfOk result (λ core. core.limit ≡ settings.now.limit) }
+    ensures image { IfOk result (λ finished. IsImageOf image.now settings.now.ram finished.core.setup.image) }
+    ensures setup { IfOk result (λ finished. finished.core.setup ≡ setup_of finished.core.setup.image settings.now.config) }
+    ensures limit { IfOk result (λ finished. finished.core.limit ≡ settings.now.limit) }
+    ensures own { IfOk result (λ finished. IsTrue finished.own) }
+    ensures counted { IfOk result (λ finished. sum finished.counts ≡ length finished.core.past) }
+    ensures shown { IfOk result (λ finished. Shown finished.core) }
 {
     let image = read_image(image, settings, alloc)?;
-    let mut core = make_core(&image, settings, alloc)?;
+    let core = make_core(&image, settings, alloc)?;
     let words = read_words(script, alloc)?;
-    let mut hands = Hands::empty();
-    let told = make_asks(&mut core, &mut hands, words.as_slice(), predict, out);
+    step_core::<Brand, P, W, R>(
+        rt,
+        core,
+        Blank::new(16),
+        &image,
+        &settings.config,
+        words.as_slice(),
+        predict,
+        out,
+    )
+}
+
+/// Puts the core behind a lock, makes the asks, and gives up the lock.
+fn step_core<L: Origin, P: Predict, W: Write, R: Wait>(
+    rt: &R,
+    core: Core,
+    blank: Blank,
+    image: &Image,
+    config: &Config,
+    words: &[Word],
+    predict: &mut P,
+    out: &mut W,
+) -> Result<Finished, Refused>
+    requires name { blank.name ≡ L.name }
+    requires parts { (blank.parts ≡ L.parts) × (L.parts ≡ 16) }
+    requires origin { (core.setup ≡ L.setup) × (core.limit ≡ L.limit) }
+    requires image { core.setup ≡ setup_of image.now config.now }
+    requires in_range { All (λ word. IsInRange word.action) words.now }
+    ensures refused { IfErr result (λ reason. reason ≡ Output) }
+    ensures setup { IfOk result (λ finished. finished.core.setup ≡ core.setup) }
+    ensures limit { IfOk result (λ finished. finished.core.limit ≡ core.limit) }
+    ensures own { IfOk result (λ finished. IsTrue finished.own) }
+    ensures counted { IfOk result (λ finished. sum finished.counts ≡ length finished.core.past) }
+    ensures shown { IfOk result (λ finished. Shown finished.core) }
+{
+    let (core, passes) = LockedCore::<L>::new(core, blank);
+    let mut actors = Actors {
+        passes,
+        hands: Hands::empty(),
+    };
+    let told = make_asks(rt, &core, &mut actors, words, predict, out);
+    let Actors { passes, hands } = actors;
     hands.abandon_all();
     match told {
-        Ok(()) => Ok(core),
+        Ok(()) => Ok(core.finish(passes, image, config)),
         Err(_) => Err(Refused::Output),
     }
 }
@@ -79,6 +129,7 @@ fn make_core(image: &Image, settings: &Settings, alloc: Global) -> Result<Core, 
 
 fn read_words(script: &[u8], alloc: Global) -> Result<Vec<Word>, Refused>
     ensures script { IfOk result (λ words. IsScript script.now words.items) }
+    ensures in_range { IfOk result (λ words. All (λ word. IsInRange word.action) words.items) }
     ensures refused { IfErr result (IsScriptRefusal script.now) }
 {
     match read_script(script, alloc) {
@@ -88,98 +139,104 @@ fn read_words(script: &[u8], alloc: Global) -> Result<Vec<Word>, Refused>
     }
 }
 
-fn make_asks<P: Predict, W: Write>(
-    core: &mut Core,
-    hands: &mut Hands,
+/// The sixteen actors: what each of them asks with, and what it holds.
+struct Actors<L: Ledger> {
+    passes: [Pass<L>; 16],
+    hands: Hands,
+}
+
+fn make_asks<L: Origin, P: Predict, W: Write, R: Wait>(
+    rt: &R,
+    core: &LockedCore<L>,
+    actors: &mut Actors<L>,
     words: &[Word],
     predict: &mut P,
     out: &mut W,
 ) -> io::Result<()>
-    ensures setup { core.new.setup ≡ core.old.setup }
-    ensures limit { core.new.limit ≡ core.old.limit }
+    requires { All (λ word. IsInRange word.action) words.now }
 {
     for word in words {
         for _ in 0..word.repeat {
-            make_ask(core, hands, word.action, predict, out)?;
+            make_action(rt, core, actors, word.action, predict, out)?;
         }
     }
     Ok(())
 }
 
-fn make_ask<P: Predict, W: Write>(
-    core: &mut Core,
-    hands: &mut Hands,
+fn make_action<L: Origin, P: Predict, W: Write, R: Wait>(
+    rt: &R,
+    core: &LockedCore<L>,
+    actors: &mut Actors<L>,
     action: Action,
     predict: &mut P,
     out: &mut W,
 ) -> io::Result<()>
-    ensures setup { core.new.setup ≡ core.old.setup }
-    ensures limit { core.new.limit ≡ core.old.limit }
+    requires { IsInRange action }
 {
-    match action {
-        Action::Fetch { actor } => tell(core.fetch(actor, predict), out),
-        Action::Decode { actor, hart } => tell(core.decode(actor, hart), out),
-        Action::Rename { actor, hart } => tell(core.rename(actor, hart), out),
-        Action::Retire { actor, hart } => tell(core.retire(actor, hart), out),
-        Action::Issue { actor } => {
-            issue(core, hands, actor, out)?;
-            Ok(())
+    let (actor, ask) = match action {
+        Action::Fetch { actor } => (actor, Ask::Fetch),
+        Action::Decode { actor, hart } => (actor, Ask::Decode(hart)),
+        Action::Rename { actor, hart } => (actor, Ask::Rename(hart)),
+        Action::Retire { actor, hart } => (actor, Ask::Retire(hart)),
+        Action::Issue { actor } => (actor, Ask::Issue),
+        Action::Complete { actor } => {
+            return hand_back(rt, core, actors, actor, predict, out);
         }
-        Action::Complete { actor } => complete(core, hands, actor, out),
         Action::Unit { actor } => {
-            if issue(core, hands, actor, out)? {
-                complete(core, hands, actor, out)?;
+            if make_ask(rt, core, actors, actor, Ask::Issue, predict, out)? {
+                hand_back(rt, core, actors, actor, predict, out)?;
             }
-            Ok(())
+            return Ok(());
         }
-    }
-}
-
-/// Asks for a job; one that comes is worked at once, and what was done is held. Tells whether one came.
-fn issue<W: Write>(core: &mut Core, hands: &mut Hands, actor: u8, out: &mut W) -> io::Result<bool>
-    ensures setup { core.new.setup ≡ core.old.setup }
-    ensures limit { core.new.limit ≡ core.old.limit }
-{
-    match core.issue(actor) {
-        IssueAnswer::Job(job, event) => {
-            hands.put(actor, work(job));
-            tell_event(&event, out)?;
-            Ok(true)
-        }
-        IssueAnswer::Idle => {
-            out.write_all(b"idle\n")?;
-            Ok(false)
-        }
-        IssueAnswer::Full => {
-            out.write_all(b"full\n")?;
-            Ok(false)
-        }
-    }
+    };
+    make_ask(rt, core, actors, actor, ask, predict, out)?;
+    Ok(())
 }
 
 /// Hands back what the actor holds; where it holds nothing, no ask is made.
-fn complete<W: Write>(core: &mut Core, hands: &mut Hands, actor: u8, out: &mut W) -> io::Result<()>
-    ensures setup { core.new.setup ≡ core.old.setup }
-    ensures limit { core.new.limit ≡ core.old.limit }
+fn hand_back<L: Origin, P: Predict, W: Write, R: Wait>(
+    rt: &R,
+    core: &LockedCore<L>,
+    actors: &mut Actors<L>,
+    actor: u8,
+    predict: &mut P,
+    out: &mut W,
+) -> io::Result<()>
+    requires { actor ≤ 15 }
 {
-    let Some(done) = hands.take(actor) else {
+    let Some(done) = actors.hands.take(actor) else {
         return out.write_all(b"none\n");
     };
-    match core.complete(actor, done) {
-        CompleteAnswer::Done(event) => tell_event(&event, out),
-        CompleteAnswer::Stranger => out.write_all(b"stranger\n"),
-        CompleteAnswer::Full => out.write_all(b"full\n"),
-    }
+    make_ask(rt, core, actors, actor, Ask::Complete(done), predict, out)?;
+    Ok(())
 }
 
-fn tell<W: Write>(answer: Answer, out: &mut W) -> io::Result<()>
-    requires { IsPrintable answer }
+/// Makes one ask, and prints its line. A job that comes is worked at once, and what was done is held. Tells whether one came.
+fn make_ask<L: Origin, P: Predict, W: Write, R: Wait>(
+    rt: &R,
+    core: &LockedCore<L>,
+    actors: &mut Actors<L>,
+    actor: u8,
+    ask: Ask,
+    predict: &mut P,
+    out: &mut W,
+) -> io::Result<bool>
+    requires { actor ≤ 15 }
 {
-    match answer {
-        Answer::Done(event) => tell_event(&event, out),
-        Answer::Idle => out.write_all(b"idle\n"),
-        Answer::Full => out.write_all(b"full\n"),
+    let Actors { passes, hands } = actors;
+    let reply = core.step(rt, &mut passes[usize::from(actor)], ask, predict);
+    match reply.said() {
+        Said::Event(event) => tell_event(&event, out)?,
+        Said::Job(job, event) => {
+            hands.put(actor, work(job));
+            tell_event(&event, out)?;
+            return Ok(true);
+        }
+        Said::Idle => out.write_all(b"idle\n")?,
+        Said::Stranger => out.write_all(b"stranger\n")?,
+        Said::Full => out.write_all(b"full\n")?,
     }
+    Ok(false)
 }
 
 /// One write for one line.

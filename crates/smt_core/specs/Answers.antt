@@ -1,12 +1,14 @@
 -- What the calls of a core answer, and what they change.
-use Rattle.std.specs.Prelude.{◌≡◌, ◌<◌, ℕ, true, List, length, None}
+use Rattle.std.specs.Prelude.{◌≡◌, ◌<◌, ℕ, true, List, length, Option, Some, None}
 use Rattle.events.specs.declared.event.Event.{Event}
+use Rattle.events.specs.declared.event.Event.TheVariants.{Fetch}
 use Rattle.events.specs.Range.{HasShortWrite}
+use Rattle.smt_model.specs.Exec.{next_pc}
 use Rattle.smt_model.specs.Setup.{Setup}
 use Rattle.exec_units.specs.Job.{JobView}
-use Rattle.smt_model.specs.Asks.{Ask, AskFetch, AskRename, AskIssue, AskComplete, answers}
+use Rattle.smt_model.specs.Asks.{Ask, AskRename, AskIssue, AskComplete, answers}
 use Rattle.smt_model.specs.Rules.{refused}
-use Rattle.core_state.specs.Answers.{AllowsNone, PredictsNext, TakesLeast, IsJobOf, IsStrange}
+use Rattle.core_state.specs.Answers.{AllowsNone, TakesLeast, IsJobOf, IsStrange}
 use Rattle.core_state.specs.View.{CoreView, grown}
 use Rattle.smt_core.specs.declared.answer.Answer.{Answer}
 use Rattle.smt_core.specs.declared.answer.Answer.TheVariants as plain
@@ -15,9 +17,8 @@ use Rattle.smt_core.specs.declared.answer.IssueAnswer.TheVariants as issue
 use Rattle.smt_core.specs.declared.answer.CompleteAnswer.{CompleteAnswer}
 use Rattle.smt_core.specs.declared.answer.CompleteAnswer.TheVariants as complete
 
--- What the rules leave open and a core decides: a fetch predicts the instruction behind, a rename takes the least free register.
+-- What the rules leave open and a core decides: a rename takes the least free register. What a fetch predicts is its predictor's.
 abbrev pub Decides : Ask → Setup → List Event → Event → Type 0
-Decides (AskFetch actor) setup past e = PredictsNext e
 Decides (AskRename actor hart) setup past e = TakesLeast setup past e
 Decides _ setup past e = Unit {0}
 
@@ -46,6 +47,19 @@ abbrev pub Answered : Ask → CoreView → Answer → CoreView → Type 0
 Answered ask old (plain.Done e) new = IsMade ask old e new
 Answered ask old plain.Idle new = IsIdle ask old new
 Answered ask old plain.Full new = IsFull old new
+
+-- What is predicted of a hart's fetch at a pc: where there is a word, the predictor's guess, by which the predictor goes from
+-- `before` to `after`; where there is none, the pc behind, and the predictor isn't asked.
+abbrev pub IsGuess : {P : Type 0} → (P → ℕ → ℕ → ℕ → ℕ → P → Type 0) → P → ℕ → ℕ → Option ℕ → ℕ → P → Type 0
+IsGuess predicts before hart pc (Some word) predicted after = predicts before hart pc word predicted after
+IsGuess predicts before hart pc None predicted after = (predicted ≡ next_pc pc) × (after ≡ before)
+
+-- A fetch that was made tells what is predicted of it; the predictor isn't asked where none was made.
+abbrev pub IsPredicted : {P : Type 0} → (P → ℕ → ℕ → ℕ → ℕ → P → Type 0) → P → Answer → P → Type 0
+IsPredicted predicts before (plain.Done (Fetch actor hart seq pc word predicted)) after = IsGuess predicts before hart pc word predicted after
+IsPredicted predicts before (plain.Done _) after = ⊥
+IsPredicted predicts before plain.Idle after = after ≡ before
+IsPredicted predicts before plain.Full after = after ≡ before
 
 -- An issue lends the job that the history now has open for the actor.
 pub record IsLent (actor : ℕ) (old : CoreView) (job : JobView) (e : Event) (new : CoreView) : Type 0 where

@@ -8,10 +8,10 @@ ghost use Rattle.smt_model.specs.Basics.{below, how_many};
 ghost use Rattle.smt_model.specs.Flights.{icount};
 ghost use Rattle.smt_model.specs.Picture.{is_free};
 ghost use Rattle.smt_model.specs.Registers.{claims};
-ghost use Rattle.smt_model.specs.Memory.{status, output};
+ghost use Rattle.smt_model.specs.Memory.{status, output, is_going};
 ghost use Rattle.smt_model.specs.Rules.{is_legal};
 ghost use Rattle.smt_core.specs.Headline.{IsPlainRun, IsPlainRegister};
-ghost use Rattle.smt_core.specs.Answers.{Answered, IssueAnswered, CompleteAnswered};
+ghost use Rattle.smt_core.specs.Answers.{Answered, IssueAnswered, CompleteAnswered, IsPredicted};
 ghost use Rattle.smt_model.specs.Setup.{is_accepted, registers_of};
 
 use crate::account::Account;
@@ -22,9 +22,11 @@ use core_state::{CoreRefused, State};
 use elf_image::Image;
 use events::Event;
 use exec_units::Done;
-use smt_laws::laws::refines_the_plain_machine;
+use smt_laws::laws::{refines_the_plain_machine, writes_at_most_a_word};
 use smt_model::{Config, Status};
 use std::alloc::Global;
+use std::io;
+use std::io::Write;
 use std::marker::Model;
 
 /// A core: each of its calls makes one step of its pipeline, writes the step's event into its history, and answers it.
@@ -62,18 +64,23 @@ impl Core {
         }
     }
 
-    /// Fetches the next word of the hart to choose. The predictor isn't asked yet: the instruction behind is predicted.
+    /// Fetches the next word of the hart to choose, and goes on where the predictor guesses. Where the code has no word there,
+    /// the predictor isn't asked, and the pc behind is predicted.
     pub fn fetch<P: Predict>(&mut self, actor: u8, predict: &mut P) -> Answer
-        ensures { Answered (AskFetch actor) self.old result self.new }
+        ensures answered { Answered (AskFetch actor) self.old result self.new }
+        ensures predicted { IsPredicted P.predicts predict.old result predict.new }
     {
-        let _ = predict;
         if self.state.is_full() {
             return Answer::Full;
         }
-        match self.state.fetch(actor) {
-            Some(event) => Answer::Done(event),
-            None => Answer::Idle,
-        }
+        let Some(point) = self.state.next_to_fetch(actor) else {
+            return Answer::Idle;
+        };
+        let predicted = match point.word {
+            Some(word) => predict.predict(point.hart, point.pc, word),
+            None => point.pc.wrapping_add(4),
+        };
+        Answer::Done(self.state.fetch(actor, point, predicted))
     }
 
     /// Decodes hart `hart`'s oldest fetched instruction.
@@ -158,8 +165,9 @@ impl Core {
         ensures events { result.events ≡ length self.now.past }
         ensures sequential { IsPlainRun self.now.setup result.records.now result.output.now result.statuses.items }
     {
-        // Its contract is the headline: of every legal history, so of this one.
+        // Their contracts speak of every legal history, so of this one; the first is the headline.
         refines_the_plain_machine();
+        writes_at_most_a_word();
         Account {
             records: self.state.records(),
             output: self.state.output(),
@@ -179,6 +187,41 @@ impl Core {
         // The history is legal: that is a clause of this call.
         let _events = self.history();
         self.state.register(hart, register)
+    }
+
+    /// How many harts there are, 1 to 8.
+    pub fn harts(&self) -> u8
+        ensures harts { result ≡ self.now.setup.harts }
+        ensures few { result ≤ 8 }
+    {
+        self.state.harts()
+    }
+
+    /// How hart `hart` stands; none where there is no such hart.
+    pub fn status(&self, hart: u8) -> Option<Status>
+        ensures { result ≡ (if nat_lt hart self.now.setup.harts then Some (status self.now.past hart) else None) }
+    {
+        self.state.status(hart)
+    }
+
+    /// How many harts are going.
+    pub fn going(&self) -> u8
+        ensures { result ≡ how_many (is_going self.now.past) (below self.now.setup.harts) }
+    {
+        let mut going = 0;
+        for hart in 0..self.harts() {
+            if self.is_going(hart) {
+                going += 1;
+            }
+        }
+        going
+    }
+
+    fn is_going(&self, hart: u8) -> bool
+        requires { hart < self.now.setup.harts }
+        ensures { result ≡ is_going self.now.past hart }
+    {
+        matches!(self.status(hart), Some(Status::Going))
     }
 
     /// How many instructions of hart `hart` are in decode, rename and the issue queue (ICOUNT); none where there is no such hart.
@@ -214,8 +257,14 @@ impl Core {
         ensures legal { is_legal self.now.setup self.now.past }
         ensures within { length result.now ≤ self.now.limit }
         ensures small { self.now.limit ≤ 16777216 }
+        ensures actors { length self.now.setup.roles ≤ 16 }
     {
         self.state.history()
+    }
+
+    /// Writes what the core holds, in lines for people to read (docs/FORMATS.md). An error is the one that `out` answered.
+    pub fn tables<W: Write>(&self, out: &mut W) -> io::Result<()> {
+        self.state.tables(out)
     }
 
     /// Whether the core was made from this image and this configuration.

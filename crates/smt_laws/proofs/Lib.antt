@@ -7,4 +7,5 @@ pub mod Stepping
 pub mod Sequential
 pub mod PlainLaws
 pub mod Executions
+pub mod Writes
 pub mod Rows

@@ -2,3 +2,4 @@ pub mod Sequential
 pub mod Chain
 pub mod PlainLaws
 pub mod Execution
+pub mod Writes

@@ -4,6 +4,7 @@ ghost use Rattle.smt_laws.specs.Chain.{FollowsTheProgram};
 ghost use Rattle.smt_laws.specs.Execution.{ExecutionsAreRuns, RetiresAnExecution, RunsAreExecutions};
 ghost use Rattle.smt_laws.specs.PlainLaws.{EndsReservations, ReadsZero, StepsAlone, StopsWithoutWriting, StoresWhereHeld, WritesAsSaid};
 ghost use Rattle.smt_laws.specs.Sequential.{EachIsSequential};
+ghost use Rattle.smt_laws.specs.Writes.{WritesAtMostAWord};
 
 /// The headline. The retirements of every legal history, in their order, are a run of the plain machine: it leaves the
 /// same records, registers, pcs, statuses, reservations, memory and output. And no physical register is claimed twice.
@@ -46,4 +47,9 @@ pub fn retires_an_execution()
     ensures histories { RetiresAnExecution }
     ensures runs { RunsAreExecutions }
     ensures executions { ExecutionsAreRuns }
+{}
+
+/// No instruction that a legal history retires writes more than a word.
+pub fn writes_at_most_a_word()
+    ensures short { WritesAtMostAWord }
 {}

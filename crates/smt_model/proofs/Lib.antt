@@ -6,6 +6,7 @@ pub mod RowsOfSquashes
 pub mod RowsOfRenaming
 pub mod RowsOfUnits
 pub mod RowsOfCalls
+pub mod RowsOfCoverage
 pub mod RowsOfResults
 pub mod RowsOfAccesses
 pub mod RowsOfLooks

@@ -133,21 +133,24 @@ computed_of (instr.LoadReserved rd rs1 ordering) pc a b = touches pc a 0
 computed_of (instr.StoreConditional rd rs1 rs2 ordering) pc a b = touches pc a b
 computed_of (instr.Amo kind rd rs1 rs2 ordering) pc a b = touches pc a b
 
--- Which instructions a machine executes: ADDI and ECALL alone, or all of them.
+-- Which instructions a machine executes: all but those that touch memory, or all of them.
 pub data Coverage : Type 0 where
-  AddiAndEcall : Coverage
+  AllButMemory : Coverage
   WholeSet : Coverage
 
 -- What the simulator executes yet.
 abbrev pub covered_yet : Coverage
-covered_yet = AddiAndEcall
+covered_yet = AllButMemory
 
 -- The instruction is one of them. Every other one stops its hart as an illegal word does.
 unfoldable pub is_executed : Coverage → Instr → Bool
 is_executed WholeSet i = true
-is_executed AddiAndEcall (instr.Immediate Addi _ _ _) = true
-is_executed AddiAndEcall instr.Ecall = true
-is_executed AddiAndEcall _ = false
+is_executed AllButMemory (instr.Load _ _ _ _) = false
+is_executed AllButMemory (instr.Store _ _ _ _) = false
+is_executed AllButMemory (instr.LoadReserved _ _ _) = false
+is_executed AllButMemory (instr.StoreConditional _ _ _ _) = false
+is_executed AllButMemory (instr.Amo _ _ _ _ _) = false
+is_executed AllButMemory _ = true
 
 -- The same of what was found at the pc. Cause 1: there is no word there. Cause 2: the word is no instruction.
 unfoldable pub exec : Coverage → Op → ℕ → ℕ → ℕ → Computed

@@ -2,17 +2,19 @@
 #![tactic(auto)]
 
 use sim_inputs::{Line, WordsRefused, read_words};
-use simulator::{InOrder, Inputs, Refused, Settings, perform};
+use simulator::{Inputs, StaticPredictor, perform};
 use std::io::{BufWriter, Write};
 use std::process::ExitCode;
+use std::sync::Wait;
 use std::{env, fs, io};
 
 fn main(rt: HostRuntime) -> ExitCode {
-    ExitCode::from(answer(&rt))
+    ExitCode::from(answer(&rt, &rt))
 }
 
-/// The exit status: what the words ask for, or 2 for a wrong command line and 5 for want of memory.
-fn answer(rt: &HostRuntime) -> u8 {
+/// The exit status: what the words ask for, or 2 for a wrong command line and 5 for want of memory. `wait` is the runtime's leave to
+/// wait for a lock, which `main` alone has.
+fn answer<R: Wait>(rt: &HostRuntime, wait: &R) -> u8 {
     let Ok(words) = arguments(rt) else {
         return refuse(rt, "command line", 2);
     };
@@ -20,7 +22,7 @@ fn answer(rt: &HostRuntime) -> u8 {
         return refuse(rt, "memory", 5);
     };
     match read_words(words.as_slice(), rt.alloc()) {
-        Ok(line) => run(rt, &line),
+        Ok(line) => run(rt, wait, &line),
         Err(WordsRefused::Help(text)) => help(rt, text.as_str()),
         Err(WordsRefused::Refused) => refuse(rt, "command line", 2),
         Err(WordsRefused::Memory) => refuse(rt, "memory", 5),
@@ -57,24 +59,23 @@ fn refuse(rt: &HostRuntime, why: &str, status: u8) -> u8 {
     status
 }
 
-fn run(rt: &HostRuntime, line: &Line<'_>) -> u8 {
-    let image = read_image(rt, line);
-    let second = read_second(rt, line);
+fn run<R: Wait>(rt: &HostRuntime, wait: &R, line: &Line<'_>) -> u8 {
+    let config = read_named(rt, line.config());
+    let image = read_named(rt, Some(line.image()));
+    let second = read_named(rt, line.script());
     let inputs = Inputs {
+        config: config.as_deref(),
         image: image.as_deref(),
         second: second.as_deref(),
-    };
-    let Some(settings) = Settings::single_hart() else {
-        return refuse(rt, "config refused", 2);
     };
     let Ok(mut out) = BufWriter::new(rt.alloc(), io::writer(rt)) else {
         return refuse(rt, "memory", 5);
     };
     let status = perform(
+        wait,
         line,
         &inputs,
-        &settings,
-        &mut InOrder,
+        &mut StaticPredictor,
         &mut out,
         &mut rt.stderr(),
         rt.alloc(),
@@ -85,17 +86,10 @@ fn run(rt: &HostRuntime, line: &Line<'_>) -> u8 {
     }
 }
 
-/// The image that the line names; none where it can't be read.
-fn read_image(rt: &HostRuntime, line: &Line<'_>) -> Option<Vec<u8>> {
-    match line {
-        Line::Step { image, .. } | Line::List { image } => fs::read(rt, image).ok(),
-    }
-}
-
-/// The other file that the line names; none where it can't be read, and empty where the line names none.
-fn read_second(rt: &HostRuntime, line: &Line<'_>) -> Option<Vec<u8>> {
-    match line {
-        Line::Step { script, .. } => fs::read(rt, script).ok(),
-        Line::List { .. } => Some(Vec::new(rt.alloc())),
+/// A file that the line names; none where it can't be read, and empty where the line names none.
+fn read_named(rt: &HostRuntime, name: Option<&str>) -> Option<Vec<u8>> {
+    match name {
+        Some(name) => fs::read(rt, name).ok(),
+        None => Some(Vec::new(rt.alloc())),
     }
 }

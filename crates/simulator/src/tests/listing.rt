@@ -1,32 +1,37 @@
 //! Listings, against spellings from outside: those of a worked program, of GNU's disassembler and of an ELF file's layout.
 
 use super::{Broken, image_of, text};
-use crate::{InOrder, Inputs, Settings, perform};
+use crate::{Inputs, StaticPredictor, perform};
 use sim_inputs::Line;
 use std::alloc::Global;
 use std::io::Write;
+use std::sync::Wait;
 use std::test::Fail;
 
 /// Lists an image: the exit status, and what was written to standard error.
-fn list_to<W: Write>(
+fn list_to<W: Write, R: Wait>(
+    rt: &R,
     image: Option<&[u8]>,
-    settings: &Settings,
     out: &mut W,
     alloc: Global,
 ) -> (u8, Vec<u8>) {
-    let line = Line::List { image: "image" };
+    let line = Line::List {
+        image: "image",
+        config: None,
+    };
     let inputs = Inputs {
+        config: Some(b""),
         image,
         second: Some(b""),
     };
     let mut err = Vec::new(alloc);
-    let status = perform(&line, &inputs, settings, &mut InOrder, out, &mut err, alloc);
+    let mut predict = StaticPredictor;
+    let status = perform(rt, &line, &inputs, &mut predict, out, &mut err, alloc);
     (status, err)
 }
 
 #[test]
 fn each_word_of_the_code_has_a_line(rt: HostRuntime) -> Result<(), Fail> {
-    let settings = Settings::single_hart().expect(&rt, "settings");
     // One hart stores, another may load from the same word in between.
     let words = [
         0x80001337, 0x00051863, 0x00032283, 0x00128393, 0x00100073, 0x00700293, 0x00532023,
@@ -34,7 +39,7 @@ fn each_word_of_the_code_has_a_line(rt: HostRuntime) -> Result<(), Fail> {
     ];
     let image = image_of(&words, 1, rt.alloc())?;
     let mut out = Vec::new(rt.alloc());
-    let (status, err) = list_to(Some(&image), &settings, &mut out, rt.alloc());
+    let (status, err) = list_to(&rt, Some(&image), &mut out, rt.alloc());
     assert_eq!(rt;
         text(&out),
         "80000000 80001337 lui x6,0x80001\n80000004 00051863 bne x10,x0,0x80000014\n\
@@ -49,14 +54,13 @@ fn each_word_of_the_code_has_a_line(rt: HostRuntime) -> Result<(), Fail> {
 
 #[test]
 fn illegal_words_and_zeros_behind_the_file_are_listed(rt: HostRuntime) -> Result<(), Fail> {
-    let settings = Settings::single_hart().expect(&rt, "settings");
     // The second word is no instruction; the code has two more words in memory than in the file.
     let mut image = image_of(&[0x00500513, 0xFFFFFFFF, 0x00000073], 1, rt.alloc())?;
     if let Some(size_in_memory) = image.get_mut(72) {
         *size_in_memory = 20;
     }
     let mut out = Vec::new(rt.alloc());
-    let (status, _err) = list_to(Some(&image), &settings, &mut out, rt.alloc());
+    let (status, _err) = list_to(&rt, Some(&image), &mut out, rt.alloc());
     assert_eq!(rt;
         text(&out),
         "80000000 00500513 addi x10,x0,5\n80000004 ffffffff .word\n80000008 00000073 ecall\n\
@@ -68,7 +72,6 @@ fn illegal_words_and_zeros_behind_the_file_are_listed(rt: HostRuntime) -> Result
 
 #[test]
 fn an_image_is_refused_or_unread_as_for_a_script(rt: HostRuntime) -> Result<(), Fail> {
-    let settings = Settings::single_hart().expect(&rt, "settings");
     let image = image_of(&[0x00000073], 1, rt.alloc())?;
     let empty = image_of(&[0x00000073], 0, rt.alloc())?;
     let rows: [(Option<&[u8]>, &str, u8); 3] = [
@@ -78,12 +81,12 @@ fn an_image_is_refused_or_unread_as_for_a_script(rt: HostRuntime) -> Result<(), 
     ];
     for (image, line, wanted) in rows {
         let mut out = Vec::new(rt.alloc());
-        let (status, err) = list_to(image, &settings, &mut out, rt.alloc());
+        let (status, err) = list_to(&rt, image, &mut out, rt.alloc());
         assert_eq!(rt; text(&out), "");
         assert_eq!(rt; text(&err), line);
         assert_eq!(rt; status, wanted);
     }
-    let (status, err) = list_to(Some(&image), &settings, &mut Broken, rt.alloc());
+    let (status, err) = list_to(&rt, Some(&image), &mut Broken, rt.alloc());
     assert_eq!(rt; text(&err), "smtsim: file\n");
     assert_eq!(rt; status, 5);
     Ok(())

@@ -1,5 +1,5 @@
-use Rattle.std.proofs.Common.{codes, refl}
-use Rattle.sim_inputs.proofs.Found.{step_no_image, step_no_script, row_value}
+use Rattle.std.proofs.Common.{codes, refl, sym}
+use Rattle.sim_inputs.proofs.Found.{option_row, step_no_image, step_no_script, row_value}
 use Rattle.sim_inputs.proofs.words.step_line.Goals as goal
 
 pub returns-in_default-clause-none : goal.returns-in_default-clause-none
@@ -13,4 +13,7 @@ returns-clause-held c = (
   refl,
   row_value c.args.step.now (codes "IMAGE") c.in-Some.image.now c.in-Some.ensures,
   row_value c.args.step.now (codes "SCRIPT") c.in-Some-get_str.script.now c.in-Some-get_str.ensures,
+  option_row c.args.step.now (codes "config") _ c.get_str-3.ensures,
+  sym c.is_set.ensures,
+  sym c.is_set-2.ensures,
 )

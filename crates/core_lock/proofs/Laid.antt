@@ -1,0 +1,32 @@
+-- Passes that lie in a row: their counts, one by one.
+use Rattle.std.proofs.Common.{◌≡◌, ℕ, ◌+◌, ◌<◌, ◌≤◌, List, [], ◌∷◌, ◌++◌, length, map, take, get_or, slice_set, sym, ap, ◌∙◌, arith}
+use Rattle.std.specs.Prelude.{Some, slice_get}
+use Rattle.std.proofs.Common.{inl, inr, subst}
+use Rattle.std.proofs.lemmas.Bool.{cases_lt}
+use Rattle.std.proofs.lemmas.Option.{get_or_from_slice_get}
+use Rattle.std.proofs.lemmas.List.{take_more, take_all, take_more_set, map-append}
+
+pub column_more : {P : Type 0} (f : P → ℕ) (xs : List P) (column : List ℕ) (i : ℕ) (d : P) → i < length xs → i < length column
+    → take i column ≡ map f (take i xs) → take (i + 1) (slice_set column i (f (get_or xs i d))) ≡ map f (take (i + 1) xs)
+column_more f xs column i d inside room so_far =
+    take_more_set column i (f (get_or xs i d)) room
+    ∙ ap (λ t. t ++ f (get_or xs i d) ∷ []) so_far
+    ∙ sym (map-append f (take i xs) (get_or xs i d ∷ []))
+    ∙ ap (map f) (sym (take_more xs i d inside))
+
+pub column_all : {P : Type 0} (f : P → ℕ) (xs : List P) (column : List ℕ) (i : ℕ) → length xs ≤ i → length column ≤ i
+    → take i column ≡ map f (take i xs) → column ≡ map f xs
+column_all f xs column i ends so written = sym (take_all i column so) ∙ written ∙ ap (map f) (take_all i xs ends)
+
+-- What holds at each place so far, and at the next, holds at each so far and it.
+pub places_more : {P : Type 0} (Q : ℕ → P → Type 0) (xs : List P) (i : ℕ) (d : P) → Q i (get_or xs i d)
+    → ((k : ℕ) → k < i → (p : P) → slice_get xs k ≡ Some p → Q k p)
+    → (k : ℕ) → k < i + 1 → (p : P) → slice_get xs k ≡ Some p → Q k p
+places_more Q xs i d now before k under p at =
+    elim (cases_lt k i) [
+      | inl less ↦ before k less p at
+      | inr not_less ↦
+          let same : i ≡ k = omega arith in
+          let found : get_or xs i d ≡ p = get_or_from_slice_get xs i p d (ap (slice_get xs) same ∙ at) in
+          subst (λ j. Q j p) same (subst (λ q. Q i q) found now)
+    ]

@@ -1,0 +1,4 @@
+pub mod Counting
+pub mod Laid
+pub mod Replies
+pub mod Same

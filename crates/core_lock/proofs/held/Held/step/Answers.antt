@@ -1,0 +1,28 @@
+use Rattle.std.proofs.Common.{◌≡◌, ◌∙◌, true, ap, subst, sym}
+use Rattle.core_lock.specs.Asks.{is_reply}
+use Rattle.core_lock.specs.Passes.{more, later, IsTold}
+use Rattle.core_lock.proofs.Replies.{own_reply, told_still, counted_still, setup_still, limit_still}
+use Rattle.core_lock.proofs.held.Held.step.Goals as goal
+
+pub invariant_of-self-clause-counted : goal.invariant_of-self-clause-counted
+invariant_of-self-clause-counted g c =
+    counted_still _ _ _ _ _ _ _ c.make-said.ensures.answer c.args.self.now.counted
+    (c.note.ensures.total ∙ ap (more c.args.self.now.book.total) c.event.ensures)
+
+pub invariant_of-self-clause-setup : goal.invariant_of-self-clause-setup
+invariant_of-self-clause-setup g c = setup_still _ _ _ _ _ c.make-said.ensures.answer ∙ c.args.self.now.setup
+
+pub invariant_of-self-clause-limit : goal.invariant_of-self-clause-limit
+invariant_of-self-clause-limit g c = limit_still _ _ _ _ _ c.make-said.ensures.answer ∙ c.args.self.now.limit
+
+pub invariant_of-result : goal.invariant_of-result
+invariant_of-result g c = record {
+  own = subst (λ a. is_reply c.args.pass.now.actor a c.make-said.result ≡ true) (sym c.asked-asked.ensures) (own_reply _ _ _ _ _ c.make-said.ensures.answer);
+}
+
+pub returns-clause-told : goal.returns-clause-told
+returns-clause-told g c = λ told.
+    subst (λ k. IsTold c.make-said.new.core.past k c.note.new.pass.count c.note.new.pass.last) (sym c.note.ensures.actor)
+    (told_still _ _ _ _ _ _ _ _ _ c.make-said.ensures.answer
+    (c.note.ensures.count ∙ ap (more c.args.pass.now.count) c.event.ensures)
+    (c.note.ensures.last ∙ ap (later c.args.pass.now.last) c.event.ensures) told)

@@ -1,0 +1,4 @@
+pub mod Asks
+pub mod Passes
+pub mod Shown
+pub mod Origin

@@ -1,0 +1,33 @@
+-- What a pass counts of its actor, and when that is all that the history holds of it.
+use Rattle.std.specs.Prelude.{◌≡◌, ℕ, ◌+◌, nat_le, List, Option, Some, None}
+use Rattle.events.specs.declared.event.Event.{Event}
+use Rattle.smt_model.specs.Basics.{below, how_many}
+use Rattle.smt_model.specs.Account.{actor_of, made, last_made}
+use Rattle.smt_model.specs.Memory.{is_going}
+use Rattle.core_state.specs.View.{CoreView}
+
+-- A count and a last event, after a step where one was made.
+abbrev pub more : ℕ → Option Event → ℕ
+more count None = count
+more count (Some e) = count + 1
+
+abbrev pub later : Option Event → Option Event → Option Event
+later last None = last
+later last (Some e) = Some e
+
+-- The count and the last event are those of this actor in the history.
+pub record IsTold (past : List Event) (actor count : ℕ) (last : Option Event) : Type 0 where
+  pub counts : count ≡ made actor past
+  pub ends : last ≡ last_made actor past
+
+-- How many events are by this actor or one of a greater number.
+abbrev pub made_from : ℕ → List Event → ℕ
+made_from k past = how_many (λ e. nat_le k (actor_of e)) past
+
+-- How many harts are going.
+abbrev pub going_in : CoreView → ℕ
+going_in core = how_many (is_going core.past) (below core.setup.harts)
+
+-- The sixteen actors that there may be.
+abbrev pub places : List ℕ
+places = below 16

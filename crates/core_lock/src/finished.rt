@@ -1,0 +1,16 @@
+ghost use Rattle.std.specs.Prelude.{◌≡◌, length, sum};
+
+use smt_core::Core;
+
+/// What is left of a core when its lock is given up.
+#[derive(Drop)]
+pub struct Finished {
+    pub core: Core,
+    /// How many events each place's pass has counted.
+    pub counts: [u64; 16],
+    /// Whether at each place lay the pass of its actor, with that actor's count and last event in the history.
+    pub told: bool,
+    /// Whether the core was made of the image and the configuration that were named at the end.
+    pub own: bool,
+    ghost whole: { sum counts ≡ length core.past },
+}

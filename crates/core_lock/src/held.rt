@@ -1,0 +1,383 @@
+ghost use Rattle.std.specs.Prelude.{◌≡◌, ◌<◌, ◌≤◌, ◌+◌, ◌↔◌, ℕ, Bool, true, Some, IsTrue, IfSome, length, map, sum, slice_get};
+ghost use Rattle.events.specs.Range.{HasShortWrite};
+ghost use Rattle.core_state.specs.Setup.{setup_of};
+ghost use Rattle.smt_model.specs.Account.{made, last_made};
+ghost use Rattle.core_lock.specs.Asks.{Replied, IssueReplied, CompleteReplied, IsPredictedBy, plain_said, asked_of, event_in, grown_by, is_reply};
+ghost use Rattle.core_lock.specs.Passes.{IsTold, more, later, made_from, going_in, places};
+ghost use Rattle.core_lock.specs.Shown.{Shown};
+
+use crate::ask::{Ask, Asked, Said};
+use crate::finished::Finished;
+use crate::origin::Origin;
+use crate::reader::CoreReader;
+use crate::tally::{Tally, tally_of};
+use elf_image::Image;
+use events::Event;
+use exec_units::Done;
+use smt_core::{Answer, CompleteAnswer, Config, Core, IssueAnswer, Predict};
+use smt_laws::laws::refines_the_plain_machine;
+use std::marker::PhantomData;
+use std::sync::ledger::{Blank, Book, Ledger, Share};
+
+/// What stands behind the lock: the core, and the book in which the passes' counts add up to its events.
+#[derive(Drop)]
+pub struct Held<L: Origin> {
+    core: Core,
+    book: Book<L>,
+    /// What the dealing of the passes has left: nothing. At the end all passes go back into it.
+    rest: Share<L>,
+    ghost counted: { length core.past ≡ book.total },
+    ghost no_parts: { rest.parts ≡ 0 },
+    ghost no_rest: { rest.amount ≡ 0 },
+    ghost setup: { core.setup ≡ L.setup },
+    ghost limit: { core.limit ≡ L.limit },
+}
+
+/// One actor's right to ask, with the number of events that it has made and the last of them.
+#[derive(Drop)]
+pub struct Pass<L: Ledger> {
+    actor: u8,
+    count: u64,
+    last: Option<Event>,
+    part: Share<L>,
+    ghost one_part: { part.parts ≡ 1 },
+    ghost counted: { part.amount ≡ count },
+}
+
+/// The answer to one ask. It can't be let go, only spent for what was said.
+pub struct Reply<L: Ledger> {
+    actor: u8,
+    asked: Asked,
+    going: u8,
+    said: Said,
+    of: PhantomData<L>,
+    ghost own: { is_reply actor asked said ≡ true },
+}
+
+impl<L: Ledger> Pass<L> {
+    /// The actor that asks through it.
+    pub fn actor(&self) -> u8
+        ensures { result ≡ self.now.actor }
+    {
+        self.actor
+    }
+
+    /// How many events it has made.
+    pub fn count(&self) -> u64
+        ensures { result ≡ self.now.count }
+    {
+        self.count
+    }
+
+    /// The last event that it has made.
+    pub fn last(&self) -> Option<Event>
+        ensures { result ≡ self.now.last }
+    {
+        self.last
+    }
+}
+
+impl<L: Ledger> Reply<L> {
+    /// The actor that asked.
+    pub fn actor(&self) -> u8
+        ensures { result ≡ self.now.actor }
+    {
+        self.actor
+    }
+
+    /// What was asked.
+    pub fn asked(&self) -> Asked
+        ensures { result ≡ self.now.asked }
+    {
+        self.asked
+    }
+
+    /// How many harts were going after the step.
+    pub fn going(&self) -> u8
+        ensures { result ≡ self.now.going }
+    {
+        self.going
+    }
+
+    /// Spends the reply for what was said.
+    pub fn said(self) -> Said
+        ensures said { result ≡ self.said }
+        ensures own { is_reply self.actor self.asked result ≡ true }
+    {
+        let Reply {
+            actor: _,
+            asked: _,
+            going: _,
+            said,
+            of: _,
+        } = self;
+        said
+    }
+}
+
+impl<L: Origin> Held<L> {
+    /// Puts a core behind the lock, and deals a pass to each of sixteen actors: pass k has the number of actor k's events in
+    /// the history so far, and the last of them.
+    pub fn new(core: Core, blank: Blank) -> (Held<L>, [Pass<L>; 16])
+        requires name { blank.name ≡ L.name }
+        requires parts { (blank.parts ≡ L.parts) × (L.parts ≡ 16) }
+        requires origin { (core.setup ≡ L.setup) × (core.limit ≡ L.limit) }
+        ensures core { result.0.core ≡ core }
+        ensures actors { map (λ p. p.actor) result.1 ≡ places }
+        ensures counts { map (λ p. p.count) result.1 ≡ map (λ k. made k core.past) places }
+        ensures lasts { map (λ p. p.last) result.1 ≡ map (λ k. last_made k core.past) places }
+    {
+        let (mut book, mut rest) = blank.open::<L>();
+        book.add(&mut rest, core.history().len() as u64);
+        let passes = [
+            deal(&core, &mut rest, 0),
+            deal(&core, &mut rest, 1),
+            deal(&core, &mut rest, 2),
+            deal(&core, &mut rest, 3),
+            deal(&core, &mut rest, 4),
+            deal(&core, &mut rest, 5),
+            deal(&core, &mut rest, 6),
+            deal(&core, &mut rest, 7),
+            deal(&core, &mut rest, 8),
+            deal(&core, &mut rest, 9),
+            deal(&core, &mut rest, 10),
+            deal(&core, &mut rest, 11),
+            deal(&core, &mut rest, 12),
+            deal(&core, &mut rest, 13),
+            deal(&core, &mut rest, 14),
+            deal(&core, &mut rest, 15),
+        ];
+        book.audit(&mut rest);
+        (Held { core, book, rest }, passes)
+    }
+
+    /// Makes one step of the core for the pass's actor, and waits for nobody.
+    pub fn step<P: Predict>(&mut self, pass: &mut Pass<L>, ask: Ask, predict: &mut P) -> Reply<L>
+        ensures maker { result.actor ≡ pass.old.actor }
+        ensures asked { result.asked ≡ asked_of ask }
+        ensures answer { Replied pass.old.actor ask self.old.core result.said self.new.core }
+        ensures predicted { IsPredictedBy P.predicts predict.old (asked_of ask) result.said predict.new }
+        ensures grows { self.new.core ≡ grown_by (event_in result.said) self.old.core }
+        ensures going { result.going ≡ going_in self.new.core }
+        ensures actor { pass.new.actor ≡ pass.old.actor }
+        ensures count { pass.new.count ≡ more pass.old.count (event_in result.said) }
+        ensures last { pass.new.last ≡ later pass.old.last (event_in result.said) }
+        ensures own { is_reply pass.old.actor (asked_of ask) result.said ≡ true }
+        ensures printable { IfSome (event_in result.said) HasShortWrite }
+        ensures shown { Shown self.old.core × Shown self.new.core }
+        ensures origin { (self.old.core.setup ≡ L.setup) × (self.old.core.limit ≡ L.limit) }
+        ensures told { IsTold self.old.core.past pass.old.actor pass.old.count pass.old.last → IsTold self.new.core.past pass.new.actor pass.new.count pass.new.last }
+    {
+        let actor = pass.actor;
+        let asked = ask.asked();
+        let Held {
+            core,
+            book,
+            rest: _,
+        } = self;
+        show(core);
+        let said = make(core, actor, ask, predict);
+        show(core);
+        note(book, pass, said.event());
+        Reply {
+            actor,
+            asked,
+            going: core.going(),
+            said,
+            of: PhantomData,
+        }
+    }
+
+    /// Shows the core to a reader, once, and tells it whether the history holds of the pass's actor just what the pass has
+    /// counted.
+    pub fn look<C: CoreReader>(&self, pass: &Pass<L>, reader: &mut C)
+        ensures shown { Shown self.now.core }
+        ensures origin { (self.now.core.setup ≡ L.setup) × (self.now.core.limit ≡ L.limit) }
+        ensures read { (told : Bool) × (IsTrue told ↔ IsTold self.now.core.past pass.now.actor pass.now.count pass.now.last) × C.reads reader.old self.now.core told reader.new }
+    {
+        let told = is_told(&self.core, pass);
+        reader.read(&self.core, told);
+    }
+
+    /// Gives up the book, with all sixteen passes. `counts` are the passes' own and add up to the events of the history;
+    /// `told` says that at each place k lies actor k's pass with that actor's count and last event; `own` says that the core is of
+    /// this image and this configuration.
+    pub fn finish(self, passes: [Pass<L>; 16], image: &Image, config: &Config) -> Finished
+        requires { L.parts ≡ 16 }
+        ensures core { result.core ≡ self.core }
+        ensures counts { result.counts ≡ map (λ p. p.count) passes }
+        ensures sum { sum result.counts ≡ length result.core.past }
+        ensures told { IsTrue result.told ↔ ((k : ℕ) (p : _) → slice_get passes k ≡ Some p → (p.actor ≡ k) × IsTold result.core.past p.actor p.count p.last) }
+        ensures own { IsTrue result.own ↔ (result.core.setup ≡ setup_of image.now config.now) }
+        ensures origin { (result.core.setup ≡ L.setup) × (result.core.limit ≡ L.limit) }
+        ensures shown { Shown result.core }
+    {
+        let Held {
+            core,
+            mut book,
+            rest,
+        } = self;
+        let counts = counts_of(&passes);
+        let told = are_told(&core, &passes);
+        let mut all = gather(rest, passes);
+        book.audit(&mut all);
+        let own = core.is_of(image, config);
+        show(&core);
+        Finished {
+            core,
+            counts,
+            told,
+            own,
+        }
+    }
+}
+
+/// The headline, of this core. It does nothing: it is there for its contract.
+fn show(core: &Core)
+    ensures shown { Shown core.now }
+    ensures few { length core.now.past ≤ 16777216 }
+{
+    refines_the_plain_machine();
+    let _events = core.history().len();
+}
+
+/// The pass of actor `actor`, taken from what is left for it and those of greater numbers.
+fn deal<L: Ledger>(core: &Core, rest: &mut Share<L>, actor: u8) -> Pass<L>
+    requires parts { rest.old.parts + actor ≡ 16 }
+    requires inside { actor < 16 }
+    requires amount { rest.old.amount ≡ made_from actor core.now.past }
+    ensures actor { result.actor ≡ actor }
+    ensures count { result.count ≡ made actor core.now.past }
+    ensures last { result.last ≡ last_made actor core.now.past }
+    ensures parts { rest.new.parts + (actor + 1) ≡ 16 }
+    ensures amount { rest.new.amount ≡ made_from (actor + 1) core.now.past }
+{
+    let Tally { count, last } = tally_of(core.history(), actor);
+    let part = rest.split_off(1, count);
+    Pass {
+        actor,
+        count,
+        last,
+        part,
+    }
+}
+
+/// Makes an ask of a core.
+fn make<P: Predict>(core: &mut Core, actor: u8, ask: Ask, predict: &mut P) -> Said
+    ensures answer { Replied actor ask core.old result core.new }
+    ensures predicted { IsPredictedBy P.predicts predict.old (asked_of ask) result predict.new }
+{
+    match ask {
+        Ask::Fetch => plainly(core.fetch(actor, predict)),
+        Ask::Decode(hart) => plainly(core.decode(actor, hart)),
+        Ask::Rename(hart) => plainly(core.rename(actor, hart)),
+        Ask::Issue => issue(core, actor),
+        Ask::Complete(done) => complete(core, actor, done),
+        Ask::Retire(hart) => plainly(core.retire(actor, hart)),
+    }
+}
+
+fn plainly(answer: Answer) -> Said
+    ensures { result ≡ plain_said answer }
+{
+    match answer {
+        Answer::Done(event) => Said::Event(event),
+        Answer::Idle => Said::Idle,
+        Answer::Full => Said::Full,
+    }
+}
+
+fn issue(core: &mut Core, actor: u8) -> Said
+    ensures { IssueReplied actor core.old result core.new }
+{
+    match core.issue(actor) {
+        IssueAnswer::Job(job, event) => Said::Job(job, event),
+        IssueAnswer::Idle => Said::Idle,
+        IssueAnswer::Full => Said::Full,
+    }
+}
+
+fn complete(core: &mut Core, actor: u8, done: Done) -> Said
+    ensures { CompleteReplied actor done.job core.old result core.new }
+{
+    match core.complete(actor, done) {
+        CompleteAnswer::Done(event) => Said::Event(event),
+        CompleteAnswer::Stranger => Said::Stranger,
+        CompleteAnswer::Full => Said::Full,
+    }
+}
+
+/// Enters a step into the book and the pass, where one was made.
+fn note<L: Ledger>(book: &mut Book<L>, pass: &mut Pass<L>, event: Option<Event>)
+    requires { book.old.total ≤ 16777216 }
+    ensures total { book.new.total ≡ more book.old.total event }
+    ensures actor { pass.new.actor ≡ pass.old.actor }
+    ensures count { pass.new.count ≡ more pass.old.count event }
+    ensures last { pass.new.last ≡ later pass.old.last event }
+{
+    if event.is_none() {
+        return;
+    }
+    let Pass {
+        actor: _,
+        count,
+        last,
+        part,
+    } = pass;
+    book.audit(part);
+    book.add(part, 1);
+    *count += 1;
+    *last = event;
+}
+
+/// Whether the history holds of the pass's actor just what the pass has counted.
+fn is_told<L: Ledger>(core: &Core, pass: &Pass<L>) -> bool
+    ensures told { IsTrue result ↔ IsTold core.now.past pass.now.actor pass.now.count pass.now.last }
+    ensures shown { Shown core.now }
+{
+    show(core);
+    let Tally { count, last } = tally_of(core.history(), pass.actor);
+    count == pass.count && last == pass.last
+}
+
+/// Whether that is so of each place's pass, and it is the pass of the place's actor.
+fn are_told<L: Ledger>(core: &Core, passes: &[Pass<L>; 16]) -> bool
+    ensures { IsTrue result ↔ ((k : ℕ) (p : _) → slice_get passes.now k ≡ Some p → (p.actor ≡ k) × IsTold core.now.past p.actor p.count p.last) }
+{
+    for (place, pass) in passes.iter().enumerate() {
+        if usize::from(pass.actor) != place || !is_told(core, pass) {
+            return false;
+        }
+    }
+    true
+}
+
+fn counts_of<L: Ledger>(passes: &[Pass<L>; 16]) -> [u64; 16]
+    ensures { result ≡ map (λ p. p.count) passes.now }
+{
+    let mut counts = [0; 16];
+    for (place, pass) in passes.iter().enumerate() {
+        counts[place] = pass.count;
+    }
+    counts
+}
+
+/// Lays all passes together.
+fn gather<L: Ledger>(rest: Share<L>, passes: [Pass<L>; 16]) -> Share<L>
+    requires no_parts { rest.parts ≡ 0 }
+    requires no_rest { rest.amount ≡ 0 }
+    ensures parts { result.parts ≡ 16 }
+    ensures amount { result.amount ≡ sum (map (λ p. p.count) passes) }
+{
+    let mut all = rest;
+    for pass in passes {
+        let Pass {
+            actor: _,
+            count: _,
+            last: _,
+            part,
+        } = pass;
+        all.merge(part);
+    }
+    all
+}

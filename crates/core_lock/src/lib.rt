@@ -1,0 +1,23 @@
+//! One core behind one lock. A thread asks through its pass; what is asked, what is said and what each pass counts stands here.
+//!
+//! Read in this order: `ask` (what is asked and said), `tally` (what a history holds of one actor), `origin` (which core it is),
+//! `reader` (what looks at a core), `finished` (what is left at the end), `held` (what stands behind the lock, with the passes),
+//! `locked` (the lock).
+#![tactic(auto)]
+
+pub mod ask;
+pub mod finished;
+pub mod held;
+pub mod locked;
+pub mod origin;
+pub mod reader;
+mod tally;
+#[cfg(test)]
+mod tests;
+
+pub use ask::{Ask, Asked, Said};
+pub use finished::Finished;
+pub use held::{Held, Pass, Reply};
+pub use locked::LockedCore;
+pub use origin::Origin;
+pub use reader::CoreReader;

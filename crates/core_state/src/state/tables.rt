@@ -1,0 +1,168 @@
+//! The core's tables: what each of its parts holds, in lines for people to read.
+
+use super::State;
+use crate::hart::HartState;
+use crate::issue::count_jobs;
+use crate::parts::{registers_in, value_of};
+use crate::slot::{OpenJob, Slot};
+use free_list::FreeList;
+use issue_queue::Entry;
+use rename_map::HartMaps;
+use retire_squash::{Active, Stage};
+use smt_model::Status;
+use std::io;
+use std::io::Write;
+
+impl State {
+    /// Writes what the core holds: six lines for each hart, then the issue queue, the open jobs, the free registers, and a line
+    /// for each register that isn't free. A list of nothing is a dash.
+    ///
+    /// An error is the one that `out` answered; what was written before it has gone out.
+    pub fn tables<W: Write>(&self, out: &mut W) -> io::Result<()> {
+        write_harts(self.parts.harts.as_slice(), out)?;
+        write_queue(self.parts.queue.entries(), out)?;
+        write_jobs(&self.parts.jobs, out)?;
+        write_free(&self.parts.free, out)?;
+        let registers = 31 * u32::from(self.config.harts) + u32::from(self.config.extra);
+        write_registers(registers, &self.parts.free, &self.parts.values, out)
+    }
+}
+
+fn write_harts<W: Write>(harts: &[HartState], out: &mut W) -> io::Result<()> {
+    for (hart, state) in harts.iter().enumerate() {
+        write_standing(hart, state, out)?;
+        write_latch("fetched", state.decode_latch.as_slice(), out)?;
+        write_latch("decoded", state.rename_latch.as_slice(), out)?;
+        write_flight(state.active.items(), out)?;
+        write_map(&state.maps, out)?;
+        write_committed(&state.maps, out)?;
+    }
+    Ok(())
+}
+
+/// How a hart stands, where it is fetched next, and its ICOUNT. No address is reserved as long as no instruction reserves one.
+fn write_standing<W: Write>(hart: usize, state: &HartState, out: &mut W) -> io::Result<()> {
+    write!(out, "hart {hart} ")?;
+    write_status(state.status, out)?;
+    let pc = state.fetch_pc;
+    let icount = state.icount;
+    writeln!(out, " pc {pc:08x} icount {icount} reserved -")
+}
+
+fn write_status<W: Write>(status: Status, out: &mut W) -> io::Result<()> {
+    match status {
+        Status::Going => write!(out, "going"),
+        Status::Ended(number) => write!(out, "ended {number}"),
+        Status::Stopped(cause) => write!(out, "stopped {cause}"),
+    }
+}
+
+/// The numbers of the instructions in a latch, oldest first.
+fn write_latch<W: Write>(name: &str, latch: &[Slot], out: &mut W) -> io::Result<()> {
+    write!(out, "{name}")?;
+    for slot in latch {
+        write!(out, " {}", slot.seq)?;
+    }
+    end_list(latch.is_empty(), out)
+}
+
+fn write_flight<W: Write>(flight: &[Active], out: &mut W) -> io::Result<()> {
+    write!(out, "flight")?;
+    for active in flight {
+        write_active(active, out)?;
+    }
+    end_list(flight.is_empty(), out)
+}
+
+/// An instruction in flight: its number, its stage's letter and its register.
+fn write_active<W: Write>(active: &Active, out: &mut W) -> io::Result<()> {
+    write!(out, " {}:{}:", active.seq, letter_of(active.stage))?;
+    match active.phys {
+        Some(phys) => write!(out, "{phys}"),
+        None => write!(out, "-"),
+    }
+}
+
+fn letter_of(stage: Stage) -> char {
+    match stage {
+        Stage::Renamed => 'r',
+        Stage::Issued => 'i',
+        Stage::Completed(_) => 'c',
+    }
+}
+
+/// Where the youngest values of x1 to x31 are.
+fn write_map<W: Write>(maps: &HartMaps, out: &mut W) -> io::Result<()> {
+    write!(out, "map")?;
+    for register in 1..32 {
+        write!(out, " {}", maps.lookup(register))?;
+    }
+    writeln!(out)
+}
+
+/// Where the retired values of x1 to x31 are.
+fn write_committed<W: Write>(maps: &HartMaps, out: &mut W) -> io::Result<()> {
+    write!(out, "committed")?;
+    for register in 1..32 {
+        write!(out, " {}", maps.committed(register))?;
+    }
+    writeln!(out)
+}
+
+/// The instructions that wait, by rising number, and their harts.
+fn write_queue<W: Write>(entries: &[Entry], out: &mut W) -> io::Result<()> {
+    write!(out, "queue")?;
+    for entry in entries {
+        write!(out, " {}.{}", entry.seq, entry.hart)?;
+    }
+    end_list(entries.is_empty(), out)
+}
+
+/// The actors that have a job, rising, and its number.
+fn write_jobs<W: Write>(jobs: &[Option<OpenJob>], out: &mut W) -> io::Result<()> {
+    write!(out, "jobs")?;
+    for (actor, job) in jobs.iter().enumerate() {
+        if let Some(job) = job {
+            write!(out, " {actor}:{}", job.seq)?;
+        }
+    }
+    end_list(count_jobs(jobs) == 0, out)
+}
+
+fn write_free<W: Write>(free: &FreeList, out: &mut W) -> io::Result<()> {
+    let registers = registers_in(free);
+    write!(out, "free")?;
+    for register in registers.as_slice() {
+        write!(out, " {register}")?;
+    }
+    end_list(registers.is_empty(), out)
+}
+
+/// A line for each of the core's first `registers` registers that isn't free.
+fn write_registers<W: Write>(
+    registers: u32,
+    free: &FreeList,
+    values: &[Option<u32>; 512],
+    out: &mut W,
+) -> io::Result<()> {
+    for register in 0..512 {
+        if u32::from(register) < registers && !free.holds(register) {
+            write_register(register, value_of(values, register), out)?;
+        }
+    }
+    Ok(())
+}
+
+fn write_register<W: Write>(register: u16, value: Option<u32>, out: &mut W) -> io::Result<()> {
+    match value {
+        Some(value) => writeln!(out, "reg {register} {value:08x}"),
+        None => writeln!(out, "reg {register} -"),
+    }
+}
+
+fn end_list<W: Write>(is_empty: bool, out: &mut W) -> io::Result<()> {
+    if is_empty {
+        write!(out, " -")?;
+    }
+    writeln!(out)
+}

@@ -1,0 +1,85 @@
+-- The definitions at command lines and configurations that are written out, computed.
+use Rattle.std.specs.Prelude.{◌≡◌, ℕ, true, false, List, [], ◌∷◌, Option, Some, None, option_map, pos, codes, refl}
+use Rattle.std.proofs.Common.{sym, ap, ◌∙◌}
+use Rattle.std.proofs.lemmas.Option.{same_Some}
+use Rattle.clap.specs.Words.{Row, Text, fault_of, first_of, subcommand_of}
+use Rattle.clap.specs.declared.error.kind.ErrorKind.TheVariants.{ArgumentConflict, UnknownArgument}
+use Rattle.clap.proofs.OnLiterals.{clap_on_literals}
+use Rattle.toml.specs.Data.{Data, integer, no_members, member}
+use Rattle.toml.specs.Parse.{parse_document}
+use Rattle.toml.proofs.OnLiterals.{toml_on_literals}
+use Rattle.sim_inputs.specs.CommandLine.{smtsim, is_set}
+use Rattle.sim_inputs.specs.Configuration.{IsConfiguration}
+use Rattle.sim_inputs.specs.declared.settings.Settings.{Settings}
+
+-- `step` with a configuration and tables, but no records.
+abbrev words : List Text
+words = codes "smtsim" ∷ codes "step" ∷ codes "a" ∷ codes "--config" ∷ codes "c" ∷ codes "b" ∷ codes "--show" ∷ []
+
+is_taken : fault_of smtsim words ≡ []
+unfolding clap_on_literals
+is_taken = refl
+
+config_is : option_map (λ p. first_of (codes "config") p.1) (subcommand_of smtsim words) ≡ Some (Some (codes "c"))
+unfolding clap_on_literals
+config_is = refl
+
+script_is : option_map (λ p. first_of (codes "SCRIPT") p.1) (subcommand_of smtsim words) ≡ Some (Some (codes "b"))
+unfolding clap_on_literals
+script_is = refl
+
+show_is : option_map (λ p. is_set (codes "show") p.1) (subcommand_of smtsim words) ≡ Some true
+unfolding clap_on_literals
+show_is = refl
+
+records_are : option_map (λ p. is_set (codes "records") p.1) (subcommand_of smtsim words) ≡ Some false
+unfolding clap_on_literals
+records_are = refl
+
+-- An option of another subcommand, and one that is given twice.
+other_option : fault_of smtsim (codes "smtsim" ∷ codes "list" ∷ codes "--show" ∷ codes "a" ∷ []) ≡ UnknownArgument ∷ []
+unfolding clap_on_literals
+other_option = refl
+
+twice : fault_of smtsim (codes "smtsim" ∷ codes "step" ∷ codes "--show" ∷ codes "--show" ∷ codes "a" ∷ codes "b" ∷ []) ≡ ArgumentConflict ∷ []
+unfolding clap_on_literals
+twice = refl
+
+-- A document of one key, and one that is cut.
+one_key : parse_document (codes "harts = 2") ≡ Some (member (codes "harts") (integer (pos 2)) no_members)
+unfolding toml_on_literals
+one_key = refl
+
+cut : parse_document (codes "harts = ") ≡ None
+unfolding toml_on_literals
+cut = refl
+
+key_twice : parse_document (codes "a=1\na=1") ≡ None
+unfolding toml_on_literals
+key_twice = refl
+
+nine : parse_document (codes "harts = 9") ≡ Some (member (codes "harts") (integer (pos 9)) no_members)
+unfolding toml_on_literals
+nine = refl
+
+abbrev number_of : Data → ℕ
+number_of (integer (pos n)) = n
+number_of found = 0
+
+-- The settings of a document that has this key alone.
+harts_of : (text : List ℕ) (n : ℕ) (settings : Settings) → parse_document text ≡ Some (member (codes "harts") (integer (pos n)) no_members) →
+    IsConfiguration text settings → (settings.config.harts ≡ n) × (settings.config.extra ≡ 64) × (settings.turns ≡ 1000000000)
+harts_of text n settings read is =
+    let members : is.members ≡ member (codes "harts") (integer (pos n)) no_members = same_Some _ _ (sym is.document ∙ read) in
+    let harts = rw members at is.sets.sizes.harts in
+    let extra = rw members at is.sets.sizes.extra in
+    let turns = rw members at is.sets.turns in (sym (ap number_of harts), extra, turns)
+
+two_harts : (settings : Settings) → IsConfiguration (codes "harts = 2") settings → (settings.config.harts ≡ 2) × (settings.config.extra ≡ 64) × (settings.turns ≡ 1000000000)
+two_harts settings is = harts_of (codes "harts = 2") 2 settings one_key is
+
+-- Nine harts are too many.
+nine_harts : (settings : Settings) → IsConfiguration (codes "harts = 9") settings → ⊥
+nine_harts settings is =
+    let harts = (harts_of (codes "harts = 9") 9 settings nine is).0 in
+    let accepted = rw harts at is.sets.in_range.accepted in cc

@@ -1,0 +1,71 @@
+ghost use Rattle.std.specs.Prelude.{◌≡◌, ◌≤◌, ◌∷◌, [], List, length, map, Some, IfSome, IfNone};
+ghost use Rattle.toml.specs.Data.{string};
+ghost use Rattle.toml.specs.View.{view, items_of, array_view};
+ghost use Rattle.smt_model.specs.declared.config.Role.{Role as AnyRole};
+ghost use Rattle.smt_model.specs.declared.config.Role.TheVariants.{Fetch, Front, Retire, Alu, Mul, Mem};
+ghost use Rattle.sim_inputs.specs.Configuration.{name_of};
+
+use arrayvec::ArrayVec;
+use smt_model::Role;
+use toml::Value;
+use toml::value::Array;
+
+/// One actor of each role.
+pub fn every_role() -> ArrayVec<Role, 16>
+    ensures { result.items ≡ Fetch ∷ Front ∷ Retire ∷ Alu ∷ Mul ∷ Mem ∷ [] }
+{
+    let mut roles = ArrayVec::new();
+    roles.push(Role::Fetch);
+    roles.push(Role::Front);
+    roles.push(Role::Retire);
+    roles.push(Role::Alu);
+    roles.push(Role::Mul);
+    roles.push(Role::Mem);
+    roles
+}
+
+/// The roles that the texts of a list name, 1 to 16 of them.
+pub fn roles_of(names: &Array) -> Option<ArrayVec<Role, 16>>
+    ensures found { IfSome result (λ roles. array_view names.now ≡ items_of (map (λ r. string (name_of r)) roles.items)) }
+    ensures count { IfSome result (λ roles. (1 ≤ length roles.items) × (length roles.items ≤ 16)) }
+    ensures none { IfNone result ((roles : List AnyRole) → array_view names.now ≡ items_of (map (λ r. string (name_of r)) roles) → 1 ≤ length roles → length roles ≤ 16 → ⊥) }
+{
+    if !(1..=16).contains(&names.len()) {
+        return None;
+    }
+    let mut roles = ArrayVec::new();
+    for name in names {
+        let Some(role) = role_of(name) else {
+            return None;
+        };
+        roles.push(role);
+    }
+    Some(roles)
+}
+
+/// The role that a value names, if it names one.
+fn role_of(value: &Value) -> Option<Role>
+    ensures found { IfSome result (λ role. view value.now ≡ string (name_of role)) }
+    ensures none { IfNone result ((role : AnyRole) → view value.now ≡ string (name_of role) → ⊥) }
+{
+    match value.as_str() {
+        Some(name) => role_named(name),
+        None => None,
+    }
+}
+
+/// The role of this name, if there is one.
+fn role_named(name: &str) -> Option<Role>
+    ensures found { IfSome result (λ role. name.now ≡ name_of role) }
+    ensures only { (role : AnyRole) → name.now ≡ name_of role → result ≡ Some role }
+{
+    match name {
+        "fetch" => Some(Role::Fetch),
+        "front" => Some(Role::Front),
+        "retire" => Some(Role::Retire),
+        "alu" => Some(Role::Alu),
+        "mul" => Some(Role::Mul),
+        "mem" => Some(Role::Mem),
+        _ => None,
+    }
+}
