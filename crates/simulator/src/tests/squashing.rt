@@ -1,6 +1,12 @@
 //! Jumps to no instruction, and predictions that turn out wrong.
 
-use super::{outcome, text};
+ghost use Rattle.std.specs.Prelude.{◌≡◌};
+
+use super::{FIRST, SINGLE, image_of, outcome, text};
+use crate::{Inputs, perform};
+use sim_inputs::Line;
+use smt_core::Predict;
+use std::io::Write;
 use std::test::Fail;
 
 const TWO: &[u8] = b"harts = 2\nram = 8192\nlimit = 1000\n";
@@ -47,5 +53,55 @@ fn a_rename_waits_for_a_free_register(rt: HostRuntime) -> Result<(), Fail> {
         text(&out).contains("\ndone R 1 0 -\ndone R 1 2 62\nidle\ndone R 1 1 -\nidle\ndone I 3 0\n")
     );
     assert!(rt; text(&out).contains("\ndone R 1 4 4\nevents 22\n"));
+    Ok(())
+}
+
+/// The predictor that guesses address 0.
+#[derive(Drop)]
+struct Nowhere;
+
+impl Predict for Nowhere {
+    ghost predicts = { λ before hart pc word guess after. guess ≡ 0 };
+
+    fn predict(&mut self, _hart: u8, _pc: u32, _word: u32) -> u32 {
+        0
+    }
+}
+
+#[test]
+fn a_predictor_that_is_always_wrong_changes_no_end(rt: HostRuntime) -> Result<(), Fail> {
+    let image = image_of(&FIRST, 1, rt.alloc())?;
+    let line = Line::Step {
+        image: "image",
+        script: "script",
+        config: None,
+        records: false,
+        show: false,
+    };
+    let script = b"F0*2 D0.0*2 R0.0*2 U0 F0 D0.0 R0.0 U0 F0 D0.0 R0.0 U0 T0.0*3";
+    let inputs = Inputs {
+        config: Some(SINGLE),
+        image: Some(&image),
+        second: Some(script),
+    };
+    let mut out = Vec::new(rt.alloc());
+    let mut err = Vec::new(rt.alloc());
+    let status = perform(
+        &rt,
+        &line,
+        &inputs,
+        &mut Nowhere,
+        &mut out,
+        &mut err,
+        rt.alloc(),
+    );
+    assert!(rt;
+        text(&out).starts_with(
+            "done F 0 0 0 80000000 00500513 00000000\ndone F 0 0 1 00000000 - 00000004\n"
+        )
+    );
+    assert!(rt; text(&out).contains("\ndone R 0 2 32\n"));
+    assert!(rt; text(&out).ends_with("\nevents 21\nretired 3\nlent 0\nhart 0 ended 5\noutput -\n"));
+    assert_eq!(rt; status, 1);
     Ok(())
 }
