@@ -12,8 +12,6 @@ pub mod locked;
 pub mod origin;
 pub mod reader;
 mod tally;
-#[cfg(test)]
-mod tests;
 
 pub use ask::{Ask, Asked, Said};
 pub use finished::Finished;

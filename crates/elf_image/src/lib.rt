@@ -11,8 +11,6 @@ mod program_header;
 mod ram_size;
 mod refusal;
 mod segment;
-#[cfg(test)]
-mod tests;
 mod writer;
 
 pub use image::Image;

@@ -11,8 +11,6 @@ pub mod kind;
 pub mod laws;
 pub mod print;
 pub mod read;
-#[cfg(test)]
-mod tests;
 
 pub use effect::{Cause, Effect, Next, Outcome, Record, Written};
 pub use event::{Event, Phys, Seq};

@@ -9,8 +9,6 @@ mod execute;
 mod job;
 mod operations;
 mod outcome;
-#[cfg(test)]
-mod tests;
 mod unit;
 
 pub use job::{Done, Job};

@@ -4,7 +4,5 @@
 #![tactic(auto)]
 
 pub mod free_list;
-#[cfg(test)]
-mod tests;
 
 pub use free_list::{FreeList, Phys};

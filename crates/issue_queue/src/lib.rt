@@ -6,8 +6,6 @@
 
 pub mod entry;
 pub mod queue;
-#[cfg(test)]
-mod tests;
 
 pub use entry::{Entry, Phys, Seq, Source};
 pub use queue::IssueQueue;

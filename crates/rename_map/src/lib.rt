@@ -5,7 +5,5 @@
 #![tactic(auto)]
 
 pub mod hart_maps;
-#[cfg(test)]
-mod tests;
 
 pub use hart_maps::{HartMaps, Phys, Reg};

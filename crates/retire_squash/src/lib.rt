@@ -6,8 +6,6 @@
 
 pub mod active;
 pub mod active_list;
-#[cfg(test)]
-mod tests;
 
 pub use active::{Active, Stage};
 pub use active_list::ActiveList;

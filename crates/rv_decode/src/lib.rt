@@ -12,8 +12,6 @@ pub mod op;
 mod opcodes;
 mod operations;
 mod registers;
-#[cfg(test)]
-mod tests;
 
 pub use decoder::decode;
 pub use encoder::encode;

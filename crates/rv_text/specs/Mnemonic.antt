@@ -125,3 +125,14 @@ name_of (Atomic op ordering) = atomic_name op ++ 46 ∷ ordering_name ordering  
 abbrev pub IsPlain : Mnemonic → Type 0
 IsPlain (Atomic _ _) = ⊥
 IsPlain _ = Unit {0}
+
+-- one of the rows that stand by themselves
+abbrev pub IsAlone : Mnemonic → Type 0
+IsAlone Lui = Unit {0}
+IsAlone Auipc = Unit {0}
+IsAlone Jal = Unit {0}
+IsAlone Jalr = Unit {0}
+IsAlone Fence = Unit {0}
+IsAlone Ecall = Unit {0}
+IsAlone Ebreak = Unit {0}
+IsAlone _ = ⊥

@@ -14,6 +14,3 @@ pub mod refused;
 pub use parser::parse;
 pub use printer::print;
 pub use refused::TextRefused;
-
-#[cfg(test)]
-mod tests;

@@ -12,13 +12,14 @@ ghost use Rattle.rv_text.specs.Mnemonic.{
   ordering_name,
   name_of,
   IsPlain,
+  IsAlone,
 };
 
 use rv_decode::{BranchOp, ImmediateOp, LoadOp, MulDivOp, Ordering, RegisterOp, ShiftOp, StoreOp};
 use rv_word::AmoKind;
 
 /// The name that a line of text begins with. The ordering bits of an atomic are a part of its name.
-#[derive(Clone, Copy, Debug, PartialEq, Eq, Drop)]
+#[derive(Clone, Copy, Drop)]
 pub enum Mnemonic {
     Lui,
     Auipc,
@@ -38,7 +39,7 @@ pub enum Mnemonic {
 }
 
 /// The name of an atomic before its width and its ordering bits.
-#[derive(Clone, Copy, Debug, PartialEq, Eq, Drop)]
+#[derive(Clone, Copy, Drop)]
 pub enum AtomicOp {
     LoadReserved,
     StoreConditional,
@@ -182,9 +183,39 @@ pub(crate) fn ordering_name(ordering: Ordering) -> &'static str
     }
 }
 
+/// The row with this name, where it is no atomic.
 fn plain(text: &str) -> Option<Mnemonic>
     ensures found { IfSome result (λ m. (text.now ≡ name_of m) × IsPlain m) }
     ensures none { IfNone result ((m : _) → IsPlain m → text.now ≡ name_of m → ⊥) }
+{
+    if let Some(op) = branch_named(text) {
+        return Some(Mnemonic::Branch(op));
+    }
+    if let Some(op) = load_named(text) {
+        return Some(Mnemonic::Load(op));
+    }
+    if let Some(op) = store_named(text) {
+        return Some(Mnemonic::Store(op));
+    }
+    if let Some(op) = immediate_named(text) {
+        return Some(Mnemonic::Immediate(op));
+    }
+    if let Some(op) = shift_named(text) {
+        return Some(Mnemonic::Shift(op));
+    }
+    if let Some(op) = register_named(text) {
+        return Some(Mnemonic::Register(op));
+    }
+    if let Some(op) = mul_div_named(text) {
+        return Some(Mnemonic::MulDiv(op));
+    }
+    alone_named(text)
+}
+
+/// The row with this name that shares its format's operands with no other.
+fn alone_named(text: &str) -> Option<Mnemonic>
+    ensures found { IfSome result (λ m. (text.now ≡ name_of m) × IsAlone m) }
+    ensures none { IfNone result ((m : _) → IsAlone m → text.now ≡ name_of m → ⊥) }
 {
     Some(match text {
         "lui" => Mnemonic::Lui,
@@ -194,47 +225,110 @@ fn plain(text: &str) -> Option<Mnemonic>
         "fence" => Mnemonic::Fence,
         "ecall" => Mnemonic::Ecall,
         "ebreak" => Mnemonic::Ebreak,
-        "beq" => Mnemonic::Branch(BranchOp::Beq),
-        "bne" => Mnemonic::Branch(BranchOp::Bne),
-        "blt" => Mnemonic::Branch(BranchOp::Blt),
-        "bge" => Mnemonic::Branch(BranchOp::Bge),
-        "bltu" => Mnemonic::Branch(BranchOp::Bltu),
-        "bgeu" => Mnemonic::Branch(BranchOp::Bgeu),
-        "lb" => Mnemonic::Load(LoadOp::Lb),
-        "lh" => Mnemonic::Load(LoadOp::Lh),
-        "lw" => Mnemonic::Load(LoadOp::Lw),
-        "lbu" => Mnemonic::Load(LoadOp::Lbu),
-        "lhu" => Mnemonic::Load(LoadOp::Lhu),
-        "sb" => Mnemonic::Store(StoreOp::Sb),
-        "sh" => Mnemonic::Store(StoreOp::Sh),
-        "sw" => Mnemonic::Store(StoreOp::Sw),
-        "addi" => Mnemonic::Immediate(ImmediateOp::Addi),
-        "slti" => Mnemonic::Immediate(ImmediateOp::Slti),
-        "sltiu" => Mnemonic::Immediate(ImmediateOp::Sltiu),
-        "xori" => Mnemonic::Immediate(ImmediateOp::Xori),
-        "ori" => Mnemonic::Immediate(ImmediateOp::Ori),
-        "andi" => Mnemonic::Immediate(ImmediateOp::Andi),
-        "slli" => Mnemonic::Shift(ShiftOp::Slli),
-        "srli" => Mnemonic::Shift(ShiftOp::Srli),
-        "srai" => Mnemonic::Shift(ShiftOp::Srai),
-        "add" => Mnemonic::Register(RegisterOp::Add),
-        "sub" => Mnemonic::Register(RegisterOp::Sub),
-        "sll" => Mnemonic::Register(RegisterOp::Sll),
-        "slt" => Mnemonic::Register(RegisterOp::Slt),
-        "sltu" => Mnemonic::Register(RegisterOp::Sltu),
-        "xor" => Mnemonic::Register(RegisterOp::Xor),
-        "srl" => Mnemonic::Register(RegisterOp::Srl),
-        "sra" => Mnemonic::Register(RegisterOp::Sra),
-        "or" => Mnemonic::Register(RegisterOp::Or),
-        "and" => Mnemonic::Register(RegisterOp::And),
-        "mul" => Mnemonic::MulDiv(MulDivOp::Mul),
-        "mulh" => Mnemonic::MulDiv(MulDivOp::Mulh),
-        "mulhsu" => Mnemonic::MulDiv(MulDivOp::Mulhsu),
-        "mulhu" => Mnemonic::MulDiv(MulDivOp::Mulhu),
-        "div" => Mnemonic::MulDiv(MulDivOp::Div),
-        "divu" => Mnemonic::MulDiv(MulDivOp::Divu),
-        "rem" => Mnemonic::MulDiv(MulDivOp::Rem),
-        "remu" => Mnemonic::MulDiv(MulDivOp::Remu),
+        _ => return None,
+    })
+}
+
+fn branch_named(text: &str) -> Option<BranchOp>
+    ensures found { IfSome result (λ op. text.now ≡ branch_name op) }
+    ensures none { IfNone result ((op : _) → text.now ≡ branch_name op → ⊥) }
+{
+    Some(match text {
+        "beq" => BranchOp::Beq,
+        "bne" => BranchOp::Bne,
+        "blt" => BranchOp::Blt,
+        "bge" => BranchOp::Bge,
+        "bltu" => BranchOp::Bltu,
+        "bgeu" => BranchOp::Bgeu,
+        _ => return None,
+    })
+}
+
+fn load_named(text: &str) -> Option<LoadOp>
+    ensures found { IfSome result (λ op. text.now ≡ load_name op) }
+    ensures none { IfNone result ((op : _) → text.now ≡ load_name op → ⊥) }
+{
+    Some(match text {
+        "lb" => LoadOp::Lb,
+        "lh" => LoadOp::Lh,
+        "lw" => LoadOp::Lw,
+        "lbu" => LoadOp::Lbu,
+        "lhu" => LoadOp::Lhu,
+        _ => return None,
+    })
+}
+
+fn store_named(text: &str) -> Option<StoreOp>
+    ensures found { IfSome result (λ op. text.now ≡ store_name op) }
+    ensures none { IfNone result ((op : _) → text.now ≡ store_name op → ⊥) }
+{
+    Some(match text {
+        "sb" => StoreOp::Sb,
+        "sh" => StoreOp::Sh,
+        "sw" => StoreOp::Sw,
+        _ => return None,
+    })
+}
+
+fn immediate_named(text: &str) -> Option<ImmediateOp>
+    ensures found { IfSome result (λ op. text.now ≡ immediate_name op) }
+    ensures none { IfNone result ((op : _) → text.now ≡ immediate_name op → ⊥) }
+{
+    Some(match text {
+        "addi" => ImmediateOp::Addi,
+        "slti" => ImmediateOp::Slti,
+        "sltiu" => ImmediateOp::Sltiu,
+        "xori" => ImmediateOp::Xori,
+        "ori" => ImmediateOp::Ori,
+        "andi" => ImmediateOp::Andi,
+        _ => return None,
+    })
+}
+
+fn shift_named(text: &str) -> Option<ShiftOp>
+    ensures found { IfSome result (λ op. text.now ≡ shift_name op) }
+    ensures none { IfNone result ((op : _) → text.now ≡ shift_name op → ⊥) }
+{
+    Some(match text {
+        "slli" => ShiftOp::Slli,
+        "srli" => ShiftOp::Srli,
+        "srai" => ShiftOp::Srai,
+        _ => return None,
+    })
+}
+
+fn register_named(text: &str) -> Option<RegisterOp>
+    ensures found { IfSome result (λ op. text.now ≡ register_name op) }
+    ensures none { IfNone result ((op : _) → text.now ≡ register_name op → ⊥) }
+{
+    Some(match text {
+        "add" => RegisterOp::Add,
+        "sub" => RegisterOp::Sub,
+        "sll" => RegisterOp::Sll,
+        "slt" => RegisterOp::Slt,
+        "sltu" => RegisterOp::Sltu,
+        "xor" => RegisterOp::Xor,
+        "srl" => RegisterOp::Srl,
+        "sra" => RegisterOp::Sra,
+        "or" => RegisterOp::Or,
+        "and" => RegisterOp::And,
+        _ => return None,
+    })
+}
+
+fn mul_div_named(text: &str) -> Option<MulDivOp>
+    ensures found { IfSome result (λ op. text.now ≡ mul_div_name op) }
+    ensures none { IfNone result ((op : _) → text.now ≡ mul_div_name op → ⊥) }
+{
+    Some(match text {
+        "mul" => MulDivOp::Mul,
+        "mulh" => MulDivOp::Mulh,
+        "mulhsu" => MulDivOp::Mulhsu,
+        "mulhu" => MulDivOp::Mulhu,
+        "div" => MulDivOp::Div,
+        "divu" => MulDivOp::Divu,
+        "rem" => MulDivOp::Rem,
+        "remu" => MulDivOp::Remu,
         _ => return None,
     })
 }

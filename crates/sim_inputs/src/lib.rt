@@ -11,8 +11,6 @@ mod line;
 mod numbers;
 mod roles;
 mod settings;
-#[cfg(test)]
-mod tests;
 mod words;
 
 pub use configuration::{ConfigRefused, read_config};

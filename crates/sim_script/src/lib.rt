@@ -9,8 +9,6 @@ mod numbers;
 mod script;
 mod spelling;
 mod splitting;
-#[cfg(test)]
-mod tests;
 
 pub use actions::{Action, Word};
 pub use script::{ScriptRefused, read_script};

@@ -12,8 +12,6 @@ mod refused;
 mod reporting;
 mod static_predictor;
 mod stepping;
-#[cfg(test)]
-mod tests;
 
 pub use core_lock::Finished;
 pub use listing::list;

@@ -8,8 +8,6 @@ pub mod account;
 pub mod answer;
 pub mod calls;
 pub mod predict;
-#[cfg(test)]
-mod tests;
 
 pub use account::Account;
 pub use answer::{Answer, CompleteAnswer, IssueAnswer};

@@ -7,8 +7,6 @@ pub mod laws;
 pub mod print;
 pub mod read;
 pub mod split;
-#[cfg(test)]
-mod tests;
 
 pub use print::{
     push_ascii, push_dash, push_decimal, push_hex, push_optional_decimal, push_optional_hex,
