@@ -14,4 +14,3 @@ pub use atomic::amo;
 pub use base::{add, sll, slt, sltu, sra, srl, sub};
 pub use extend::sext;
 pub use mul_div::{div, divu, mul, mulh, mulhsu, mulhu, rem, remu};
-
