@@ -6,6 +6,9 @@ ghost use Rattle.core_lock.specs.Asks.{Replied, IssueReplied, CompleteReplied, I
 ghost use Rattle.core_lock.specs.Passes.{IsTold, more, later, made_from, going_in, places};
 ghost use Rattle.core_lock.specs.Shown.{Shown};
 
+mod passes;
+mod replies;
+
 use crate::ask::{Ask, Asked, Said};
 use crate::finished::Finished;
 use crate::origin::Origin;
@@ -52,67 +55,6 @@ pub struct Reply<L: Ledger> {
     said: Said,
     of: PhantomData<L>,
     ghost own: { is_reply actor asked said ≡ true },
-}
-
-impl<L: Ledger> Pass<L> {
-    /// The actor that asks through it.
-    pub fn actor(&self) -> u8
-        ensures { result ≡ self.now.actor }
-    {
-        self.actor
-    }
-
-    /// How many events it has made.
-    pub fn count(&self) -> u64
-        ensures { result ≡ self.now.count }
-    {
-        self.count
-    }
-
-    /// The last event that it has made.
-    pub fn last(&self) -> Option<Event>
-        ensures { result ≡ self.now.last }
-    {
-        self.last
-    }
-}
-
-impl<L: Ledger> Reply<L> {
-    /// The actor that asked.
-    pub fn actor(&self) -> u8
-        ensures { result ≡ self.now.actor }
-    {
-        self.actor
-    }
-
-    /// What was asked.
-    pub fn asked(&self) -> Asked
-        ensures { result ≡ self.now.asked }
-    {
-        self.asked
-    }
-
-    /// How many harts were going after the step.
-    pub fn going(&self) -> u8
-        ensures { result ≡ self.now.going }
-    {
-        self.going
-    }
-
-    /// Spends the reply for what was said.
-    pub fn said(self) -> Said
-        ensures said { result ≡ self.said }
-        ensures own { is_reply self.actor self.asked result ≡ true }
-    {
-        let Reply {
-            actor: _,
-            asked: _,
-            going: _,
-            said,
-            of: _,
-        } = self;
-        said
-    }
 }
 
 impl<L: Origin> Held<L> {

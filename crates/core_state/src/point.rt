@@ -15,7 +15,7 @@ pub struct FetchPoint {
 
 impl FetchPoint {
     /// What is fetched there under the number `seq`, and then goes on at `predicted`.
-    pub fn slot(self, seq: u32, predicted: u32) -> Slot
+    pub(crate) fn slot(self, seq: u32, predicted: u32) -> Slot
         ensures { result ≡ slot_at seq self predicted }
     {
         Slot {
@@ -28,7 +28,7 @@ impl FetchPoint {
     }
 
     /// The event of its fetch by actor `actor`.
-    pub fn event(self, actor: u8, seq: u32, predicted: u32) -> Event
+    pub(crate) fn event(self, actor: u8, seq: u32, predicted: u32) -> Event
         ensures { result ≡ Event.Fetch actor self.hart seq self.pc self.word predicted }
     {
         Event::Fetch {
