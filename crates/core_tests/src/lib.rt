@@ -5,6 +5,10 @@
 #[cfg(test)]
 mod asks_of_a_core;
 #[cfg(test)]
+mod files;
+#[cfg(test)]
 mod locking;
+#[cfg(test)]
+mod rows;
 #[cfg(test)]
 mod whole_runs;

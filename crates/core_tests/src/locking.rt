@@ -1,26 +1,18 @@
 ghost use Rattle.std.specs.Prelude.{◌≡◌};
 ghost use Rattle.smt_model.specs.Exec.{next_pc};
 
+use crate::asks_of_a_core::{End, FIRST_END, end_of, first_image};
 use arrayvec::ArrayVec;
 use core_lock::{Ask, CoreReader, Finished, Held, LockedCore, Origin, Pass, Said};
-use elf_image::{Image, RamSize, load};
-use events::{Event, Next};
-use smt_core::{Config, Core, Done, Predict, Role, Status, work};
+use elf_image::Image;
+use events::Event;
+use smt_core::{Config, Core, Done, Predict, Role, work};
 use std::alloc::Global;
 use std::marker::Brand;
 use std::sync::Wait;
 use std::sync::ledger::Blank;
-use std::test::Fail;
 use std::thread;
 use std::thread::Threads;
-
-/// An ELF file of one segment at 80000000: `addi x10,x0,5`, `addi x17,x0,93`, `ecall`.
-const FIRST: [u8; 96] = [
-    0x7f, 0x45, 0x4c, 0x46, 1, 1, 1, 0, 0, 0, 0, 0, 0, 0, 0, 0, 2, 0, 0xf3, 0, 1, 0, 0, 0, 0, 0, 0,
-    0x80, 52, 0, 0, 0, 0, 0, 0, 0, 0, 0, 0, 0, 52, 0, 32, 0, 1, 0, 0, 0, 0, 0, 0, 0, 1, 0, 0, 0,
-    84, 0, 0, 0, 0, 0, 0, 0x80, 0, 0, 0, 0x80, 12, 0, 0, 0, 12, 0, 0, 0, 5, 0, 0, 0, 1, 0, 0, 0,
-    0x13, 0x05, 0x50, 0, 0x93, 0x08, 0xd0, 0x05, 0x73, 0, 0, 0,
-];
 
 /// The predictor that takes no branch.
 #[derive(Drop)]
@@ -46,16 +38,6 @@ impl CoreReader for Told {
     }
 }
 
-fn first_image(alloc: Global) -> Result<Image, Fail> {
-    let Some(ram) = RamSize::new(65536) else {
-        return Err(Fail::new("RAM size"));
-    };
-    match load(alloc, &FIRST, ram) {
-        Ok(image) => Ok(image),
-        Err(_) => Err(Fail::new("image")),
-    }
-}
-
 /// One hart, an actor that fetches and one that is an arithmetic unit.
 fn config() -> Config {
     let mut roles = ArrayVec::new();
@@ -66,13 +48,6 @@ fn config() -> Config {
         extra: 64,
         queue: 16,
         roles,
-    }
-}
-
-fn core_of(image: &Image, limit: u32, alloc: Global) -> Result<Core, Fail> {
-    match Core::new(image, config(), limit, alloc) {
-        Ok(core) => Ok(core),
-        Err(_) => Err(Fail::new("core")),
     }
 }
 
@@ -190,22 +165,39 @@ fn two<R: Threads + Wait + Sync>(rt: &R, core: Core, image: &Image) -> (Finished
     two_with::<Brand, R>(rt, core, Blank::new(16), image)
 }
 
-#[test]
-fn two_threads_run_the_first_program_to_its_end(rt: HostRuntime) -> Result<(), Fail> {
-    let image = first_image(rt.alloc())?;
-    let core = core_of(&image, 100, rt.alloc())?;
-    let (finished, first, second) = two(&rt, core, &image);
-    assert!(rt; (first, second, finished.told, finished.own) == (true, true, true, true));
-    let account = finished.core.account();
-    let ended = account.records.get(2).map(|record| record.effect.next);
-    assert!(rt;
-        (account.records.len(), ended, finished.core.status(0))
-            == (3, Some(Next::Ended(5)), Some(Status::Ended(5)))
-    );
+/// What two threads leave: whether each was told all at its last look, whether their passes and their core were their own, how the core
+/// ended, whether the passes counted all its events, and whether any but the first two counted one.
+fn left_by_two<R: Threads + Wait + Sync>(
+    rt: &R,
+    alloc: Global,
+) -> Option<([bool; 4], End, [bool; 2])> {
+    let image = first_image(alloc)?;
+    let core = Core::new(&image, config(), 100, alloc).ok()?;
+    let (finished, first, second) = two(rt, core, &image);
+    let told = [first, second, finished.told, finished.own];
+    Some((told, end_of(&finished.core), counts_of(&finished)))
+}
+
+/// Whether all events of the core are counted, and whether any but the first two passes counted one.
+fn counts_of(finished: &Finished) -> [bool; 2] {
     let events = finished.core.history().len() as u64;
-    assert!(rt; finished.counts.iter().sum::<u64>() == events);
-    assert!(rt; finished.counts[2..].iter().all(|count| *count == 0));
-    Ok(())
+    let all = finished.counts.iter().sum::<u64>();
+    [all == events, have_counted(&finished.counts[2..])]
+}
+
+fn have_counted(counts: &[u64]) -> bool {
+    for count in counts {
+        if *count != 0 {
+            return true;
+        }
+    }
+    false
+}
+
+#[test]
+fn two_threads_run_the_first_program_to_its_end(rt: HostRuntime) {
+    let left = ([true; 4], FIRST_END, [true, false]);
+    assert!(rt; left_by_two(&rt, rt.alloc()) == Some(left));
 }
 
 /// What a core told that stood behind no lock: at the start the second pass's count and last event; the answers to a Fetch, an Issue,
@@ -262,15 +254,38 @@ fn ask_alone(core: Core, image: &Image) -> Alone {
     ask_alone_with::<Brand>(core, Blank::new(16), image)
 }
 
-#[test]
-fn passes_begin_with_what_their_actors_have_made(rt: HostRuntime) -> Result<(), Fail> {
-    let image = first_image(rt.alloc())?;
-    let mut core = core_of(&image, 4, rt.alloc())?;
+/// What is told of the passes: what the first two counted, and whether passes and core were their own.
+fn counted(finished: &Finished) -> ([u64; 2], bool, bool) {
+    let [first, second, ..] = finished.counts;
+    ([first, second], finished.told, finished.own)
+}
+
+/// The events that came of the asks, behind the second pass's last one at the start; that pass's count at the start, whether one was
+/// idle, whether one was full, and how many harts were going; and what is told of the passes.
+type Asked = (
+    [Option<Event>; 3],
+    (u64, bool, bool, u8),
+    ([u64; 2], bool, bool),
+);
+
+fn told_by(alone: &Alone) -> Asked {
+    let events = [alone.last, alone.fetched, alone.decoded];
+    let others = (alone.count, alone.idle, alone.full, alone.going);
+    (events, others, counted(&alone.finished))
+}
+
+/// A core with room for four events, of which actor 1 has made two.
+fn asked_alone(alloc: Global) -> Option<Asked> {
+    let image = first_image(alloc)?;
+    let mut core = Core::new(&image, config(), 4, alloc).ok()?;
     core.fetch(1, &mut InOrder);
     core.decode(1, 0);
-    let alone = ask_alone(core, &image);
-    let before = Some(Event::Decode { actor: 1, seq: 0 });
-    assert!(rt; (alone.count, alone.last) == (2, before));
+    Some(told_by(&ask_alone(core, &image)))
+}
+
+#[test]
+fn passes_begin_with_what_their_actors_have_made(rt: HostRuntime) {
+    let before = Event::Decode { actor: 1, seq: 0 };
     let fetched = Event::Fetch {
         actor: 0,
         hart: 0,
@@ -279,20 +294,8 @@ fn passes_begin_with_what_their_actors_have_made(rt: HostRuntime) -> Result<(), 
         word: Some(0x05D0_0893),
         predicted: 0x8000_0008,
     };
-    let decoded = Some(Event::Decode { actor: 1, seq: 1 });
-    assert!(rt;
-        (
-            alone.fetched,
-            alone.idle,
-            alone.decoded,
-            alone.full,
-            alone.going
-        ) == (Some(fetched), true, decoded, true, 1)
-    );
-    let counts = alone.finished.counts.as_slice();
-    assert!(rt;
-        (counts.get(..2), alone.finished.told, alone.finished.own)
-            == (Some([1, 3].as_slice()), true, true)
-    );
-    Ok(())
+    let decoded = Event::Decode { actor: 1, seq: 1 };
+    let events = [Some(before), Some(fetched), Some(decoded)];
+    let asked = (events, (2, true, true, 1), ([1, 3], true, true));
+    assert!(rt; asked_alone(rt.alloc()) == Some(asked));
 }

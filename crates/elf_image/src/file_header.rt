@@ -35,15 +35,11 @@ pub(crate) fn read_word(file: &[u8], place: usize) -> u32
     LittleEndian::read_u32(&file[place..])
 }
 
-/// Makes the checks of the file header, 1 to 9.
-pub(crate) fn read_file_header(file: &[u8]) -> Result<FileHeader, LoadRefused>
+/// Makes the checks of the identification and the version, 1 to 5.
+fn check_identification(file: &[u8]) -> Result<(), LoadRefused>
     ensures refused { IfErr result (λ reason. (ram : ℕ) → IsRefusal file.now ram reason) }
-    ensures passes { OnOk result ((ram : ℕ) (check : Refusal) → number_of check < 10 → Passes file.now ram check) }
+    ensures passes { OnOk result ((ram : ℕ) (check : Refusal) → number_of check < 6 → Passes file.now ram check) }
     ensures whole { OnOk result (52 ≤ length file.now) }
-    ensures table { OnOk result (table_offset file.now + 32 * table_count file.now ≤ length file.now) }
-    ensures entry { IfOk result (λ header. header.entry ≡ entry_of file.now) }
-    ensures offset { IfOk result (λ header. header.table_offset ≡ table_offset file.now) }
-    ensures count { IfOk result (λ header. header.table_count ≡ table_count file.now) }
 {
     if file.len() < 52 {
         return Err(LoadRefused::TooShort);
@@ -60,6 +56,20 @@ pub(crate) fn read_file_header(file: &[u8]) -> Result<FileHeader, LoadRefused>
     if file[6] != 1 || read_word(file, 20) != 1 {
         return Err(LoadRefused::WrongVersion);
     }
+    Ok(())
+}
+
+/// Makes the checks of the file header, 1 to 9.
+pub(crate) fn read_file_header(file: &[u8]) -> Result<FileHeader, LoadRefused>
+    ensures refused { IfErr result (λ reason. (ram : ℕ) → IsRefusal file.now ram reason) }
+    ensures passes { OnOk result ((ram : ℕ) (check : Refusal) → number_of check < 10 → Passes file.now ram check) }
+    ensures whole { OnOk result (52 ≤ length file.now) }
+    ensures table { OnOk result (table_offset file.now + 32 * table_count file.now ≤ length file.now) }
+    ensures entry { IfOk result (λ header. header.entry ≡ entry_of file.now) }
+    ensures offset { IfOk result (λ header. header.table_offset ≡ table_offset file.now) }
+    ensures count { IfOk result (λ header. header.table_count ≡ table_count file.now) }
+{
+    check_identification(file)?;
     if read_half(file, 16) != 2 {
         return Err(LoadRefused::NotExecutable);
     }

@@ -1,4 +1,4 @@
-ghost use Rattle.std.specs.Prelude.{◌≡◌};
+ghost use Rattle.std.specs.Prelude.{◌≡◌, ◌∷◌, []};
 
 use rv_decode::{Op, UnitKind};
 
@@ -72,9 +72,14 @@ impl Entry {
     }
 }
 
-// What an unused place of a queue holds: no clause sees it.
+// What an unused place of a queue holds: no clause of a queue sees it.
 impl Default for Entry {
-    fn default() -> Self {
+    ghost use Rattle.rv_decode.specs.declared.op.Op.TheVariants.{NoWord};
+    ghost use Rattle.issue_queue.specs.declared.entry.Source.TheVariants.{Value};
+
+    fn default() -> Self
+        ensures { result ≡ record { seq = 0; hart = 0; op = NoWord; pc = 0; sources = Value 0 ∷ Value 0 ∷ [] } }
+    {
         Entry {
             seq: 0,
             hart: 0,

@@ -1,289 +1,326 @@
+use crate::rows::holds;
 use events::{
-    Effect, Event, EventKind, Full, History, Line, Next, Outcome, Record, Written, print_event,
-    print_record, read_event_line,
+    Effect, Event, EventKind, History, Next, Outcome, Record, Written, print_event, print_record,
+    read_event_line,
 };
+use std::alloc::Global;
 
-// The line of an event of a table, whose write has to be short.
-fn line_of(rt: &impl Abort, event: &Event) -> Line {
+macro_rules! fetch {
+    ($seq:expr, $pc:expr, $word:expr, $predicted:expr) => {
+        Event::Fetch {
+            actor: 0,
+            hart: 0,
+            seq: $seq,
+            pc: $pc,
+            word: Some($word),
+            predicted: $predicted,
+        }
+    };
+}
+
+macro_rules! complete {
+    ($actor:expr, $seq:expr, $value:expr, $next:expr, $addr:expr, $datum:expr) => {
+        Event::Complete {
+            actor: $actor,
+            seq: $seq,
+            outcome: Outcome {
+                value: $value,
+                next: $next,
+                addr: $addr,
+                datum: $datum,
+                out: None,
+            },
+        }
+    };
+}
+
+macro_rules! retire {
+    ($actor:expr, $seq:expr, $value:expr, $next:expr, $write:expr, $out:expr) => {
+        Event::Retire {
+            actor: $actor,
+            seq: $seq,
+            effect: Effect {
+                value: $value,
+                next: $next,
+                write: $write,
+                out: $out,
+            },
+        }
+    };
+}
+
+macro_rules! rename {
+    ($actor:expr, $seq:expr, $phys:expr) => {
+        Event::Rename {
+            actor: $actor,
+            seq: $seq,
+            phys: $phys,
+        }
+    };
+}
+
+const SECOND: Next = Next::Pc(0x8000_0004);
+
+const THIRD: Next = Next::Pc(0x8000_0008);
+
+/// The trace of the program 00500513 05d00893 00000073 (addi x10,x0,5; addi x17,x0,93; ecall), which ends with status 5.
+static TRACE: [(Event, &str); 18] = [
+    (
+        fetch!(0, 0x8000_0000, 0x0050_0513, 0x8000_0004),
+        "F 0 0 0 80000000 00500513 80000004",
+    ),
+    (
+        fetch!(1, 0x8000_0004, 0x05d0_0893, 0x8000_0008),
+        "F 0 0 1 80000004 05d00893 80000008",
+    ),
+    (
+        fetch!(2, 0x8000_0008, 0x0000_0073, 0x8000_000c),
+        "F 0 0 2 80000008 00000073 8000000c",
+    ),
+    (Event::Decode { actor: 0, seq: 0 }, "D 0 0"),
+    (Event::Decode { actor: 0, seq: 1 }, "D 0 1"),
+    (Event::Decode { actor: 0, seq: 2 }, "D 0 2"),
+    (rename!(0, 0, Some(31)), "R 0 0 31"),
+    (rename!(0, 1, Some(32)), "R 0 1 32"),
+    (rename!(0, 2, None), "R 0 2 -"),
+    (Event::Issue { actor: 0, seq: 0 }, "I 0 0"),
+    (
+        complete!(0, 0, Some(5), SECOND, None, None),
+        "C 0 0 00000005 p80000004 - - -",
+    ),
+    (Event::Issue { actor: 0, seq: 1 }, "I 0 1"),
+    (
+        complete!(0, 1, Some(93), THIRD, None, None),
+        "C 0 1 0000005d p80000008 - - -",
+    ),
+    (Event::Issue { actor: 0, seq: 2 }, "I 0 2"),
+    (
+        complete!(0, 2, None, Next::Ended(5), None, None),
+        "C 0 2 - e00000005 - - -",
+    ),
+    (
+        retire!(0, 0, Some(5), SECOND, None, None),
+        "T 0 0 00000005 p80000004 - - -",
+    ),
+    (
+        retire!(0, 1, Some(93), THIRD, None, None),
+        "T 0 1 0000005d p80000008 - - -",
+    ),
+    (
+        retire!(0, 2, None, Next::Ended(5), None, None),
+        "T 0 2 - e00000005 - - -",
+    ),
+];
+
+const BEHIND: Next = Next::Pc(0x8000_0018);
+
+macro_rules! written {
+    ($n:expr) => {
+        Some(Written {
+            addr: 0x8000_1001,
+            n: $n,
+            datum: 0xaa,
+        })
+    };
+}
+
+/// Stores, bytes put out, stops, and what is dropped, renamed or fetched without a word.
+static OTHERS: [(Event, &str); 10] = [
+    (
+        complete!(5, 5, None, BEHIND, Some(0x8000_1001), Some(0xaa)),
+        "C 5 5 - p80000018 80001001 000000aa -",
+    ),
+    (
+        retire!(2, 5, None, BEHIND, written!(1), None),
+        "T 2 5 - p80000018 80001001 aa -",
+    ),
+    (
+        retire!(2, 5, None, BEHIND, written!(2), None),
+        "T 2 5 - p80000018 80001001 00aa -",
+    ),
+    (
+        retire!(2, 5, None, BEHIND, written!(4), None),
+        "T 2 5 - p80000018 80001001 000000aa -",
+    ),
+    (
+        retire!(2, 5, None, BEHIND, None, Some(0xa)),
+        "T 2 5 - p80000018 - - 0a",
+    ),
+    (
+        retire!(0, 9, None, Next::Stopped(0), None, None),
+        "T 0 9 - s0 - - -",
+    ),
+    (
+        complete!(0, 9, None, Next::Stopped(8), None, None),
+        "C 0 9 - s8 - - -",
+    ),
+    (
+        Event::Drop {
+            actor: 15,
+            seq: 16_777_215,
+        },
+        "X 15 16777215",
+    ),
+    (rename!(1, 10, Some(503)), "R 1 10 503"),
+    (
+        Event::Fetch {
+            actor: 0,
+            hart: 7,
+            seq: 3,
+            pc: 0x9000_0000,
+            word: None,
+            predicted: 0x9000_0004,
+        },
+        "F 0 7 3 90000000 - 90000004",
+    ),
+];
+
+/// Whether an event is printed as this line and read back from it. What a table's event writes is short.
+fn is_line(event: &Event, line: &str) -> bool {
     if let Event::Retire { effect, .. } = *event {
         if let Some(write) = effect.write {
-            assert!(rt; write.n <= 4);
+            if write.n > 4 {
+                return false;
+            }
         }
     }
-    print_event(event)
-}
-
-use std::process::Abort;
-use std::test::Fail;
-
-// The program 00500513 05d00893 00000073 (addi x10,x0,5; addi x17,x0,93; ecall), which ends with status 5.
-fn fetch(seq: u32, pc: u32, word: u32) -> Event {
-    Event::Fetch {
-        actor: 0,
-        hart: 0,
-        seq,
-        pc,
-        word: Some(word),
-        predicted: pc.wrapping_add(4),
-    }
-}
-
-fn complete(seq: u32, value: Option<u32>, next: Next) -> Event {
-    let outcome = Outcome {
-        value,
-        next,
-        addr: None,
-        datum: None,
-        out: None,
-    };
-    Event::Complete {
-        actor: 0,
-        seq,
-        outcome,
-    }
-}
-
-const NOTHING: Effect = Effect {
-    value: None,
-    next: Next::Pc(0),
-    write: None,
-    out: None,
-};
-
-fn retire(seq: u32, value: Option<u32>, next: Next) -> Event {
-    let effect = Effect {
-        value,
-        next,
-        ..NOTHING
-    };
-    Event::Retire {
-        actor: 0,
-        seq,
-        effect,
-    }
+    print_event(event).as_str() == line && read_event_line(line.as_bytes()) == Ok(*event)
 }
 
 #[test]
 fn prints_the_trace_of_a_program_that_ends(rt: HostRuntime) {
-    let (actor, second, third) = (0, Next::Pc(0x8000_0004), Next::Pc(0x8000_0008));
-    let trace = [
-        (
-            fetch(0, 0x8000_0000, 0x0050_0513),
-            "F 0 0 0 80000000 00500513 80000004",
-        ),
-        (
-            fetch(1, 0x8000_0004, 0x05d0_0893),
-            "F 0 0 1 80000004 05d00893 80000008",
-        ),
-        (
-            fetch(2, 0x8000_0008, 0x0000_0073),
-            "F 0 0 2 80000008 00000073 8000000c",
-        ),
-        (Event::Decode { actor, seq: 0 }, "D 0 0"),
-        (Event::Decode { actor, seq: 1 }, "D 0 1"),
-        (Event::Decode { actor, seq: 2 }, "D 0 2"),
-        (
-            Event::Rename {
-                actor,
-                seq: 0,
-                phys: Some(31),
-            },
-            "R 0 0 31",
-        ),
-        (
-            Event::Rename {
-                actor,
-                seq: 1,
-                phys: Some(32),
-            },
-            "R 0 1 32",
-        ),
-        (
-            Event::Rename {
-                actor,
-                seq: 2,
-                phys: None,
-            },
-            "R 0 2 -",
-        ),
-        (Event::Issue { actor, seq: 0 }, "I 0 0"),
-        (
-            complete(0, Some(5), second),
-            "C 0 0 00000005 p80000004 - - -",
-        ),
-        (Event::Issue { actor, seq: 1 }, "I 0 1"),
-        (
-            complete(1, Some(93), third),
-            "C 0 1 0000005d p80000008 - - -",
-        ),
-        (Event::Issue { actor, seq: 2 }, "I 0 2"),
-        (complete(2, None, Next::Ended(5)), "C 0 2 - e00000005 - - -"),
-        (retire(0, Some(5), second), "T 0 0 00000005 p80000004 - - -"),
-        (retire(1, Some(93), third), "T 0 1 0000005d p80000008 - - -"),
-        (retire(2, None, Next::Ended(5)), "T 0 2 - e00000005 - - -"),
-    ];
-    for (event, line) in trace {
-        assert!(rt; line_of(&rt, &event).as_str() == line);
-        assert!(rt; read_event_line(line.as_bytes()) == Ok(event));
+    for (event, line) in &TRACE {
+        holds(&rt, line, is_line(event, line));
     }
 }
 
 #[test]
 fn prints_stores_stops_and_what_is_dropped(rt: HostRuntime) {
-    let next = Next::Pc(0x8000_0018);
-    let outcome = Outcome {
-        value: None,
-        next,
-        addr: Some(0x8000_1001),
-        datum: Some(0xaa),
-        out: None,
-    };
-    let write = |n, datum| Effect {
-        next,
-        write: Some(Written {
-            addr: 0x8000_1001,
-            n,
-            datum,
-        }),
-        ..NOTHING
-    };
-    let effect = |effect| Event::Retire {
-        actor: 2,
-        seq: 5,
-        effect,
-    };
-    let puts = Effect {
-        next,
-        out: Some(0xa),
-        ..NOTHING
-    };
-    for (event, line) in [
-        (
-            Event::Complete {
-                actor: 5,
-                seq: 5,
-                outcome,
-            },
-            "C 5 5 - p80000018 80001001 000000aa -",
-        ),
-        (effect(write(1, 0xaa)), "T 2 5 - p80000018 80001001 aa -"),
-        (effect(write(2, 0xaa)), "T 2 5 - p80000018 80001001 00aa -"),
-        (
-            effect(write(4, 0xaa)),
-            "T 2 5 - p80000018 80001001 000000aa -",
-        ),
-        (effect(puts), "T 2 5 - p80000018 - - 0a"),
-        (retire(9, None, Next::Stopped(0)), "T 0 9 - s0 - - -"),
-        (complete(9, None, Next::Stopped(8)), "C 0 9 - s8 - - -"),
-        (
-            Event::Drop {
-                actor: 15,
-                seq: 16_777_215,
-            },
-            "X 15 16777215",
-        ),
-        (
-            Event::Rename {
-                actor: 1,
-                seq: 10,
-                phys: Some(503),
-            },
-            "R 1 10 503",
-        ),
-        (
-            Event::Fetch {
-                actor: 0,
-                hart: 7,
-                seq: 3,
-                pc: 0x9000_0000,
-                word: None,
-                predicted: 0x9000_0004,
-            },
-            "F 0 7 3 90000000 - 90000004",
-        ),
-    ] {
-        assert!(rt; line_of(&rt, &event).as_str() == line);
-        assert!(rt; read_event_line(line.as_bytes()) == Ok(event));
+    for (event, line) in &OTHERS {
+        holds(&rt, line, is_line(event, line));
     }
 }
 
 #[test]
 fn prints_the_record_of_a_byte_store(rt: HostRuntime) {
-    let write = Written {
-        addr: 0x8000_1001,
-        n: 1,
-        datum: 0xaa,
-    };
     let record = Record {
         hart: 0,
         pc: 0x8000_0014,
         word: Some(0x0073_00a3),
         effect: Effect {
-            next: Next::Pc(0x8000_0018),
-            write: Some(write),
-            ..NOTHING
+            value: None,
+            next: BEHIND,
+            write: written!(1),
+            out: None,
         },
     };
     assert!(rt; print_record(&record).as_str() == "0 80000014 007300a3 - p80000018 80001001 aa -");
 }
 
-#[test]
-fn a_history_takes_events_up_to_its_limit(rt: HostRuntime) -> Result<(), Fail> {
-    let mut none = History::with_limit(0, rt.alloc())?;
-    assert!(rt; none.is_full() && none.is_empty());
-    assert!(rt; none.push(Event::Decode { actor: 0, seq: 0 }) == Err(Full));
-    assert!(rt; none.len() == 0);
+/// The first three issues.
+static ISSUES: [Event; 3] = [
+    Event::Issue { actor: 7, seq: 0 },
+    Event::Issue { actor: 7, seq: 1 },
+    Event::Issue { actor: 7, seq: 2 },
+];
 
-    let mut three = History::with_limit(3, rt.alloc())?;
-    assert!(rt; three.limit() == 3);
-    for seq in 0..3u32 {
-        assert!(rt; !three.is_full());
-        assert!(rt; three.push(Event::Issue { actor: 7, seq }) == Ok(()));
+/// Whether a history was full before each of four issues, and whether it took it.
+type Taken = [(bool, bool); 4];
+
+fn push_issues(history: &mut History) -> Taken {
+    let mut taken = [(false, false); 4];
+    for (seq, told) in (0..4u32).zip(&mut taken) {
+        let full = history.is_full();
+        let pushed = history.push(Event::Issue { actor: 7, seq });
+        *told = (full, pushed.is_ok());
     }
-    assert!(rt; three.is_full() && !three.is_empty());
-    assert!(rt; three.push(Event::Issue { actor: 7, seq: 3 }) == Err(Full));
-    assert!(rt; three.events().len() == three.len());
-    for (seq, event) in (0..3u32).zip(three.events()) {
-        assert!(rt; (event.actor(), event.seq()) == (7, seq));
-    }
-    Ok(())
+    taken
+}
+
+/// What a history with this limit tells: whether it is empty at first, how it takes four issues, and at the end its limit, whether it is
+/// empty or full, how many it has, and whether they are the first that were pushed.
+fn told(limit: u8, alloc: Global) -> Option<(bool, Taken, (u32, bool, bool, usize), bool)> {
+    let Ok(mut history) = History::with_limit(limit as u32, alloc) else {
+        return None;
+    };
+    let empty = history.is_empty();
+    let taken = push_issues(&mut history);
+    let end = (
+        history.limit(),
+        history.is_empty(),
+        history.is_full(),
+        history.len(),
+    );
+    let first = ISSUES.get(..limit as usize) == Some(history.events());
+    Some((empty, taken, end, first))
 }
 
 #[test]
-fn tells_the_first_rule_that_a_line_breaks(rt: HostRuntime) -> Result<(), Fail> {
-    for (line, rule) in [
-        ("", 3),
-        ("Q 0 0", 3),
-        ("DD 0 0", 3),
-        (" D 0 0", 3),
-        ("D", 4),
-        ("D 0", 4),
-        ("D 0 0 ", 4),
-        ("C 0 2 - e00000005 - -", 4),
-        ("D 00 0", 5),
-        ("D x 16777216", 5),
-        ("D 0 ", 5),
-        ("C 0 2 - s9 - - -", 5),
-        ("C 0 2 - p8000000C - - -", 5),
-        ("T 2 5 - p80000018 80001001 - -", 5),
-        ("T 2 5 - p80000018 - aa -", 5),
-        ("T 2 5 - p80000018 80001001 aaa -", 5),
-        ("D 16 x", 6),
-        ("D 0 16777216", 6),
-        ("R 0 0 504", 6),
-        ("F 0 8 0 80000000 - 80000004", 6),
-    ] {
-        let refused = read_event_line(line.as_bytes()).err().ok_or("read")?;
-        assert!(rt; refused.number() == rule, "at {line:?}");
+fn a_history_takes_events_up_to_its_limit(rt: HostRuntime) {
+    let none = (true, [(true, false); 4], (0, true, true, 0), true);
+    assert!(rt; told(0, rt.alloc()) == Some(none));
+    let (takes, refuses) = ((false, true), (true, false));
+    let three = (
+        true,
+        [takes, takes, takes, refuses],
+        (3, false, true, 3),
+        true,
+    );
+    assert!(rt; told(3, rt.alloc()) == Some(three));
+}
+
+/// Lines, by the number of the first rule that each breaks.
+static REFUSED: [(&str, u8); 20] = [
+    ("", 3),
+    ("Q 0 0", 3),
+    ("DD 0 0", 3),
+    (" D 0 0", 3),
+    ("D", 4),
+    ("D 0", 4),
+    ("D 0 0 ", 4),
+    ("C 0 2 - e00000005 - -", 4),
+    ("D 00 0", 5),
+    ("D x 16777216", 5),
+    ("D 0 ", 5),
+    ("C 0 2 - s9 - - -", 5),
+    ("C 0 2 - p8000000C - - -", 5),
+    ("T 2 5 - p80000018 80001001 - -", 5),
+    ("T 2 5 - p80000018 - aa -", 5),
+    ("T 2 5 - p80000018 80001001 aaa -", 5),
+    ("D 16 x", 6),
+    ("D 0 16777216", 6),
+    ("R 0 0 504", 6),
+    ("F 0 8 0 80000000 - 80000004", 6),
+];
+
+fn broken_rule(line: &str) -> Option<u8> {
+    match read_event_line(line.as_bytes()) {
+        Ok(_) => None,
+        Err(rule) => Some(rule.number()),
     }
-    Ok(())
+}
+
+#[test]
+fn tells_the_first_rule_that_a_line_breaks(rt: HostRuntime) {
+    for (line, rule) in &REFUSED {
+        holds(&rt, line, broken_rule(line) == Some(*rule));
+    }
+}
+
+/// The letter of the kind that a letter names.
+fn letter_of(letter: u8) -> Option<u8> {
+    let kind = EventKind::from_letter(letter)?;
+    Some(kind.letter())
 }
 
 #[test]
 fn names_the_kind_of_an_event_by_its_letter(rt: HostRuntime) {
-    assert!(rt; Event::Drop { actor: 0, seq: 0 }.kind().letter() == b'X');
+    let dropped = Event::Drop { actor: 0, seq: 0 };
+    let retired = retire!(0, 0, None, Next::Ended(0), None, None);
+    assert!(rt; (dropped.kind().letter(), retired.kind().letter()) == (b'X', b'T'));
+    assert!(rt; EventKind::from_letter(b'X') == Some(EventKind::Drop));
     for letter in *b"FDRICXT" {
-        assert!(rt; EventKind::from_letter(letter).map(EventKind::letter) == Some(letter));
+        assert!(rt; letter_of(letter) == Some(letter));
     }
-    assert!(rt; EventKind::from_letter(b'x').is_none());
+    assert!(rt; letter_of(b'x').is_none());
 }

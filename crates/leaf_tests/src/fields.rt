@@ -1,5 +1,5 @@
+use crate::rows::holds;
 use arrayvec::ArrayString;
-use std::test::Fail;
 use text_fields::{
     FieldError, field_count, push_ascii, push_dash, push_decimal, push_hex, push_optional_decimal,
     push_optional_hex, read_decimal, read_hex, read_optional_decimal, read_optional_hex,
@@ -34,79 +34,100 @@ fn prints_a_dash_for_none(rt: HostRuntime) {
     assert!(rt; text.as_str() == "--503-000000aa");
 }
 
+const MISSPELLED: Result<u32, FieldError> = Err(FieldError::Misspelled);
+
+const OUT_OF_RANGE: Result<u32, FieldError> = Err(FieldError::OutOfRange);
+
+/// Numbers up to 15.
+static DECIMAL: [(&str, Result<u32, FieldError>); 10] = [
+    ("0", Ok(0)),
+    ("15", Ok(15)),
+    ("16", OUT_OF_RANGE),
+    ("99999999999999999999999", OUT_OF_RANGE),
+    ("", MISSPELLED),
+    ("00", MISSPELLED),
+    ("015", MISSPELLED),
+    ("+5", MISSPELLED),
+    ("5 ", MISSPELLED),
+    ("a", MISSPELLED),
+];
+
 #[test]
 fn reads_decimal_numbers_in_their_one_spelling(rt: HostRuntime) {
-    let misspelled = Err(FieldError::Misspelled);
-    let out_of_range = Err(FieldError::OutOfRange);
-    for (text, want) in [
-        ("0", Ok(0)),
-        ("15", Ok(15)),
-        ("16", out_of_range),
-        ("99999999999999999999999", out_of_range),
-        ("", misspelled),
-        ("00", misspelled),
-        ("015", misspelled),
-        ("+5", misspelled),
-        ("5 ", misspelled),
-        ("a", misspelled),
-    ] {
-        assert!(rt; read_decimal(text.as_bytes(), 15) == want, "at {text:?}");
+    for (text, want) in &DECIMAL {
+        holds(&rt, text, read_decimal(text.as_bytes(), 15) == *want);
     }
-    assert!(rt; read_optional_decimal(b"-", 503) == Ok(None));
-    assert!(rt; read_optional_decimal(b"503", 503) == Ok(Some(503)));
-    assert!(rt; read_optional_decimal(b"504", 503) == Err(FieldError::OutOfRange));
 }
 
 #[test]
+fn reads_a_dash_as_no_number(rt: HostRuntime) {
+    let decimal = [
+        read_optional_decimal(b"-", 503),
+        read_optional_decimal(b"503", 503),
+        read_optional_decimal(b"504", 503),
+    ];
+    assert!(rt; decimal == [Ok(None), Ok(Some(503)), Err(FieldError::OutOfRange)]);
+    let hex = [
+        read_optional_hex(b"-", 8),
+        read_optional_hex(b"ffffffff", 8),
+    ];
+    assert!(rt; hex == [Ok(None), Ok(Some(u32::MAX))]);
+}
+
+/// Numbers of twelve bits.
+static SIGNED: [(&str, Result<i32, FieldError>); 8] = [
+    ("-2048", Ok(-2048)),
+    ("-1", Ok(-1)),
+    ("2047", Ok(2047)),
+    ("2048", Err(FieldError::OutOfRange)),
+    ("-2049", Err(FieldError::OutOfRange)),
+    ("-0", Err(FieldError::Misspelled)),
+    ("-", Err(FieldError::Misspelled)),
+    ("--1", Err(FieldError::Misspelled)),
+];
+
+#[test]
 fn reads_signed_numbers_of_twelve_bits(rt: HostRuntime) {
-    let misspelled = Err(FieldError::Misspelled);
-    let out_of_range = Err(FieldError::OutOfRange);
-    for (text, want) in [
-        ("-2048", Ok(-2048)),
-        ("-1", Ok(-1)),
-        ("2047", Ok(2047)),
-        ("2048", out_of_range),
-        ("-2049", out_of_range),
-        ("-0", misspelled),
-        ("-", misspelled),
-        ("--1", misspelled),
-    ] {
-        assert!(rt;
-            read_signed_decimal(text.as_bytes(), 2048) == want,
-            "at {text:?}"
+    for (text, want) in &SIGNED {
+        holds(
+            &rt,
+            text,
+            read_signed_decimal(text.as_bytes(), 2048) == *want,
         );
     }
 }
 
+/// Numbers of five digits.
+static HEXADECIMAL: [(&str, Result<u32, FieldError>); 7] = [
+    ("80001", Ok(0x80001)),
+    ("000af", Ok(0xaf)),
+    ("000AF", MISSPELLED),
+    ("0000af", MISSPELLED),
+    ("00af", MISSPELLED),
+    ("0x0af", MISSPELLED),
+    ("000ag", MISSPELLED),
+];
+
 #[test]
 fn reads_lower_case_hexadecimal_of_the_given_length(rt: HostRuntime) {
-    let misspelled = Err(FieldError::Misspelled);
-    for (text, want) in [
-        ("80001", Ok(0x80001)),
-        ("000af", Ok(0xaf)),
-        ("000AF", misspelled),
-        ("0000af", misspelled),
-        ("00af", misspelled),
-        ("0x0af", misspelled),
-        ("000ag", misspelled),
-    ] {
-        assert!(rt; read_hex(text.as_bytes(), 5) == want, "at {text:?}");
+    for (text, want) in &HEXADECIMAL {
+        holds(&rt, text, read_hex(text.as_bytes(), 5) == *want);
     }
-    assert!(rt; read_optional_hex(b"-", 8) == Ok(None));
-    assert!(rt; read_optional_hex(b"ffffffff", 8) == Ok(Some(u32::MAX)));
 }
+
+/// Texts with how many fields they have, the first field, and what comes behind its separator.
+static CUT: [(&[u8], usize, &[u8], &[u8]); 5] = [
+    (b"C 5 5", 3, b"C", b"5 5"),
+    (b"C", 1, b"C", b""),
+    (b" C", 2, b"", b"C"),
+    (b"C ", 2, b"C", b""),
+    (b"", 1, b"", b""),
+];
 
 #[test]
 fn cuts_a_text_at_its_first_separator(rt: HostRuntime) {
-    for (text, count, first, others) in [
-        ("C 5 5", 3, "C", "5 5"),
-        ("C", 1, "C", ""),
-        (" C", 2, "", "C"),
-        ("C ", 2, "C", ""),
-        ("", 1, "", ""),
-    ] {
-        let text = text.as_bytes();
-        assert!(rt; field_count(text, b' ') == count);
-        assert!(rt; split_field(text, b' ') == (first.as_bytes(), others.as_bytes()));
+    for (text, count, first, others) in &CUT {
+        let cut = (field_count(text, b' '), split_field(text, b' '));
+        assert!(rt; cut == (*count, (*first, *others)));
     }
 }

@@ -19,6 +19,24 @@ fn renamed(seq: u32) -> Active
     }
 }
 
+/// The youngest behind number 3, three times.
+fn cut_behind_3(active: &mut ActiveList) -> [Option<Active>; 3] {
+    [
+        active.cut_youngest(3),
+        active.cut_youngest(3),
+        active.cut_youngest(3),
+    ]
+}
+
+/// The oldest as it stands and as it leaves.
+fn leaving(active: &mut ActiveList) -> Option<[Active; 2]> {
+    let head = active.head()?;
+    if active.is_empty() {
+        return None;
+    }
+    Some([head, active.pop()])
+}
+
 #[test]
 fn instructions_leave_from_the_old_end_and_are_cut_from_the_young_end(rt: HostRuntime) {
     let mut active = ActiveList::new();
@@ -27,21 +45,28 @@ fn instructions_leave_from_the_old_end_and_are_cut_from_the_young_end(rt: HostRu
     active.append(renamed(3));
     active.append(renamed(5));
     active.append(renamed(9));
-    assert!(rt; active.may_append(10));
-    assert!(rt; !active.may_append(9));
-    assert!(rt; active.len() == 4);
-    assert!(rt; !active.is_full());
-    for cut in [Some(renamed(9)), Some(renamed(5)), None] {
-        assert!(rt; active.cut_youngest(3) == cut);
-    }
+    let room = (
+        active.may_append(10),
+        active.may_append(9),
+        active.is_full(),
+    );
+    assert!(rt; (room, active.len()) == ((true, false, false), 4));
+    assert!(rt; cut_behind_3(&mut active) == [Some(renamed(9)), Some(renamed(5)), None]);
     assert!(rt; active.items() == [renamed(2), renamed(3)].as_slice());
-    for oldest in [2, 3] {
-        assert!(rt; active.head() == Some(renamed(oldest)));
-        if !active.is_empty() {
-            assert!(rt; active.pop() == renamed(oldest));
+    assert!(rt; leaving(&mut active) == Some([renamed(2); 2]));
+    assert!(rt; leaving(&mut active) == Some([renamed(3); 2]));
+    assert!(rt; active.is_empty() && active.head().is_none());
+}
+
+/// The stages of the numbers 2 to 5, of which 4 is not in flight.
+fn stages(active: &ActiveList) -> [Option<Stage>; 4] {
+    let mut stages = [None; 4];
+    for (seq, stage) in (2..6u32).zip(&mut stages) {
+        if let Some(found) = active.find(seq) {
+            *stage = Some(found.stage);
         }
     }
-    assert!(rt; active.is_empty());
+    stages
 }
 
 #[test]
@@ -61,15 +86,6 @@ fn a_stage_is_set_at_one_number_alone(rt: HostRuntime) {
     active.issue(3);
     active.complete(3, outcome);
     active.issue(4);
-    for (seq, stage) in [
-        (2, Some(Stage::Issued)),
-        (3, Some(Stage::Completed(outcome))),
-        (4, None),
-        (5, Some(Stage::Renamed)),
-    ] {
-        assert!(rt;
-            active.find(seq).map(|found| found.stage) == stage,
-            "at {seq}"
-        );
-    }
+    let (issued, completed) = (Some(Stage::Issued), Some(Stage::Completed(outcome)));
+    assert!(rt; stages(&active) == [issued, completed, None, Some(Stage::Renamed)]);
 }

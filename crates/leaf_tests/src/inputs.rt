@@ -1,94 +1,111 @@
 mod configuration;
 mod help;
 
+use crate::rows::holds;
 use sim_inputs::{Line, WordsRefused, read_words};
-use std::test::Fail;
+use std::alloc::{AllocError, Global};
 
-#[test]
-fn step_takes_an_image_and_a_script(rt: HostRuntime) -> Result<(), Fail> {
-    let words = ["smtsim", "step", "first.elf", "first.script"];
-    let line = read_words(words.as_slice(), rt.alloc())?;
-    assert!(rt;
-        line == Line::Step {
+/// The words of a text: a space stands between two.
+fn words_of(text: &str, alloc: Global) -> Result<Vec<&str>, AllocError> {
+    let mut words = Vec::new(alloc);
+    for word in text.split(' ') {
+        words.push(word)?;
+    }
+    Ok(words)
+}
+
+/// Words, and what they ask for.
+static LINES: [(&str, Line<'_>); 8] = [
+    (
+        "smtsim step first.elf first.script",
+        Line::Step {
             image: "first.elf",
             script: "first.script",
             config: None,
             records: false,
-            show: false
-        }
-    );
-    Ok(())
-}
-
-#[test]
-fn list_takes_an_image(rt: HostRuntime) -> Result<(), Fail> {
-    let words = ["smtsim", "list", "list.elf"];
-    let line = read_words(words.as_slice(), rt.alloc())?;
-    assert!(rt;
-        line == Line::List {
+            show: false,
+        },
+    ),
+    (
+        "smtsim list list.elf",
+        Line::List {
             image: "list.elf",
-            config: None
-        }
-    );
-    Ok(())
-}
+            config: None,
+        },
+    ),
+    (
+        "smtsim list --config c.toml list.elf",
+        Line::List {
+            image: "list.elf",
+            config: Some("c.toml"),
+        },
+    ),
+    (
+        "smtsim step a b --config c",
+        Line::Step {
+            image: "a",
+            script: "b",
+            config: Some("c"),
+            records: false,
+            show: false,
+        },
+    ),
+    (
+        "smtsim step --config=c a b",
+        Line::Step {
+            image: "a",
+            script: "b",
+            config: Some("c"),
+            records: false,
+            show: false,
+        },
+    ),
+    (
+        "smtsim step a --records b",
+        Line::Step {
+            image: "a",
+            script: "b",
+            config: None,
+            records: true,
+            show: false,
+        },
+    ),
+    (
+        "smtsim step --show a b",
+        Line::Step {
+            image: "a",
+            script: "b",
+            config: None,
+            records: false,
+            show: true,
+        },
+    ),
+    (
+        "smtsim step --show a --config c b --records",
+        Line::Step {
+            image: "a",
+            script: "b",
+            config: Some("c"),
+            records: true,
+            show: true,
+        },
+    ),
+];
 
-#[test]
-fn step_takes_each_option_by_itself(rt: HostRuntime) -> Result<(), Fail> {
-    let rows: [(&[&str], (Option<&str>, bool, bool)); 5] = [
-        (
-            &["smtsim", "step", "a", "b", "--config", "c"],
-            (Some("c"), false, false),
-        ),
-        (
-            &["smtsim", "step", "--config=c", "a", "b"],
-            (Some("c"), false, false),
-        ),
-        (
-            &["smtsim", "step", "a", "--records", "b"],
-            (None, true, false),
-        ),
-        (&["smtsim", "step", "--show", "a", "b"], (None, false, true)),
-        (
-            &[
-                "smtsim",
-                "step",
-                "--show",
-                "a",
-                "--config",
-                "c",
-                "b",
-                "--records",
-            ],
-            (Some("c"), true, true),
-        ),
-    ];
-    for (words, (config, records, show)) in rows {
-        let line = read_words(words, rt.alloc())?;
-        assert!(rt;
-            line == Line::Step {
-                image: "a",
-                script: "b",
-                config,
-                records,
-                show
-            }
-        );
+/// Whether words ask for this, where there is memory for them.
+fn asks(text: &str, line: &Line<'_>, alloc: Global) -> Result<bool, AllocError> {
+    let words = words_of(text, alloc)?;
+    match read_words(&words, alloc) {
+        Ok(read) => Ok(read == *line),
+        Err(_) => Ok(false),
     }
-    Ok(())
 }
 
 #[test]
-fn list_takes_a_configuration(rt: HostRuntime) -> Result<(), Fail> {
-    let words = ["smtsim", "list", "--config", "c.toml", "list.elf"];
-    let line = read_words(words.as_slice(), rt.alloc())?;
-    assert!(rt;
-        line == Line::List {
-            image: "list.elf",
-            config: Some("c.toml")
-        }
-    );
-    Ok(())
+fn each_line_is_read_with_its_files_and_options(rt: HostRuntime) {
+    for (text, line) in &LINES {
+        holds(&rt, text, asks(text, line, rt.alloc()) == Ok(true));
+    }
 }
 
 #[test]
@@ -100,40 +117,49 @@ fn a_line_tells_its_options(rt: HostRuntime) {
         records: true,
         show: true,
     };
-    assert!(rt; step.config() == Some("c"));
-    assert!(rt; step.script() == Some("b"));
+    assert!(rt; (step.config(), step.script()) == (Some("c"), Some("b")));
     let list = Line::List {
         image: "a",
         config: Some("c"),
     };
-    assert!(rt; list.config() == Some("c"));
-    assert!(rt; list.script().is_none());
-    assert!(rt; list.image() == "a");
+    assert!(rt; (list.config(), list.script(), list.image()) == (Some("c"), None, "a"));
+}
+
+/// A line for each.
+const REFUSED: &str = "smtsim
+smtsim walk first.elf first.script
+smtsim step
+smtsim step first.elf
+smtsim step first.elf first.script more
+smtsim step --fast first.elf first.script
+smtsim step --show --show a b
+smtsim step --show=yes a b
+smtsim step --record a b
+smtsim step a b --config
+smtsim --config c step a b
+smtsim list
+smtsim list first.elf first.script
+smtsim list --records first.elf
+smtsim list --show first.elf
+smtsim list --config c --config c a";
+
+/// Whether words are refused, where there is memory for them.
+fn are_refused(text: &str, alloc: Global) -> Result<bool, AllocError> {
+    let words = words_of(text, alloc)?;
+    Ok(is_refusal(read_words(&words, alloc)))
+}
+
+fn is_refusal(read: Result<Line<'_>, WordsRefused>) -> bool {
+    matches!(read, Err(WordsRefused::Refused))
 }
 
 #[test]
 fn other_words_are_refused(rt: HostRuntime) {
-    let rows: [&[&str]; 17] = [
-        &[],
-        &["smtsim"],
-        &["smtsim", "walk", "first.elf", "first.script"],
-        &["smtsim", "step"],
-        &["smtsim", "step", "first.elf"],
-        &["smtsim", "step", "first.elf", "first.script", "more"],
-        &["smtsim", "step", "--fast", "first.elf", "first.script"],
-        &["smtsim", "step", "--show", "--show", "a", "b"],
-        &["smtsim", "step", "--show=yes", "a", "b"],
-        &["smtsim", "step", "--record", "a", "b"],
-        &["smtsim", "step", "a", "b", "--config"],
-        &["smtsim", "--config", "c", "step", "a", "b"],
-        &["smtsim", "list"],
-        &["smtsim", "list", "first.elf", "first.script"],
-        &["smtsim", "list", "--records", "first.elf"],
-        &["smtsim", "list", "--show", "first.elf"],
-        &["smtsim", "list", "--config", "c", "--config", "c", "a"],
-    ];
-    for words in rows {
-        let refused = read_words(words, rt.alloc());
-        assert!(rt; matches!(refused, Err(WordsRefused::Refused)));
+    let mut rows = 0u32;
+    for text in REFUSED.lines() {
+        holds(&rt, text, are_refused(text, rt.alloc()) == Ok(true));
+        rows = rows.wrapping_add(1);
     }
+    assert!(rt; rows == 16);
+    assert!(rt; is_refusal(read_words(&[], rt.alloc())));
 }

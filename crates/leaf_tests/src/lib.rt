@@ -21,6 +21,8 @@ mod operations;
 #[cfg(test)]
 mod registers;
 #[cfg(test)]
+mod rows;
+#[cfg(test)]
 mod scripts;
 #[cfg(test)]
 mod spellings;

@@ -6,6 +6,7 @@
 //! SRAI by 32 - n, and for 8 and 16 bits the program compared it with LB and LH. The folder tools/word_values has a program
 //! that gives all these words again.
 
+use crate::rows::{holds, holds_at};
 use rv_word::{
     AmoKind, add, amo, div, divu, mul, mulh, mulhsu, mulhu, rem, remu, sext, sll, slt, sltu, sra,
     srl, sub,
@@ -245,101 +246,115 @@ const EXTENDED: [(u32, u32, u32); 30] = [
     (0xFFFFFFFF, 32, 0xFFFFFFFF),
 ];
 
-fn agree<F: Fn(u32, u32) -> u32>(rt: &impl Abort, name: &str, operation: F, results: &[u32; 28])
-    requires { F.IsAlwaysCallable operation }
-{
-    for ((a, b), result) in PAIRS.iter().zip(results) {
-        assert!(rt; operation(*a, *b) == *result, "{name} of {a:#x} and {b:#x}");
+/// The tables of the base operations, in the order of `base`.
+static BASE: [(&str, [u32; 28]); 7] = [
+    ("add", ADD),
+    ("sub", SUB),
+    ("sll", SLL),
+    ("srl", SRL),
+    ("sra", SRA),
+    ("slt", SLT),
+    ("sltu", SLTU),
+];
+
+/// The tables of multiplication and division, in the order of `mul_div`.
+static MUL_DIV: [(&str, [u32; 28]); 8] = [
+    ("mul", MUL),
+    ("mulh", MULH),
+    ("mulhsu", MULHSU),
+    ("mulhu", MULHU),
+    ("div", DIV),
+    ("divu", DIVU),
+    ("rem", REM),
+    ("remu", REMU),
+];
+
+/// The tables of the atomics, in the order of `atomics`.
+static ATOMICS: [(&str, [u32; 28]); 9] = [
+    ("swap", AMO_SWAP),
+    ("add", AMO_ADD),
+    ("xor", AMO_XOR),
+    ("and", AMO_AND),
+    ("or", AMO_OR),
+    ("min", AMO_MIN),
+    ("max", AMO_MAX),
+    ("minu", AMO_MINU),
+    ("maxu", AMO_MAXU),
+];
+
+fn base(a: u32, b: u32) -> [u32; 7] {
+    [
+        add(a, b),
+        sub(a, b),
+        sll(a, b),
+        srl(a, b),
+        sra(a, b),
+        slt(a, b),
+        sltu(a, b),
+    ]
+}
+
+fn mul_div(a: u32, b: u32) -> [u32; 8] {
+    [
+        mul(a, b),
+        mulh(a, b),
+        mulhsu(a, b),
+        mulhu(a, b),
+        div(a, b),
+        divu(a, b),
+        rem(a, b),
+        remu(a, b),
+    ]
+}
+
+fn atomics(old: u32, operand: u32) -> [u32; 9] {
+    [
+        amo(AmoKind::Swap, old, operand),
+        amo(AmoKind::Add, old, operand),
+        amo(AmoKind::Xor, old, operand),
+        amo(AmoKind::And, old, operand),
+        amo(AmoKind::Or, old, operand),
+        amo(AmoKind::Min, old, operand),
+        amo(AmoKind::Max, old, operand),
+        amo(AmoKind::Minu, old, operand),
+        amo(AmoKind::Maxu, old, operand),
+    ]
+}
+
+/// Compares the words that came of one pair with those that the tables have at the pair's place.
+fn agree(rt: &impl Abort, place: usize, found: &[u32], tables: &[(&str, [u32; 28])]) {
+    for (word, (name, results)) in found.iter().zip(tables) {
+        holds(rt, name, results.get(place) == Some(word));
     }
 }
 
 #[test]
 fn the_base_operations_agree_with_another_machine(rt: HostRuntime) {
-    agree(&rt, "add", add, &ADD);
-    agree(&rt, "sub", sub, &SUB);
-    agree(&rt, "sll", sll, &SLL);
-    agree(&rt, "srl", srl, &SRL);
-    agree(&rt, "sra", sra, &SRA);
-    agree(&rt, "slt", slt, &SLT);
-    agree(&rt, "sltu", sltu, &SLTU);
+    for (place, (a, b)) in PAIRS.iter().enumerate() {
+        agree(&rt, place, &base(*a, *b), &BASE);
+    }
 }
 
 #[test]
 fn multiplication_and_division_agree_with_another_machine(rt: HostRuntime) {
-    agree(&rt, "mul", mul, &MUL);
-    agree(&rt, "mulh", mulh, &MULH);
-    agree(&rt, "mulhsu", mulhsu, &MULHSU);
-    agree(&rt, "mulhu", mulhu, &MULHU);
-    agree(&rt, "div", div, &DIV);
-    agree(&rt, "divu", divu, &DIVU);
-    agree(&rt, "rem", rem, &REM);
-    agree(&rt, "remu", remu, &REMU);
+    for (place, (a, b)) in PAIRS.iter().enumerate() {
+        agree(&rt, place, &mul_div(*a, *b), &MUL_DIV);
+    }
 }
 
 #[test]
 fn the_atomics_agree_with_another_machine(rt: HostRuntime) {
-    agree(
-        &rt,
-        "swap",
-        |old, operand| amo(AmoKind::Swap, old, operand),
-        &AMO_SWAP,
-    );
-    agree(
-        &rt,
-        "add",
-        |old, operand| amo(AmoKind::Add, old, operand),
-        &AMO_ADD,
-    );
-    agree(
-        &rt,
-        "xor",
-        |old, operand| amo(AmoKind::Xor, old, operand),
-        &AMO_XOR,
-    );
-    agree(
-        &rt,
-        "and",
-        |old, operand| amo(AmoKind::And, old, operand),
-        &AMO_AND,
-    );
-    agree(
-        &rt,
-        "or",
-        |old, operand| amo(AmoKind::Or, old, operand),
-        &AMO_OR,
-    );
-    agree(
-        &rt,
-        "min",
-        |old, operand| amo(AmoKind::Min, old, operand),
-        &AMO_MIN,
-    );
-    agree(
-        &rt,
-        "max",
-        |old, operand| amo(AmoKind::Max, old, operand),
-        &AMO_MAX,
-    );
-    agree(
-        &rt,
-        "minu",
-        |old, operand| amo(AmoKind::Minu, old, operand),
-        &AMO_MINU,
-    );
-    agree(
-        &rt,
-        "maxu",
-        |old, operand| amo(AmoKind::Maxu, old, operand),
-        &AMO_MAXU,
-    );
+    for (place, (old, operand)) in PAIRS.iter().enumerate() {
+        agree(&rt, place, &atomics(*old, *operand), &ATOMICS);
+    }
 }
 
 #[test]
 fn sign_extension_agrees_with_another_machine(rt: HostRuntime) {
-    for (word, bits, extended) in EXTENDED {
-        let in_range = 1 <= bits && bits <= 32;
-        assert!(rt; in_range);
-        assert!(rt; sext(word, bits) == extended, "{bits} bits of {word:#x}");
+    for (word, bits, extended) in &EXTENDED {
+        let bits = *bits;
+        let agrees = 1 <= bits && bits <= 32 && sext(*word, bits) == *extended;
+        holds_at(&rt, *word, agrees);
     }
 }
 
@@ -347,24 +362,24 @@ fn sign_extension_agrees_with_another_machine(rt: HostRuntime) {
 /// signed and unsigned atomics.
 #[test]
 fn the_corners_are_those_of_the_manual(rt: HostRuntime) {
-    assert!(rt; div(0x80000000, 0xFFFFFFFF) == 0x80000000);
-    assert!(rt; rem(0x80000000, 0xFFFFFFFF) == 0);
-    assert!(rt; div(7, 0) == 0xFFFFFFFF);
-    assert!(rt; divu(7, 0) == 0xFFFFFFFF);
-    assert!(rt; rem(7, 0) == 7);
-    assert!(rt; remu(7, 0) == 7);
-    assert!(rt; mulhsu(0xFFFFFFFF, 0xFFFFFFFF) == 0xFFFFFFFF);
-    assert!(rt; mulhu(0xFFFFFFFF, 0xFFFFFFFF) == 0xFFFFFFFE);
-    assert!(rt; mulh(0xFFFFFFFF, 0xFFFFFFFF) == 0);
-    let kinds = [
-        (AmoKind::Min, 0xFFFFFFFF),
-        (AmoKind::Minu, 1),
-        (AmoKind::Max, 1),
-        (AmoKind::Maxu, 0xFFFFFFFF),
-        (AmoKind::Add, 0),
-        (AmoKind::Swap, 1),
+    let found = [
+        div(0x80000000, 0xFFFFFFFF),
+        rem(0x80000000, 0xFFFFFFFF),
+        div(7, 0),
+        divu(7, 0),
+        rem(7, 0),
+        remu(7, 0),
+        mulhsu(0xFFFFFFFF, 0xFFFFFFFF),
+        mulhu(0xFFFFFFFF, 0xFFFFFFFF),
+        mulh(0xFFFFFFFF, 0xFFFFFFFF),
     ];
-    for (kind, written) in kinds {
-        assert!(rt; amo(kind, 0xFFFFFFFF, 1) == written, "{kind:?}");
-    }
+    let wanted = [
+        0x80000000, 0, 0xFFFFFFFF, 0xFFFFFFFF, 7, 7, 0xFFFFFFFF, 0xFFFFFFFE, 0,
+    ];
+    assert!(rt; found == wanted);
+    // swap, add, xor, and, or, min, max, minu, maxu
+    let written = [
+        1, 0, 0xFFFFFFFE, 1, 0xFFFFFFFF, 0xFFFFFFFF, 1, 1, 0xFFFFFFFF,
+    ];
+    assert!(rt; atomics(0xFFFFFFFF, 1) == written);
 }

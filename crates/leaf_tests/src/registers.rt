@@ -1,17 +1,15 @@
+use crate::rows::holds_at;
 use free_list::FreeList;
 
 #[test]
 fn the_least_free_register_is_taken_and_one_given_back_is_taken_again(rt: HostRuntime) {
     let mut free = FreeList::new(2, 64);
     assert!(rt; free.least() == Some(62));
-    assert!(rt; free.take() == Some(62));
-    assert!(rt; free.take() == Some(63));
-    assert!(rt; free.take() == Some(64));
+    assert!(rt; [free.take(), free.take(), free.take()] == [Some(62), Some(63), Some(64)]);
     assert!(rt; !free.holds(63));
     free.give(63);
     assert!(rt; free.holds(63));
-    assert!(rt; free.take() == Some(63));
-    assert!(rt; free.take() == Some(65));
+    assert!(rt; [free.take(), free.take()] == [Some(63), Some(65)]);
 }
 
 #[test]
@@ -23,11 +21,9 @@ fn a_new_list_holds_exactly_the_extra_registers(rt: HostRuntime) {
         (8, 256, 248, 504),
     ] {
         let free = FreeList::new(harts, extra);
-        for register in 0..600 {
-            assert!(rt;
-                free.holds(register) == (first <= register && register < end),
-                "{register} at {harts} harts"
-            );
+        for register in 0..600u16 {
+            let own = first <= register && register < end;
+            holds_at(&rt, register as u32, free.holds(register) == own);
         }
     }
 }
@@ -35,16 +31,9 @@ fn a_new_list_holds_exactly_the_extra_registers(rt: HostRuntime) {
 #[test]
 fn a_named_register_is_taken_once(rt: HostRuntime) {
     let mut free = FreeList::new(2, 64);
-    for (register, was) in [
-        (125, true),
-        (125, false),
-        (126, false),
-        (61, false),
-        (511, false),
-        (512, false),
-        (65535, false),
-    ] {
-        assert!(rt; free.take_this(register) == was, "{register}");
+    assert!(rt; free.take_this(125));
+    for register in [125, 126, 61, 511, 512, 65535] {
+        holds_at(&rt, register as u32, !free.take_this(register));
     }
     assert!(rt; free.take() == Some(62));
 }
@@ -52,7 +41,5 @@ fn a_named_register_is_taken_once(rt: HostRuntime) {
 #[test]
 fn an_empty_list_gives_nothing(rt: HostRuntime) {
     let mut free = FreeList::new(2, 1);
-    assert!(rt; free.take() == Some(62));
-    assert!(rt; free.take() == None);
-    assert!(rt; free.least() == None);
+    assert!(rt; [free.take(), free.take(), free.least()] == [Some(62), None, None]);
 }

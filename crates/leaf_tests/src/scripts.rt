@@ -1,101 +1,92 @@
+use crate::rows::holds;
 use sim_script::{Action, ScriptRefused, Word, read_script};
+use std::alloc::Global;
 use std::test::Fail;
+
+static WORDS: [Word; 7] = [
+    Word {
+        action: Action::Fetch { actor: 0 },
+        repeat: 1,
+    },
+    Word {
+        action: Action::Decode { actor: 1, hart: 0 },
+        repeat: 1,
+    },
+    Word {
+        action: Action::Rename { actor: 15, hart: 7 },
+        repeat: 2,
+    },
+    Word {
+        action: Action::Retire { actor: 2, hart: 0 },
+        repeat: 100_000,
+    },
+    Word {
+        action: Action::Issue { actor: 3 },
+        repeat: 1,
+    },
+    Word {
+        action: Action::Complete { actor: 4 },
+        repeat: 1,
+    },
+    Word {
+        action: Action::Unit { actor: 5 },
+        repeat: 1,
+    },
+];
 
 #[test]
 fn a_script_is_read_word_by_word(rt: HostRuntime) -> Result<(), Fail> {
     let text = b" F0 D1.0\nR15.7*2 T2.0*100000\n\nI3 C4*1 U5 ";
-    let expected = [
-        Word {
-            action: Action::Fetch { actor: 0 },
-            repeat: 1,
-        },
-        Word {
-            action: Action::Decode { actor: 1, hart: 0 },
-            repeat: 1,
-        },
-        Word {
-            action: Action::Rename { actor: 15, hart: 7 },
-            repeat: 2,
-        },
-        Word {
-            action: Action::Retire { actor: 2, hart: 0 },
-            repeat: 100_000,
-        },
-        Word {
-            action: Action::Issue { actor: 3 },
-            repeat: 1,
-        },
-        Word {
-            action: Action::Complete { actor: 4 },
-            repeat: 1,
-        },
-        Word {
-            action: Action::Unit { actor: 5 },
-            repeat: 1,
-        },
-    ];
     let words = read_script(text, rt.alloc())?;
-    assert!(rt; words.len() == expected.len());
-    for (word, wanted) in words.iter().zip(&expected) {
-        assert!(rt; word == wanted);
-    }
+    assert!(rt; words.as_slice() == WORDS.as_slice());
     Ok(())
 }
+
+fn refusal(text: &[u8], alloc: Global) -> Option<ScriptRefused> {
+    read_script(text, alloc).err()
+}
+
+const FIRST: Option<ScriptRefused> = Some(ScriptRefused::Word(1));
+
+const SECOND: Option<ScriptRefused> = Some(ScriptRefused::Word(2));
+
+/// By how many bytes are left.
+static CUT: [Option<ScriptRefused>; 12] = [
+    None, FIRST, None, FIRST, None, None, SECOND, SECOND, SECOND, None, SECOND, None,
+];
 
 #[test]
 fn a_script_that_is_cut_is_refused_at_the_word_that_was_cut(rt: HostRuntime) {
-    let first = Some(ScriptRefused::Word(1));
-    let second = Some(ScriptRefused::Word(2));
-    let rows = [
-        None, first, None, first, None, None, second, second, second, None, second, None,
-    ];
-    for (count, expected) in rows.iter().enumerate() {
-        if let Some(text) = b"F0*3 D0.0*3".get(..count) {
-            let refused = read_script(text, rt.alloc()).err();
-            assert!(rt; refused == *expected, "the first {count} bytes");
-        }
+    for (count, expected) in CUT.iter().enumerate() {
+        let text = "F0*3 D0.0*3".get(..count).expect(&rt, "a part");
+        holds(&rt, text, refusal(text.as_bytes(), rt.alloc()) == *expected);
     }
 }
+
+/// A bar stands between two.
+const NO_WORDS: &str =
+    "F0.0|D0|*0|F0*0|F0*01|F0*100001|F16|D0.8|F00|f0|F0\r|F|0|F+0|D0.|D.0|D0.0.0|F0*|F0**2|F0*2*2|\
+F 0|F0\t|X0|F-1|D00.0|U3*4294967297";
 
 #[test]
 fn nothing_else_is_a_word(rt: HostRuntime) {
-    let texts = [
-        "F0.0",
-        "D0",
-        "*0",
-        "F0*0",
-        "F0*01",
-        "F0*100001",
-        "F16",
-        "D0.8",
-        "F00",
-        "f0",
-        "F0\r",
-        "F",
-        "0",
-        "F+0",
-        "D0.",
-        "D.0",
-        "D0.0.0",
-        "F0*",
-        "F0**2",
-        "F0*2*2",
-        "F 0",
-        "F0\t",
-        "X0",
-        "F-1",
-        "D00.0",
-        "U3*4294967297",
-    ];
-    for text in texts {
-        let refused = read_script(text.as_bytes(), rt.alloc()).err();
-        assert!(rt; refused == Some(ScriptRefused::Word(1)), "{text}");
+    let mut texts = 0u32;
+    for text in NO_WORDS.split('|') {
+        holds(&rt, text, refusal(text.as_bytes(), rt.alloc()) == FIRST);
+        texts = texts.wrapping_add(1);
+    }
+    assert!(rt; texts == 26);
+}
+
+fn says(refused: ScriptRefused, text: &str, alloc: Global) -> bool {
+    match refused.to_string(alloc) {
+        Ok(said) => said.as_str() == text,
+        Err(_) => false,
     }
 }
 
 #[test]
-fn a_refusal_says_its_word(rt: HostRuntime) -> Result<(), Fail> {
-    assert!(rt; ScriptRefused::Word(2).to_string(rt.alloc())?.as_str() == "script word 2 refused");
-    assert!(rt; ScriptRefused::Memory.to_string(rt.alloc())?.as_str() == "memory");
-    Ok(())
+fn a_refusal_says_its_word(rt: HostRuntime) {
+    assert!(rt; says(ScriptRefused::Word(2), "script word 2 refused", rt.alloc()));
+    assert!(rt; says(ScriptRefused::Memory, "memory", rt.alloc()));
 }

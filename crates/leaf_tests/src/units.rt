@@ -1,3 +1,4 @@
+use crate::rows::holds;
 use events::{Next, Outcome};
 use exec_units::{Job, work};
 use rv_decode::{BranchOp, ImmediateOp, Instr, LoadOp, MulDivOp, Op};
@@ -43,56 +44,109 @@ const ECALL: Op = Op::Known(Instr::Ecall);
 
 const EBREAK: Op = Op::Known(Instr::Ebreak);
 
-fn goes_on(value: Option<u32>, out: Option<u8>) -> Outcome {
-    Outcome {
-        value,
-        out,
-        ..is_over(Next::Pc(0x8000_0004))
-    }
+macro_rules! outcome {
+    ($value:expr, $next:expr, $out:expr) => {
+        Outcome {
+            value: $value,
+            next: $next,
+            addr: None,
+            datum: None,
+            out: $out,
+        }
+    };
 }
 
-fn is_over(next: Next) -> Outcome {
-    Outcome {
-        value: None,
-        next,
-        addr: None,
-        datum: None,
-        out: None,
-    }
+const BEHIND: Next = Next::Pc(0x8000_0004);
+
+/// An instruction with its two numbers, and what it computes.
+static ROWS: [(&str, Op, u32, u32, Outcome); 12] = [
+    ("addi", ADDI, 0, 0, outcome!(Some(5), BEHIND, None)),
+    (
+        "addi wraps",
+        ADDI,
+        0xffff_fffd,
+        0,
+        outcome!(Some(2), BEHIND, None),
+    ),
+    ("exit", ECALL, 93, 5, outcome!(None, Next::Ended(5), None)),
+    (
+        "put a byte",
+        ECALL,
+        1,
+        0x141,
+        outcome!(None, BEHIND, Some(0x41)),
+    ),
+    (
+        "unknown call",
+        ECALL,
+        7,
+        0,
+        outcome!(None, Next::Stopped(8), None),
+    ),
+    (
+        "no word",
+        Op::NoWord,
+        0,
+        0,
+        outcome!(None, Next::Stopped(1), None),
+    ),
+    (
+        "illegal",
+        Op::Illegal,
+        0,
+        0,
+        outcome!(None, Next::Stopped(2), None),
+    ),
+    ("product", MUL, 6, 7, outcome!(Some(42), BEHIND, None)),
+    (
+        "taken branch",
+        BEQ,
+        0,
+        0,
+        outcome!(None, Next::Pc(0x8000_0008), None),
+    ),
+    (
+        "bad target",
+        JAL_ASTRAY,
+        0,
+        0,
+        outcome!(None, Next::Stopped(0), None),
+    ),
+    (
+        "break",
+        EBREAK,
+        0,
+        0,
+        outcome!(None, Next::Stopped(3), None),
+    ),
+    (
+        "not executed yet",
+        LW,
+        0,
+        0,
+        outcome!(None, Next::Stopped(2), None),
+    ),
+];
+
+/// What a job done says: its outcome, its instruction, and its outcome again as it is handed back.
+fn done(op: Op, first: u32, second: u32) -> (Outcome, Op, Outcome) {
+    let done = work(Job::new(3, op, PC, first, second));
+    (done.outcome(), done.job().op(), done.into_outcome())
 }
 
 #[test]
 fn a_unit_hands_back_what_the_instruction_computes(rt: HostRuntime) {
-    let rows = [
-        ("addi", ADDI, 0, 0, goes_on(Some(5), None)),
-        ("addi wraps", ADDI, 0xffff_fffd, 0, goes_on(Some(2), None)),
-        ("exit", ECALL, 93, 5, is_over(Next::Ended(5))),
-        ("put a byte", ECALL, 1, 0x141, goes_on(None, Some(0x41))),
-        ("unknown call", ECALL, 7, 0, is_over(Next::Stopped(8))),
-        ("no word", Op::NoWord, 0, 0, is_over(Next::Stopped(1))),
-        ("illegal", Op::Illegal, 0, 0, is_over(Next::Stopped(2))),
-        ("product", MUL, 6, 7, goes_on(Some(42), None)),
-        ("taken branch", BEQ, 0, 0, is_over(Next::Pc(0x8000_0008))),
-        ("bad target", JAL_ASTRAY, 0, 0, is_over(Next::Stopped(0))),
-        ("break", EBREAK, 0, 0, is_over(Next::Stopped(3))),
-        ("not executed yet", LW, 0, 0, is_over(Next::Stopped(2))),
-    ];
-    for (name, op, first, second, expected) in rows {
-        let done = work(Job::new(3, op, PC, first, second));
-        assert!(rt; done.outcome() == expected, "{name}");
-        assert!(rt; done.job().op() == op, "{name}");
-        assert!(rt; done.into_outcome() == expected, "{name}");
+    for (name, op, first, second, expected) in &ROWS {
+        let said = done(*op, *first, *second);
+        holds(&rt, name, said == (*expected, *op, *expected));
     }
 }
 
 #[test]
 fn a_job_keeps_what_it_was_made_of_and_can_be_abandoned(rt: HostRuntime) {
     let job = Job::new(7, ADDI, PC, 11, 12);
-    assert!(rt; job.seq() == 7);
-    assert!(rt; job.op() == ADDI);
-    assert!(rt; job.pc() == PC);
-    assert!(rt; job.first() == 11);
-    assert!(rt; job.second() == 12);
+    let made = (job.seq(), job.op(), job.pc(), job.first(), job.second());
+    assert!(rt; made == (7, ADDI, PC, 11, 12));
     let done = work(job);
     assert!(rt; done.job().seq() == 7);
     done.abandon();

@@ -42,19 +42,30 @@ fn filled(rt: &impl Abort) -> IssueQueue {
     queue
 }
 
-fn numbers_are(rt: &impl Abort, queue: &IssueQueue, numbers: &[u32]) {
-    assert!(rt; queue.len() == numbers.len());
+fn has(queue: &IssueQueue, numbers: &[u32]) -> bool {
     for (entry, number) in queue.entries().iter().zip(numbers) {
-        assert!(rt; entry.seq == *number);
+        if entry.seq != *number {
+            return false;
+        }
+    }
+    queue.len() == numbers.len()
+}
+
+/// The oldest ready one of a kind as it is seen and as it is taken.
+fn oldest(queue: &mut IssueQueue, kind: UnitKind) -> [Option<u32>; 2] {
+    let seen = queue.oldest(kind);
+    match queue.take_oldest(kind) {
+        Some(entry) => [seen, Some(entry.seq)],
+        None => [seen, None],
     }
 }
 
 #[test]
 fn the_oldest_ready_instruction_of_a_kind_is_taken(rt: HostRuntime) {
     let mut queue = filled(&rt);
-    numbers_are(&rt, &queue, &[3, 4, 6, 7, 9]);
-    assert!(rt; queue.oldest(UnitKind::Mul) == None);
+    assert!(rt; has(&queue, &[3, 4, 6, 7, 9]));
     for (kind, number) in [
+        (UnitKind::Mul, None),
         (UnitKind::Mem, Some(3)),
         (UnitKind::Alu, Some(7)),
         (UnitKind::Mem, Some(4)),
@@ -62,10 +73,9 @@ fn the_oldest_ready_instruction_of_a_kind_is_taken(rt: HostRuntime) {
         (UnitKind::Mul, None),
         (UnitKind::Alu, Some(9)),
     ] {
-        assert!(rt; queue.oldest(kind) == number);
-        assert!(rt; queue.take_oldest(kind).map(|entry| entry.seq) == number);
+        assert!(rt; oldest(&mut queue, kind) == [number, number]);
     }
-    numbers_are(&rt, &queue, &[6]);
+    assert!(rt; has(&queue, &[6]));
     assert!(rt; queue.holds(6) && !queue.holds(7));
 }
 
@@ -75,19 +85,41 @@ fn a_register_wakes_both_sources_that_name_it(rt: HostRuntime) {
     queue.wake(62, 8);
     assert!(rt; queue.oldest(UnitKind::Mul) == None);
     queue.wake(63, 3);
-    let product = queue.take_oldest(UnitKind::Mul);
-    assert!(rt; product.map(|entry| entry.sources) == Some([Source::Value(3); 2]));
+    let product = queue.take_oldest(UnitKind::Mul).expect(&rt, "a product");
+    assert!(rt; product.sources == [Source::Value(3); 2]);
 }
 
 #[test]
 fn a_squash_takes_one_harts_younger_instructions(rt: HostRuntime) {
     let mut queue = filled(&rt);
     queue.squash(1, 3);
-    numbers_are(&rt, &queue, &[3, 4, 6]);
-    assert!(rt; (queue.count(0), queue.count(1), queue.count(2)) == (2, 1, 0));
+    assert!(rt; has(&queue, &[3, 4, 6]));
+    assert!(rt; [queue.count(0), queue.count(1), queue.count(2)] == [2, 1, 0]);
     queue.remove(4);
-    numbers_are(&rt, &queue, &[3, 6]);
+    assert!(rt; has(&queue, &[3, 6]));
     queue.squash(0, 4);
     queue.squash(1, 2);
     assert!(rt; queue.is_empty());
+}
+
+#[test]
+fn an_instruction_is_ready_once_both_operands_are_known(rt: HostRuntime) {
+    let (known, waits) = (Source::Value(3), Source::Waits(63));
+    assert!(rt; [known.is_value(), waits.is_value()] == [true, false]);
+    let product = |sources| Entry {
+        seq: 6,
+        hart: 0,
+        op: MUL,
+        pc: 0x8000_0000,
+        sources,
+    };
+    let (early, ready) = (product([known, waits]), product([known, known]));
+    assert!(rt; [early.is_ready(), ready.is_ready()] == [false, true]);
+    assert!(rt;
+        [
+            early.can_issue(UnitKind::Mul),
+            ready.can_issue(UnitKind::Mul)
+        ] == [false, true]
+    );
+    assert!(rt; !ready.can_issue(UnitKind::Alu));
 }

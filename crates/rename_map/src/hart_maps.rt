@@ -66,7 +66,8 @@ impl HartMaps {
         ensures renamed { (r : ℕ) → lookup self.new r ≡ (if r == register then phys else lookup self.old r) }
         ensures committed { self.new.committed ≡ self.old.committed }
     {
-        self.speculative[usize::from(register)] = phys;
+        let place = usize::from(register);
+        self.speculative[place] = phys;
     }
 
     /// An instruction that wrote `register` at `phys` retires. Answers where the value before it was, which is free now.
@@ -76,8 +77,9 @@ impl HartMaps {
         ensures committed { (r : ℕ) → committed_of self.new r ≡ (if r == register then phys else committed_of self.old r) }
         ensures speculative { self.new.speculative ≡ self.old.speculative }
     {
-        let before = self.committed[usize::from(register)];
-        self.committed[usize::from(register)] = phys;
+        let place = usize::from(register);
+        let before = self.committed[place];
+        self.committed[place] = phys;
         before
     }
 

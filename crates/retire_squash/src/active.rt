@@ -1,3 +1,5 @@
+ghost use Rattle.std.specs.Prelude.{◌≡◌, None};
+
 use events::{Outcome, Phys, Seq};
 use rv_decode::{Op, Reg};
 
@@ -29,9 +31,23 @@ pub struct Active {
     pub stage: Stage,
 }
 
-// What an unused place of an `ActiveList` holds: no clause sees it.
+// What an unused place of an `ActiveList` holds: no clause of a list sees it.
 impl Default for Active {
-    fn default() -> Self {
+    ghost use Rattle.rv_decode.specs.declared.op.Op.TheVariants.{NoWord};
+    ghost use Rattle.retire_squash.specs.declared.active.Stage.TheVariants.{Renamed};
+
+    fn default() -> Self
+        ensures { result ≡ record {
+          seq = 0;
+          rd = 0;
+          phys = None;
+          op = NoWord;
+          pc = 0;
+          word = None;
+          predicted = 0;
+          stage = Renamed;
+        } }
+    {
         Active {
             seq: 0,
             rd: 0,

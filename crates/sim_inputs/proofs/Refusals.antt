@@ -1,13 +1,42 @@
--- What the kind of an error says of the words.
-use Rattle.std.proofs.Common.{◌≡◌, true, List, refl, subst, inl, inr}
-use Rattle.clap.specs.Words.{App, Text, HasKind, is_simple_and_free, fault_of, kind_of}
+-- What the matches of the words say of them, and what the kind of an error does.
+use Rattle.std.proofs.Common.{◌≡◌, true, List, [], Option, Some, None, Result, IfSome, IfNone, IfOk, IfErr, refl, sym, subst, inl, inr}
+use Rattle.std.specs.Option.{ok_or}
+use Rattle.clap.specs.Words.{App, Text, HasKind, HasMatchesOf, is_simple_and_free, fault_of, kind_of, subcommand_of, subcommand_rows_of}
 use Rattle.clap.specs.declared.error.Error.{Error}
+use Rattle.clap.specs.declared.parser.matches.ArgMatches.{ArgMatches}
+use Rattle.sim_inputs.specs.declared.line.Line.{Line}
 use Rattle.sim_inputs.specs.declared.line.WordsRefused.{WordsRefused}
 use Rattle.sim_inputs.specs.declared.line.WordsRefused.TheVariants.{Help, Refused, Memory}
-use Rattle.sim_inputs.specs.CommandLine.{smtsim, IsRefusalOf, IsRefusedFor}
+use Rattle.sim_inputs.specs.CommandLine.{smtsim, Asks, IsRefusalOf, IsRefusedFor, Names}
 
 is_simple : is_simple_and_free smtsim ≡ true
 is_simple = refl
+
+-- what was matched, and that there is no fault, of the command that was described
+matched : (a : App) (words : List Text) (m : ArgMatches) → a ≡ smtsim → HasMatchesOf a words m → subcommand_rows_of m ≡ subcommand_of smtsim words
+matched a words m same has = (subst (λ (b : App). HasMatchesOf b words m) same has refl).1
+
+faultless : (a : App) (words : List Text) → a ≡ smtsim → (is_simple_and_free a ≡ true → fault_of a words ≡ []) → fault_of smtsim words ≡ []
+faultless a words same none = subst (λ (b : App). is_simple_and_free b ≡ true → fault_of b words ≡ []) same none is_simple
+
+-- a line that the matches hold is asked for
+pub asked : (words : List Text) (a : App) (m : ArgMatches) (found : Option Line) (r : Result Line WordsRefused) → r ≡ ok_or found Refused → a ≡ smtsim →
+    HasMatchesOf a words m → (is_simple_and_free a ≡ true → fault_of a words ≡ []) → IfSome found (Names (subcommand_rows_of m)) → IfOk r (Asks words)
+asked words a m None r is same has none held = rw is tt
+asked words a m (Some line) r is same has none held = rw is (record {
+  taken = faultless a words same none;
+  holds = rw (matched a words m same has) at held;
+})
+
+-- and where they hold none, nothing is asked for
+pub not_asked : (words : List Text) (a : App) (m : ArgMatches) (found : Option Line) (r : Result Line WordsRefused) → r ≡ ok_or found Refused → a ≡ smtsim →
+    HasMatchesOf a words m → (is_simple_and_free a ≡ true → fault_of a words ≡ []) → IfNone found ((line : Line) → Names (subcommand_rows_of m) line → ⊥) →
+    IfErr r (IsRefusedFor words)
+not_asked words a m (Some line) r is same has none no_line = rw is tt
+not_asked words a m None r is same has none no_line = rw is (record {
+  no_line = λ line asks. no_line line (rw (matched a words m same has) asks.holds);
+  no_help = λ alone. let no_fault = faultless a words same none in cc;
+})
 
 -- the kinds of the command that was described
 pub kinds_of : (a : App) (words : List Text) (e : Error) → a ≡ smtsim → (is_simple_and_free a ≡ true → HasKind (fault_of a words) e) →

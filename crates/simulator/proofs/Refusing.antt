@@ -1,4 +1,5 @@
--- Refusals of a line, from those of its configuration and those of its image and script.
+-- Refusals of the steps, from those of the image, the configuration and the script; and refusals of a line, from those of its
+-- configuration and those of its image and script.
 use Rattle.std.specs.Prelude.{◌≡◌, ℕ, true, false, ◌&&◌, nat_le, length, List, [], Option, Some, None, IfSome, IfNone, IfErr, Result, Ok, Err, option_map}
 use Rattle.std.proofs.Common.{sym, subst, ◌∙◌, arith}
 use Rattle.elf_image.specs.Image.{ProgramImage}
@@ -10,8 +11,33 @@ use Rattle.smt_model.specs.Setup.{is_accepted}
 use Rattle.core_state.specs.Setup.{setup_of}
 use Rattle.simulator.specs.declared.refused.Refused.{Refused}
 use Rattle.simulator.specs.declared.refused.Refused.TheVariants.{Image, Config, Script, Memory, Output}
-use Rattle.simulator.specs.Refusals.{AreRefused}
+use Rattle.simulator.specs.Refusals.{PassesAll, AreAccepted, AreRefused, IsImageRefusal, IsConfigRefusal, IsScriptRefusal, IsRefusedFor}
 use Rattle.simulator.specs.Lines.{IsLineRefusal, IsSettingsRefusal, IsRefusal}
+
+-- What is refused of the image is refused of the steps; then what is of the sizes, and what is of the script.
+pub image_refusal : (file : List ℕ) (settings : Settings) (script : List ℕ) (reason : Refused) → IsImageRefusal file settings.ram reason
+    → IsRefusedFor file settings script reason
+image_refusal file settings script (Image number) is = is
+image_refusal file settings script Config is = absurd is
+image_refusal file settings script (Script number) is = absurd is
+image_refusal file settings script Memory is = tt
+image_refusal file settings script Output is = tt
+
+pub sizes_refusal : (file : List ℕ) (settings : Settings) (script : List ℕ) (reason : Refused) → PassesAll file settings.ram → IsConfigRefusal settings reason
+    → IsRefusedFor file settings script reason
+sizes_refusal file settings script (Image number) passes is = absurd is
+sizes_refusal file settings script Config passes is = (passes, is)
+sizes_refusal file settings script (Script number) passes is = absurd is
+sizes_refusal file settings script Memory passes is = tt
+sizes_refusal file settings script Output passes is = tt
+
+pub script_refusal : (file : List ℕ) (settings : Settings) (script : List ℕ) (reason : Refused) → PassesAll file settings.ram → AreAccepted settings
+    → IsScriptRefusal script reason → IsRefusedFor file settings script reason
+script_refusal file settings script (Image number) passes accepted is = absurd is
+script_refusal file settings script Config passes accepted is = absurd is
+script_refusal file settings script (Script number) passes accepted is = (passes, accepted, is)
+script_refusal file settings script Memory passes accepted is = tt
+script_refusal file settings script Output passes accepted is = tt
 
 -- What is refused of the configuration is refused of the line.
 pub settings_refusal : (line : Line) (text : List ℕ) (file : Option (List ℕ)) (script : List ℕ) (reason : Refused)

@@ -1,3 +1,5 @@
+ghost use Rattle.std.specs.Prelude.{◌≡◌, Some, None, replicate, slice_index_or, slice_set};
+
 use smt_core::Done;
 use std::mem;
 
@@ -7,7 +9,10 @@ pub struct Hands {
 }
 
 impl Hands {
-    pub fn empty() -> Hands {
+    /// No actor holds anything.
+    pub fn empty() -> Hands
+        ensures { result.held ≡ replicate 16 None }
+    {
         Hands {
             held: [
                 None, None, None, None, None, None, None, None, None, None, None, None, None, None,
@@ -17,16 +22,26 @@ impl Hands {
     }
 
     /// Gives actor `actor` a job that it has worked. What it held before, or what no actor can hold, is given up.
-    pub fn put(&mut self, actor: u8, done: Done) {
-        match self.held.get_mut(usize::from(actor)) {
-            Some(place) => abandon(mem::replace(place, Some(done))),
-            None => done.abandon(),
+    pub fn put(&mut self, actor: u8, done: Done)
+        ensures { self.new.held ≡ slice_set self.old.held actor (Some done) }
+    {
+        if actor < 16 {
+            abandon(mem::replace(&mut self.held[usize::from(actor)], Some(done)));
+        } else {
+            done.abandon();
         }
     }
 
     /// Takes what actor `actor` holds.
-    pub fn take(&mut self, actor: u8) -> Option<Done> {
-        mem::replace(self.held.get_mut(usize::from(actor))?, None)
+    pub fn take(&mut self, actor: u8) -> Option<Done>
+        ensures taken { result ≡ slice_index_or self.old.held actor None }
+        ensures left { self.new.held ≡ slice_set self.old.held actor None }
+    {
+        if actor < 16 {
+            mem::replace(&mut self.held[usize::from(actor)], None)
+        } else {
+            None
+        }
     }
 
     /// Gives up all that is held.

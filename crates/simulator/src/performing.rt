@@ -135,32 +135,33 @@ fn answer<P: Predict, W: Write, R: Wait>(
             };
             step_and_report(rt, inputs, settings, printing, predict, out, alloc)
         }
-        Line::List { .. } => {
-            read_and_list(inputs, settings, out, alloc)?;
-            Ok(0)
-        }
+        Line::List { .. } => read_and_list(inputs, settings, out, alloc),
     }
 }
 
-/// Writes the listing of the image's code.
+/// Writes the listing of the image's code; its exit status is 0.
 fn read_and_list<W: Write>(
     inputs: &Inputs<'_>,
     settings: &Settings,
     out: &mut W,
     alloc: Global,
-) -> Result<(), Refused>
+) -> Result<u8, Refused>
     ensures unread { IfNone inputs.now.image (result ≡ Err Output) }
     ensures refused { IfErr result (λ reason. IfSome inputs.now.image (λ image. IsListRefusal image.now settings.now.ram reason)) }
     ensures passed { OnOk result (IfSome inputs.now.image (λ image. PassesAll image.now settings.now.ram)) }
     ensures listed { OnOk result (IfSome inputs.now.image (λ image.
         IsListed image.now settings.now.ram (W.contents out.old) (W.contents out.new))) }
+    ensures zero { IfOk result (λ status. status ≡ 0) }
 {
     let Some(file) = inputs.image else {
         return Err(Refused::Output);
     };
-    let image = read_image(file, settings, alloc)?;
+    let image = match read_image(file, settings, alloc) {
+        Ok(image) => image,
+        Err(refused) => return Err(refused),
+    };
     match list(&image, out) {
-        Ok(()) => Ok(()),
+        Ok(()) => Ok(0),
         Err(_) => Err(Refused::Output),
     }
 }

@@ -1,4 +1,5 @@
-ghost use Rattle.std.specs.Prelude.{◌≡◌, ◌≤◌, List, All, IsTrue, IfOk, IfErr, OnOk, length, sum};
+ghost use Rattle.std.specs.Prelude.{◌≡◌, ◌+◌, ◌≤◌, List, All, IsTrue, IfOk, IfErr, OnOk, length, sum};
+ghost use Rattle.arrayvec.specs.ArrayString.{array_string_len};
 ghost use Rattle.elf_image.specs.Loaded.{IsImageOf};
 ghost use Rattle.events.specs.Range.{HasShortWrite};
 ghost use Rattle.core_state.specs.Setup.{setup_of};
@@ -50,9 +51,19 @@ pub fn step_bytes<P: Predict, W: Write, R: Wait>(
     ensures counted { IfOk result (λ finished. sum finished.counts ≡ length finished.core.past) }
     ensures shown { IfOk result (λ finished. Shown finished.core) }
 {
-    let image = read_image(image, settings, alloc)?;
-    let core = make_core(&image, settings, alloc)?;
-    let words = read_words(script, alloc)?;
+    // Each refusal is handed on as it is: a `?` would leave the prover to find what it becomes.
+    let image = match read_image(image, settings, alloc) {
+        Ok(image) => image,
+        Err(refused) => return Err(refused),
+    };
+    let core = match make_core(&image, settings, alloc) {
+        Ok(core) => core,
+        Err(refused) => return Err(refused),
+    };
+    let words = match read_words(script, alloc) {
+        Ok(words) => words,
+        Err(refused) => return Err(refused),
+    };
     step_core::<Brand, P, W, R>(
         rt,
         core,
@@ -211,6 +222,9 @@ fn hand_back<L: Origin, P: Predict, W: Write, R: Wait>(
     Ok(())
 }
 
+/// Room for what is printed of an ask.
+type Line = ArrayString<80>;
+
 /// Makes one ask, and prints its line. A job that comes is worked at once, and what was done is held. Tells whether one came.
 fn make_ask<L: Origin, P: Predict, W: Write, R: Wait>(
     rt: &R,
@@ -225,27 +239,39 @@ fn make_ask<L: Origin, P: Predict, W: Write, R: Wait>(
 {
     let Actors { passes, hands } = actors;
     let reply = core.step(rt, &mut passes[usize::from(actor)], ask, predict);
-    match reply.said() {
-        Said::Event(event) => tell_event(&event, out)?,
+    let mut line = Line::new();
+    let has_come = match reply.said() {
+        Said::Event(event) => {
+            push_done(&mut line, print_event(&event).as_str());
+            false
+        }
         Said::Job(job, event) => {
             hands.put(actor, work(job));
-            tell_event(&event, out)?;
-            return Ok(true);
+            push_done(&mut line, print_event(&event).as_str());
+            true
         }
-        Said::Idle => out.write_all(b"idle\n")?,
-        Said::Stranger => out.write_all(b"stranger\n")?,
-        Said::Full => out.write_all(b"full\n")?,
-    }
-    Ok(false)
+        Said::Idle => {
+            line.push_str("idle\n");
+            false
+        }
+        Said::Stranger => {
+            line.push_str("stranger\n");
+            false
+        }
+        Said::Full => {
+            line.push_str("full\n");
+            false
+        }
+    };
+    out.write_all(line.as_bytes())?;
+    Ok(has_come)
 }
 
-/// One write for one line.
-fn tell_event<W: Write>(event: &Event, out: &mut W) -> io::Result<()>
-    requires { HasShortWrite event.now }
+/// Appends the line of what was done.
+fn push_done(line: &mut Line, what: &str)
+    requires { array_string_len line.old + length what.now + 6 ≤ 80 }
 {
-    let mut line = ArrayString::<80>::new();
     line.push_str("done ");
-    line.push_str(print_event(event).as_str());
+    line.push_str(what);
     line.push_str("\n");
-    out.write_all(line.as_bytes())
 }

@@ -2,56 +2,15 @@
 
 ghost use Rattle.std.specs.Prelude.{◌≡◌, ◌+◌, ◌%◌, ◌^◌};
 
+use crate::files::{FIRST, file_of};
 use arrayvec::ArrayVec;
 use elf_image::{Image, RamSize, load};
-use events::{Effect, Event, Next, Outcome};
-use smt_core::{
-    Answer, CompleteAnswer, Config, Core, CoreRefused, Done, IssueAnswer, Predict, Role, work,
-};
+use events::{Event, read_event_line};
+use smt_core::{Answer, CompleteAnswer, Config, Core, Done, IssueAnswer, Predict, Role, work};
 use std::alloc::Global;
-use std::test::Fail;
 
-/// An ELF file of one segment at 80000000: `addi x10,x0,5`, `addi x17,x0,93`, `ecall`.
-const FIRST: [u8; 96] = [
-    0x7f, 0x45, 0x4c, 0x46, 1, 1, 1, 0, 0, 0, 0, 0, 0, 0, 0, 0, 2, 0, 0xf3, 0, 1, 0, 0, 0, 0, 0, 0,
-    0x80, 52, 0, 0, 0, 0, 0, 0, 0, 0, 0, 0, 0, 52, 0, 32, 0, 1, 0, 0, 0, 0, 0, 0, 0, 1, 0, 0, 0,
-    84, 0, 0, 0, 0, 0, 0, 0x80, 0, 0, 0, 0x80, 12, 0, 0, 0, 12, 0, 0, 0, 5, 0, 0, 0, 1, 0, 0, 0,
-    0x13, 0x05, 0x50, 0, 0x93, 0x08, 0xd0, 0x05, 0x73, 0, 0, 0,
-];
-
-pub fn first_image(alloc: Global) -> Result<Image, Fail> {
-    loaded(&FIRST, alloc)
-}
-
-/// The image of a file of the same form with these words, at most 63.
-pub fn image_of(words: &[u32], alloc: Global) -> Result<Image, Fail> {
-    let size = 4 * words.len().min(63) as u8;
-    let mut file = Vec::new(alloc);
-    for (place, byte) in FIRST.iter().take(84).enumerate() {
-        // How many bytes the segment has in the file and in memory stands at 68 and 72.
-        let byte = if matches!(place, 68 | 72) {
-            size
-        } else {
-            *byte
-        };
-        file.push(byte)?;
-    }
-    for word in words {
-        for byte in word.to_le_bytes() {
-            file.push(byte)?;
-        }
-    }
-    loaded(&file, alloc)
-}
-
-fn loaded(file: &[u8], alloc: Global) -> Result<Image, Fail> {
-    let Some(ram) = RamSize::new(65536) else {
-        return Err(Fail::new("RAM size"));
-    };
-    match load(alloc, file, ram) {
-        Ok(image) => Ok(image),
-        Err(_) => Err(Fail::new("image")),
-    }
+pub fn first_image(alloc: Global) -> Option<Image> {
+    load(alloc, &FIRST, RamSize::new(65536)?).ok()
 }
 
 /// Sizes with so many actors, each a unit for arithmetic.
@@ -90,12 +49,19 @@ pub fn one_of_each(harts: u8) -> Config {
     }
 }
 
-pub fn core_of(image: &Image, sizes: Config, limit: u32, alloc: Global) -> Result<Core, Fail> {
-    match Core::new(image, sizes, limit, alloc) {
-        Ok(core) => Ok(core),
-        Err(CoreRefused::Config) => Err(Fail::new("sizes")),
-        Err(CoreRefused::Memory) => Err(Fail::new("memory")),
-    }
+/// A core for the first program.
+pub fn first_core(sizes: Config, limit: u32, alloc: Global) -> Option<Core> {
+    let image = first_image(alloc)?;
+    Core::new(&image, sizes, limit, alloc).ok()
+}
+
+/// A core for these words, with one actor of each role and room for a thousand events.
+pub fn core_of(words: &[u32], harts: u8, alloc: Global) -> Option<Core> {
+    let Ok(file) = file_of(words, 0, alloc) else {
+        return None;
+    };
+    let image = load(alloc, &file, RamSize::new(65536)?).ok()?;
+    Core::new(&image, one_of_each(harts), 1000, alloc).ok()
 }
 
 /// A predictor that guesses one address.
@@ -143,14 +109,23 @@ pub fn make<P: Predict>(core: &mut Core, predictor: &mut P, step: Step) -> Optio
     }
 }
 
-/// Makes asks in order. Answers the place of the first that doesn't write the event beside it, as its last.
+/// Whether an event came, and is printed as this line: each line is read as one event alone.
+fn is_line(event: Option<Event>, line: &str) -> bool {
+    match event {
+        Some(event) => read_event_line(line.as_bytes()) == Ok(event),
+        None => false,
+    }
+}
+
+/// Makes asks in order. Answers the place of the first that doesn't write the event of the line beside it, as its last.
 pub fn first_other<P: Predict>(
     core: &mut Core,
     predictor: &mut P,
-    run: &[(Step, Event)],
+    run: &[(Step, &str)],
 ) -> Option<usize> {
-    for (place, (step, expected)) in run.iter().enumerate() {
-        if make(core, predictor, *step) != Some(*expected) {
+    for (place, (step, line)) in run.iter().enumerate() {
+        let event = make(core, predictor, *step);
+        if !is_line(event, line) {
             return Some(place);
         }
     }
@@ -178,51 +153,5 @@ fn execute(core: &mut Core, actor: u8) -> Option<Event> {
     match core.complete(actor, done) {
         CompleteAnswer::Done(event) => Some(event),
         CompleteAnswer::Stranger | CompleteAnswer::Full => None,
-    }
-}
-
-pub fn fetch(actor: u8, hart: u8, seq: u32, pc: u32, word: Option<u32>, predicted: u32) -> Event {
-    Event::Fetch {
-        actor,
-        hart,
-        seq,
-        pc,
-        word,
-        predicted,
-    }
-}
-
-pub fn decode(actor: u8, seq: u32) -> Event {
-    Event::Decode { actor, seq }
-}
-
-pub fn rename(actor: u8, seq: u32, phys: Option<u16>) -> Event {
-    Event::Rename { actor, seq, phys }
-}
-
-pub fn complete(actor: u8, seq: u32, value: Option<u32>, next: Next) -> Event {
-    Event::Complete {
-        actor,
-        seq,
-        outcome: Outcome {
-            value,
-            next,
-            addr: None,
-            datum: None,
-            out: None,
-        },
-    }
-}
-
-pub fn retire(actor: u8, seq: u32, value: Option<u32>, next: Next) -> Event {
-    Event::Retire {
-        actor,
-        seq,
-        effect: Effect {
-            value,
-            next,
-            write: None,
-            out: None,
-        },
     }
 }

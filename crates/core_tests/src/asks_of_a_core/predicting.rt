@@ -2,14 +2,10 @@
 
 ghost use Rattle.std.specs.Prelude.{◌≡◌, ◌+◌, ◌%◌, ◌^◌};
 
-use super::asking::{
-    Always, Behind, Step, complete, config, core_of, decode, fetch, first_image, first_other,
-    image_of, issue, make, one_of_each, rename, retire,
-};
-use events::{Event, Next};
+use super::asking::{Always, Behind, Step, config, core_of, first_core, first_other, issue, make};
+use events::Event;
 use smt_core::{Answer, CompleteAnswer, Core, Done, Predict, Status};
 use std::alloc::Global;
-use std::test::Fail;
 
 /// A predictor that guesses the pc behind and address 0 by turns, and counts how often it is asked.
 #[derive(Drop)]
@@ -30,100 +26,91 @@ impl Predict for ByTurns {
     }
 }
 
-#[test]
-fn a_jump_to_a_half_word_stops_at_the_jump(rt: HostRuntime) -> Result<(), Fail> {
-    // jal x5,2
-    let image = image_of(&[0x002002ef], rt.alloc())?;
-    let mut core = core_of(&image, one_of_each(1), 1000, rt.alloc())?;
-    let run = [
-        (
-            Step::Fetch(0),
-            fetch(0, 0, 0, 0x8000_0000, Some(0x002002ef), 0x8000_0002),
-        ),
-        (Step::Decode(1, 0), decode(1, 0)),
-        (Step::Rename(1, 0), rename(1, 0, Some(31))),
-        (Step::Execute(3), complete(3, 0, None, Next::Stopped(0))),
-        (Step::Retire(2, 0), retire(2, 0, None, Next::Stopped(0))),
-    ];
-    let other = first_other(&mut core, &mut Always(0x8000_0002), &run);
+/// jal x5,2
+static ASTRAY: [(Step, &str); 5] = [
+    (Step::Fetch(0), "F 0 0 0 80000000 002002ef 80000002"),
+    (Step::Decode(1, 0), "D 1 0"),
+    (Step::Rename(1, 0), "R 1 0 31"),
+    (Step::Execute(3), "C 3 0 - s0 - - -"),
+    (Step::Retire(2, 0), "T 2 0 - s0 - - -"),
+];
+
+/// What is first otherwise in that run, and after it the number of events, how the hart stands, x5, and the first free register.
+type Astray = (
+    Option<usize>,
+    usize,
+    (Option<Status>, Option<u32>, Option<u16>),
+);
+
+fn jump_astray(core: &mut Core) -> Astray {
+    let other = first_other(core, &mut Always(0x8000_0002), &ASTRAY);
     let free = core.free_registers().first().copied();
-    // The link is not written, and the register for it is free again.
-    assert!(rt;
-        (
-            other,
-            core.history().len(),
-            core.status(0),
-            core.register(0, 5),
-            free
-        ) == (None, 6, Some(Status::Stopped(0)), Some(0), Some(31))
-    );
-    Ok(())
+    let hart = (core.status(0), core.register(0, 5), free);
+    (other, core.history().len(), hart)
+}
+
+fn of_a_jump_astray(alloc: Global) -> Option<Astray> {
+    let mut core = core_of(&[0x002002ef], 1, alloc)?;
+    Some(jump_astray(&mut core))
 }
 
 #[test]
-fn a_predictor_that_is_always_wrong_changes_nothing_that_retires(
-    rt: HostRuntime,
-) -> Result<(), Fail> {
-    let mut core = core_of(
-        &first_image(rt.alloc())?,
-        config(1, 64, 16, 1),
-        1000,
-        rt.alloc(),
-    )?;
-    // Number 1 is fetched where no word is, and squashed as number 0 completes.
-    let wrong_path = [
-        (
-            Step::Fetch(0),
-            fetch(0, 0, 0, 0x8000_0000, Some(0x00500513), 0),
-        ),
-        (Step::Fetch(0), fetch(0, 0, 1, 0, None, 4)),
-        (Step::Decode(0, 0), decode(0, 0)),
-        (Step::Decode(0, 0), decode(0, 1)),
-        (Step::Rename(0, 0), rename(0, 0, Some(31))),
-        (Step::Rename(0, 0), rename(0, 1, None)),
-        (
-            Step::Execute(0),
-            complete(0, 0, Some(5), Next::Pc(0x8000_0004)),
-        ),
-    ];
-    let squashed = (
-        first_other(&mut core, &mut Always(0), &wrong_path),
-        core.icount(0),
-    );
-    let later = [
-        (
-            Step::Fetch(0),
-            fetch(0, 0, 2, 0x8000_0004, Some(0x05d00893), 0),
-        ),
-        (Step::Decode(0, 0), decode(0, 2)),
-        (Step::Rename(0, 0), rename(0, 2, Some(32))),
-        (
-            Step::Execute(0),
-            complete(0, 2, Some(0x5d), Next::Pc(0x8000_0008)),
-        ),
-        (
-            Step::Fetch(0),
-            fetch(0, 0, 3, 0x8000_0008, Some(0x00000073), 0),
-        ),
-        (Step::Decode(0, 0), decode(0, 3)),
-        (Step::Rename(0, 0), rename(0, 3, None)),
-        (Step::Execute(0), complete(0, 3, None, Next::Ended(5))),
-        (
-            Step::Retire(0, 0),
-            retire(0, 0, Some(5), Next::Pc(0x8000_0004)),
-        ),
-        (
-            Step::Retire(0, 0),
-            retire(0, 2, Some(0x5d), Next::Pc(0x8000_0008)),
-        ),
-        (Step::Retire(0, 0), retire(0, 3, None, Next::Ended(5))),
-    ];
-    let other = first_other(&mut core, &mut Always(0), &later);
-    assert!(rt;
-        (squashed, other, core.history().len(), core.status(0))
-            == ((None, Some(0)), None, 21, Some(Status::Ended(5)))
-    );
-    Ok(())
+fn a_jump_to_a_half_word_stops_at_the_jump(rt: HostRuntime) {
+    // The link is not written, and the register for it is free again.
+    let end = (Some(Status::Stopped(0)), Some(0), Some(31));
+    assert!(rt; of_a_jump_astray(rt.alloc()) == Some((None, 6, end)));
+}
+
+/// Number 1 is fetched where no word is, and squashed as number 0 completes.
+static WRONG_PATH: [(Step, &str); 7] = [
+    (Step::Fetch(0), "F 0 0 0 80000000 00500513 00000000"),
+    (Step::Fetch(0), "F 0 0 1 00000000 - 00000004"),
+    (Step::Decode(0, 0), "D 0 0"),
+    (Step::Decode(0, 0), "D 0 1"),
+    (Step::Rename(0, 0), "R 0 0 31"),
+    (Step::Rename(0, 0), "R 0 1 -"),
+    (Step::Execute(0), "C 0 0 00000005 p80000004 - - -"),
+];
+
+static RIGHT_PATH: [(Step, &str); 11] = [
+    (Step::Fetch(0), "F 0 0 2 80000004 05d00893 00000000"),
+    (Step::Decode(0, 0), "D 0 2"),
+    (Step::Rename(0, 0), "R 0 2 32"),
+    (Step::Execute(0), "C 0 2 0000005d p80000008 - - -"),
+    (Step::Fetch(0), "F 0 0 3 80000008 00000073 00000000"),
+    (Step::Decode(0, 0), "D 0 3"),
+    (Step::Rename(0, 0), "R 0 3 -"),
+    (Step::Execute(0), "C 0 3 - e00000005 - - -"),
+    (Step::Retire(0, 0), "T 0 0 00000005 p80000004 - - -"),
+    (Step::Retire(0, 0), "T 0 2 0000005d p80000008 - - -"),
+    (Step::Retire(0, 0), "T 0 3 - e00000005 - - -"),
+];
+
+/// What is first otherwise on the wrong path, and the count of instructions before the issue after it; what is first otherwise behind it,
+/// and after that the number of events and how the hart stands.
+type Wrong = (
+    Option<usize>,
+    Option<u32>,
+    (Option<usize>, usize, Option<Status>),
+);
+
+fn always_wrong(core: &mut Core) -> Wrong {
+    let wrong = first_other(core, &mut Always(0), &WRONG_PATH);
+    let count = core.icount(0);
+    let right = first_other(core, &mut Always(0), &RIGHT_PATH);
+    let end = (right, core.history().len(), core.status(0));
+    (wrong, count, end)
+}
+
+fn of_wrong_guesses(alloc: Global) -> Option<Wrong> {
+    let mut core = first_core(config(1, 64, 16, 1), 1000, alloc)?;
+    Some(always_wrong(&mut core))
+}
+
+#[test]
+fn a_predictor_that_is_always_wrong_changes_nothing_that_retires(rt: HostRuntime) {
+    let end = (None, 21, Some(Status::Ended(5)));
+    assert!(rt; of_wrong_guesses(rt.alloc()) == Some((None, Some(0), end)));
 }
 
 /// Two harts run `addi x5,x0,3`, `beq x0,x0,0x8000000c`, `mul x7,x5,x5`, `addi x8,x0,9`, `ebreak`. The branch of hart 0 is
@@ -139,127 +126,133 @@ fn late_product(core: &mut Core) -> Option<Done> {
     issue(core, 4)
 }
 
-#[test]
-fn a_late_job_of_a_squashed_instruction_is_dropped(rt: HostRuntime) -> Result<(), Fail> {
-    let words = [0x00300293, 0x00000463, 0x025283b3, 0x00900413, 0x00100073];
-    let image = image_of(&words, rt.alloc())?;
-    let mut core = core_of(&image, one_of_each(2), 1000, rt.alloc())?;
-    let Some(late) = late_product(&mut core) else {
-        return Err(Fail::new("product"));
-    };
-    let taken = core.history().get(11).copied();
-    // The branch is taken, and the product behind it squashed: its register is free, and given to hart 1.
-    let run = [
-        (
-            Step::Execute(3),
-            complete(3, 2, None, Next::Pc(0x8000_000c)),
-        ),
-        (Step::Decode(1, 1), decode(1, 1)),
-        (Step::Rename(1, 1), rename(1, 1, Some(63))),
-        (
-            Step::Execute(3),
-            complete(3, 1, Some(3), Next::Pc(0x8000_0004)),
-        ),
-    ];
-    let squashed = first_other(&mut core, &mut Behind, &run);
-    let dropped = core.complete(4, late);
+/// The branch is taken, and the product behind it squashed: its register is free, and given to hart 1.
+static SQUASHED: [(Step, &str); 4] = [
+    (Step::Execute(3), "C 3 2 - p8000000c - - -"),
+    (Step::Decode(1, 1), "D 1 1"),
+    (Step::Rename(1, 1), "R 1 1 63"),
+    (Step::Execute(3), "C 3 1 00000003 p80000004 - - -"),
+];
+
+/// The number in the register is hart 1's 3, and not the product 9. Hart 0 goes on where the branch leads.
+static AFTER: [(Step, &str); 2] = [
+    (Step::Retire(2, 1), "T 2 1 00000003 p80000004 - - -"),
+    (Step::Fetch(0), "F 0 0 6 8000000c 00900413 80000010"),
+];
+
+/// The twelfth event, what is first otherwise before the product comes and after it, what is answered to it, the number of events
+/// then, and x5 of hart 1 at the end.
+type Late = (
+    Option<Event>,
+    [Option<usize>; 2],
+    (CompleteAnswer, usize),
+    Option<u32>,
+);
+
+fn late_and_dropped(core: &mut Core) -> Option<Late> {
+    let late = late_product(core)?;
+    let twelfth = core.history().get(11).copied();
+    let before = first_other(core, &mut Behind, &SQUASHED);
+    let answer = core.complete(4, late);
     let events = core.history().len();
-    // The number in the register is hart 1's 3, and not the product 9. Hart 0 goes on where the branch leads.
-    let after = [
-        (
-            Step::Retire(2, 1),
-            retire(2, 1, Some(3), Next::Pc(0x8000_0004)),
-        ),
-        (
-            Step::Fetch(0),
-            fetch(0, 0, 6, 0x8000_000c, Some(0x00900413), 0x8000_0010),
-        ),
-    ];
-    let other = first_other(&mut core, &mut Behind, &after);
-    let drop = CompleteAnswer::Done(Event::Drop { actor: 4, seq: 4 });
-    assert!(rt;
-        (taken, squashed, dropped, events, other, core.register(1, 5))
-            == (Some(rename(1, 4, Some(63))), None, drop, 22, None, Some(3))
-    );
-    Ok(())
+    let after = first_other(core, &mut Behind, &AFTER);
+    let register = core.register(1, 5);
+    Some((twelfth, [before, after], (answer, events), register))
+}
+
+fn of_a_late_job(alloc: Global) -> Option<Late> {
+    let words = [0x00300293, 0x00000463, 0x025283b3, 0x00900413, 0x00100073];
+    let mut core = core_of(&words, 2, alloc)?;
+    late_and_dropped(&mut core)
 }
 
 #[test]
-fn a_predictor_is_asked_at_each_word_and_only_there(rt: HostRuntime) -> Result<(), Fail> {
+fn a_late_job_of_a_squashed_instruction_is_dropped(rt: HostRuntime) {
+    let renamed = Event::Rename {
+        actor: 1,
+        seq: 4,
+        phys: Some(63),
+    };
+    let dropped = CompleteAnswer::Done(Event::Drop { actor: 4, seq: 4 });
+    let told = (Some(renamed), [None, None], (dropped, 22), Some(3));
+    assert!(rt; of_a_late_job(rt.alloc()) == Some(told));
+}
+
+static ASKED: [(Step, &str); 5] = [
+    (Step::Fetch(0), "F 0 0 0 80000000 00500513 80000004"),
+    (Step::Fetch(0), "F 0 0 1 80000004 05d00893 00000000"),
+    (Step::Fetch(0), "F 0 0 2 00000000 - 00000004"),
+    (Step::Fetch(0), "F 0 0 3 00000004 - 00000008"),
+    (Step::Decode(0, 0), "D 0 0"),
+];
+
+/// The answers to a stranger's fetch and to one without room, how often the predictor was asked after each, and what is first otherwise
+/// in between.
+type Asked = ([Answer; 2], [u32; 2], Option<usize>);
+
+fn asked(core: &mut Core) -> Asked {
     let mut predictor = ByTurns { asked: 0 };
-    let mut core = core_of(
-        &first_image(rt.alloc())?,
-        config(1, 64, 16, 1),
-        5,
-        rt.alloc(),
-    )?;
-    let strangers = core.fetch(1, &mut predictor);
+    let stranger = core.fetch(1, &mut predictor);
     let before = predictor.asked;
-    let run = [
-        (
-            Step::Fetch(0),
-            fetch(0, 0, 0, 0x8000_0000, Some(0x00500513), 0x8000_0004),
-        ),
-        (
-            Step::Fetch(0),
-            fetch(0, 0, 1, 0x8000_0004, Some(0x05d00893), 0),
-        ),
-        (Step::Fetch(0), fetch(0, 0, 2, 0, None, 4)),
-        (Step::Fetch(0), fetch(0, 0, 3, 4, None, 8)),
-        (Step::Decode(0, 0), decode(0, 0)),
-    ];
-    let other = first_other(&mut core, &mut predictor, &run);
+    let other = first_other(core, &mut predictor, &ASKED);
     let last = core.fetch(0, &mut predictor);
-    assert!(rt;
-        (strangers, before, other, last, predictor.asked)
-            == (Answer::Idle, 0, None, Answer::Full, 2)
-    );
-    Ok(())
+    ([stranger, last], [before, predictor.asked], other)
 }
 
-/// A core of one hart that has run the first program under the predictor that guesses by turns, up to the end of its call.
-fn run_by_turns(alloc: Global, predictor: &mut ByTurns) -> Result<Core, Fail> {
-    let mut core = core_of(&first_image(alloc)?, config(1, 64, 16, 1), 1000, alloc)?;
-    for step in [
-        Step::Fetch(0),
-        Step::Fetch(0),
-        Step::Fetch(0),
-        Step::Decode(0, 0),
-        Step::Decode(0, 0),
-        Step::Rename(0, 0),
-        Step::Rename(0, 0),
-        Step::Execute(0),
-        Step::Execute(0),
-    ] {
-        make(&mut core, predictor, step);
-    }
-    Ok(core)
+fn asked_of_five(alloc: Global) -> Option<Asked> {
+    let mut core = first_core(config(1, 64, 16, 1), 5, alloc)?;
+    Some(asked(&mut core))
 }
 
 #[test]
-fn a_predictor_may_change_its_guesses(rt: HostRuntime) -> Result<(), Fail> {
+fn a_predictor_is_asked_at_each_word_and_only_there(rt: HostRuntime) {
+    let told = ([Answer::Idle, Answer::Full], [0, 2], None);
+    assert!(rt; asked_of_five(rt.alloc()) == Some(told));
+}
+
+/// The first program under the predictor that guesses by turns, up to the end of its call.
+static BY_TURNS: [Step; 9] = [
+    Step::Fetch(0),
+    Step::Fetch(0),
+    Step::Fetch(0),
+    Step::Decode(0, 0),
+    Step::Decode(0, 0),
+    Step::Rename(0, 0),
+    Step::Rename(0, 0),
+    Step::Execute(0),
+    Step::Execute(0),
+];
+
+/// The second guess was wrong: number 2, fetched at 0, is squashed, and the hart goes on behind number 1.
+static CHANGED: [(Step, &str); 7] = [
+    (Step::Fetch(0), "F 0 0 3 80000008 00000073 8000000c"),
+    (Step::Decode(0, 0), "D 0 3"),
+    (Step::Rename(0, 0), "R 0 3 -"),
+    (Step::Execute(0), "C 0 3 - e00000005 - - -"),
+    (Step::Retire(0, 0), "T 0 0 00000005 p80000004 - - -"),
+    (Step::Retire(0, 0), "T 0 1 0000005d p80000008 - - -"),
+    (Step::Retire(0, 0), "T 0 3 - e00000005 - - -"),
+];
+
+/// What is first otherwise after that, how often the predictor was asked, and how the hart stands.
+type Guessed = (Option<usize>, u32, Option<Status>);
+
+fn guesses_changed(core: &mut Core) -> Guessed {
     let mut predictor = ByTurns { asked: 0 };
-    let mut core = run_by_turns(rt.alloc(), &mut predictor)?;
-    // The second guess was wrong: number 2, fetched at 0, is squashed, and the hart goes on behind number 1.
-    let run = [
-        (
-            Step::Fetch(0),
-            fetch(0, 0, 3, 0x8000_0008, Some(0x00000073), 0x8000_000c),
-        ),
-        (Step::Decode(0, 0), decode(0, 3)),
-        (Step::Rename(0, 0), rename(0, 3, None)),
-        (Step::Execute(0), complete(0, 3, None, Next::Ended(5))),
-        (
-            Step::Retire(0, 0),
-            retire(0, 0, Some(5), Next::Pc(0x8000_0004)),
-        ),
-        (
-            Step::Retire(0, 0),
-            retire(0, 1, Some(0x5d), Next::Pc(0x8000_0008)),
-        ),
-        (Step::Retire(0, 0), retire(0, 3, None, Next::Ended(5))),
-    ];
-    let other = first_other(&mut core, &mut predictor, &run);
-    assert!(rt; (other, predictor.asked, core.status(0)) == (None, 3, Some(Status::Ended(5))));
-    Ok(())
+    for step in &BY_TURNS {
+        make(core, &mut predictor, *step);
+    }
+    let other = first_other(core, &mut predictor, &CHANGED);
+    (other, predictor.asked, core.status(0))
+}
+
+fn of_changed_guesses(alloc: Global) -> Option<Guessed> {
+    let mut core = first_core(config(1, 64, 16, 1), 1000, alloc)?;
+    Some(guesses_changed(&mut core))
+}
+
+#[test]
+fn a_predictor_may_change_its_guesses(rt: HostRuntime) {
+    let told = (None, 3, Some(Status::Ended(5)));
+    assert!(rt; of_changed_guesses(rt.alloc()) == Some(told));
 }

@@ -1,17 +1,15 @@
 //! The core's tables, against texts made by hand from the rules of renaming and from what each line says.
 
-use super::asking::{Behind, Step, config, core_of, first_image, issue, make};
+use super::asking::{Behind, Step, config, first_core, issue, make};
 use events::Event;
 use smt_core::Core;
 use std::alloc::Global;
+use std::io;
 use std::io::Write;
-use std::test::Fail;
-use std::{io, str};
 
 /// A core for the first program with two actors, each an arithmetic unit.
-fn first_core(harts: u8, extra: u16, alloc: Global) -> Result<Core, Fail> {
-    let image = first_image(alloc)?;
-    core_of(&image, config(harts, extra, 16, 2), 100, alloc)
+fn core_with(harts: u8, extra: u16, alloc: Global) -> Option<Core> {
+    first_core(config(harts, extra, 16, 2), 100, alloc)
 }
 
 fn fetch(core: &mut Core, times: u8) {
@@ -20,13 +18,12 @@ fn fetch(core: &mut Core, times: u8) {
     }
 }
 
-/// The lines of a core's tables.
-fn tables_of(core: &Core, alloc: Global) -> Result<Vec<u8>, Fail> {
+/// Whether a core's tables begin with these lines, and whether they are all.
+fn tell(core: &Core, lines: &str, alloc: Global) -> [bool; 2] {
     let mut text = Vec::new(alloc);
-    match core.tables(&mut text) {
-        Ok(()) => Ok(text),
-        Err(_) => Err(Fail::new("tables")),
-    }
+    let told = core.tables(&mut text).is_ok();
+    let begins = text.as_slice().starts_with(lines.as_bytes());
+    [told && begins, text.len() == lines.len()]
 }
 
 fn decode_and_rename(core: &mut Core, hart: u8, times: u8) {
@@ -37,18 +34,16 @@ fn decode_and_rename(core: &mut Core, hart: u8, times: u8) {
 }
 
 /// Has the actor take a job that it doesn't hand back.
-fn hold_job(core: &mut Core, actor: u8) -> Result<(), Fail> {
-    let Some(done) = issue(core, actor) else {
-        return Err(Fail::new("job"));
-    };
+fn hold_job(core: &mut Core, actor: u8) -> Option<()> {
+    let done = issue(core, actor)?;
     done.abandon();
-    Ok(())
+    Some(())
 }
 
-fn complete_job(core: &mut Core) -> Result<(), Fail> {
+fn complete_job(core: &mut Core) -> Option<()> {
     match make(core, &mut Behind, Step::Execute(0)) {
-        Some(Event::Complete { .. }) => Ok(()),
-        _ => Err(Fail::new("completion")),
+        Some(Event::Complete { .. }) => Some(()),
+        _ => None,
     }
 }
 
@@ -70,13 +65,15 @@ reg 14 00000000\nreg 15 00000000\nreg 16 00000000\nreg 17 00000000\nreg 18 00000
 reg 21 00000000\nreg 22 00000000\nreg 23 00000000\nreg 24 00000000\nreg 25 00000000\nreg 26 00000000\nreg 27 00000000\n\
 reg 28 00000000\nreg 29 00000000\nreg 30 00000000\n";
 
-#[test]
-fn the_tables_after_three_fetches(rt: HostRuntime) -> Result<(), Fail> {
-    let mut core = first_core(1, 64, rt.alloc())?;
+fn after_three_fetches(alloc: Global) -> Option<[bool; 2]> {
+    let mut core = core_with(1, 64, alloc)?;
     fetch(&mut core, 3);
-    let text = tables_of(&core, rt.alloc())?;
-    assert!(rt; str::from_utf8(&text).unwrap_or("") == FETCHED);
-    Ok(())
+    Some(tell(&core, FETCHED, alloc))
+}
+
+#[test]
+fn the_tables_after_three_fetches(rt: HostRuntime) {
+    assert!(rt; after_three_fetches(rt.alloc()) == Some([true, true]));
 }
 
 /// Two harts in all stages. Six fetches go to the harts in turn, so hart 0 has the instructions 0, 2 and 4, hart 1 has 1, 3 and
@@ -109,7 +106,7 @@ reg 50 00000000\nreg 51 00000000\nreg 52 00000000\nreg 53 00000000\nreg 54 00000
 reg 57 00000000\nreg 58 00000000\nreg 59 00000000\nreg 60 00000000\nreg 61 00000000\nreg 62 00000005\nreg 63 -\n\
 reg 64 00000005\n";
 
-fn bring_two_harts_under_way(core: &mut Core) -> Result<(), Fail> {
+fn bring_two_harts_under_way(core: &mut Core) -> Option<()> {
     fetch(core, 6);
     decode_and_rename(core, 0, 3);
     decode_and_rename(core, 1, 1);
@@ -121,34 +118,44 @@ fn bring_two_harts_under_way(core: &mut Core) -> Result<(), Fail> {
     hold_job(core, 1)?;
     core.decode(0, 1);
     fetch(core, 1);
-    Ok(())
+    Some(())
 }
 
-#[test]
-fn the_tables_of_two_harts_under_way(rt: HostRuntime) -> Result<(), Fail> {
-    let mut core = first_core(2, 5, rt.alloc())?;
+fn of_two_harts(alloc: Global) -> Option<[bool; 2]> {
+    let mut core = core_with(2, 5, alloc)?;
     bring_two_harts_under_way(&mut core)?;
-    let text = tables_of(&core, rt.alloc())?;
-    assert!(rt; str::from_utf8(&text).unwrap_or("") == UNDER_WAY);
-    Ok(())
+    Some(tell(&core, UNDER_WAY, alloc))
 }
 
 #[test]
-fn an_ended_hart_keeps_its_fetch_pc_in_the_tables(rt: HostRuntime) -> Result<(), Fail> {
-    let mut core = first_core(1, 64, rt.alloc())?;
-    fetch(&mut core, 3);
-    decode_and_rename(&mut core, 0, 3);
+fn the_tables_of_two_harts_under_way(rt: HostRuntime) {
+    assert!(rt; of_two_harts(rt.alloc()) == Some([true, true]));
+}
+
+fn bring_to_its_end(core: &mut Core) -> Option<()> {
+    fetch(core, 3);
+    decode_and_rename(core, 0, 3);
     for _ in 0..3 {
-        complete_job(&mut core)?;
+        complete_job(core)?;
         core.retire(0, 0);
     }
-    let text = tables_of(&core, rt.alloc())?;
-    assert!(rt;
-        str::from_utf8(&text).unwrap_or("").starts_with(
-            "hart 0 ended 5 pc 8000000c icount 0 reserved -\nfetched -\ndecoded -\nflight -\n"
-        )
-    );
-    Ok(())
+    Some(())
+}
+
+const ENDED: &str = "hart 0 ended 5 pc 8000000c icount 0 reserved -\n\
+fetched -\n\
+decoded -\n\
+flight -\n";
+
+fn of_an_ended_hart(alloc: Global) -> Option<[bool; 2]> {
+    let mut core = core_with(1, 64, alloc)?;
+    bring_to_its_end(&mut core)?;
+    Some(tell(&core, ENDED, alloc))
+}
+
+#[test]
+fn an_ended_hart_keeps_its_fetch_pc_in_the_tables(rt: HostRuntime) {
+    assert!(rt; of_an_ended_hart(rt.alloc()) == Some([true, false]));
 }
 
 /// An output that takes a number of bytes and then fails.
@@ -169,12 +176,16 @@ impl Write for Failing {
     }
 }
 
+/// Whether the tables of a core at its beginning are told to an output that takes so many bytes.
+fn are_taken(taken: usize, alloc: Global) -> Option<bool> {
+    let core = core_with(1, 64, alloc)?;
+    Some(core.tables(&mut Failing(taken)).is_ok())
+}
+
 #[test]
-fn an_output_that_fails_is_told_by_the_tables(rt: HostRuntime) -> Result<(), Fail> {
-    let core = first_core(1, 64, rt.alloc())?;
+fn an_output_that_fails_is_told_by_the_tables(rt: HostRuntime) {
     for taken in [0, 30, 50, 100, 300, 600] {
-        assert!(rt; core.tables(&mut Failing(taken)).is_err(), "{taken}");
+        assert!(rt; are_taken(taken, rt.alloc()) == Some(false));
     }
-    assert!(rt; core.tables(&mut Failing(2000)).is_ok());
-    Ok(())
+    assert!(rt; are_taken(2000, rt.alloc()) == Some(true));
 }

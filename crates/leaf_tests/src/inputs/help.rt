@@ -1,81 +1,68 @@
 use super::configuration::is_default;
-use sim_inputs::{WordsRefused, read_config, read_words};
+use super::words_of;
+use crate::rows::holds;
+use sim_inputs::{WordsRefused, read_words};
 use std::alloc::Global;
+use std::process::Abort;
 use std::test::Fail;
 
 /// The columns of a common terminal.
 const COLUMNS: usize = 80;
 
+/// The words that ask for help, and what it tells; a bar stands between two of those.
+static HELPS: [(&str, &str); 3] = [
+    (
+        "smtsim --help",
+        "Usage: smtsim <COMMAND>|step|list|harts|extra|queue|ram|limit|turns|actors",
+    ),
+    (
+        "smtsim step --help",
+        "Usage: smtsim step [OPTIONS] <IMAGE> <SCRIPT>|--config <FILE>|--records|--show",
+    ),
+    (
+        "smtsim list --help",
+        "Usage: smtsim list [OPTIONS] <IMAGE>|--config <FILE>",
+    ),
+];
+
 /// The help that the words ask for; nothing where they ask for none.
-fn help_of(words: &[&str], alloc: Global) -> Option<String> {
-    match read_words(words, alloc) {
+fn help_of(text: &str, alloc: Global) -> Option<String> {
+    let Ok(words) = words_of(text, alloc) else {
+        return None;
+    };
+    match read_words(&words, alloc) {
         Err(WordsRefused::Help(help)) => Some(help),
         _ => None,
     }
 }
 
-#[test]
-fn help_of_the_program_tells_its_subcommands_and_keys(rt: HostRuntime) -> Result<(), Fail> {
-    let help = help_of(&["smtsim", "--help"], rt.alloc()).ok_or("no help")?;
-    let texts = [
-        "Usage: smtsim <COMMAND>",
-        "step",
-        "list",
-        "harts",
-        "extra",
-        "queue",
-        "ram",
-        "limit",
-        "turns",
-        "actors",
-    ];
-    for text in texts {
-        assert!(rt; help.as_str().contains(text), "{text}: {help}");
+/// Asserts that a help has each of the texts, and no line that is too long.
+fn tells(rt: &impl Abort, help: &str, texts: &str) {
+    for text in texts.split('|') {
+        holds(rt, text, help.contains(text));
     }
-    Ok(())
+    for line in help.lines() {
+        holds(rt, line, line.len() <= COLUMNS);
+    }
 }
 
 #[test]
-fn help_of_the_program_has_a_configuration_of_the_defaults(rt: HostRuntime) -> Result<(), Fail> {
-    let help = help_of(&["smtsim", "--help"], rt.alloc()).ok_or("no help")?;
-    let (_, text) = help.as_str().split_once("absent:").ok_or("no keys")?;
-    let settings = read_config(text.as_bytes(), rt.alloc())?;
-    assert!(rt; is_default(&settings), "{settings:?}");
-    Ok(())
-}
-
-#[test]
-fn help_of_a_subcommand_tells_its_files_and_options(rt: HostRuntime) -> Result<(), Fail> {
-    let help = help_of(&["smtsim", "step", "--help"], rt.alloc()).ok_or("no help")?;
-    let texts = [
-        "Usage: smtsim step [OPTIONS] <IMAGE> <SCRIPT>",
-        "--config <FILE>",
-        "--records",
-        "--show",
-    ];
-    for text in texts {
-        assert!(rt; help.as_str().contains(text), "{text}: {help}");
-    }
-    let help = help_of(&["smtsim", "list", "--help"], rt.alloc()).ok_or("no help")?;
-    let texts = ["Usage: smtsim list [OPTIONS] <IMAGE>", "--config <FILE>"];
-    for text in texts {
-        assert!(rt; help.as_str().contains(text), "{text}: {help}");
-    }
-    Ok(())
-}
-
-#[test]
-fn help_fits_a_common_terminal(rt: HostRuntime) -> Result<(), Fail> {
-    let rows: [&[&str]; 3] = [
-        &["smtsim", "--help"],
-        &["smtsim", "step", "--help"],
-        &["smtsim", "list", "--help"],
-    ];
-    for words in rows {
+fn help_tells_all_there_is_and_fits_a_common_terminal(rt: HostRuntime) -> Result<(), Fail> {
+    for (words, texts) in &HELPS {
         let help = help_of(words, rt.alloc()).ok_or("no help")?;
-        for line in help.as_str().lines() {
-            assert!(rt; line.len() <= COLUMNS, "{line}");
-        }
+        tells(&rt, help.as_str(), texts);
     }
     Ok(())
+}
+
+/// Whether the keys that the program's help tells are a configuration of the defaults.
+fn tells_the_defaults(alloc: Global) -> Option<bool> {
+    let help = help_of("smtsim --help", alloc)?;
+    let (_, text) = help.as_str().split_once("absent:")?;
+    Some(is_default(text.as_bytes(), alloc))
+}
+
+#[test]
+fn help_of_the_program_has_a_configuration_of_the_defaults(rt: HostRuntime) {
+    assert!(rt; tells_the_defaults(rt.alloc()) == Some(true));
 }

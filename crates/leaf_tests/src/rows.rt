@@ -1,0 +1,40 @@
+//! What the tests share. Each assertion with a message of its own costs more to prove than a call of one of these.
+
+ghost use Rattle.std.specs.Prelude.{IfSome};
+ghost use Rattle.rv_decode.specs.Table.{InRange};
+
+use rv_decode::{Instr, decode};
+use rv_text::print;
+use std::process::Abort;
+use text_fields::read_hex;
+
+/// Asserts what was found of a row, and names the row where it fails.
+pub fn holds(rt: &impl Abort, row: &str, is: bool) {
+    assert!(rt; is, "at {row:?}");
+}
+
+/// Asserts what was found of a word or a number, and names it where it fails.
+pub fn holds_at(rt: &impl Abort, word: u32, is: bool) {
+    assert!(rt; is, "at {word:#x}");
+}
+
+/// The word and the text of a row: eight digits, a space, and the text.
+pub fn word_and_text(row: &str) -> Option<(u32, &str)> {
+    let (word, text) = row.split_once(' ')?;
+    match read_hex(word.as_bytes(), 8) {
+        Ok(word) => Some((word, text)),
+        Err(_) => None,
+    }
+}
+
+/// What a word is read as, where it is printed as this text at this address.
+pub fn instr_of(word: u32, pc: u32, text: &str) -> Option<Instr>
+    ensures { IfSome result InRange }
+{
+    let instr = decode(word)?;
+    if print(instr, pc).as_str() == text {
+        Some(instr)
+    } else {
+        None
+    }
+}
