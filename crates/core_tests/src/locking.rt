@@ -299,3 +299,36 @@ fn passes_begin_with_what_their_actors_have_made(rt: HostRuntime) {
     let asked = (events, (2, true, true, 1), ([1, 3], true, true));
     assert!(rt; asked_alone(rt.alloc()) == Some(asked));
 }
+
+/// Who asks by the second pass and by the reply to it, and what was asked, by the ask itself and by the reply.
+type Answered = ([u8; 2], [core_lock::Asked; 2]);
+
+fn answered_with<L: Origin>(core: Core, blank: Blank) -> Answered
+    requires name { blank.name ≡ L.name }
+    requires parts { (blank.parts ≡ L.parts) × (L.parts ≡ 16) }
+    requires origin { (core.setup ≡ L.setup) × (core.limit ≡ L.limit) }
+{
+    let (mut held, mut passes) = Held::<L>::new(core, blank);
+    let ask = Ask::Decode(0);
+    let asked = ask.asked();
+    let reply = held.step(&mut passes[1], ask, &mut InOrder);
+    let answered = ([passes[1].actor(), reply.actor()], [asked, reply.asked()]);
+    abandon(worked(reply.said()));
+    answered
+}
+
+fn answered_alone(core: Core) -> Answered {
+    answered_with::<Brand>(core, Blank::new(16))
+}
+
+fn answered(alloc: Global) -> Option<Answered> {
+    let image = first_image(alloc)?;
+    let core = Core::new(&image, config(), 4, alloc).ok()?;
+    Some(answered_alone(core))
+}
+
+#[test]
+fn a_reply_tells_who_asked_and_what(rt: HostRuntime) {
+    let told = ([1, 1], [core_lock::Asked::Decode(0); 2]);
+    assert!(rt; answered(rt.alloc()) == Some(told));
+}
