@@ -1,49 +1,39 @@
 -- What a history holds of an actor, event by event; and how many events are by it and those of greater numbers.
-use Rattle.std.proofs.Common.{◌≡◌, ℕ, ◌+◌, ◌<◌, ◌≤◌, ◌==◌, Bool, true, false, List, [], ◌∷◌, length, take, get_or, reverse, None, refl, ap, ◌∙◌, arith}
+use Rattle.std.proofs.Common.{◌≡◌, ℕ, ◌+◌, ◌<◌, ◌≤◌, ◌==◌, Bool, true, false, List, [], ◌∷◌, length, take, get_or}
+use Rattle.std.proofs.Common.{reverse, None, refl, ap, ◌∙◌, arith}
 use Rattle.std.specs.Prelude.{nat_le}
-use Rattle.std.proofs.lemmas.Bool.Decides.{nat_tests}
-use Rattle.std.proofs.lemmas.List.{take_more, reverse-append}
-use Rattle.events.specs.declared.event.Event.{Event}
+use Rattle.std.proofs.{lemmas.Bool.Decides.nat_tests, lemmas.List.take_more, lemmas.List.reverse-append}
+use Rattle.events.specs.{declared.event.Event.Event, Event.actor_of}
 use Rattle.events.specs.declared.event.Event.TheVariants.{Fetch, Decode, Rename, Issue, Complete, Drop, Retire}
-use Rattle.smt_model.specs.Account.{actor_of, made}
-use Rattle.smt_model.specs.Basics.{how_many}
-use Rattle.smt_model.specs.Setup.{Setup}
-use Rattle.smt_model.specs.Rules.{is_actor, is_legal, refused}
+use Rattle.smt_model.specs.{Account.event_count, Basics.how_many, Setup.Setup, Rules.is_legal, Rules.refused}
+use Rattle.smt_model.specs.{Jobs.is_actor}
 use Rattle.smt_model.proofs.Allowed.{allowed}
 use Rattle.core_lock.specs.Passes.{made_from}
-use Rattle.events.specs.Event.{actor_of as writer_of}
 
 -- The newest event of those so far.
-pub newest : {X : Type 0} (xs : List X) (i : ℕ) (d : X) → i < length xs → reverse (take (i + 1) xs) ≡ get_or xs i d ∷ reverse (take i xs)
+pub newest : {X : Type 0} (xs : List X) (i : ℕ) (d : X) → i < length xs
+    → reverse (take (i + 1) xs) ≡ get_or xs i d ∷ reverse (take i xs)
 newest xs i d inside = ap reverse (take_more xs i d inside) ∙ reverse-append (take i xs) (get_or xs i d ∷ [])
 
--- Both definitions of an event's actor are the same.
-pub same_actor : (e : Event) → writer_of e ≡ actor_of e
-same_actor (Fetch actor hart seq pc word predicted) = refl
-same_actor (Decode actor seq) = refl
-same_actor (Rename actor seq phys) = refl
-same_actor (Issue actor seq) = refl
-same_actor (Complete actor seq outcome) = refl
-same_actor (Drop actor seq) = refl
-same_actor (Retire actor seq effect) = refl
-
 -- What one member adds to a count.
-abbrev one : Bool → ℕ
+abbrev pub one : Bool → ℕ
 one true = 1
 one false = 0
 
-count_cons : {X : Type 0} (test : X → Bool) (x : X) (xs : List X) → how_many test (x ∷ xs) ≡ one (test x) + how_many test xs
+pub count_cons : {X : Type 0} (test : X → Bool) (x : X) (xs : List X)
+    → how_many test (x ∷ xs) ≡ one (test x) + how_many test xs
 count_cons test x xs = grind arith
 
 -- The loop: one more event, which may be the actor's.
-pub made_more : (k : ℕ) (e : Event) (past : List Event) → made k (e ∷ past) ≡ made k (e ∷ []) + made k past
+pub made_more : (k : ℕ) (e : Event) (past : List Event)
+    → event_count k (e ∷ past) ≡ event_count k (e ∷ []) + event_count k past
 made_more k e past = grind arith
 
 -- Of those by an actor or a greater one, some are the actor's own and the others by greater ones.
 shared : (k n : ℕ) → one (nat_le k n) ≡ one (n == k) + one (nat_le (k + 1) n)
 shared k n = grind (arith, nat_tests)
 
-pub own_and_greater : (k : ℕ) (past : List Event) → made_from k past ≡ made k past + made_from (k + 1) past
+pub own_and_greater : (k : ℕ) (past : List Event) → made_from k past ≡ event_count k past + made_from (k + 1) past
 own_and_greater k [] = refl
 own_and_greater k (e ∷ past) =
     let here = count_cons (λ x. nat_le k (actor_of x)) e past in
@@ -62,8 +52,10 @@ all_from_0 (e ∷ past) =
     omega (arith, here, rest, counts)
 
 -- Each actor of a legal history is one of the setup's.
-actor_in : (setup : Setup) (past : List Event) (e : Event) → refused setup past e ≡ None → is_actor setup (actor_of e) ≡ true
-actor_in setup past (Fetch actor hart seq pc word predicted) ok = (allowed setup past (Fetch actor hart seq pc word predicted) ok).0
+actor_in : (setup : Setup) (past : List Event) (e : Event) → refused setup past e ≡ None
+    → is_actor setup (actor_of e) ≡ true
+actor_in setup past (Fetch actor hart seq pc word predicted) ok =
+    (allowed setup past (Fetch actor hart seq pc word predicted) ok).0
 actor_in setup past (Decode actor seq) ok = (allowed setup past (Decode actor seq) ok).0
 actor_in setup past (Rename actor seq phys) ok = (allowed setup past (Rename actor seq phys) ok).0
 actor_in setup past (Issue actor seq) ok = (allowed setup past (Issue actor seq) ok).0
@@ -71,7 +63,8 @@ actor_in setup past (Complete actor seq outcome) ok = (allowed setup past (Compl
 actor_in setup past (Drop actor seq) ok = (allowed setup past (Drop actor seq) ok).0
 actor_in setup past (Retire actor seq effect) ok = (allowed setup past (Retire actor seq effect) ok).0
 
-pub none_from_16 : (setup : Setup) (past : List Event) → is_legal setup past → length setup.roles ≤ 16 → made_from 16 past ≡ 0
+pub none_from_16 : (setup : Setup) (past : List Event) → is_legal setup past → length setup.roles ≤ 16
+    → made_from 16 past ≡ 0
 none_from_16 setup [] legal few = refl
 none_from_16 setup (e ∷ past) legal few =
     let here = count_cons (λ x. nat_le 16 (actor_of x)) e past in

@@ -1,13 +1,14 @@
 -- Passes that lie in a row: their counts, one by one.
-use Rattle.std.proofs.Common.{◌≡◌, ℕ, ◌+◌, ◌<◌, ◌≤◌, List, [], ◌∷◌, ◌++◌, length, map, take, get_or, slice_set, sym, ap, ◌∙◌, arith}
+use Rattle.std.proofs.Common.{◌≡◌, ℕ, ◌+◌, ◌<◌, ◌≤◌, List, [], ◌∷◌, ◌++◌, length, map, take, get_or, slice_set, sym, ap}
+use Rattle.std.proofs.Common.{◌∙◌, arith, inl, inr, subst}
 use Rattle.std.specs.Prelude.{Some, slice_get}
-use Rattle.std.proofs.Common.{inl, inr, subst}
-use Rattle.std.proofs.lemmas.Bool.{cases_lt}
-use Rattle.std.proofs.lemmas.Option.{get_or_from_slice_get}
+use Rattle.std.proofs.{lemmas.Bool.cases_lt, lemmas.Option.get_or_from_slice_get}
 use Rattle.std.proofs.lemmas.List.{take_more, take_all, take_more_set, map-append}
 
-pub column_more : {P : Type 0} (f : P → ℕ) (xs : List P) (column : List ℕ) (i : ℕ) (d : P) → i < length xs → i < length column
-    → take i column ≡ map f (take i xs) → take (i + 1) (slice_set column i (f (get_or xs i d))) ≡ map f (take (i + 1) xs)
+pub column_more : {P : Type 0} (f : P → ℕ) (xs : List P) (column : List ℕ) (i : ℕ) (d : P) → i < length xs
+    → i < length column
+    → take i column ≡ map f (take i xs)
+    → take (i + 1) (slice_set column i (f (get_or xs i d))) ≡ map f (take (i + 1) xs)
 column_more f xs column i d inside room so_far =
     take_more_set column i (f (get_or xs i d)) room
     ∙ ap (λ t. t ++ f (get_or xs i d) ∷ []) so_far

@@ -2,3 +2,4 @@ pub mod Counting
 pub mod Laid
 pub mod Replies
 pub mod Same
+pub mod Tallying

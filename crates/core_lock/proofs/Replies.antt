@@ -1,26 +1,26 @@
--- What every reply says of the step that was made, whatever was asked: its event is of the kind that was asked for and by the actor.
-use Rattle.std.proofs.Common.{◌≡◌, ◌∙◌, ℕ, ◌==◌, not, true, false, List, length, Option, Some, None, refl, sym, ap, subst, arith}
-use Rattle.std.proofs.lemmas.Bool.{and_parts, false≢true}
-use Rattle.std.proofs.lemmas.Bool.Decides.{nat_tests}
-use Rattle.events.specs.declared.event.Event.{Event}
+-- What every reply says of the step that was made, whatever was asked: its event is of the kind that was asked for and
+-- by the actor.
+use Rattle.std.proofs.Common.{◌≡◌, ◌∙◌, ℕ, ◌==◌, not, true, false, List, length, Option, Some, None, refl, sym, ap}
+use Rattle.std.proofs.Common.{subst, arith}
+use Rattle.std.proofs.{lemmas.Bool.and_parts, lemmas.Bool.false≢true, lemmas.Bool.Decides.nat_tests}
+use Rattle.events.specs.{declared.event.Event.Event, Event.actor_of}
 use Rattle.events.specs.declared.event.Event.TheVariants as event
-use Rattle.smt_model.specs.Account.{actor_of}
 use Rattle.smt_model.specs.Asks.{AskFetch, AskDecode, AskRename, AskIssue, AskComplete, AskRetire, answers}
 use Rattle.smt_model.specs.Asks.{Ask as CoreAsk}
 use Rattle.smt_model.specs.Fates.{is_of}
 use Rattle.core_state.specs.View.{CoreView}
-use Rattle.core_lock.specs.declared.ask.Ask.{Ask}
+use Rattle.core_lock.specs.{declared.ask.Ask.Ask, declared.ask.Asked.Asked, declared.ask.Said.Said, Passes.more}
+use Rattle.core_lock.specs.{Passes.later, Passes.IsTold}
 use Rattle.core_lock.specs.declared.ask.Ask.TheVariants as ask
-use Rattle.core_lock.specs.declared.ask.Asked.{Asked}
 use Rattle.core_lock.specs.declared.ask.Asked.TheVariants as asked
-use Rattle.core_lock.specs.declared.ask.Said.{Said}
 use Rattle.core_lock.specs.declared.ask.Said.TheVariants as said
-use Rattle.core_lock.specs.Asks.{asked_of, event_in, PlainlyReplied, IssueReplied, CompleteReplied, Replied, grown_by, is_event_for, is_issue, is_complete, is_reply}
-use Rattle.core_lock.specs.Passes.{more, later, IsTold}
+use Rattle.core_lock.specs.Asks.{asked_of, event_in, PlainlyReplied, IssueReplied, CompleteReplied, Replied, grown_by}
+use Rattle.core_lock.specs.Asks.{is_event_for, is_issue, is_complete, is_reply}
 
 -- ---- The event is one for this ask of this actor
 
-for_fetch : (k : ℕ) (past : List Event) (e : Event) → answers (AskFetch k) past e ≡ true → is_event_for k asked.Fetch e ≡ true
+for_fetch : (k : ℕ) (past : List Event) (e : Event) → answers (AskFetch k) past e ≡ true
+    → is_event_for k asked.Fetch e ≡ true
 for_fetch k past (event.Fetch actor hart seq pc word predicted) h = h
 for_fetch k past (event.Decode actor seq) h = h
 for_fetch k past (event.Rename actor seq phys) h = h
@@ -29,7 +29,8 @@ for_fetch k past (event.Complete actor seq outcome) h = h
 for_fetch k past (event.Drop actor seq) h = h
 for_fetch k past (event.Retire actor seq effect) h = h
 
-for_decode : (k h : ℕ) (past : List Event) (e : Event) → answers (AskDecode k h) past e ≡ true → is_event_for k (asked.Decode h) e ≡ true
+for_decode : (k h : ℕ) (past : List Event) (e : Event) → answers (AskDecode k h) past e ≡ true
+    → is_event_for k (asked.Decode h) e ≡ true
 for_decode k h past (event.Fetch actor hart seq pc word predicted) yes_it_is = yes_it_is
 for_decode k h past (event.Decode actor seq) yes_it_is = (and_parts (actor == k) (is_of past h seq) yes_it_is).0
 for_decode k h past (event.Rename actor seq phys) yes_it_is = yes_it_is
@@ -38,7 +39,8 @@ for_decode k h past (event.Complete actor seq outcome) yes_it_is = yes_it_is
 for_decode k h past (event.Drop actor seq) yes_it_is = yes_it_is
 for_decode k h past (event.Retire actor seq effect) yes_it_is = yes_it_is
 
-for_rename : (k h : ℕ) (past : List Event) (e : Event) → answers (AskRename k h) past e ≡ true → is_event_for k (asked.Rename h) e ≡ true
+for_rename : (k h : ℕ) (past : List Event) (e : Event) → answers (AskRename k h) past e ≡ true
+    → is_event_for k (asked.Rename h) e ≡ true
 for_rename k h past (event.Fetch actor hart seq pc word predicted) yes_it_is = yes_it_is
 for_rename k h past (event.Decode actor seq) yes_it_is = yes_it_is
 for_rename k h past (event.Rename actor seq phys) yes_it_is = (and_parts (actor == k) (is_of past h seq) yes_it_is).0
@@ -47,7 +49,8 @@ for_rename k h past (event.Complete actor seq outcome) yes_it_is = yes_it_is
 for_rename k h past (event.Drop actor seq) yes_it_is = yes_it_is
 for_rename k h past (event.Retire actor seq effect) yes_it_is = yes_it_is
 
-for_issue : (k : ℕ) (past : List Event) (e : Event) → answers (AskIssue k) past e ≡ true → is_event_for k asked.Issue e ≡ true
+for_issue : (k : ℕ) (past : List Event) (e : Event) → answers (AskIssue k) past e ≡ true
+    → is_event_for k asked.Issue e ≡ true
 for_issue k past (event.Fetch actor hart seq pc word predicted) h = h
 for_issue k past (event.Decode actor seq) h = h
 for_issue k past (event.Rename actor seq phys) h = h
@@ -56,7 +59,8 @@ for_issue k past (event.Complete actor seq outcome) h = h
 for_issue k past (event.Drop actor seq) h = h
 for_issue k past (event.Retire actor seq effect) h = h
 
-for_complete : (k : ℕ) (past : List Event) (e : Event) → answers (AskComplete k) past e ≡ true → is_event_for k asked.Complete e ≡ true
+for_complete : (k : ℕ) (past : List Event) (e : Event) → answers (AskComplete k) past e ≡ true
+    → is_event_for k asked.Complete e ≡ true
 for_complete k past (event.Fetch actor hart seq pc word predicted) h = h
 for_complete k past (event.Decode actor seq) h = h
 for_complete k past (event.Rename actor seq phys) h = h
@@ -65,7 +69,8 @@ for_complete k past (event.Complete actor seq outcome) h = h
 for_complete k past (event.Drop actor seq) h = h
 for_complete k past (event.Retire actor seq effect) h = h
 
-for_retire : (k h : ℕ) (past : List Event) (e : Event) → answers (AskRetire k h) past e ≡ true → is_event_for k (asked.Retire h) e ≡ true
+for_retire : (k h : ℕ) (past : List Event) (e : Event) → answers (AskRetire k h) past e ≡ true
+    → is_event_for k (asked.Retire h) e ≡ true
 for_retire k h past (event.Fetch actor hart seq pc word predicted) yes_it_is = yes_it_is
 for_retire k h past (event.Decode actor seq) yes_it_is = yes_it_is
 for_retire k h past (event.Rename actor seq phys) yes_it_is = yes_it_is
@@ -80,7 +85,8 @@ record IsSameAsk (k : ℕ) (ask : CoreAsk) (asked : Asked) : Type 0 where
   complete : is_complete asked ≡ false
   event : (past : List Event) (e : Event) → answers ask past e ≡ true → is_event_for k asked e ≡ true
 
-own_plainly : (k : ℕ) (ask : CoreAsk) (asked : Asked) (old : CoreView) (s : Said) (new : CoreView) → IsSameAsk k ask asked
+own_plainly : (k : ℕ) (ask : CoreAsk) (asked : Asked) (old : CoreView) (s : Said) (new : CoreView)
+    → IsSameAsk k ask asked
     → PlainlyReplied ask old s new → is_reply k asked s ≡ true
 own_plainly k ask asked old (said.Event e) new same r = rw same.issue (same.event old.past e r.asked)
 own_plainly k ask asked old (said.Job job e) new same r = absurd r
@@ -88,27 +94,37 @@ own_plainly k ask asked old said.Idle new same r = rw same.complete refl
 own_plainly k ask asked old said.Stranger new same r = absurd r
 own_plainly k ask asked old said.Full new same r = refl
 
-own_issue : (k : ℕ) (old : CoreView) (s : Said) (new : CoreView) → IssueReplied k old s new → is_reply k asked.Issue s ≡ true
+own_issue : (k : ℕ) (old : CoreView) (s : Said) (new : CoreView) → IssueReplied k old s new
+    → is_reply k asked.Issue s ≡ true
 own_issue k old (said.Event e) new r = absurd r
 own_issue k old (said.Job job e) new r = for_issue k old.past e r.made.asked
 own_issue k old said.Idle new r = refl
 own_issue k old said.Stranger new r = absurd r
 own_issue k old said.Full new r = refl
 
-own_complete : (k : ℕ) (done : _) (old : CoreView) (s : Said) (new : CoreView) → CompleteReplied k done old s new → is_reply k asked.Complete s ≡ true
+own_complete : (k : ℕ) (done : _) (old : CoreView) (s : Said) (new : CoreView) → CompleteReplied k done old s new
+    → is_reply k asked.Complete s ≡ true
 own_complete k done old (said.Event e) new r = for_complete k old.past e r.made.asked
 own_complete k done old (said.Job job e) new r = absurd r
 own_complete k done old said.Idle new r = absurd r
 own_complete k done old said.Stranger new r = refl
 own_complete k done old said.Full new r = refl
 
-pub own_reply : (k : ℕ) (a : Ask) (old : CoreView) (s : Said) (new : CoreView) → Replied k a old s new → is_reply k (asked_of a) s ≡ true
-own_reply k ask.Fetch old s new r = own_plainly k (AskFetch k) asked.Fetch old s new (record { issue = refl; complete = refl; event = for_fetch k }) r
-own_reply k (ask.Decode h) old s new r = own_plainly k (AskDecode k h) (asked.Decode h) old s new (record { issue = refl; complete = refl; event = for_decode k h }) r
-own_reply k (ask.Rename h) old s new r = own_plainly k (AskRename k h) (asked.Rename h) old s new (record { issue = refl; complete = refl; event = for_rename k h }) r
+pub own_reply : (k : ℕ) (a : Ask) (old : CoreView) (s : Said) (new : CoreView) → Replied k a old s new
+    → is_reply k (asked_of a) s ≡ true
+own_reply k ask.Fetch old s new r =
+    own_plainly k (AskFetch k) asked.Fetch old s new (record { issue = refl; complete = refl; event = for_fetch k }) r
+own_reply k (ask.Decode h) old s new r =
+    own_plainly k (AskDecode k h) (asked.Decode h) old s new
+    (record { issue = refl; complete = refl; event = for_decode k h }) r
+own_reply k (ask.Rename h) old s new r =
+    own_plainly k (AskRename k h) (asked.Rename h) old s new
+    (record { issue = refl; complete = refl; event = for_rename k h }) r
 own_reply k ask.Issue old s new r = own_issue k old s new r
 own_reply k (ask.Complete done) old s new r = own_complete k done.job old s new r
-own_reply k (ask.Retire h) old s new r = own_plainly k (AskRetire k h) (asked.Retire h) old s new (record { issue = refl; complete = refl; event = for_retire k h }) r
+own_reply k (ask.Retire h) old s new r =
+    own_plainly k (AskRetire k h) (asked.Retire h) old s new
+    (record { issue = refl; complete = refl; event = for_retire k h }) r
 
 -- ---- The event is the actor's, and so the pass of the actor keeps knowing all of it
 
@@ -136,28 +152,32 @@ reply_by k a said.Full h = tt
 
 -- ---- The history grows by the event alone
 
-plainly_grows : (ask : CoreAsk) (old : CoreView) (s : Said) (new : CoreView) → PlainlyReplied ask old s new → new ≡ grown_by (event_in s) old
+plainly_grows : (ask : CoreAsk) (old : CoreView) (s : Said) (new : CoreView) → PlainlyReplied ask old s new
+    → new ≡ grown_by (event_in s) old
 plainly_grows ask old (said.Event e) new r = r.grows
 plainly_grows ask old (said.Job job e) new r = absurd r
 plainly_grows ask old said.Idle new r = r.unchanged
 plainly_grows ask old said.Stranger new r = absurd r
 plainly_grows ask old said.Full new r = r.unchanged
 
-issue_grows : (k : ℕ) (old : CoreView) (s : Said) (new : CoreView) → IssueReplied k old s new → new ≡ grown_by (event_in s) old
+issue_grows : (k : ℕ) (old : CoreView) (s : Said) (new : CoreView) → IssueReplied k old s new
+    → new ≡ grown_by (event_in s) old
 issue_grows k old (said.Event e) new r = absurd r
 issue_grows k old (said.Job job e) new r = r.made.grows
 issue_grows k old said.Idle new r = r.unchanged
 issue_grows k old said.Stranger new r = absurd r
 issue_grows k old said.Full new r = r.unchanged
 
-complete_grows : (k : ℕ) (done : _) (old : CoreView) (s : Said) (new : CoreView) → CompleteReplied k done old s new → new ≡ grown_by (event_in s) old
+complete_grows : (k : ℕ) (done : _) (old : CoreView) (s : Said) (new : CoreView) → CompleteReplied k done old s new
+    → new ≡ grown_by (event_in s) old
 complete_grows k done old (said.Event e) new r = r.made.grows
 complete_grows k done old (said.Job job e) new r = absurd r
 complete_grows k done old said.Idle new r = absurd r
 complete_grows k done old said.Stranger new r = r.unchanged
 complete_grows k done old said.Full new r = r.unchanged
 
-pub reply_grows : (k : ℕ) (a : Ask) (old : CoreView) (s : Said) (new : CoreView) → Replied k a old s new → new ≡ grown_by (event_in s) old
+pub reply_grows : (k : ℕ) (a : Ask) (old : CoreView) (s : Said) (new : CoreView) → Replied k a old s new
+    → new ≡ grown_by (event_in s) old
 reply_grows k ask.Fetch old s new r = plainly_grows (AskFetch k) old s new r
 reply_grows k (ask.Decode h) old s new r = plainly_grows (AskDecode k h) old s new r
 reply_grows k (ask.Rename h) old s new r = plainly_grows (AskRename k h) old s new r
@@ -167,7 +187,8 @@ reply_grows k (ask.Retire h) old s new r = plainly_grows (AskRetire k h) old s n
 
 -- ---- The pass
 
-told_more : (k count : ℕ) (last : Option Event) (e : Option Event) (core : CoreView) → IsBy k e → IsTold core.past k count last
+told_more : (k count : ℕ) (last : Option Event) (e : Option Event) (core : CoreView) → IsBy k e
+    → IsTold core.past k count last
     → IsTold (grown_by e core).past k (more count e) (later last e)
 told_more k count last None core is_by told = told
 told_more k count last (Some e) core is_by told = record {
@@ -176,7 +197,8 @@ told_more k count last (Some e) core is_by told = record {
 }
 
 -- A step that is made keeps the pass in the know.
-pub told_still : (k : ℕ) (a : Ask) (old : CoreView) (s : Said) (new : CoreView) (count next : ℕ) (last latest : Option Event)
+pub told_still : (k : ℕ) (a : Ask) (old : CoreView) (s : Said) (new : CoreView) (count next : ℕ)
+    (last latest : Option Event)
     → Replied k a old s new → next ≡ more count (event_in s) → latest ≡ later last (event_in s)
     → IsTold old.past k count last → IsTold new.past k next latest
 told_still k a old s new count next last latest r counted noted told =
@@ -206,8 +228,10 @@ limit_more : (e : Option Event) (core : CoreView) → (grown_by e core).limit �
 limit_more None core = refl
 limit_more (Some e) core = refl
 
-pub setup_still : (k : ℕ) (a : Ask) (old : CoreView) (s : Said) (new : CoreView) → Replied k a old s new → new.setup ≡ old.setup
+pub setup_still : (k : ℕ) (a : Ask) (old : CoreView) (s : Said) (new : CoreView) → Replied k a old s new
+    → new.setup ≡ old.setup
 setup_still k a old s new r = ap (λ core. core.setup) (reply_grows k a old s new r) ∙ setup_more (event_in s) old
 
-pub limit_still : (k : ℕ) (a : Ask) (old : CoreView) (s : Said) (new : CoreView) → Replied k a old s new → new.limit ≡ old.limit
+pub limit_still : (k : ℕ) (a : Ask) (old : CoreView) (s : Said) (new : CoreView) → Replied k a old s new
+    → new.limit ≡ old.limit
 limit_still k a old s new r = ap (λ core. core.limit) (reply_grows k a old s new r) ∙ limit_more (event_in s) old

@@ -3,19 +3,16 @@ use Rattle.std.specs.Prelude.{◌≡◌, ℕ, Bool, true, false, not, ◌==◌, 
 use Rattle.events.specs.declared.event.Event.{Event}
 use Rattle.events.specs.declared.event.Event.TheVariants as event
 use Rattle.exec_units.specs.Job.{JobView}
-use Rattle.smt_model.specs.Asks.{AskFetch, AskDecode, AskRename, AskRetire}
-use Rattle.smt_model.specs.Asks.{Ask as CoreAsk}
+use Rattle.smt_model.specs.Asks.{AskFetch, AskDecode, AskRename, AskRetire, Ask as CoreAsk}
 use Rattle.core_state.specs.View.{CoreView, grown}
 use Rattle.smt_core.specs.declared.answer.Answer.{Answer}
 use Rattle.smt_core.specs.declared.answer.Answer.TheVariants as plain
 use Rattle.smt_core.specs.declared.answer.IssueAnswer.TheVariants as issue
 use Rattle.smt_core.specs.declared.answer.CompleteAnswer.TheVariants as complete
 use Rattle.smt_core.specs.Answers.{Answered, IssueAnswered, CompleteAnswered, IsPredicted}
-use Rattle.core_lock.specs.declared.ask.Ask.{Ask}
+use Rattle.core_lock.specs.{declared.ask.Ask.Ask, declared.ask.Asked.Asked, declared.ask.Said.Said}
 use Rattle.core_lock.specs.declared.ask.Ask.TheVariants as ask
-use Rattle.core_lock.specs.declared.ask.Asked.{Asked}
 use Rattle.core_lock.specs.declared.ask.Asked.TheVariants as asked
-use Rattle.core_lock.specs.declared.ask.Said.{Said}
 use Rattle.core_lock.specs.declared.ask.Said.TheVariants as said
 
 -- An ask without what it hands over.
@@ -58,10 +55,12 @@ IssueReplied actor old said.Stranger new = ⊥
 IssueReplied actor old said.Full new = IssueAnswered actor old issue.Full new
 
 abbrev pub CompleteReplied : ℕ → JobView → CoreView → Said → CoreView → Type 0
-CompleteReplied actor job old (said.Event e) new = CompleteAnswered actor job old (complete.Done e) new
+CompleteReplied actor job old (said.Event e) new =
+    CompleteAnswered actor job old (complete.Done e) new
 CompleteReplied actor job old (said.Job other e) new = ⊥
 CompleteReplied actor job old said.Idle new = ⊥
-CompleteReplied actor job old said.Stranger new = CompleteAnswered actor job old complete.Stranger new
+CompleteReplied actor job old said.Stranger new =
+    CompleteAnswered actor job old complete.Stranger new
 CompleteReplied actor job old said.Full new = CompleteAnswered actor job old complete.Full new
 
 -- What is said to an actor is the core's own answer to its ask.
@@ -74,8 +73,10 @@ Replied actor (ask.Complete done) old said new = CompleteReplied actor done.job 
 Replied actor (ask.Retire hart) old said new = PlainlyReplied (AskRetire actor hart) old said new
 
 -- A fetch is told with what this predictor guessed of it; in no other ask is the predictor asked.
-abbrev pub IsPredictedBy : {P : Type 0} → (P → ℕ → ℕ → ℕ → ℕ → P → Type 0) → P → Asked → Said → P → Type 0
-IsPredictedBy predicts before asked.Fetch (said.Event e) after = IsPredicted predicts before (plain.Done e) after
+abbrev pub IsPredictedBy : {P : Type 0} → (P → ℕ → ℕ → ℕ → ℕ → P → Type 0) → P → Asked → Said
+    → P → Type 0
+IsPredictedBy predicts before asked.Fetch (said.Event e) after =
+    IsPredicted predicts before (plain.Done e) after
 IsPredictedBy predicts before asked.Fetch (said.Job job e) after = ⊥
 IsPredictedBy predicts before asked.Fetch said.Idle after = after ≡ before
 IsPredictedBy predicts before asked.Fetch said.Stranger after = ⊥
@@ -91,7 +92,8 @@ abbrev pub grown_by : Option Event → CoreView → CoreView
 grown_by None core = core
 grown_by (Some e) core = grown e core
 
--- The event is of the kind that was asked for, and by this actor. A job that is handed back is completed or dropped.
+-- The event is of the kind that was asked for, and by this actor. A job that is handed back is
+-- completed or dropped.
 abbrev pub is_event_for : ℕ → Asked → Event → Bool
 is_event_for k asked.Fetch (event.Fetch actor hart seq pc word predicted) = actor == k
 is_event_for k (asked.Decode hart) (event.Decode actor seq) = actor == k
@@ -118,8 +120,9 @@ is_complete asked.Issue = false
 is_complete asked.Complete = true
 is_complete (asked.Retire hart) = false
 
--- What can be said to this ask of this actor, whatever the history: its event; a job to an issue alone, which no event without one
--- answers; a stranger to a job that is handed back alone, which is never answered by idle.
+-- What can be said to this ask of this actor, whatever the history: its event; a job to an issue
+-- alone, which no event without one answers; a stranger to a job that is handed back alone, which
+-- is never answered by idle.
 abbrev pub is_reply : ℕ → Asked → Said → Bool
 is_reply k asked (said.Event e) = not (is_issue asked) && is_event_for k asked e
 is_reply k asked (said.Job job e) = is_issue asked && is_event_for k asked e

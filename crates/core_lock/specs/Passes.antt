@@ -1,9 +1,8 @@
 -- What a pass counts of its actor, and when that is all that the history holds of it.
 use Rattle.std.specs.Prelude.{◌≡◌, ℕ, ◌+◌, nat_le, List, Option, Some, None}
-use Rattle.events.specs.declared.event.Event.{Event}
-use Rattle.smt_model.specs.Basics.{below, how_many}
-use Rattle.smt_model.specs.Account.{actor_of, made, last_made}
-use Rattle.smt_model.specs.Memory.{is_going}
+use Rattle.events.specs.{declared.event.Event.Event, Event.actor_of}
+use Rattle.smt_model.specs.{Basics.below, Basics.how_many, Account.event_count}
+use Rattle.smt_model.specs.{Account.last_event_of, Memory.is_going}
 use Rattle.core_state.specs.View.{CoreView}
 
 -- A count and a last event, after a step where one was made.
@@ -17,8 +16,8 @@ later last (Some e) = Some e
 
 -- The count and the last event are those of this actor in the history.
 pub record IsTold (past : List Event) (actor count : ℕ) (last : Option Event) : Type 0 where
-  pub counts : count ≡ made actor past
-  pub ends : last ≡ last_made actor past
+  pub counts : count ≡ event_count actor past
+  pub ends : last ≡ last_event_of actor past
 
 -- How many events are by this actor or one of a greater number.
 abbrev pub made_from : ℕ → List Event → ℕ

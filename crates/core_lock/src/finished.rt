@@ -8,7 +8,8 @@ pub struct Finished {
     pub core: Core,
     /// How many events each place's pass has counted.
     pub counts: [u64; 16],
-    /// Whether at each place lay the pass of its actor, with that actor's count and last event in the history.
+    /// Whether at each place lay the pass of its actor, with that actor's count and last event in
+    /// the history.
     pub told: bool,
     /// Whether the core was made of the image and the configuration that were named at the end.
     pub own: bool,

@@ -1,8 +1,10 @@
-ghost use Rattle.std.specs.Prelude.{◌≡◌, ◌<◌, ◌≤◌, ◌+◌, ◌↔◌, ℕ, Bool, true, Some, IsTrue, IfSome, length, map, sum, slice_get};
+ghost use Rattle.std.specs.Prelude.{◌≡◌, ◌<◌, ◌≤◌, ◌+◌, ◌↔◌, ℕ, Bool, true, Some, IsTrue, IfSome};
+ghost use Rattle.std.specs.Prelude.{length, map, sum, slice_get};
 ghost use Rattle.events.specs.Range.{HasShortWrite};
 ghost use Rattle.core_state.specs.Setup.{setup_of};
-ghost use Rattle.smt_model.specs.Account.{made, last_made};
-ghost use Rattle.core_lock.specs.Asks.{Replied, IssueReplied, CompleteReplied, IsPredictedBy, plain_said, asked_of, event_in, grown_by, is_reply};
+ghost use Rattle.smt_model.specs.Account.{event_count, last_event_of};
+ghost use Rattle.core_lock.specs.Asks.{Replied, IssueReplied, CompleteReplied, IsPredictedBy};
+ghost use Rattle.core_lock.specs.Asks.{plain_said, asked_of, event_in, grown_by, is_reply};
 ghost use Rattle.core_lock.specs.Passes.{IsTold, more, later, made_from, going_in, places};
 ghost use Rattle.core_lock.specs.Shown.{Shown};
 
@@ -13,7 +15,7 @@ use crate::ask::{Ask, Asked, Said};
 use crate::finished::Finished;
 use crate::origin::Origin;
 use crate::reader::CoreReader;
-use crate::tally::{Tally, tally_of};
+use crate::tally::{Tally, tallies_of, tally_of};
 use elf_image::Image;
 use events::Event;
 use exec_units::Done;
@@ -22,7 +24,8 @@ use smt_laws::laws::refines_the_plain_machine;
 use std::marker::PhantomData;
 use std::sync::ledger::{Blank, Book, Ledger, Share};
 
-/// What stands behind the lock: the core, and the book in which the passes' counts add up to its events.
+/// What stands behind the lock: the core, and the book in which the passes' counts add up to its
+/// events.
 #[derive(Drop)]
 pub struct Held<L: Origin> {
     core: Core,
@@ -58,16 +61,16 @@ pub struct Reply<L: Ledger> {
 }
 
 impl<L: Origin> Held<L> {
-    /// Puts a core behind the lock, and deals a pass to each of sixteen actors: pass k has the number of actor k's events in
-    /// the history so far, and the last of them.
+    /// Puts a core behind the lock, and deals a pass to each of sixteen actors: pass k has the
+    /// number of actor k's events in the history so far, and the last of them.
     pub fn new(core: Core, blank: Blank) -> (Held<L>, [Pass<L>; 16])
         requires name { blank.name ≡ L.name }
         requires parts { (blank.parts ≡ L.parts) × (L.parts ≡ 16) }
         requires origin { (core.setup ≡ L.setup) × (core.limit ≡ L.limit) }
         ensures core { result.0.core ≡ core }
         ensures actors { map (λ p. p.actor) result.1 ≡ places }
-        ensures counts { map (λ p. p.count) result.1 ≡ map (λ k. made k core.past) places }
-        ensures lasts { map (λ p. p.last) result.1 ≡ map (λ k. last_made k core.past) places }
+        ensures counts { map (λ p. p.count) result.1 ≡ map (λ k. event_count k core.past) places }
+        ensures lasts { map (λ p. p.last) result.1 ≡ map (λ k. last_event_of k core.past) places }
     {
         let (mut book, mut rest) = blank.open::<L>();
         book.add(&mut rest, core.history().len() as u64);
@@ -98,7 +101,8 @@ impl<L: Origin> Held<L> {
         ensures maker { result.actor ≡ pass.old.actor }
         ensures asked { result.asked ≡ asked_of ask }
         ensures answer { Replied pass.old.actor ask self.old.core result.said self.new.core }
-        ensures predicted { IsPredictedBy P.predicts predict.old (asked_of ask) result.said predict.new }
+        ensures predicted { IsPredictedBy P.predicts predict.old
+            (asked_of ask) result.said predict.new }
         ensures grows { self.new.core ≡ grown_by (event_in result.said) self.old.core }
         ensures going { result.going ≡ going_in self.new.core }
         ensures actor { pass.new.actor ≡ pass.old.actor }
@@ -108,7 +112,8 @@ impl<L: Origin> Held<L> {
         ensures printable { IfSome (event_in result.said) HasShortWrite }
         ensures shown { Shown self.old.core × Shown self.new.core }
         ensures origin { (self.old.core.setup ≡ L.setup) × (self.old.core.limit ≡ L.limit) }
-        ensures told { IsTold self.old.core.past pass.old.actor pass.old.count pass.old.last → IsTold self.new.core.past pass.new.actor pass.new.count pass.new.last }
+        ensures told { IsTold self.old.core.past pass.old.actor pass.old.count pass.old.last
+            → IsTold self.new.core.past pass.new.actor pass.new.count pass.new.last }
     {
         let actor = pass.actor;
         let asked = ask.asked();
@@ -130,26 +135,31 @@ impl<L: Origin> Held<L> {
         }
     }
 
-    /// Shows the core to a reader, once, and tells it whether the history holds of the pass's actor just what the pass has
-    /// counted.
+    /// Shows the core to a reader, once, and tells it whether the history holds of the pass's actor
+    /// just what the pass has counted.
     pub fn look<C: CoreReader>(&self, pass: &Pass<L>, reader: &mut C)
         ensures shown { Shown self.now.core }
         ensures origin { (self.now.core.setup ≡ L.setup) × (self.now.core.limit ≡ L.limit) }
-        ensures read { (told : Bool) × (IsTrue told ↔ IsTold self.now.core.past pass.now.actor pass.now.count pass.now.last) × C.reads reader.old self.now.core told reader.new }
+        ensures read { (told : Bool)
+            × (IsTrue told ↔ IsTold self.now.core.past pass.now.actor pass.now.count pass.now.last)
+            × C.reads reader.old self.now.core told reader.new }
     {
         let told = is_told(&self.core, pass);
         reader.read(&self.core, told);
     }
 
-    /// Gives up the book, with all sixteen passes. `counts` are the passes' own and add up to the events of the history;
-    /// `told` says that at each place k lies actor k's pass with that actor's count and last event; `own` says that the core is of
-    /// this image and this configuration.
+    /// Gives up the book, with all sixteen passes. `counts` are the passes' own and add up to the
+    /// events of the history; `told` says that at each place k lies actor k's pass with that
+    /// actor's count and last event; `own` says that the core is of this image and this
+    /// configuration.
     pub fn finish(self, passes: [Pass<L>; 16], image: &Image, config: &Config) -> Finished
         requires { L.parts ≡ 16 }
         ensures core { result.core ≡ self.core }
         ensures counts { result.counts ≡ map (λ p. p.count) passes }
         ensures sum { sum result.counts ≡ length result.core.past }
-        ensures told { IsTrue result.told ↔ ((k : ℕ) (p : _) → slice_get passes k ≡ Some p → (p.actor ≡ k) × IsTold result.core.past p.actor p.count p.last) }
+        ensures told { IsTrue result.told
+            ↔ ((k : ℕ) (p : _) → slice_get passes k ≡ Some p
+            → (p.actor ≡ k) × IsTold result.core.past p.actor p.count p.last) }
         ensures own { IsTrue result.own ↔ (result.core.setup ≡ setup_of image.now config.now) }
         ensures origin { (result.core.setup ≡ L.setup) × (result.core.limit ≡ L.limit) }
         ensures shown { Shown result.core }
@@ -189,8 +199,8 @@ fn deal<L: Ledger>(core: &Core, rest: &mut Share<L>, actor: u8) -> Pass<L>
     requires inside { actor < 16 }
     requires amount { rest.old.amount ≡ made_from actor core.now.past }
     ensures actor { result.actor ≡ actor }
-    ensures count { result.count ≡ made actor core.now.past }
-    ensures last { result.last ≡ last_made actor core.now.past }
+    ensures count { result.count ≡ event_count actor core.now.past }
+    ensures last { result.last ≡ last_event_of actor core.now.past }
     ensures parts { rest.new.parts + (actor + 1) ≡ 16 }
     ensures amount { rest.new.amount ≡ made_from (actor + 1) core.now.past }
 {
@@ -274,20 +284,32 @@ fn note<L: Ledger>(book: &mut Book<L>, pass: &mut Pass<L>, event: Option<Event>)
 
 /// Whether the history holds of the pass's actor just what the pass has counted.
 fn is_told<L: Ledger>(core: &Core, pass: &Pass<L>) -> bool
-    ensures told { IsTrue result ↔ IsTold core.now.past pass.now.actor pass.now.count pass.now.last }
+    ensures told { IsTrue result
+        ↔ IsTold core.now.past pass.now.actor pass.now.count pass.now.last }
     ensures shown { Shown core.now }
 {
     show(core);
-    let Tally { count, last } = tally_of(core.history(), pass.actor);
-    count == pass.count && last == pass.last
+    has_counted(pass, tally_of(core.history(), pass.actor))
 }
 
-/// Whether that is so of each place's pass, and it is the pass of the place's actor.
-fn are_told<L: Ledger>(core: &Core, passes: &[Pass<L>; 16]) -> bool
-    ensures { IsTrue result ↔ ((k : ℕ) (p : _) → slice_get passes.now k ≡ Some p → (p.actor ≡ k) × IsTold core.now.past p.actor p.count p.last) }
+/// Whether the pass has counted just this.
+fn has_counted<L: Ledger>(pass: &Pass<L>, tally: Tally) -> bool
+    ensures { IsTrue result ↔ (pass.now.count ≡ tally.count) × (pass.now.last ≡ tally.last) }
 {
+    pass.count == tally.count && pass.last == tally.last
+}
+
+/// Whether at each place lies the pass of its actor, and the history holds of that actor just what
+/// the pass has counted. It reads the history once.
+fn are_told<L: Ledger>(core: &Core, passes: &[Pass<L>; 16]) -> bool
+    ensures { IsTrue result
+        ↔ ((k : ℕ) (p : _) → slice_get passes.now k ≡ Some p
+        → (p.actor ≡ k) × IsTold core.now.past p.actor p.count p.last) }
+{
+    show(core);
+    let tallies = tallies_of(core.history());
     for (place, pass) in passes.iter().enumerate() {
-        if usize::from(pass.actor) != place || !is_told(core, pass) {
+        if usize::from(pass.actor) != place || !has_counted(pass, tallies[place]) {
             return false;
         }
     }

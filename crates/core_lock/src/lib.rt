@@ -1,8 +1,10 @@
-//! One core behind one lock. A thread asks through its pass; what is asked, what is said and what each pass counts stands here.
+//! One core behind one lock. A thread asks through its pass; what is asked, what is said and what
+//! each pass counts stands here.
 //!
-//! Read in this order: `ask` (what is asked and said), `tally` (what a history holds of one actor), `origin` (which core it is),
-//! `reader` (what looks at a core), `finished` (what is left at the end), `held` (what stands behind the lock, with the passes;
-//! `held/passes` and `held/replies` read them out), `locked` (the lock).
+//! Read in this order: `ask` (what is asked and said), `tally` (what a history holds of one actor),
+//! `origin` (which core it is), `reader` (what looks at a core), `finished` (what is left at the
+//! end), `held` (what stands behind the lock, with the passes; `held/passes` and `held/replies`
+//! read them out), `locked` (the lock).
 #![tactic(auto)]
 
 pub mod ask;

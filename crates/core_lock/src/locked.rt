@@ -1,8 +1,9 @@
-ghost use Rattle.std.specs.Prelude.{◌≡◌, ◌↔◌, ℕ, Bool, true, Some, IsTrue, IfSome, length, map, sum, slice_get};
+ghost use Rattle.std.specs.Prelude.{◌≡◌, ◌↔◌, ℕ, Bool, true, Some, IsTrue, IfSome, length, map};
+ghost use Rattle.std.specs.Prelude.{sum, slice_get};
 ghost use Rattle.events.specs.Range.{HasShortWrite};
 ghost use Rattle.core_state.specs.Setup.{setup_of};
 ghost use Rattle.core_state.specs.View.{CoreView};
-ghost use Rattle.smt_model.specs.Account.{made, last_made};
+ghost use Rattle.smt_model.specs.Account.{event_count, last_event_of};
 ghost use Rattle.core_lock.specs.Asks.{Replied, IsPredictedBy, asked_of, event_in, is_reply};
 ghost use Rattle.core_lock.specs.Passes.{IsTold, more, later, going_in, places};
 ghost use Rattle.core_lock.specs.Shown.{Shown};
@@ -24,15 +25,15 @@ pub struct LockedCore<L: Origin> {
 }
 
 impl<L: Origin> LockedCore<L> {
-    /// Puts a core behind a lock, and deals a pass to each of sixteen actors: pass k has the number of actor k's events in the
-    /// history so far, and the last of them.
+    /// Puts a core behind a lock, and deals a pass to each of sixteen actors: pass k has the number
+    /// of actor k's events in the history so far, and the last of them.
     pub fn new(core: Core, blank: Blank) -> (LockedCore<L>, [Pass<L>; 16])
         requires name { blank.name ≡ L.name }
         requires parts { (blank.parts ≡ L.parts) × (L.parts ≡ 16) }
         requires origin { (core.setup ≡ L.setup) × (core.limit ≡ L.limit) }
         ensures actors { map (λ p. p.actor) result.1 ≡ places }
-        ensures counts { map (λ p. p.count) result.1 ≡ map (λ k. made k core.past) places }
-        ensures lasts { map (λ p. p.last) result.1 ≡ map (λ k. last_made k core.past) places }
+        ensures counts { map (λ p. p.count) result.1 ≡ map (λ k. event_count k core.past) places }
+        ensures lasts { map (λ p. p.last) result.1 ≡ map (λ k. last_event_of k core.past) places }
     {
         let (held, passes) = Held::new(core, blank);
         let lock = Mutex::new(held);
@@ -54,28 +55,37 @@ impl<L: Origin> LockedCore<L> {
         ensures last { pass.new.last ≡ later pass.old.last (event_in result.said) }
         ensures own { is_reply pass.old.actor (asked_of ask) result.said ≡ true }
         ensures printable { IfSome (event_in result.said) HasShortWrite }
-        ensures predicted { IsPredictedBy P.predicts predict.old (asked_of ask) result.said predict.new }
-        ensures step { (old : CoreView) × (new : CoreView) × Shown old × (old.setup ≡ L.setup) × (old.limit ≡ L.limit) × Replied pass.old.actor ask old result.said new × (result.going ≡ going_in new) }
+        ensures predicted { IsPredictedBy P.predicts predict.old
+            (asked_of ask) result.said predict.new }
+        ensures step { (old : CoreView) × (new : CoreView) × Shown old × (old.setup ≡ L.setup)
+            × (old.limit ≡ L.limit) × Replied pass.old.actor ask old result.said new
+            × (result.going ≡ going_in new) }
     {
         self.lock.lock(rt).step(pass, ask, predict)
     }
 
-    /// Waits for the lock, and shows the core to a reader, once, with whether the history holds of the pass's actor just what
-    /// the pass has counted.
+    /// Waits for the lock, and shows the core to a reader, once, with whether the history holds of
+    /// the pass's actor just what the pass has counted.
     pub fn look<C: CoreReader, R: Wait>(&self, rt: &R, pass: &Pass<L>, reader: &mut C)
-        ensures { (core : CoreView) × (told : Bool) × Shown core × (core.setup ≡ L.setup) × (core.limit ≡ L.limit) × (IsTrue told ↔ IsTold core.past pass.now.actor pass.now.count pass.now.last) × C.reads reader.old core told reader.new }
+        ensures { (core : CoreView) × (told : Bool) × Shown core × (core.setup ≡ L.setup)
+            × (core.limit ≡ L.limit)
+            × (IsTrue told ↔ IsTold core.past pass.now.actor pass.now.count pass.now.last)
+            × C.reads reader.old core told reader.new }
     {
         self.lock.lock(rt).look(pass, reader);
     }
 
-    /// Gives up the lock, with all sixteen passes. `counts` are the passes' own and add up to the events of the history; `told`
-    /// says that at each place k lies actor k's pass with that actor's count and last event; `own` says that the core is of this
-    /// image and this configuration.
+    /// Gives up the lock, with all sixteen passes. `counts` are the passes' own and add up to the
+    /// events of the history; `told` says that at each place k lies actor k's pass with that
+    /// actor's count and last event; `own` says that the core is of this image and this
+    /// configuration.
     pub fn finish(self, passes: [Pass<L>; 16], image: &Image, config: &Config) -> Finished
         requires { L.parts ≡ 16 }
         ensures counts { result.counts ≡ map (λ p. p.count) passes }
         ensures sum { sum result.counts ≡ length result.core.past }
-        ensures told { IsTrue result.told ↔ ((k : ℕ) (p : _) → slice_get passes k ≡ Some p → (p.actor ≡ k) × IsTold result.core.past p.actor p.count p.last) }
+        ensures told { IsTrue result.told
+            ↔ ((k : ℕ) (p : _) → slice_get passes k ≡ Some p
+            → (p.actor ≡ k) × IsTold result.core.past p.actor p.count p.last) }
         ensures own { IsTrue result.own ↔ (result.core.setup ≡ setup_of image.now config.now) }
         ensures origin { (result.core.setup ≡ L.setup) × (result.core.limit ≡ L.limit) }
         ensures shown { Shown result.core }

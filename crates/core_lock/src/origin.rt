@@ -1,8 +1,8 @@
 use std::marker::Brand;
 use std::sync::ledger::Ledger;
 
-/// Which core stands behind a lock: what it was made of, and how many events its history may have. Nothing is known of what
-/// other threads have asked of it, but that it is this core.
+/// Which core stands behind a lock: what it was made of, and how many events its history may have.
+/// Nothing is known of what other threads have asked of it, but that it is this core.
 pub trait Origin: Ledger {
     ghost use Rattle.std.specs.Prelude.{ℕ};
     ghost use Rattle.smt_model.specs.Setup.{Setup};

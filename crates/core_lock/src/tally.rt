@@ -1,5 +1,9 @@
-ghost use Rattle.std.specs.Prelude.{◌≡◌, ◌∷◌, [], ◌+◌, ◌<◌, ◌≤◌, ◌==◌, if◌then◌else◌, Some, length, reverse};
-ghost use Rattle.smt_model.specs.Account.{actor_of, made, last_made};
+ghost use Rattle.std.specs.Prelude.{◌≡◌, ◌∷◌, [], ◌+◌, ◌<◌, ◌≤◌, ◌==◌, if◌then◌else◌, Some, length};
+ghost use Rattle.std.specs.Prelude.{reverse, ℕ, List};
+ghost use Rattle.smt_model.specs.Account.{event_count, last_event_of};
+ghost use Rattle.events.specs.Event.{actor_of};
+ghost use Rattle.events.specs.declared.event.Event.{Event as AnyEvent};
+ghost use Rattle.core_lock.specs.Tallies.{AreTallies, AreBelow};
 
 use events::Event;
 
@@ -13,8 +17,8 @@ pub struct Tally {
 /// What these events, the oldest first, hold of actor `actor`.
 pub fn tally_of(events: &[Event], actor: u8) -> Tally
     requires { length events.now ≤ 16777216 }
-    ensures count { result.count ≡ made actor (reverse events.now) }
-    ensures last { result.last ≡ last_made actor (reverse events.now) }
+    ensures count { result.count ≡ event_count actor (reverse events.now) }
+    ensures last { result.last ≡ last_event_of actor (reverse events.now) }
     ensures within { result.count ≤ length events.now }
 {
     let mut tally = Tally {
@@ -29,8 +33,9 @@ pub fn tally_of(events: &[Event], actor: u8) -> Tally
 
 fn with_event(tally: Tally, event: &Event, actor: u8) -> Tally
     requires { tally.count < 16777216 }
-    ensures count { result.count ≡ tally.count + made actor (event.now ∷ []) }
-    ensures last { result.last ≡ (if actor_of event.now == actor then Some event.now else tally.last) }
+    ensures count { result.count ≡ tally.count + event_count actor (event.now ∷ []) }
+    ensures last { result.last
+        ≡ (if actor_of event.now == actor then Some event.now else tally.last) }
 {
     if event.actor() != actor {
         return tally;
@@ -38,5 +43,35 @@ fn with_event(tally: Tally, event: &Event, actor: u8) -> Tally
     Tally {
         count: tally.count + 1,
         last: Some(*event),
+    }
+}
+
+/// What these events, the oldest first, hold of each actor 0 to 15, told in one pass over them.
+pub fn tallies_of(events: &[Event]) -> [Tally; 16]
+    requires { length events.now ≤ 16777216 }
+    ensures { AreTallies (reverse events.now) result }
+{
+    let mut tallies = [Tally {
+        count: 0,
+        last: None,
+    }; 16];
+    for event in events {
+        enter(&mut tallies, event);
+    }
+    tallies
+}
+
+/// Enters an event at its actor's place. There is no place for an actor above 15.
+fn enter(tallies: &mut [Tally; 16], event: &Event)
+    requires few { AreBelow 16777216 tallies.old }
+    ensures { (past : List AnyEvent) → AreTallies past tallies.old
+        → AreTallies (event.now ∷ past) tallies.new }
+{
+    let actor = usize::from(event.actor());
+    if actor < 16 {
+        tallies[actor] = Tally {
+            count: tallies[actor].count + 1,
+            last: Some(*event),
+        };
     }
 }

@@ -1,28 +1,29 @@
--- What a step of the state answers, in the words of the rules: which event it made, or that none could be made.
+-- What a step of the state answers, in the words of the rules: which event it made, or that none
+-- could be made.
 use Rattle.std.specs.Prelude.{◌≡◌, ℕ, ◌<◌, true, false, List, Option, Some, None, is_some}
-use Rattle.events.specs.declared.event.Event.{Event}
-use Rattle.events.specs.declared.event.Event.TheVariants.{Fetch, Rename}
+use Rattle.events.specs.{declared.event.Event.Event, declared.event.Event.TheVariants.Fetch}
+use Rattle.events.specs.{declared.event.Event.TheVariants.Rename}
 use Rattle.exec_units.specs.Job.{JobView}
-use Rattle.smt_model.specs.Setup.{Setup}
-use Rattle.smt_model.specs.Kinds.{first_source, second_source}
+use Rattle.smt_model.specs.{Setup.Setup, Kinds.first_source, Kinds.second_source, Registers.operand}
+use Rattle.smt_model.specs.{Rules.refused, Jobs.job, Asks.Ask, Asks.answers, Picture.is_free}
 use Rattle.smt_model.specs.Fates.{Fetched, fetching, fetches, op_of_fetched}
-use Rattle.smt_model.specs.Registers.{operand}
-use Rattle.smt_model.specs.Rules.{refused, job}
-use Rattle.smt_model.specs.Asks.{Ask, answers}
-use Rattle.smt_model.specs.Picture.{is_free}
 use Rattle.core_state.specs.declared.point.FetchPoint.{FetchPoint}
 
 -- No event that answers this ask is allowed.
 abbrev pub AllowsNone : Setup → Ask → List Event → Type 0
-AllowsNone setup ask past = (e : Event) → answers ask past e ≡ true → is_some (refused setup past e) ≡ true
+AllowsNone setup ask past =
+    (e : Event) → answers ask past e ≡ true → is_some (refused setup past e) ≡ true
 
--- The fetch by an actor at this point: it takes the next number, and goes on where it is predicted to.
+-- The fetch by an actor at this point: it takes the next number, and goes on where it is predicted
+-- to.
 abbrev pub fetched_at : ℕ → FetchPoint → ℕ → List Event → Event
-fetched_at actor point predicted past = Fetch actor point.hart (fetches past) point.pc point.word predicted
+fetched_at actor point predicted past =
+    Fetch actor point.hart (fetches past) point.pc point.word predicted
 
 -- The actor may fetch there, whatever is predicted.
 abbrev pub CanFetch : Setup → List Event → ℕ → FetchPoint → Type 0
-CanFetch setup past actor point = (predicted : ℕ) → refused setup past (fetched_at actor point predicted past) ≡ None
+CanFetch setup past actor point =
+    (predicted : ℕ) → refused setup past (fetched_at actor point predicted past) ≡ None
 
 -- The register that a rename takes is the least free one.
 abbrev pub IsLeastFree : Setup → List Event → Option ℕ → Type 0
@@ -33,7 +34,8 @@ abbrev pub TakesLeast : Setup → List Event → Event → Type 0
 TakesLeast setup past (Rename actor seq phys) = IsLeastFree setup past phys
 TakesLeast setup past _ = Unit {0}
 
--- The job is the one that actor k has open: its number, its instruction and pc as they were fetched, and its operands.
+-- The job is the one that actor k has open: its number, its instruction and pc as they were
+-- fetched, and its operands.
 pub record IsJobOf (setup : Setup) (past : List Event) (k : ℕ) (view : JobView) : Type 0 where
   pub lent : job past k ≡ Some view.seq
   pub instruction : Fetched

@@ -1,10 +1,7 @@
 -- What a decode takes, and what it changes in its hart.
 use Rattle.std.specs.Prelude.{◌≡◌, ℕ, ◌<◌, [], ◌∷◌, ◌++◌, length, Some}
-use Rattle.smt_model.specs.Basics.{first}
-use Rattle.smt_model.specs.Picture.{Picture}
-use Rattle.smt_model.specs.Steps.{IsDecode}
-use Rattle.core_state.specs.declared.slot.Slot.{Slot}
-use Rattle.core_state.specs.declared.hart.HartState.{HartState}
+use Rattle.smt_model.specs.{Basics.first, Picture.Picture, Steps.IsDecode}
+use Rattle.core_state.specs.{declared.slot.Slot.Slot, declared.hart.HartState.HartState}
 
 -- Number s is the oldest in hart h's decode latch, and the rename latch has room for it.
 pub record CanDecode (p : Picture) (h s : ℕ) : Type 0 where

@@ -1,15 +1,15 @@
 -- A core before its first event.
-use Rattle.std.specs.Prelude.{◌≡◌, ℕ, ◌+◌, ◌-◌, ◌*◌, ◌<◌, ◌&&◌, nat_le, nat_lt, if◌then◌else◌, [], Option, Some}
+use Rattle.std.specs.Prelude.{◌≡◌, ℕ, ◌+◌, ◌-◌, ◌<◌, ◌&&◌, nat_le, nat_lt, if◌then◌else◌, []}
+use Rattle.std.specs.Prelude.{Option, Some}
+use Rattle.numbers.specs.Layout.{first_extra}
 use Rattle.rename_map.specs.Maps.{lookup, committed_of}
-use Rattle.smt_model.specs.declared.config.Status.TheVariants.{Going}
-use Rattle.smt_model.specs.Picture.{picture}
-use Rattle.smt_model.specs.Registers.{first_register}
-use Rattle.smt_model.specs.Setup.{Setup, first_number}
-use Rattle.core_state.specs.Agree.{PartsAgree}
-use Rattle.core_state.specs.declared.hart.HartState.{HartState}
-use Rattle.core_state.specs.declared.parts.Parts.{Parts}
+use Rattle.smt_model.specs.{declared.config.Status.TheVariants.Going, Picture.picture}
+use Rattle.smt_model.specs.{Registers.first_register, Setup.Setup, Setup.first_number}
+use Rattle.core_state.specs.{Agree.PartsAgree, declared.hart.HartState.HartState}
+use Rattle.core_state.specs.{declared.parts.Parts.Parts}
 
--- Hart h as it begins: nothing in it, its registers in its own physical ones, and it goes from the entry.
+-- Hart h as it begins: nothing in it, its registers in its own physical ones, and it goes from the
+-- entry.
 pub record IsNew (h entry : ℕ) (x : HartState) : Type 0 where
   pub decode_latch : x.decode_latch.items ≡ []
   pub rename_latch : x.rename_latch.items ≡ []
@@ -23,7 +23,8 @@ pub record IsNew (h entry : ℕ) (x : HartState) : Type 0 where
 -- What physical register x holds once hart h's registers below r have their first numbers.
 abbrev pub first_values_below : ℕ → ℕ → ℕ → ℕ → Option ℕ → Option ℕ
 first_values_below r harts h x before =
-    if nat_le (31 * h) x && nat_lt (x + 1) (31 * h + r) then Some (first_number harts h (x - 31 * h + 1)) else before
+    if nat_le (first_extra h) x && nat_lt (x + 1) (first_extra h + r)
+    then Some (first_number harts h (x - first_extra h + 1)) else before
 
 -- The same of all its registers.
 abbrev pub first_values : ℕ → ℕ → ℕ → Option ℕ → Option ℕ
@@ -32,4 +33,5 @@ first_values harts h x before = first_values_below 32 harts h x before
 -- The parts agree with the empty history of every setup of these sizes and this entry.
 abbrev pub BeginsAs : ℕ → ℕ → ℕ → Parts → Type 0
 BeginsAs harts extra entry parts =
-    (setup : Setup) → setup.harts ≡ harts → setup.extra ≡ extra → setup.image.entry ≡ entry → PartsAgree (picture setup []) parts
+    (setup : Setup) → setup.harts ≡ harts → setup.extra ≡ extra → setup.image.entry ≡ entry
+    → PartsAgree (picture setup []) parts

@@ -1,22 +1,17 @@
--- What the steps of a retirement ask and leave: hart h's oldest instruction, as `x` in its active list, and the pictures around the step.
+-- What the steps of a retirement ask and leave: hart h's oldest instruction, as `x` in its active
+-- list, and the pictures around the step.
 use Rattle.std.specs.Prelude.{◌≡◌, ℕ, ◌<◌, true, false, drop, Option, Some, None}
 use Rattle.std.specs.List.{AllByRecursion}
-use Rattle.events.specs.declared.effect.Outcome.{Outcome}
-use Rattle.events.specs.declared.effect.Effect.{Effect}
+use Rattle.events.specs.{declared.effect.Outcome.Outcome, declared.effect.Effect.Effect}
 use Rattle.rename_map.specs.Maps.{committed_of}
 use Rattle.retire_squash.specs.declared.active.Active.{Active}
-use Rattle.smt_model.specs.declared.config.Status.{Status}
-use Rattle.smt_model.specs.Basics.{first}
-use Rattle.smt_model.specs.Fates.{Completed}
-use Rattle.smt_model.specs.Fields.{is_last}
-use Rattle.smt_model.specs.Kinds.{destination}
-use Rattle.smt_model.specs.Picture.{Picture}
-use Rattle.smt_model.specs.Plain.{status_after}
+use Rattle.smt_model.specs.{declared.config.Status.Status, Basics.first, Fates.Completed}
+use Rattle.smt_model.specs.{Nexts.is_last, Kinds.destination, Picture.Picture, Plain.status_after}
 use Rattle.smt_model.specs.Steps.{IsRetire, IsHalt, IsEnd, op_in, renamed_map}
-use Rattle.core_state.specs.Agree.{IsActive}
-use Rattle.core_state.specs.declared.hart.HartState.{HartState}
+use Rattle.core_state.specs.{Agree.IsActive, declared.hart.HartState.HartState}
 
--- What an instruction does that retires with an outcome, where nothing that touches memory is executed.
+-- What an instruction does that retires with an outcome, where nothing that touches memory is
+-- executed.
 abbrev pub effect_from : Outcome → Effect
 effect_from o = record { value = o.value; next = o.next; write = None; out = o.out }
 
@@ -31,8 +26,9 @@ pub record CanRetire (p : Picture) (h : ℕ) (x : Active) (o : Outcome) : Type 0
 abbrev pub NoneCanRetire : Picture → ℕ → Type 0
 NoneCanRetire p h = (s : ℕ) → first (p.flight h) ≡ Some s → p.fate s ≡ Completed → ⊥
 
--- An instruction that can retire, with what the step needs to know of it: its register, and that all others of the flight are younger.
-pub record IsOldest (p : Picture) (h : ℕ) (x : Active) : Type 0 where
+-- An instruction that can retire, with what the step needs to know of it: its register, and that
+-- all others of the flight are younger.
+pub record IsOldestActive (p : Picture) (h : ℕ) (x : Active) : Type 0 where
   pub completed : p.fate x.seq ≡ Completed
   pub rd : x.rd ≡ destination (op_in p x.seq)
   pub range : x.rd < 32
@@ -41,19 +37,19 @@ pub record IsOldest (p : Picture) (h : ℕ) (x : Active) : Type 0 where
 
 -- It retires with this effect, and its hart goes on where it was.
 pub record Commits (p q : Picture) (h : ℕ) (x : Active) (effect : Effect) : Type 0 where
-  pub is_oldest : IsOldest p h x
+  pub is_oldest : IsOldestActive p h x
   pub step : IsRetire p q h x.seq effect (p.fetch_pc h)
 
 -- It retires, and its hart stands like this from now on.
 pub record Ends (p q : Picture) (h : ℕ) (x : Active) (status : Status) : Type 0 where
-  pub is_oldest : IsOldest p h x
+  pub is_oldest : IsOldestActive p h x
   pub effect : Effect
   pub stands : status ≡ status_after effect.next (p.status h)
   pub step : IsEnd p q h x.seq effect
 
 -- The same before all younger ones are squashed: the hart's map still has its register.
 pub record Leaves (p q : Picture) (h : ℕ) (x : Active) (status : Status) : Type 0 where
-  pub is_oldest : IsOldest p h x
+  pub is_oldest : IsOldestActive p h x
   pub effect : Effect
   pub stands : status ≡ status_after effect.next (p.status h)
   pub step : IsHalt p q h x.seq effect
@@ -61,7 +57,7 @@ pub record Leaves (p q : Picture) (h : ℕ) (x : Active) (status : Status) : Typ
 
 -- It retires with this effect: its hart goes on, or it ends.
 pub record Retires (p q : Picture) (h : ℕ) (x : Active) (effect : Effect) : Type 0 where
-  pub is_oldest : IsOldest p h x
+  pub is_oldest : IsOldestActive p h x
   pub goes_on : is_last effect.next ≡ false → IsRetire p q h x.seq effect (p.fetch_pc h)
   pub ends : is_last effect.next ≡ true → IsEnd p q h x.seq effect
 
@@ -74,7 +70,8 @@ replaced_by (Some register) before = Some before
 pub record HasCommitted (old new : HartState) (rd : ℕ) (phys replaced : Option ℕ) : Type 0 where
   pub answer : replaced ≡ replaced_by phys (committed_of old.maps rd)
   pub active : new.active ≡ drop 1 old.active
-  pub committed : (r : ℕ) → committed_of new.maps r ≡ renamed_map rd phys r (committed_of old.maps r)
+  pub committed : (r : ℕ)
+      → committed_of new.maps r ≡ renamed_map rd phys r (committed_of old.maps r)
   pub speculative : new.maps.speculative ≡ old.maps.speculative
   pub decode_latch : new.decode_latch ≡ old.decode_latch
   pub rename_latch : new.rename_latch ≡ old.rename_latch

@@ -1,13 +1,13 @@
 -- What a squash leaves of one hart's parts, said of the parts alone.
-use Rattle.std.specs.Prelude.{◌≡◌, ℕ, ◌<◌, Bool, true, false, nat_lt, nat_le, List, [], ◌∷◌, filter, count_by, Some}
+use Rattle.std.specs.Prelude.{◌≡◌, ℕ, ◌<◌, Bool, true, false, nat_lt, nat_le, List, [], ◌∷◌, filter}
+use Rattle.std.specs.Prelude.{count_by, Some}
+use Rattle.numbers.specs.Sizes.{most_registers}
 use Rattle.std.specs.List.{list_any}
 use Rattle.free_list.specs.Flags.{holds}
 use Rattle.rename_map.specs.Maps.{lookup, committed_of}
-use Rattle.retire_squash.specs.declared.active.Active.{Active}
-use Rattle.retire_squash.specs.declared.active.Stage.{Stage}
+use Rattle.retire_squash.specs.{declared.active.Active.Active, declared.active.Stage.Stage}
 use Rattle.retire_squash.specs.declared.active.Stage.TheVariants as stage
-use Rattle.smt_model.specs.Basics.{same_number}
-use Rattle.smt_model.specs.Steps.{renamed_map}
+use Rattle.smt_model.specs.{Basics.same_number, Steps.renamed_map}
 use Rattle.core_state.specs.declared.hart.HartState.{HartState}
 
 -- Those that a squash behind number n keeps, and those that it cuts off.
@@ -29,7 +29,7 @@ is_waiting (stage.Completed outcome) = false
 
 -- Register x isn't free, and none of the rest has it.
 pub record IsOwned (free : List Bool) (rest : List Active) (x : ℕ) : Type 0 where
-  pub in_range : x < 512
+  pub in_range : x < most_registers
   pub claimed : holds free x ≡ false
   pub alone : list_any (has_phys x) rest ≡ false
 
@@ -43,13 +43,15 @@ abbrev pub mapped_by : ℕ → List Active → ℕ → ℕ
 mapped_by r [] before = before
 mapped_by r (a ∷ rest) before = mapped_by r rest (renamed_map a.rd a.phys r before)
 
--- What is left of a hart: empty latches, those up to number n, and a counter and a map that fit these.
-pub record IsCut (n : ℕ) (old new : HartState) : Type 0 where
+-- What is left of a hart: empty latches, those up to number n, and a counter and a map that fit
+-- these.
+pub record IsSquashedBehind (n : ℕ) (old new : HartState) : Type 0 where
   pub decode_latch : new.decode_latch.items ≡ []
   pub rename_latch : new.rename_latch.items ≡ []
   pub active : new.active ≡ older n old.active
   pub icount : new.icount ≡ count_by (λ a. is_waiting a.stage) (older n old.active)
-  pub speculative : (r : ℕ) → 0 < r → r < 32 → lookup new.maps r ≡ mapped_by r (older n old.active) (committed_of old.maps r)
+  pub speculative : (r : ℕ) → 0 < r → r < 32
+      → lookup new.maps r ≡ mapped_by r (older n old.active) (committed_of old.maps r)
   pub committed : new.maps.committed ≡ old.maps.committed
   pub fetch_pc : new.fetch_pc ≡ old.fetch_pc
   pub status : new.status ≡ old.status

@@ -1,17 +1,11 @@
 -- How callers see the fields of a state, and what is true of these in every state.
 use Rattle.std.specs.Prelude.{◌≡◌, ◌≤◌, true, List, length, reverse, vec_capacity}
+use Rattle.numbers.specs.Sizes.{most_events}
 use Rattle.events.specs.declared.event.Event.{Event}
-use Rattle.smt_model.specs.Account.{records}
-use Rattle.smt_model.specs.Fates.{fetches}
-use Rattle.smt_model.specs.Fetching.{last_fetched}
-use Rattle.smt_model.specs.Memory.{output}
-use Rattle.smt_model.specs.Picture.{picture}
-use Rattle.smt_model.specs.Rules.{is_legal}
-use Rattle.smt_model.specs.Setup.{Setup}
-use Rattle.core_state.specs.Agree.{PartsAgree}
-use Rattle.core_state.specs.Setup.{setup_of, accepts}
-use Rattle.core_state.specs.View.{CoreView}
-use Rattle.core_state.specs.declared.state.State.TheInside.{Inside}
+use Rattle.smt_model.specs.{Account.records, Fates.fetches, Fetching.last_fetched, Memory.output}
+use Rattle.smt_model.specs.{Picture.picture, Rules.is_legal, Setup.Setup}
+use Rattle.core_state.specs.{Agree.PartsAgree, Setup.setup_of, Setup.accepts, View.CoreView}
+use Rattle.core_state.specs.{declared.state.State.TheInside.Inside}
 
 abbrev pub past_of : Inside → List Event
 past_of i = reverse i.history.items
@@ -22,11 +16,12 @@ setup_in i = setup_of i.image i.config
 abbrev pub view_of : Inside → CoreView
 view_of i = record { setup = setup_in i; limit = i.history.limit; past = past_of i }
 
--- The sizes are a core's. The history is legal, and every part agrees with it: the parts that instructions move through, how many
--- were fetched and which hart last, the records and the output. There is room for a record and a byte of output for each event to come.
+-- The sizes are a core's. The history is legal, and every part agrees with it: the parts that
+-- instructions move through, how many were fetched and which hart last, the records and the output.
+-- There is room for a record and a byte of output for each event to come.
 pub record IsCore (i : Inside) : Type 0 where
   pub sizes : accepts i.config i.history.limit ≡ true
-  pub limit : i.history.limit ≤ 16777216
+  pub limit : i.history.limit ≤ most_events
   pub harts : length i.parts.harts.items ≡ i.config.harts
   pub queue : i.parts.queue.size ≡ i.config.queue
   pub legal : is_legal (setup_in i) (past_of i)

@@ -1,4 +1,5 @@
--- What callers see of the state: what the core was made from, how many events its history may have, and the history.
+-- What callers see of the state: what the core was made from, how many events its history may have,
+-- and the history.
 use Rattle.std.specs.Prelude.{ℕ, List, ◌∷◌}
 use Rattle.events.specs.declared.event.Event.{Event}
 use Rattle.smt_model.specs.Setup.{Setup}

@@ -1,17 +1,20 @@
-ghost use Rattle.std.specs.Prelude.{◌≡◌, ℕ, ◌<◌, ◌==◌, ◌↔◌, IsTrue, IfSome, IfNone, Some, None, Option, false, length, slice_index_or};
+ghost use Rattle.std.specs.Prelude.{◌≡◌, ℕ, ◌<◌, ◌==◌, ◌↔◌, IsTrue, IfSome, IfNone, Some, None};
+ghost use Rattle.std.specs.Prelude.{Option, false, length, slice_index_or};
 ghost use Rattle.std.specs.List.{list_any};
 ghost use Rattle.retire_squash.specs.Active.{with_stage};
 ghost use Rattle.smt_model.specs.Picture.{Picture};
 ghost use Rattle.smt_model.specs.Steps.{IsComplete, IsDrop};
 ghost use Rattle.core_state.specs.Agree.{IsActive, PartsAgree, KeepsSizes, From};
-ghost use Rattle.core_state.specs.Complete.{IsSameJob, strayed_to, IsFinish};
+ghost use Rattle.core_state.specs.Complete.{IsSameJob, IsFinish};
+ghost use Rattle.smt_model.specs.Nexts.{redirect_pc};
 ghost use Rattle.core_state.specs.declared.slot.OpenJob.{OpenJob as Open};
 
 use crate::hart::HartState;
 use crate::parts::{Parts, set_job};
 use crate::slot::OpenJob;
-use events::{Next, Outcome};
+use events::{Next, OutcomeFields};
 use exec_units::{Done, Job};
+use numbers::Seq;
 use retire_squash::{Active, Stage};
 
 impl OpenJob {
@@ -24,7 +27,8 @@ impl OpenJob {
 
     /// The same instruction, at the same pc.
     fn has_instruction(&self, job: &Job) -> bool
-        ensures { IsTrue result ↔ (self.now.seq ≡ job.now.seq) × (self.now.op ≡ job.now.op) × (self.now.pc ≡ job.now.pc) }
+        ensures { IsTrue result ↔ (self.now.seq ≡ job.now.seq) × (self.now.op ≡ job.now.op)
+            × (self.now.pc ≡ job.now.pc) }
     {
         self.op == job.op() && self.is_at(job)
     }
@@ -37,7 +41,8 @@ impl OpenJob {
 
     /// The same numbers of both sources.
     fn has_operands(&self, job: &Job) -> bool
-        ensures { IsTrue result ↔ (self.now.first ≡ job.now.first) × (self.now.second ≡ job.now.second) }
+        ensures { IsTrue result ↔ (self.now.first ≡ job.now.first)
+            × (self.now.second ≡ job.now.second) }
     {
         self.first == job.first() && self.second == job.second()
     }
@@ -45,8 +50,12 @@ impl OpenJob {
 
 impl HartState {
     /// The instruction of this number has its outcome, and the hart is fetched from `goes_on`.
-    fn complete(&mut self, seq: u32, outcome: Outcome, goes_on: u32)
-        ensures { self.new ≡ record self.old { active = with_stage seq (Stage.Completed outcome) self.old.active; fetch_pc = goes_on } }
+    fn complete(&mut self, seq: Seq, outcome: OutcomeFields, goes_on: u32)
+        ensures { self.new
+            ≡ record self.old {
+              active = with_stage seq (Stage.Completed outcome) self.old.active;
+              fetch_pc = goes_on;
+            } }
     {
         self.active.complete(seq, outcome);
         self.fetch_pc = goes_on;
@@ -58,7 +67,9 @@ impl Parts {
     pub fn handed_back(&self, actor: u8, done: &Done) -> Option<OpenJob>
         ensures some { IfSome result (λ job. slice_index_or self.now.jobs actor None ≡ Some job) }
         ensures same { IfSome result (λ job. IsSameJob job done.now.job) }
-        ensures none { IfNone result ((job : Open) → slice_index_or self.now.jobs actor None ≡ Some job → IsSameJob job done.now.job → ⊥) }
+        ensures none { IfNone result
+            ((job : Open) → slice_index_or self.now.jobs actor None ≡ Some job
+            → IsSameJob job done.now.job → ⊥) }
     {
         let job = (*self.jobs.get(usize::from(actor))?)?;
         if !job.is_job_of(done) {
@@ -68,22 +79,26 @@ impl Parts {
     }
 
     /// The instruction of number `seq`, where hart `hart` has it in flight.
-    pub fn in_flight(&self, hart: u8, seq: u32) -> Option<Active>
+    pub fn in_flight(&self, hart: u8, seq: Seq) -> Option<Active>
         requires { hart < length self.now.harts.items }
-        ensures some { IfSome result (λ a. (p : Picture) → PartsAgree p self.now → IsActive p hart a × (a.seq ≡ seq)) }
-        ensures none { IfNone result ((p : Picture) → PartsAgree p self.now → list_any (λ s. s == seq) (p.flight hart) ≡ false) }
+        ensures some { IfSome result
+            (λ a. (p : Picture) → PartsAgree p self.now → IsActive p hart a × (a.seq ≡ seq)) }
+        ensures none { IfNone result ((p : Picture) → PartsAgree p self.now
+            → list_any (λ s. s == seq) (p.flight hart) ≡ false) }
     {
         self.harts[usize::from(hart)].active.find(seq)
     }
 
-    /// Hart `hart`'s instruction `active`, which is actor `actor`'s job, has its outcome. Where it goes elsewhere than was
-    /// predicted, all younger ones of its hart are squashed, and the hart is fetched from there.
-    pub fn finish(&mut self, actor: u8, hart: u8, active: &Active, outcome: Outcome)
+    /// Hart `hart`'s instruction `active`, which is actor `actor`'s job, has its outcome. Where it
+    /// goes elsewhere than was predicted, all younger ones of its hart are squashed, and the hart
+    /// is fetched from there.
+    pub fn finish(&mut self, actor: u8, hart: u8, active: &Active, outcome: OutcomeFields)
         requires step { From self.old hart (λ p q. IsFinish p q hart actor active.now outcome) }
-        ensures agrees { (p q : Picture) → PartsAgree p self.old → IsFinish p q hart actor active.now outcome → PartsAgree q self.new }
+        ensures agrees { (p q : Picture) → PartsAgree p self.old
+            → IsFinish p q hart actor active.now outcome → PartsAgree q self.new }
         ensures sizes { KeepsSizes self.old self.new }
     {
-        let Some(pc) = strayed_to(outcome.next, active.predicted) else {
+        let Some(pc) = redirect_pc(outcome.next, active.predicted) else {
             let pc = self.harts[usize::from(hart)].fetch_pc;
             self.write_outcome(actor, hart, active, outcome, pc);
             return;
@@ -92,17 +107,20 @@ impl Parts {
         self.squash(hart, active.seq);
     }
 
-    /// The outcome is written, its number handed on, the actor rid of the job, and the hart is fetched from `goes_on`.
+    /// The outcome is written, its number handed on, the actor rid of the job, and the hart is
+    /// fetched from `goes_on`.
     fn write_outcome(
         &mut self,
         actor: u8,
         hart: u8,
         active: &Active,
-        outcome: Outcome,
+        outcome: OutcomeFields,
         goes_on: u32,
     )
         requires inside { hart < length self.old.harts.items }
-        ensures agrees { (p q : Picture) → PartsAgree p self.old → IsComplete p q hart active.now.seq actor outcome goes_on → active.now.phys ≡ p.phys active.now.seq → PartsAgree q self.new }
+        ensures agrees { (p q : Picture) → PartsAgree p self.old
+            → IsComplete p q hart active.now.seq actor outcome goes_on
+            → active.now.phys ≡ p.phys active.now.seq → PartsAgree q self.new }
         ensures sizes { KeepsSizes self.old self.new }
     {
         self.fill(active.phys, outcome.value);
@@ -112,16 +130,17 @@ impl Parts {
 
     /// Actor `actor` is rid of its job, whose instruction was squashed.
     pub fn drop_job(&mut self, actor: u8)
-        ensures agrees { (p q : Picture) (n : ℕ) → PartsAgree p self.old → IsDrop p q n actor → PartsAgree q self.new }
+        ensures agrees { (p q : Picture) (n : ℕ) → PartsAgree p self.old → IsDrop p q n actor
+            → PartsAgree q self.new }
         ensures sizes { KeepsSizes self.old self.new }
     {
         set_job(&mut self.jobs, usize::from(actor), None);
     }
 }
 
-/// Where an instruction goes on that goes elsewhere than was predicted.
-fn strayed_to(next: Next, predicted: u32) -> Option<u32>
-    ensures { result ≡ strayed_to next predicted }
+/// Where a mispredicted instruction goes on.
+fn redirect_pc(next: Next, predicted: u32) -> Option<u32>
+    ensures { result ≡ redirect_pc next predicted }
 {
     match next {
         Next::Pc(pc) if pc != predicted => Some(pc),

@@ -1,9 +1,11 @@
 ghost use Rattle.std.specs.Prelude.{◌≡◌, ℕ, ◌<◌, ◌≤◌, length, IfSome};
+ghost use Rattle.numbers.specs.Sizes.{latch_room, most_events};
 ghost use Rattle.rv_decode.specs.Decode.{op_of_word};
 ghost use Rattle.smt_model.specs.Picture.{Picture};
 ghost use Rattle.smt_model.specs.Steps.{IsFetch};
 ghost use Rattle.core_state.specs.Agree.{PartsAgree, From, KeepsSizes};
-ghost use Rattle.core_state.specs.Fetch.{next_hart, is_better, better_of, from_to, fetched_of, Fetches, IsFetchedInto};
+ghost use Rattle.core_state.specs.Fetch.{next_hart, is_better, better_of, from_to, fetched_of};
+ghost use Rattle.core_state.specs.Fetch.{Fetches, IsFetchedInto};
 
 use crate::hart::HartState;
 use crate::parts::Parts;
@@ -38,8 +40,9 @@ fn is_better(harts: &[HartState], hart: usize, best: Option<usize>) -> bool
     }
 }
 
-/// The hart to fetch: of those that are going and have room in their decode latch, the one with the lowest ICOUNT, and of
-/// equals the first after the hart that was fetched last, going round (Tullsen and others, ISCA 1996).
+/// The hart to fetch: of those that are going and have room in their decode latch, the one with the
+/// lowest ICOUNT, and of equals the first after the hart that was fetched last, going round
+/// (Tullsen and others, ISCA 1996).
 pub fn choose(harts: &[HartState], last: Option<u8>) -> Option<usize>
     ensures value { result ≡ next_hart harts.now last }
     ensures inside { IfSome result (λ h. h < length harts.now) }
@@ -57,7 +60,8 @@ impl Parts {
     pub fn fetch(&mut self, hart: usize, slot: Slot)
         requires step { From self.old hart (λ p q. Fetches p q hart slot) }
         requires op { slot.op ≡ op_of_word slot.word }
-        ensures agrees { (p q : Picture) → PartsAgree p self.old → IsFetch p q slot.seq (fetched_of hart slot) → PartsAgree q self.new }
+        ensures agrees { (p q : Picture) → PartsAgree p self.old
+            → IsFetch p q slot.seq (fetched_of hart slot) → PartsAgree q self.new }
         ensures sizes { KeepsSizes self.old self.new }
     {
         self.harts[hart].fetch(slot);
@@ -67,8 +71,8 @@ impl Parts {
 impl HartState {
     /// Takes a fetched instruction into the decode latch.
     fn fetch(&mut self, slot: Slot)
-        requires room { length self.old.decode_latch.items < 8 }
-        requires few { self.old.icount < 16777216 }
+        requires room { length self.old.decode_latch.items < latch_room }
+        requires few { self.old.icount < most_events }
         ensures { IsFetchedInto slot self.old self.new }
     {
         self.decode_latch.push(slot);

@@ -1,9 +1,11 @@
 ghost use Rattle.std.specs.Prelude.{◌≡◌, ◌<◌};
+ghost use Rattle.numbers.specs.Sizes.{most_harts};
 ghost use Rattle.core_state.specs.Fetch.{has_room};
 ghost use Rattle.core_state.specs.First.{IsNew};
 
 use crate::slot::Slot;
 use arrayvec::ArrayVec;
+use numbers::sizes::LATCH_ROOM;
 use rename_map::HartMaps;
 use retire_squash::ActiveList;
 use smt_model::Status;
@@ -12,13 +14,14 @@ use smt_model::Status;
 #[derive(Drop)]
 pub struct HartState {
     /// Fetched instructions, in order.
-    pub decode_latch: ArrayVec<Slot, 8>,
+    pub decode_latch: ArrayVec<Slot, LATCH_ROOM>,
     /// Decoded instructions, in order.
-    pub rename_latch: ArrayVec<Slot, 8>,
+    pub rename_latch: ArrayVec<Slot, LATCH_ROOM>,
     /// Renamed instructions that are neither retired nor squashed, in order.
     pub active: ActiveList,
     pub maps: HartMaps,
-    /// How many of its instructions are in decode, rename and the issue queue (ICOUNT; Tullsen and others, ISCA 1996).
+    /// How many of its instructions are in decode, rename and the issue queue (ICOUNT; Tullsen and
+    /// others, ISCA 1996).
     pub icount: u32,
     pub fetch_pc: u32,
     pub status: Status,
@@ -27,7 +30,7 @@ pub struct HartState {
 impl HartState {
     /// Hart `hart` as it begins, at the entry of the program.
     pub fn new(hart: u8, entry: u32) -> Self
-        requires { hart < 8 }
+        requires { hart < most_harts }
         ensures { IsNew hart entry result }
     {
         HartState {

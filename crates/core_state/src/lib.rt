@@ -1,9 +1,11 @@
-//! The core's state: every latch, list, map and counter, kept in agreement with the history of the core's events.
+//! The core's state: every latch, list, map and counter, kept in agreement with the history of the
+//! core's events.
 //!
-//! Read in this order: `slot` (an instruction before it is renamed), `hart` (what each hart has of its own), `parts` (what
-//! all harts share), then the steps in the order of the pipeline: `fetch` with `point` (where the next fetch is), `decode`,
-//! `rename`, `issue`, `complete`, `retire`, and `squash`, which the last two share; and `state`, which holds it all and writes the
-//! history by `log`.
+//! Read in this order: `slot` (an instruction before it is renamed), `hart` (what each hart has of
+//! its own), `parts` (what all harts share), then the steps in the order of the pipeline: `fetch`
+//! with `point` (where the next fetch is), `decode`, `rename`, `issue`, `complete`, `retire`, and
+//! `squash`, which the last two share; and `state`, which holds it all and writes the history by
+//! `log`.
 #![tactic(auto)]
 
 mod complete;

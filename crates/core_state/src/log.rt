@@ -4,11 +4,11 @@ ghost use Rattle.smt_model.specs.Plain.{output_after};
 use events::{Event, History};
 
 /// Writes an event into the history, which has room for it.
-pub fn append(history: &mut History, event: Event)
+pub fn append(history: &mut History, event: &Event)
     requires { length history.old.items < history.old.limit }
-    ensures { history.new ≡ record history.old { items = history.old.items ++ event ∷ [] } }
+    ensures { history.new ≡ record history.old { items = history.old.items ++ event.now ∷ [] } }
 {
-    history.push(event).unwrap();
+    history.push(*event).unwrap();
 }
 
 /// Puts out a byte, where there is one. There is room for it.

@@ -3,9 +3,11 @@ ghost use Rattle.core_state.specs.Fetch.{slot_at};
 
 use crate::slot::Slot;
 use events::Event;
+use numbers::Seq;
 use rv_decode::Op;
 
-/// Where the next fetch is: the hart to choose, its fetch pc, and the word of the code there, none where there is none.
+/// Where the next fetch is: the hart to choose, its fetch pc, and the word of the code there, none
+/// where there is none.
 #[derive(Clone, Copy, Drop)]
 pub struct FetchPoint {
     pub hart: u8,
@@ -15,7 +17,7 @@ pub struct FetchPoint {
 
 impl FetchPoint {
     /// What is fetched there under the number `seq`, and then goes on at `predicted`.
-    pub(crate) fn slot(self, seq: u32, predicted: u32) -> Slot
+    pub(crate) fn slot(self, seq: Seq, predicted: u32) -> Slot
         ensures { result ≡ slot_at seq self predicted }
     {
         Slot {
@@ -28,7 +30,7 @@ impl FetchPoint {
     }
 
     /// The event of its fetch by actor `actor`.
-    pub(crate) fn event(self, actor: u8, seq: u32, predicted: u32) -> Event
+    pub(crate) fn event(self, actor: u8, seq: Seq, predicted: u32) -> Event
         ensures { result ≡ Event.Fetch actor self.hart seq self.pc self.word predicted }
     {
         Event::Fetch {

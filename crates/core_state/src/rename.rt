@@ -1,4 +1,6 @@
-ghost use Rattle.std.specs.Prelude.{◌≡◌, ℕ, ◌<◌, ◌&&◌, Option, not, ◌==◌, length, IfSome, IfNone};
+ghost use Rattle.std.specs.Prelude.{◌≡◌, ℕ, ◌<◌, ◌&&◌, Option, not, count_by, length, IfSome};
+ghost use Rattle.std.specs.Prelude.{IfNone};
+ghost use Rattle.numbers.specs.Sizes.{most_in_flight, most_registers};
 ghost use Rattle.free_list.specs.Flags.{holds};
 ghost use Rattle.issue_queue.specs.declared.entry.Source.{Source};
 ghost use Rattle.rename_map.specs.Maps.{lookup, IsWritable};
@@ -7,47 +9,54 @@ ghost use Rattle.rv_decode.specs.Table.{OpInRange};
 ghost use Rattle.smt_model.specs.Basics.{first, or_zero};
 ghost use Rattle.smt_model.specs.Kinds.{destination, kind_of, is_loading, is_storing};
 ghost use Rattle.smt_model.specs.Picture.{Picture};
-ghost use Rattle.smt_model.specs.Steps.{renamed_map, is_taken};
+ghost use Rattle.smt_model.specs.Steps.{renamed_map, is_register_taken};
 ghost use Rattle.core_state.specs.Agree.{PartsAgree, KeepsSizes, From};
-ghost use Rattle.core_state.specs.Renaming.{CanRename, IsLeastIn, IsRenaming, CanEnter, HasRenamed, has_full_memory_queue, source_in, emptied};
+ghost use Rattle.core_state.specs.Renaming.{CanRename, IsLeastIn, IsRenaming, CanEnter, HasRenamed};
+ghost use Rattle.core_state.specs.Renaming.{has_full_memory_queue, source_in, emptied};
 
 use crate::hart::HartState;
 use crate::parts::Parts;
 use crate::slot::Slot;
 use free_list::FreeList;
 use issue_queue::{Entry, Source};
+use numbers::sizes::{MOST_ACCESSES, MOST_REGISTERS};
+use numbers::{Phys, Reg, Seq};
 use rename_map::HartMaps;
 use retire_squash::{Active, Stage};
-use rv_decode::{Instr, Op};
-
-/// How many loads, and how many stores, of one hart may be in flight.
-const MEMORY_QUEUE: usize = 16;
+use rv_decode::Op;
 
 impl Parts {
-    /// What a rename of hart `hart` takes: the number of its oldest decoded instruction, and the least free register where that
-    /// one writes a register. None where there is no such instruction, no room, register or hart.
-    pub fn next_to_rename(&self, hart: u8) -> Option<(u32, Option<u16>)>
+    /// What a rename of hart `hart` takes: the number of its oldest decoded instruction, and the
+    /// least free register where that one writes a register. None where there is no such
+    /// instruction, no room, register or hart.
+    pub fn next_to_rename(&self, hart: u8) -> Option<(Seq, Option<Phys>)>
         ensures inside { IfSome result (λ r. hart < length self.now.harts.items) }
-        ensures some { IfSome result (λ r. (p : Picture) → PartsAgree p self.now → CanRename p self.now.queue.size hart r.0 r.1) }
-        ensures least { IfSome result (λ r. (p : Picture) → PartsAgree p self.now → IsLeastIn p r.1) }
-        ensures none { IfNone result ((p : Picture) → PartsAgree p self.now → hart < length self.now.harts.items → (n : ℕ) (taken : Option ℕ) → CanRename p self.now.queue.size hart n taken → ⊥) }
+        ensures some { IfSome result (λ r. (p : Picture) → PartsAgree p self.now
+            → CanRename p self.now.queue.size hart r.0 r.1) }
+        ensures least { IfSome result
+            (λ r. (p : Picture) → PartsAgree p self.now → IsLeastIn p r.1) }
+        ensures none { IfNone result
+            ((p : Picture) → PartsAgree p self.now → hart < length self.now.harts.items
+            → (n : ℕ) (taken : Option ℕ) → CanRename p self.now.queue.size hart n taken → ⊥) }
     {
         let slot = self.harts.get(usize::from(hart))?.next_to_rename()?;
         if self.queue.is_full() {
             return None;
         }
-        if !writes_register(slot.op) {
+        if !slot.op.writes_register() {
             return Some((slot.seq, None));
         }
         let register = self.free.least()?;
         Some((slot.seq, Some(register)))
     }
 
-    /// Moves hart `hart`'s oldest decoded instruction into the active list and the queue, with the register `phys` where it
-    /// writes one. Its sources are looked up before its own register enters the map.
-    pub fn rename(&mut self, hart: u8, phys: Option<u16>)
+    /// Moves hart `hart`'s oldest decoded instruction into the active list and the queue, with the
+    /// register `phys` where it writes one. Its sources are looked up before its own register
+    /// enters the map.
+    pub fn rename(&mut self, hart: u8, phys: Option<Phys>)
         requires step { From self.old hart (λ p q. IsRenaming p q self.old.queue.size hart phys) }
-        ensures agrees { (p q : Picture) → PartsAgree p self.old → IsRenaming p q self.old.queue.size hart phys → PartsAgree q self.new }
+        ensures agrees { (p q : Picture) → PartsAgree p self.old
+            → IsRenaming p q self.old.queue.size hart phys → PartsAgree q self.new }
         ensures sizes { KeepsSizes self.old self.new }
     {
         let state = &self.harts[usize::from(hart)];
@@ -68,11 +77,11 @@ impl Parts {
     }
 }
 
-/// What an instruction reads from its register `register` now: 0 for x0 or none, else the number that the map leads to, or
-/// the physical register to wait for.
-fn source(maps: &HartMaps, values: &[Option<u32>; 512], register: Option<u8>) -> Source
+/// What an instruction reads from its register `register` now: 0 for x0 or none, else the number
+/// that the map leads to, or the physical register to wait for.
+fn source(maps: &HartMaps, values: &[Option<u32>; MOST_REGISTERS], register: Option<Reg>) -> Source
     requires below { IfSome register (λ r. r < 32) }
-    requires mapped { (r : ℕ) → 0 < r → r < 32 → lookup maps.now r < 512 }
+    requires mapped { (r : ℕ) → 0 < r → r < 32 → lookup maps.now r < most_registers }
     ensures { result ≡ source_in values.now maps.now (or_zero register) }
 {
     match register {
@@ -88,9 +97,10 @@ fn source(maps: &HartMaps, values: &[Option<u32>; 512], register: Option<u8>) ->
 }
 
 /// An instruction is given this register, if any: it is no longer free, and has no number yet.
-fn take(free: &mut FreeList, values: &mut [Option<u32>; 512], register: Option<u16>)
-    requires { IfSome register (λ x. x < 512) }
-    ensures free { (x : ℕ) → holds free.new x ≡ (holds free.old x && not (is_taken register x)) }
+fn take(free: &mut FreeList, values: &mut [Option<u32>; MOST_REGISTERS], register: Option<Phys>)
+    requires { IfSome register (λ x. x < most_registers) }
+    ensures free { (x : ℕ)
+        → holds free.new x ≡ (holds free.old x && not (is_register_taken register x)) }
     ensures values { values.new ≡ emptied register values.old }
 {
     if let Some(register) = register {
@@ -100,7 +110,8 @@ fn take(free: &mut FreeList, values: &mut [Option<u32>; 512], register: Option<u
 }
 
 impl HartState {
-    /// The oldest decoded instruction, where the active list has room for it, and for another load or store where it is one.
+    /// The oldest decoded instruction, where the active list has room for it, and for another load
+    /// or store where it is one.
     fn next_to_rename(&self) -> Option<Slot>
         ensures some { IfSome result (CanEnter self.now) }
         ensures none { IfNone result ((slot : Slot) → CanEnter self.now slot → ⊥) }
@@ -112,17 +123,18 @@ impl HartState {
         Some(slot)
     }
 
-    /// Moves `slot`, the oldest decoded instruction, into the active list, and its register into the map.
-    fn rename(&mut self, slot: Slot, phys: Option<u16>)
+    /// Moves `slot`, the oldest decoded instruction, into the active list, and its register into
+    /// the map.
+    fn rename(&mut self, slot: Slot, phys: Option<Phys>)
         requires oldest { first self.old.rename_latch.items ≡ Some slot }
-        requires room { length self.old.active < 64 }
+        requires room { length self.old.active < most_in_flight }
         requires younger { Above slot.seq self.old.active }
         requires in_range { OpInRange slot.op }
         requires writes { IfSome phys (λ x. 0 < destination slot.op) }
         ensures { HasRenamed slot phys self.old self.new }
     {
         self.rename_latch.remove(0);
-        let rd = destination(slot.op);
+        let rd = slot.op.destination();
         self.active.append(Active {
             seq: slot.seq,
             rd,
@@ -138,9 +150,10 @@ impl HartState {
 }
 
 /// The register `rd` is in `phys` from now on, where an instruction writes it.
-fn enter(maps: &mut HartMaps, rd: u8, phys: Option<u16>)
+fn enter(maps: &mut HartMaps, rd: Reg, phys: Option<Phys>)
     requires { IfSome phys (λ x. IsWritable rd) }
-    ensures speculative { (r : ℕ) → 0 < r → r < 32 → lookup maps.new r ≡ renamed_map rd phys r (lookup maps.old r) }
+    ensures speculative { (r : ℕ) → 0 < r → r < 32
+        → lookup maps.new r ≡ renamed_map rd phys r (lookup maps.old r) }
     ensures committed { maps.new.committed ≡ maps.old.committed }
 {
     if let Some(phys) = phys {
@@ -152,38 +165,26 @@ fn enter(maps: &mut HartMaps, rd: u8, phys: Option<u16>)
 fn has_full_memory_queue(active: &[Active], op: Op) -> bool
     ensures { result ≡ has_full_memory_queue op active.now }
 {
-    (is_load(op) && active.iter().filter(|other| is_load(other.op)).count() >= MEMORY_QUEUE)
-        || (is_store(op)
-            && active.iter().filter(|other| is_store(other.op)).count() >= MEMORY_QUEUE)
+    (op.kind().is_loading() && loads(active) >= MOST_ACCESSES)
+        || (op.kind().is_storing() && stores(active) >= MOST_ACCESSES)
 }
 
-/// The register that the instruction writes, 1 to 31; 0 where it writes none.
-#[tactic(auto, unfolding(smt_model::specs::Kinds::destination))]
-fn destination(op: Op) -> u8
-    ensures { result ≡ destination op }
+/// How many of these are loads.
+fn loads(active: &[Active]) -> usize
+    ensures { result ≡ count_by (λ x. is_loading (kind_of x.op)) active.now }
 {
-    op.rd().unwrap_or(0)
+    active
+        .iter()
+        .filter(|one| one.op.kind().is_loading())
+        .count()
 }
 
-/// Whether the instruction writes a register: x0 is none.
-fn writes_register(op: Op) -> bool
-    ensures { result ≡ not (destination op == 0) }
+/// How many of these are stores.
+fn stores(active: &[Active]) -> usize
+    ensures { result ≡ count_by (λ x. is_storing (kind_of x.op)) active.now }
 {
-    destination(op) != 0
-}
-
-/// LB, LH, LW, LBU, LHU.
-#[tactic(auto, unfolding(smt_model::specs::Kinds::kind_of))]
-fn is_load(op: Op) -> bool
-    ensures { result ≡ is_loading (kind_of op) }
-{
-    matches!(op, Op::Known(Instr::Load { .. }))
-}
-
-/// SB, SH, SW.
-#[tactic(auto, unfolding(smt_model::specs::Kinds::kind_of))]
-fn is_store(op: Op) -> bool
-    ensures { result ≡ is_storing (kind_of op) }
-{
-    matches!(op, Op::Known(Instr::Store { .. }))
+    active
+        .iter()
+        .filter(|one| one.op.kind().is_storing())
+        .count()
 }

@@ -1,28 +1,32 @@
 ghost use Rattle.std.specs.Prelude.{◌≡◌, ◌≤◌, IsTrue, ◌↔◌};
+ghost use Rattle.numbers.specs.Sizes.{most_harts, most_extra, most_queued, most_events};
 ghost use Rattle.core_state.specs.Setup.{accepts};
 
 use events::History;
+use numbers::sizes::{FEWEST_QUEUED, MOST_ACTORS, MOST_EXTRA, MOST_HARTS, MOST_QUEUED};
 use smt_model::{Config, Role};
 
-/// Whether a core may have these sizes and this limit on its history: 1 to 8 harts, 1 to 256 extra registers, 4 to 64 queue
-/// entries, 1 to 16 actors, at most 16,777,216 events.
+/// Whether a core may have these sizes and this limit on its history: 1 to 8 harts, 1 to 256 extra
+/// registers, 4 to 64 queue entries, 1 to 16 actors, at most 16,777,216 events.
 pub fn is_core(config: &Config, limit: u32) -> bool
     ensures accepted { result ≡ accepts config.now limit }
-    ensures harts { IsTrue result → config.now.harts ≤ 8 }
-    ensures extra { IsTrue result → config.now.extra ≤ 256 }
-    ensures queue { IsTrue result → config.now.queue ≤ 64 }
-    ensures limit { IsTrue result → limit ≤ 16777216 }
+    ensures harts { IsTrue result → config.now.harts ≤ most_harts }
+    ensures extra { IsTrue result → config.now.extra ≤ most_extra }
+    ensures queue { IsTrue result → config.now.queue ≤ most_queued }
+    ensures limit { IsTrue result → limit ≤ most_events }
 {
-    (1..=8).contains(&config.harts)
-        && (1..=256).contains(&config.extra)
-        && (4..=64).contains(&config.queue)
-        && (1..=16).contains(&config.roles.len())
+    (1..=MOST_HARTS).contains(&config.harts)
+        && (1..=MOST_EXTRA).contains(&config.extra)
+        && (FEWEST_QUEUED..=MOST_QUEUED as u8).contains(&config.queue)
+        && (1..=MOST_ACTORS).contains(&config.roles.len())
         && limit <= History::MAX_LIMIT
 }
 
 /// Whether two configurations are the same.
 pub fn is_same_config(config: &Config, other: &Config) -> bool
-    ensures { IsTrue result ↔ (config.now.harts ≡ other.now.harts) × (config.now.extra ≡ other.now.extra) × (config.now.queue ≡ other.now.queue) × (config.now.roles.items ≡ other.now.roles.items) }
+    ensures { IsTrue result ↔ (config.now.harts ≡ other.now.harts)
+        × (config.now.extra ≡ other.now.extra) × (config.now.queue ≡ other.now.queue)
+        × (config.now.roles.items ≡ other.now.roles.items) }
 {
     config.harts == other.harts
         && config.extra == other.extra

@@ -1,9 +1,10 @@
+use numbers::Seq;
 use rv_decode::Op;
 
 /// An instruction that waits in the decode latch or in the rename latch.
 #[derive(Clone, Copy, Drop)]
 pub struct Slot {
-    pub seq: u32,
+    pub seq: Seq,
     pub pc: u32,
     pub word: Option<u32>,
     pub op: Op,
@@ -14,7 +15,7 @@ pub struct Slot {
 #[derive(Clone, Copy, Drop)]
 pub struct OpenJob {
     pub hart: u8,
-    pub seq: u32,
+    pub seq: Seq,
     pub op: Op,
     pub pc: u32,
     pub first: u32,

@@ -1,17 +1,25 @@
-ghost use Rattle.std.specs.Prelude.{◌≡◌, ◌∷◌, ◌++◌, [], ℕ, ◌<◌, ◌≤◌, ◌+◌, ◌↔◌, ◌==◌, ◌&&◌, length, IsTrue, IfSome, IfNone, IfOk, IfErr, None, Some, false, true, Err, reverse, is_some, nat_lt, if◌then◌else◌, vec_len, vec_capacity};
+ghost use Rattle.std.specs.Prelude.{◌≡◌, ◌∷◌, ◌++◌, [], ℕ, ◌<◌, ◌≤◌, ◌+◌, ◌↔◌, ◌==◌, ◌&&◌, length};
+ghost use Rattle.std.specs.Prelude.{IsTrue, IfSome, IfNone, IfOk, IfErr, None, Some, false, true};
+ghost use Rattle.std.specs.Prelude.{Err, reverse, is_some, nat_lt, if◌then◌else◌, vec_len};
+ghost use Rattle.std.specs.Prelude.{vec_capacity};
+ghost use Rattle.numbers.specs.Sizes.{most_harts, most_extra, most_queued, most_actors};
+ghost use Rattle.numbers.specs.Sizes.{most_events};
 ghost use Rattle.events.specs.Range.{HasShortWrite};
 ghost use Rattle.core_state.specs.Listed.{listed};
 ghost use Rattle.core_state.specs.Agree.{IsActive};
 ghost use Rattle.core_state.specs.View.{CoreView, grown};
-ghost use Rattle.core_state.specs.Answers.{AllowsNone, CanFetch, fetched_at, TakesLeast, IsJobOf, IsStrange};
-ghost use Rattle.smt_model.specs.Account.{records, lent, committed_value};
-ghost use Rattle.smt_model.specs.Asks.{answers, AskFetch, AskDecode, AskRename, AskIssue, AskComplete, AskRetire};
+ghost use Rattle.core_state.specs.Answers.{AllowsNone, CanFetch, fetched_at, TakesLeast, IsJobOf};
+ghost use Rattle.core_state.specs.Answers.{IsStrange};
+ghost use Rattle.smt_model.specs.Account.{records, open_job_count, committed_value};
+ghost use Rattle.smt_model.specs.Asks.{answers, AskFetch, AskDecode, AskRename, AskIssue};
+ghost use Rattle.smt_model.specs.Asks.{AskComplete, AskRetire};
 ghost use Rattle.smt_model.specs.Basics.{how_many};
 ghost use Rattle.smt_model.specs.Flights.{icount};
 ghost use Rattle.smt_model.specs.Memory.{status, output};
 ghost use Rattle.smt_model.specs.Picture.{is_free, picture};
 ghost use Rattle.smt_model.specs.Registers.{claims};
-ghost use Rattle.smt_model.specs.Rules.{refused, is_actor, is_legal};
+ghost use Rattle.smt_model.specs.Rules.{refused, is_legal};
+ghost use Rattle.smt_model.specs.Jobs.{is_actor};
 ghost use Rattle.smt_model.specs.Setup.{is_accepted, registers_of, unit_of_role};
 ghost use Rattle.core_state.specs.Setup.{setup_of, accepts};
 
@@ -29,6 +37,8 @@ use arrayvec::ArrayVec;
 use elf_image::Image;
 use events::{Event, History, Outcome, Record};
 use exec_units::{Done, Job};
+use numbers::sizes::MOST_REGISTERS;
+use numbers::{Phys, Reg, Seq};
 use retire_squash::Active;
 use smt_model::{Config, Status};
 use std::alloc::{AllocError, Global};
@@ -43,7 +53,7 @@ pub struct State {
     /// The hart that was fetched last.
     last: Option<u8>,
     /// How many instructions were fetched.
-    fetched: u32,
+    fetched: Seq,
     records: Vec<Record>,
     output: Vec<u8>,
     history: History,
@@ -62,18 +72,23 @@ impl Model for State {
 }
 
 impl State {
-    /// The core of an image and a configuration before its first event. All room for `limit` events is made here.
+    /// The core of an image and a configuration before its first event. All room for `limit` events
+    /// is made here.
     ///
-    /// Refused are sizes that aren't a core's and a limit above 16,777,216, before any memory is taken.
+    /// Refused are sizes that aren't a core's and a limit above 16,777,216, before any memory is
+    /// taken.
     pub fn new(
         image: &Image,
         config: Config,
         limit: u32,
         alloc: Global,
     ) -> Result<State, CoreRefused>
-        ensures made { IfOk result (λ core. core ≡ record { setup = setup_of image.now config; limit = limit; past = [] }) }
+        ensures made { IfOk result
+            (λ core. core
+            ≡ record { setup = setup_of image.now config; limit = limit; past = [] }) }
         ensures accepted { IfOk result (λ core. is_accepted core.setup limit ≡ true) }
-        ensures refused { (result ≡ Err CoreRefused.Config) ↔ (is_accepted (setup_of image.now config) limit ≡ false) }
+        ensures refused { (result ≡ Err CoreRefused.Config)
+            ↔ (is_accepted (setup_of image.now config) limit ≡ false) }
     {
         if !is_core(&config, limit) {
             return Err(CoreRefused::Config);
@@ -86,11 +101,13 @@ impl State {
 
     fn make(image: &Image, config: Config, limit: u32, alloc: Global) -> Result<State, AllocError>
         requires accepted { accepts config limit ≡ true }
-        requires harts { config.harts ≤ 8 }
-        requires extra { config.extra ≤ 256 }
-        requires queue { config.queue ≤ 64 }
-        requires limit { limit ≤ 16777216 }
-        ensures { IfOk result (λ core. core ≡ record { setup = setup_of image.now config; limit = limit; past = [] }) }
+        requires harts { config.harts ≤ most_harts }
+        requires extra { config.extra ≤ most_extra }
+        requires queue { config.queue ≤ most_queued }
+        requires limit { limit ≤ most_events }
+        ensures { IfOk result
+            (λ core. core
+            ≡ record { setup = setup_of image.now config; limit = limit; past = [] }) }
     {
         let image = image.try_clone()?;
         let history = History::with_limit(limit, alloc)?;
@@ -123,8 +140,8 @@ impl State {
         self.history.is_full()
     }
 
-    /// Where actor `actor` fetches next: the hart to choose, at its fetch pc. None where no hart qualifies or there is no such
-    /// actor.
+    /// Where actor `actor` fetches next: the hart to choose, at its fetch pc. None where no hart
+    /// qualifies or there is no such actor.
     pub fn next_to_fetch(&self, actor: u8) -> Option<FetchPoint>
         ensures allowed { IfSome result (CanFetch self.now.setup self.now.past actor) }
         ensures idle { IfNone result (AllowsNone self.now.setup (AskFetch actor) self.now.past) }
@@ -144,7 +161,8 @@ impl State {
     /// Fetches at `point` for actor `actor`, where it fetches next, and goes on at `predicted`.
     pub fn fetch(&mut self, actor: u8, point: FetchPoint, predicted: u32) -> Event
         requires room { length self.old.past < self.old.limit }
-        requires allowed { refused self.old.setup self.old.past (fetched_at actor point predicted self.old.past) ≡ None }
+        requires allowed { refused self.old.setup self.old.past
+            (fetched_at actor point predicted self.old.past) ≡ None }
         ensures event { result ≡ fetched_at actor point predicted self.old.past }
         ensures made { self.new ≡ grown result self.old }
     {
@@ -153,19 +171,21 @@ impl State {
         self.parts.fetch(usize::from(point.hart), slot);
         self.last = Some(point.hart);
         self.fetched += 1;
-        append(&mut self.history, event);
+        append(&mut self.history, &event);
         event
     }
 
-    /// Decodes hart `hart`'s oldest fetched instruction. None where there is none, the rename latch is full, or there is no such
-    /// actor or hart, and then nothing changes.
+    /// Decodes hart `hart`'s oldest fetched instruction. None where there is none, the rename latch
+    /// is full, or there is no such actor or hart, and then nothing changes.
     pub fn decode(&mut self, actor: u8, hart: u8) -> Option<Event>
         requires { length self.old.past < self.old.limit }
         ensures made { IfSome result (λ e. self.new ≡ grown e self.old) }
         ensures allowed { IfSome result (λ e. refused self.old.setup self.old.past e ≡ None) }
-        ensures answer { IfSome result (λ e. answers (AskDecode actor hart) self.old.past e ≡ true) }
+        ensures answer { IfSome result
+            (λ e. answers (AskDecode actor hart) self.old.past e ≡ true) }
         ensures short { IfSome result HasShortWrite }
-        ensures idle { IfNone result (AllowsNone self.old.setup (AskDecode actor hart) self.old.past) }
+        ensures idle { IfNone result
+            (AllowsNone self.old.setup (AskDecode actor hart) self.old.past) }
         ensures none { IfNone result (self.new ≡ self.old) }
     {
         if !self.has_actor(actor) {
@@ -174,20 +194,23 @@ impl State {
         let seq = self.parts.next_to_decode(hart)?;
         self.parts.decode(hart);
         let event = Event::Decode { actor, seq };
-        append(&mut self.history, event);
+        append(&mut self.history, &event);
         Some(event)
     }
 
-    /// Renames hart `hart`'s oldest decoded instruction, with the least free register where it writes one. None where there is
-    /// no such instruction, room, register, actor or hart, and then nothing changes.
+    /// Renames hart `hart`'s oldest decoded instruction, with the least free register where it
+    /// writes one. None where there is no such instruction, room, register, actor or hart, and then
+    /// nothing changes.
     pub fn rename(&mut self, actor: u8, hart: u8) -> Option<Event>
         requires { length self.old.past < self.old.limit }
         ensures made { IfSome result (λ e. self.new ≡ grown e self.old) }
         ensures allowed { IfSome result (λ e. refused self.old.setup self.old.past e ≡ None) }
-        ensures answer { IfSome result (λ e. answers (AskRename actor hart) self.old.past e ≡ true) }
+        ensures answer { IfSome result
+            (λ e. answers (AskRename actor hart) self.old.past e ≡ true) }
         ensures short { IfSome result HasShortWrite }
         ensures least { IfSome result (TakesLeast self.old.setup self.old.past) }
-        ensures idle { IfNone result (AllowsNone self.old.setup (AskRename actor hart) self.old.past) }
+        ensures idle { IfNone result
+            (AllowsNone self.old.setup (AskRename actor hart) self.old.past) }
         ensures none { IfNone result (self.new ≡ self.old) }
     {
         if !self.has_actor(actor) {
@@ -196,12 +219,12 @@ impl State {
         let (seq, phys) = self.parts.next_to_rename(hart)?;
         self.parts.rename(hart, phys);
         let event = Event::Rename { actor, seq, phys };
-        append(&mut self.history, event);
+        append(&mut self.history, &event);
         Some(event)
     }
 
-    /// Issues the oldest ready instruction of the actor's kind of unit. None where there is none, or the actor is no unit or has
-    /// a job, and then nothing changes.
+    /// Issues the oldest ready instruction of the actor's kind of unit. None where there is none,
+    /// or the actor is no unit or has a job, and then nothing changes.
     pub fn issue(&mut self, actor: u8) -> Option<(Job, Event)>
         requires { length self.old.past < self.old.limit }
         ensures made { IfSome result (λ r. self.new ≡ grown r.1 self.old) }
@@ -219,12 +242,12 @@ impl State {
             actor,
             seq: job.seq(),
         };
-        append(&mut self.history, event);
+        append(&mut self.history, &event);
         Some((job, event))
     }
 
-    /// Takes back the job of actor `actor`, worked: a completion, or a drop where the instruction was squashed meanwhile. None
-    /// where the actor has no such job, and then nothing changes.
+    /// Takes back the job of actor `actor`, worked: a completion, or a drop where the instruction
+    /// was squashed meanwhile. None where the actor has no such job, and then nothing changes.
     pub fn complete(&mut self, actor: u8, done: &Done) -> Option<Event>
         requires { length self.old.past < self.old.limit }
         ensures made { IfSome result (λ e. self.new ≡ grown e self.old) }
@@ -232,7 +255,8 @@ impl State {
         ensures answer { IfSome result (λ e. answers (AskComplete actor) self.old.past e ≡ true) }
         ensures short { IfSome result HasShortWrite }
         ensures job { IfSome result (λ e. IsJobOf self.old.setup self.old.past actor done.now.job) }
-        ensures stranger { IfNone result (IsStrange self.old.setup self.old.past actor done.now.job) }
+        ensures stranger { IfNone result
+            (IsStrange self.old.setup self.old.past actor done.now.job) }
         ensures none { IfNone result (self.new ≡ self.old) }
     {
         let job = self.parts.handed_back(actor, done)?;
@@ -245,23 +269,24 @@ impl State {
     /// Writes the completion of an instruction in flight, which may come next.
     fn finish(&mut self, actor: u8, hart: u8, active: &Active, outcome: Outcome) -> Event
         requires room { length self.old.past < self.old.limit }
-        requires allowed { refused self.old.setup self.old.past (Event.Complete actor active.now.seq outcome) ≡ None }
+        requires allowed { refused self.old.setup self.old.past
+            (Event.Complete actor active.now.seq outcome) ≡ None }
         requires active { IsActive (picture self.old.setup self.old.past) hart active.now }
         ensures event { result ≡ Event.Complete actor active.now.seq outcome }
         ensures made { self.new ≡ grown result self.old }
     {
-        self.parts.finish(actor, hart, active, outcome);
+        self.parts.finish(actor, hart, active, outcome.fields());
         let event = Event::Complete {
             actor,
             seq: active.seq,
             outcome,
         };
-        append(&mut self.history, event);
+        append(&mut self.history, &event);
         event
     }
 
     /// Writes the drop of a squashed instruction, which may come next.
-    fn drop_job(&mut self, actor: u8, seq: u32) -> Event
+    fn drop_job(&mut self, actor: u8, seq: Seq) -> Event
         requires room { length self.old.past < self.old.limit }
         requires allowed { refused self.old.setup self.old.past (Event.Drop actor seq) ≡ None }
         ensures event { result ≡ Event.Drop actor seq }
@@ -269,19 +294,21 @@ impl State {
     {
         self.parts.drop_job(actor);
         let event = Event::Drop { actor, seq };
-        append(&mut self.history, event);
+        append(&mut self.history, &event);
         event
     }
 
-    /// Retires hart `hart`'s oldest instruction in flight. None where there is none, it isn't completed, or there is no such
-    /// actor or hart, and then nothing changes.
+    /// Retires hart `hart`'s oldest instruction in flight. None where there is none, it isn't
+    /// completed, or there is no such actor or hart, and then nothing changes.
     pub fn retire(&mut self, actor: u8, hart: u8) -> Option<Event>
         requires { length self.old.past < self.old.limit }
         ensures made { IfSome result (λ e. self.new ≡ grown e self.old) }
         ensures allowed { IfSome result (λ e. refused self.old.setup self.old.past e ≡ None) }
-        ensures answer { IfSome result (λ e. answers (AskRetire actor hart) self.old.past e ≡ true) }
+        ensures answer { IfSome result
+            (λ e. answers (AskRetire actor hart) self.old.past e ≡ true) }
         ensures short { IfSome result HasShortWrite }
-        ensures idle { IfNone result (AllowsNone self.old.setup (AskRetire actor hart) self.old.past) }
+        ensures idle { IfNone result
+            (AllowsNone self.old.setup (AskRetire actor hart) self.old.past) }
         ensures none { IfNone result (self.new ≡ self.old) }
     {
         if !self.has_actor(actor) {
@@ -289,20 +316,20 @@ impl State {
         }
         let (active, outcome) = self.parts.next_to_retire(hart)?;
         let effect = effect_of(outcome);
-        self.parts.retire(hart, active, effect);
+        self.parts.retire(hart, active, effect.fields());
         self.records.push_reserved(Record {
             hart,
             pc: active.pc,
             word: active.word,
             effect,
         });
-        put_out(&mut self.output, effect.out);
+        put_out(&mut self.output, effect.out());
         let event = Event::Retire {
             actor,
             seq: active.seq,
             effect,
         };
-        append(&mut self.history, event);
+        append(&mut self.history, &event);
         Some(event)
     }
 
@@ -322,29 +349,35 @@ impl State {
 
     /// How hart `hart` stands; none where there is no such hart.
     pub fn status(&self, hart: u8) -> Option<Status>
-        ensures { result ≡ (if nat_lt hart self.now.setup.harts then Some (status self.now.past hart) else None) }
+        ensures { result
+            ≡ (if nat_lt hart self.now.setup.harts then Some (status self.now.past hart)
+            else None) }
     {
         Some(self.parts.harts.get(usize::from(hart))?.status)
     }
 
-    /// How many instructions of hart `hart` are in decode, rename and the issue queue; none where there is no such hart.
+    /// How many instructions of hart `hart` are in decode, rename and the issue queue; none where
+    /// there is no such hart.
     pub fn icount(&self, hart: u8) -> Option<u32>
-        ensures { result ≡ (if nat_lt hart self.now.setup.harts then Some (icount self.now.past hart) else None) }
+        ensures { result
+            ≡ (if nat_lt hart self.now.setup.harts then Some (icount self.now.past hart)
+            else None) }
     {
         Some(self.parts.harts.get(usize::from(hart))?.icount)
     }
 
     /// The free physical registers, rising.
-    pub fn free_registers(&self) -> ArrayVec<u16, 512>
+    pub fn free_registers(&self) -> ArrayVec<Phys, MOST_REGISTERS>
         ensures free { result.items ≡ listed (is_free self.now.setup self.now.past) }
-        ensures once { (p : ℕ) → p < registers_of self.now.setup → claims self.now.setup self.now.past p + how_many (λ x. x == p) result.items ≡ 1 }
+        ensures once { (p : ℕ) → p < registers_of self.now.setup
+            → claims self.now.setup self.now.past p + how_many (λ x. x == p) result.items ≡ 1 }
     {
         registers_in(&self.parts.free)
     }
 
     /// How many actors have a job.
     pub fn lent(&self) -> u32
-        ensures { result ≡ lent self.now.setup self.now.past }
+        ensures { result ≡ open_job_count self.now.setup self.now.past }
     {
         count_jobs(&self.parts.jobs) as u32
     }
@@ -354,8 +387,8 @@ impl State {
         ensures events { reverse result.now ≡ self.now.past }
         ensures legal { is_legal self.now.setup self.now.past }
         ensures within { length result.now ≤ self.now.limit }
-        ensures limit { self.now.limit ≤ 16777216 }
-        ensures actors { length self.now.setup.roles ≤ 16 }
+        ensures limit { self.now.limit ≤ most_events }
+        ensures actors { length self.now.setup.roles ≤ most_actors }
     {
         let _actors = self.config.roles.len();
         self.history.events()
@@ -364,15 +397,17 @@ impl State {
     /// How many harts there are, 1 to 8.
     pub fn harts(&self) -> u8
         ensures value { result ≡ self.now.setup.harts }
-        ensures range { result ≤ 8 }
+        ensures range { result ≤ most_harts }
     {
         self.config.harts
     }
 
-    /// What hart `hart`'s register `register` holds as its retired instructions leave it; none where there is no such hart or
-    /// register. x0 is 0.
-    pub fn register(&self, hart: u8, register: u8) -> Option<u32>
-        ensures { result ≡ (if nat_lt hart self.now.setup.harts && nat_lt register 32 then committed_value self.now.setup self.now.past hart register else None) }
+    /// What hart `hart`'s register `register` holds as its retired instructions leave it; none
+    /// where there is no such hart or register. x0 is 0.
+    pub fn register(&self, hart: u8, register: Reg) -> Option<u32>
+        ensures { result
+            ≡ (if nat_lt hart self.now.setup.harts && nat_lt register 32
+            then committed_value self.now.setup self.now.past hart register else None) }
     {
         let state = self.parts.harts.get(usize::from(hart))?;
         match register {

@@ -2,12 +2,15 @@ mod asking;
 mod predicting;
 mod tables;
 
+use crate::predictors::{Always, Behind};
+use crate::rows::{holds, holds_at};
 pub(crate) use asking::first_image;
-use asking::{Always, Behind, Step, config, first_core, first_other, issue};
+use asking::{Step, config, first_core, first_other, issue};
 use elf_image::Image;
-use events::{Event, Next, Outcome};
+use events::{Event, Next, Outcome, OutcomeFields};
 use smt_core::{Answer, CompleteAnswer, Config, Core, CoreRefused, IssueAnswer, Status};
 use std::alloc::Global;
+use std::process::Abort;
 
 fn is_idle(answer: IssueAnswer) -> bool {
     match answer {
@@ -48,113 +51,171 @@ fn ended_core(alloc: Global) -> Option<Core> {
     }
 }
 
-/// How many records an account has, how the last one went on, and whether it tells of one hart, which has ended with 5.
-pub(crate) type End = (usize, Option<Next>, bool);
+/// How many records an account has, how the last one went on, and whether it tells of one hart,
+/// which has ended with 5.
+#[derive(Clone, Copy, PartialEq, Drop)]
+pub(crate) struct End {
+    records: usize,
+    last: Option<Next>,
+    ended: bool,
+}
 
 pub(crate) fn end_of(core: &Core) -> End {
     let account = core.account();
-    let last = account.records.last().map(|record| record.effect.next);
-    let ended = account.statuses.as_slice() == [Status::Ended(5)].as_slice();
-    (account.records.len(), last, ended)
+    End {
+        records: account.records.len(),
+        last: account.records.last().map(|record| record.effect.next()),
+        ended: account.statuses.as_slice() == [Status::Ended(5)].as_slice(),
+    }
 }
 
 /// The end of the first program.
-pub(crate) const FIRST_END: End = (3, Some(Next::Ended(5)), true);
+pub(crate) const FIRST_END: End = End {
+    records: 3,
+    last: Some(Next::Ended(5)),
+    ended: true,
+};
 
-/// What a core tells: the events of its account and of its history, the jobs that are out, and the output's length.
-fn counts_of(core: &Core) -> (u32, usize, u32, usize) {
-    let account = core.account();
-    let events = core.history().len();
-    (account.events, events, account.lent, account.output.len())
+/// What a core tells at the end of the first program: the answer to a fetch, the events of its
+/// account and of its history, the jobs that are out, and the output's length.
+#[derive(Clone, Copy, Drop)]
+struct Told {
+    answer: Answer,
+    events: u32,
+    in_history: usize,
+    lent: u32,
+    output: usize,
+    end: End,
 }
 
-/// The answer to a fetch at the end of the first program, and what is told then.
-fn told_at_the_end(alloc: Global) -> Option<(Answer, (u32, usize, u32, usize), End)> {
+fn told_of(core: &Core, answer: Answer) -> Told {
+    let account = core.account();
+    Told {
+        answer,
+        events: account.events,
+        in_history: core.history().len(),
+        lent: account.lent,
+        output: account.output.len(),
+        end: end_of(core),
+    }
+}
+
+fn told_at_the_end(alloc: Global) -> Option<Told> {
     let mut core = ended_core(alloc)?;
     let answer = core.fetch(0, &mut Behind);
-    Some((answer, counts_of(&core), end_of(&core)))
+    Some(told_of(&core, answer))
 }
 
 #[test]
 fn the_first_program_runs_to_its_end(rt: HostRuntime) {
-    let told = (Answer::Full, (18, 18, 0, 0), FIRST_END);
-    assert!(rt; told_at_the_end(rt.alloc()) == Some(told));
+    let told = told_at_the_end(rt.alloc()).expect(&rt, "an ended core");
+    assert!(rt; told.answer == Answer::Full);
+    assert!(rt; told.events == 18);
+    assert!(rt; told.in_history == 18);
+    assert!(rt; told.lent == 0);
+    assert!(rt; told.output == 0);
+    assert!(rt; told.end == FIRST_END);
 }
 
-/// What some registers hold, and how many instructions of hart 0 and of hart 1 stand before the issue.
-type Registers = ([Option<u32>; 7], [Option<u32>; 2]);
+/// A hart's register, and what it holds, if there is one.
+static REGISTERS: [(u8, u8, Option<u32>); 7] = [
+    (0, 0, Some(0)),
+    (0, 10, Some(5)),
+    (0, 11, Some(1)),
+    (0, 17, Some(93)),
+    (0, 31, Some(0)),
+    (0, 32, None),
+    (1, 10, None),
+];
 
-fn registers_of(core: &Core) -> Registers {
-    let registers = [
-        core.register(0, 0),
-        core.register(0, 10),
-        core.register(0, 11),
-        core.register(0, 17),
-        core.register(0, 31),
-        core.register(0, 32),
-        core.register(1, 10),
-    ];
-    (registers, [core.icount(0), core.icount(1)])
-}
-
-/// The number of free registers, and whether these are the first of them.
-fn free_of(core: &Core, first: &[u16]) -> (usize, bool) {
-    let free = core.free_registers();
-    (
-        free.len(),
-        free.as_slice().get(..first.len()) == Some(first),
-    )
-}
-
-/// Two of the 64 registers beyond the hart's own hold x10 and x17 at the end; their first ones are free instead.
+/// Two of the 64 registers beyond the hart's own hold x10 and x17 at the end; their first ones are
+/// free instead.
 static FREE: [u16; 4] = [9, 16, 33, 34];
-
-fn registers_at_the_end(alloc: Global) -> Option<(Registers, (usize, bool))> {
-    let core = ended_core(alloc)?;
-    Some((registers_of(&core), free_of(&core, &FREE)))
-}
 
 #[test]
 fn the_registers_are_those_of_the_first_program(rt: HostRuntime) {
-    let registers = [Some(0), Some(5), Some(1), Some(93), Some(0), None, None];
-    let told = ((registers, [Some(0), None]), (64, true));
-    assert!(rt; registers_at_the_end(rt.alloc()) == Some(told));
+    let core = ended_core(rt.alloc()).expect(&rt, "an ended core");
+    for (hart, register, number) in &REGISTERS {
+        let found = core.register(*hart, *register);
+        holds_at(&rt, *hart, *register, found == *number);
+    }
+    for (hart, count) in [(0, Some(0)), (1, None)] {
+        holds_at(&rt, hart, 0, core.icount(hart) == count);
+    }
+    let free = core.free_registers();
+    assert!(rt; free.len() == 64);
+    assert!(rt; free.as_slice().get(..4) == Some(FREE.as_slice()));
 }
 
-/// Whether a core is of this image and of its sizes, and whether it is of others.
-fn own_and_other(core: &Core, image: &Image) -> [bool; 2] {
+/// Whether a core is of an image and sizes.
+#[derive(Clone, Copy, Drop)]
+struct Origin {
+    of_its_own: bool,
+    of_others: bool,
+}
+
+fn origin_of(core: &Core, image: &Image) -> Origin {
     let (own, other) = (config(1, 64, 16, 1), config(1, 65, 16, 1));
-    [core.is_of(image, &own.copied()), core.is_of(image, &other)]
+    Origin {
+        of_its_own: core.is_of(image, &own.copied()),
+        of_others: core.is_of(image, &other),
+    }
 }
 
-fn is_of_its_own(alloc: Global) -> Option<[bool; 2]> {
+fn origin_of_one(alloc: Global) -> Option<Origin> {
     let image = first_image(alloc)?;
     let core = Core::new(&image, config(1, 64, 16, 1), 18, alloc).ok()?;
-    Some(own_and_other(&core, &image))
+    Some(origin_of(&core, &image))
 }
 
 #[test]
 fn a_core_is_of_its_image_and_sizes(rt: HostRuntime) {
-    assert!(rt; is_of_its_own(rt.alloc()) == Some([true, false]));
+    let origin = origin_of_one(rt.alloc()).expect(&rt, "a core");
+    assert!(rt; origin.of_its_own);
+    assert!(rt; !origin.of_others);
 }
 
-/// The harts, the extra registers, the queue, the actors and the limit, and whether a core of such sizes is refused for them.
-static SIZES: [(u8, u16, u8, usize, u32, bool); 9] = [
-    (0, 64, 16, 1, 1, true),
-    (9, 64, 16, 1, 1, true),
-    (1, 0, 16, 1, 1, true),
-    (1, 257, 16, 1, 1, true),
-    (1, 64, 3, 1, 1, true),
-    (1, 64, 65, 1, 1, true),
-    (1, 64, 16, 0, 1, true),
-    (1, 1, 4, 16, 16_777_217, true),
-    (8, 256, 64, 16, 1000, false),
+/// Sizes of a core, and whether they are refused.
+#[derive(Clone, Copy, Drop)]
+struct Sizes {
+    harts: u8,
+    extra: u16,
+    queue: u8,
+    actors: usize,
+    limit: u32,
+    refused: bool,
+}
+
+macro_rules! sizes {
+    ($harts:expr, $extra:expr, $queue:expr, $actors:expr, $limit:expr, $refused:expr) => {
+        Sizes {
+            harts: $harts,
+            extra: $extra,
+            queue: $queue,
+            actors: $actors,
+            limit: $limit,
+            refused: $refused,
+        }
+    };
+}
+
+static SIZES: [(&str, Sizes); 9] = [
+    ("no harts", sizes!(0, 64, 16, 1, 1, true)),
+    ("nine harts", sizes!(9, 64, 16, 1, 1, true)),
+    ("no extra registers", sizes!(1, 0, 16, 1, 1, true)),
+    ("257 extra registers", sizes!(1, 257, 16, 1, 1, true)),
+    ("a queue of 3", sizes!(1, 64, 3, 1, 1, true)),
+    ("a queue of 65", sizes!(1, 64, 65, 1, 1, true)),
+    ("no actors", sizes!(1, 64, 16, 0, 1, true)),
+    ("a limit too large", sizes!(1, 1, 4, 16, 16_777_217, true)),
+    ("the largest", sizes!(8, 256, 64, 16, 1000, false)),
 ];
 
 /// Whether a core of such sizes is refused for them; None where it is refused for want of memory.
-fn is_refused(sizes: Config, limit: u32, alloc: Global) -> Option<bool> {
+fn is_refused(sizes: &Sizes, alloc: Global) -> Option<bool> {
     let image = first_image(alloc)?;
-    match Core::new(&image, sizes, limit, alloc) {
+    let made = config(sizes.harts, sizes.extra, sizes.queue, sizes.actors);
+    match Core::new(&image, made, sizes.limit, alloc) {
         Ok(_) => Some(false),
         Err(CoreRefused::Config) => Some(true),
         Err(CoreRefused::Memory) => None,
@@ -163,15 +224,25 @@ fn is_refused(sizes: Config, limit: u32, alloc: Global) -> Option<bool> {
 
 #[test]
 fn sizes_that_are_not_a_cores_are_refused(rt: HostRuntime) {
-    for (harts, extra, queue, actors, limit, refused) in &SIZES {
-        let sizes = config(*harts, *extra, *queue, *actors);
-        assert!(rt; is_refused(sizes, *limit, rt.alloc()) == Some(*refused));
+    for (name, sizes) in &SIZES {
+        holds(
+            &rt,
+            name,
+            is_refused(sizes, rt.alloc()) == Some(sizes.refused),
+        );
     }
 }
 
-/// Two actors have a job each, the oldest instructions. Whether actor 0 is given another; what actor 1 is told for actor 0's job, and
-/// for its own, with how many jobs are out after each.
-type Exchanged = (bool, CompleteAnswer, u32, CompleteAnswer, u32);
+/// Two actors have a job each, the oldest instructions. Whether actor 0 is given another; what
+/// actor 1 is told for actor 0's job, and for its own, with how many jobs are out after each.
+#[derive(Clone, Copy, Drop)]
+struct Exchanged {
+    idle: bool,
+    stranger: CompleteAnswer,
+    lent_after_stranger: u32,
+    own: CompleteAnswer,
+    lent_after_own: u32,
+}
 
 fn jobs_exchanged(core: &mut Core) -> Option<Exchanged> {
     let first = issue(core, 0)?;
@@ -181,9 +252,15 @@ fn jobs_exchanged(core: &mut Core) -> Option<Exchanged> {
     };
     let idle = is_idle(core.issue(0));
     let stranger = core.complete(1, first);
-    let both = core.account().lent;
-    let done = core.complete(1, second);
-    Some((idle, stranger, both, done, core.account().lent))
+    let lent_after_stranger = core.account().lent;
+    let own = core.complete(1, second);
+    Some(Exchanged {
+        idle,
+        stranger,
+        lent_after_stranger,
+        own,
+        lent_after_own: core.account().lent,
+    })
 }
 
 fn of_two_actors(alloc: Global) -> Option<Exchanged> {
@@ -198,37 +275,52 @@ fn of_two_actors(alloc: Global) -> Option<Exchanged> {
 
 #[test]
 fn another_actors_job_is_a_strangers(rt: HostRuntime) {
-    let outcome = Outcome {
+    let outcome = Outcome::new(OutcomeFields {
         value: Some(93),
         next: Next::Pc(0x8000_0008),
         addr: None,
         datum: None,
         out: None,
-    };
+    });
     let done = CompleteAnswer::Done(Event::Complete {
         actor: 1,
         seq: 1,
         outcome,
     });
-    let told = (true, CompleteAnswer::Stranger, 2, done, 1);
-    assert!(rt; of_two_actors(rt.alloc()) == Some(told));
+    let exchanged = of_two_actors(rt.alloc()).expect(&rt, "two jobs");
+    assert!(rt; exchanged.idle);
+    assert!(rt; exchanged.stranger == CompleteAnswer::Stranger);
+    assert!(rt; exchanged.lent_after_stranger == 2);
+    assert!(rt; exchanged.own == done);
+    assert!(rt; exchanged.lent_after_own == 1);
 }
 
-/// What a core answers to fetches by the actors 1 and 9, a decode, a rename for hart 1 and retirements of the harts 0 and 7, where
-/// none of them can be done; whether an issue is idle; and how many events there are then.
-type Answers = ([Answer; 6], bool, u32);
+/// What a core answers to fetches by the actors 1 and 9, a decode, a rename for hart 1 and
+/// retirements of the harts 0 and 7, where none of them can be done; whether an issue is idle; and
+/// how many events there are then.
+#[derive(Clone, Copy, Drop)]
+struct Answers {
+    stranger: Answer,
+    tenth: Answer,
+    decode: Answer,
+    rename: Answer,
+    retire: Answer,
+    eighth: Answer,
+    idle: bool,
+    events: u32,
+}
 
 fn answers_of(core: &mut Core) -> Answers {
-    let answers = [
-        core.fetch(1, &mut Always(0)),
-        core.fetch(9, &mut Always(0)),
-        core.decode(0, 0),
-        core.rename(0, 1),
-        core.retire(0, 0),
-        core.retire(0, 7),
-    ];
-    let idle = is_idle(core.issue(0));
-    (answers, idle, core.account().events)
+    Answers {
+        stranger: core.fetch(1, &mut Always(0)),
+        tenth: core.fetch(9, &mut Always(0)),
+        decode: core.decode(0, 0),
+        rename: core.rename(0, 1),
+        retire: core.retire(0, 0),
+        eighth: core.retire(0, 7),
+        idle: is_idle(core.issue(0)),
+        events: core.account().events,
+    }
 }
 
 fn answers_with_room(limit: u32, alloc: Global) -> Option<Answers> {
@@ -236,10 +328,25 @@ fn answers_with_room(limit: u32, alloc: Global) -> Option<Answers> {
     Some(answers_of(&mut core))
 }
 
+/// Asserts that all answers are the same, and that no event was made.
+fn are_all(rt: &impl Abort, answers: &Answers, answer: Answer) {
+    holds(rt, "a fetch of actor 1", answers.stranger == answer);
+    holds(rt, "a fetch of actor 9", answers.tenth == answer);
+    holds(rt, "a decode", answers.decode == answer);
+    holds(rt, "a rename for hart 1", answers.rename == answer);
+    holds(rt, "a retirement of hart 0", answers.retire == answer);
+    holds(rt, "a retirement of hart 7", answers.eighth == answer);
+    holds(rt, "the events", answers.events == 0);
+}
+
 #[test]
 fn full_comes_before_idle_and_idle_where_nothing_can_be_done(rt: HostRuntime) {
-    assert!(rt; answers_with_room(0, rt.alloc()) == Some(([Answer::Full; 6], false, 0)));
-    assert!(rt; answers_with_room(1, rt.alloc()) == Some(([Answer::Idle; 6], true, 0)));
+    let without = answers_with_room(0, rt.alloc()).expect(&rt, "a core without room");
+    are_all(&rt, &without, Answer::Full);
+    assert!(rt; !without.idle);
+    let with = answers_with_room(1, rt.alloc()).expect(&rt, "a core with room");
+    are_all(&rt, &with, Answer::Idle);
+    assert!(rt; with.idle);
 }
 
 #[test]

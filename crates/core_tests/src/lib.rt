@@ -1,13 +1,18 @@
-//! The tests of the core's calls, of the lock, and of whole runs. They stand in one crate, since a crate with tests of its own is
-//! proved twice by the gate. Each module has the tests of one crate, through its public calls alone.
+//! The tests of the core's calls, of the lock, and of whole runs. They stand in one crate, since a
+//! crate with tests of its own is proved twice by the gate. Each module has the tests of one crate,
+//! through its public calls alone.
 #![tactic(auto)]
 
 #[cfg(test)]
 mod asks_of_a_core;
 #[cfg(test)]
+mod counting;
+#[cfg(test)]
 mod files;
 #[cfg(test)]
 mod locking;
+#[cfg(test)]
+mod predictors;
 #[cfg(test)]
 mod rows;
 #[cfg(test)]

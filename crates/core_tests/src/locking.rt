@@ -1,30 +1,19 @@
 ghost use Rattle.std.specs.Prelude.{◌≡◌};
-ghost use Rattle.smt_model.specs.Exec.{next_pc};
 
 use crate::asks_of_a_core::{End, FIRST_END, end_of, first_image};
+use crate::counting::{Miscount, counts, first_miscount};
+use crate::predictors::Behind;
 use arrayvec::ArrayVec;
 use core_lock::{Ask, CoreReader, Finished, Held, LockedCore, Origin, Pass, Said};
 use elf_image::Image;
 use events::Event;
-use smt_core::{Config, Core, Done, Predict, Role, work};
+use smt_core::{Config, Core, Done, Role, work};
 use std::alloc::Global;
 use std::marker::Brand;
 use std::sync::Wait;
 use std::sync::ledger::Blank;
 use std::thread;
 use std::thread::Threads;
-
-/// The predictor that takes no branch.
-#[derive(Drop)]
-struct InOrder;
-
-impl Predict for InOrder {
-    ghost predicts = { λ before hart pc word guess after. guess ≡ next_pc pc };
-
-    fn predict(&mut self, _hart: u8, pc: u32, _word: u32) -> u32 {
-        pc.wrapping_add(4)
-    }
-}
 
 /// A reader that keeps whether the pass was told all.
 #[derive(Drop)]
@@ -72,7 +61,7 @@ fn make<L: Origin, R: Wait>(
     pass: &mut Pass<L>,
     ask: Ask,
 ) -> (u8, Option<Done>) {
-    let reply = core.step(rt, pass, ask, &mut InOrder);
+    let reply = core.step(rt, pass, ask, &mut Behind);
     let going = reply.going();
     (going, worked(reply.said()))
 }
@@ -119,12 +108,20 @@ fn the_rest<L: Origin, R: Wait>(rt: &R, core: &LockedCore<L>, pass: &mut Pass<L>
     is_told(rt, core, pass)
 }
 
+/// What two threads leave, and whether each was told all at its last look.
+#[derive(Drop)]
+struct Ran {
+    finished: Finished,
+    first_told: bool,
+    second_told: bool,
+}
+
 fn two_with<L: Origin + Send + Sync, R: Threads + Wait + Sync>(
     rt: &R,
     core: Core,
     blank: Blank,
     image: &Image,
-) -> (Finished, bool, bool)
+) -> Ran
     requires name { blank.name ≡ L.name }
     requires parts { (blank.parts ≡ L.parts) × (L.parts ≡ 16) }
     requires origin { (core.setup ≡ L.setup) × (core.limit ≡ L.limit) }
@@ -150,7 +147,7 @@ fn two_with<L: Origin + Send + Sync, R: Threads + Wait + Sync>(
     ] = passes;
     let (a, b) = (&mut first, &mut second);
     let shared = &core;
-    let (told, also) = thread::join(
+    let (first_told, second_told) = thread::join(
         rt,
         move || four_fetches(rt, shared, a),
         move || the_rest(rt, shared, b),
@@ -158,50 +155,57 @@ fn two_with<L: Origin + Send + Sync, R: Threads + Wait + Sync>(
     let passes = [
         first, second, p2, p3, p4, p5, p6, p7, p8, p9, p10, p11, p12, p13, p14, p15,
     ];
-    (core.finish(passes, image, &config()), told, also)
+    Ran {
+        finished: core.finish(passes, image, &config()),
+        first_told,
+        second_told,
+    }
 }
 
-fn two<R: Threads + Wait + Sync>(rt: &R, core: Core, image: &Image) -> (Finished, bool, bool) {
+fn two<R: Threads + Wait + Sync>(rt: &R, core: Core, image: &Image) -> Ran {
     two_with::<Brand, R>(rt, core, Blank::new(16), image)
 }
 
-/// What two threads leave: whether each was told all at its last look, whether their passes and their core were their own, how the core
-/// ended, whether the passes counted all its events, and whether any but the first two counted one.
-fn left_by_two<R: Threads + Wait + Sync>(
-    rt: &R,
-    alloc: Global,
-) -> Option<([bool; 4], End, [bool; 2])> {
+/// The same, by what is told of it: besides, whether the passes and their core were their own,
+/// where a pass miscounted, and how the core ended.
+#[derive(Clone, Copy, Drop)]
+struct Left {
+    first_told: bool,
+    second_told: bool,
+    told: bool,
+    own: bool,
+    miscount: Option<Miscount>,
+    end: End,
+}
+
+fn left_by_two<R: Threads + Wait + Sync>(rt: &R, alloc: Global) -> Option<Left> {
     let image = first_image(alloc)?;
     let core = Core::new(&image, config(), 100, alloc).ok()?;
-    let (finished, first, second) = two(rt, core, &image);
-    let told = [first, second, finished.told, finished.own];
-    Some((told, end_of(&finished.core), counts_of(&finished)))
-}
-
-/// Whether all events of the core are counted, and whether any but the first two passes counted one.
-fn counts_of(finished: &Finished) -> [bool; 2] {
-    let events = finished.core.history().len() as u64;
-    let all = finished.counts.iter().sum::<u64>();
-    [all == events, have_counted(&finished.counts[2..])]
-}
-
-fn have_counted(counts: &[u64]) -> bool {
-    for count in counts {
-        if *count != 0 {
-            return true;
-        }
-    }
-    false
+    let ran = two(rt, core, &image);
+    Some(Left {
+        first_told: ran.first_told,
+        second_told: ran.second_told,
+        told: ran.finished.told,
+        own: ran.finished.own,
+        miscount: first_miscount(&ran.finished),
+        end: end_of(&ran.finished.core),
+    })
 }
 
 #[test]
 fn two_threads_run_the_first_program_to_its_end(rt: HostRuntime) {
-    let left = ([true; 4], FIRST_END, [true, false]);
-    assert!(rt; left_by_two(&rt, rt.alloc()) == Some(left));
+    let left = left_by_two(&rt, rt.alloc()).expect(&rt, "a core");
+    assert!(rt; left.first_told);
+    assert!(rt; left.second_told);
+    assert!(rt; left.told);
+    assert!(rt; left.own);
+    counts(&rt, "two threads", left.miscount);
+    assert!(rt; left.end == FIRST_END);
 }
 
-/// What a core told that stood behind no lock: at the start the second pass's count and last event; the answers to a Fetch, an Issue,
-/// a Decode and, with no room left, a Decode; how many harts were going; and the end.
+/// What a core told that stood behind no lock: at the start the second pass's count and last event;
+/// the answers to a Fetch, an Issue, a Decode and, with no room left, a Decode; how many harts were
+/// going; and the end.
 #[derive(Drop)]
 struct Alone {
     count: u64,
@@ -222,19 +226,19 @@ fn ask_alone_with<L: Origin>(core: Core, blank: Blank, image: &Image) -> Alone
     let (mut held, mut passes) = Held::<L>::new(core, blank);
     let count = passes[1].count();
     let last = passes[1].last();
-    let said = held.step(&mut passes[0], Ask::Fetch, &mut InOrder).said();
+    let said = held.step(&mut passes[0], Ask::Fetch, &mut Behind).said();
     let fetched = said.event();
     abandon(worked(said));
-    let said = held.step(&mut passes[1], Ask::Issue, &mut InOrder).said();
+    let said = held.step(&mut passes[1], Ask::Issue, &mut Behind).said();
     let idle = matches!(&said, Said::Idle);
     abandon(worked(said));
-    let reply = held.step(&mut passes[1], Ask::Decode(0), &mut InOrder);
+    let reply = held.step(&mut passes[1], Ask::Decode(0), &mut Behind);
     let going = reply.going();
     let said = reply.said();
     let decoded = said.event();
     abandon(worked(said));
     let said = held
-        .step(&mut passes[0], Ask::Decode(0), &mut InOrder)
+        .step(&mut passes[0], Ask::Decode(0), &mut Behind)
         .said();
     let full = matches!(&said, Said::Full);
     abandon(worked(said));
@@ -254,38 +258,53 @@ fn ask_alone(core: Core, image: &Image) -> Alone {
     ask_alone_with::<Brand>(core, Blank::new(16), image)
 }
 
-/// What is told of the passes: what the first two counted, and whether passes and core were their own.
-fn counted(finished: &Finished) -> ([u64; 2], bool, bool) {
-    let [first, second, ..] = finished.counts;
-    ([first, second], finished.told, finished.own)
+/// The same, by what is told of it: besides, what the first two passes counted, whether the passes
+/// and their core were their own, and where a pass miscounted.
+#[derive(Clone, Copy, Drop)]
+struct Asked {
+    count: u64,
+    last: Option<Event>,
+    fetched: Option<Event>,
+    idle: bool,
+    decoded: Option<Event>,
+    full: bool,
+    going: u8,
+    first_count: u64,
+    second_count: u64,
+    told: bool,
+    own: bool,
+    miscount: Option<Miscount>,
 }
 
-/// The events that came of the asks, behind the second pass's last one at the start; that pass's count at the start, whether one was
-/// idle, whether one was full, and how many harts were going; and what is told of the passes.
-type Asked = (
-    [Option<Event>; 3],
-    (u64, bool, bool, u8),
-    ([u64; 2], bool, bool),
-);
-
 fn told_by(alone: &Alone) -> Asked {
-    let events = [alone.last, alone.fetched, alone.decoded];
-    let others = (alone.count, alone.idle, alone.full, alone.going);
-    (events, others, counted(&alone.finished))
+    let finished = &alone.finished;
+    Asked {
+        count: alone.count,
+        last: alone.last,
+        fetched: alone.fetched,
+        idle: alone.idle,
+        decoded: alone.decoded,
+        full: alone.full,
+        going: alone.going,
+        first_count: finished.counts[0],
+        second_count: finished.counts[1],
+        told: finished.told,
+        own: finished.own,
+        miscount: first_miscount(finished),
+    }
 }
 
 /// A core with room for four events, of which actor 1 has made two.
 fn asked_alone(alloc: Global) -> Option<Asked> {
     let image = first_image(alloc)?;
     let mut core = Core::new(&image, config(), 4, alloc).ok()?;
-    core.fetch(1, &mut InOrder);
+    core.fetch(1, &mut Behind);
     core.decode(1, 0);
     Some(told_by(&ask_alone(core, &image)))
 }
 
 #[test]
 fn passes_begin_with_what_their_actors_have_made(rt: HostRuntime) {
-    let before = Event::Decode { actor: 1, seq: 0 };
     let fetched = Event::Fetch {
         actor: 0,
         hart: 0,
@@ -294,16 +313,32 @@ fn passes_begin_with_what_their_actors_have_made(rt: HostRuntime) {
         word: Some(0x05D0_0893),
         predicted: 0x8000_0008,
     };
-    let decoded = Event::Decode { actor: 1, seq: 1 };
-    let events = [Some(before), Some(fetched), Some(decoded)];
-    let asked = (events, (2, true, true, 1), ([1, 3], true, true));
-    assert!(rt; asked_alone(rt.alloc()) == Some(asked));
+    let asked = asked_alone(rt.alloc()).expect(&rt, "a core");
+    assert!(rt; asked.count == 2);
+    assert!(rt; asked.last == Some(Event::Decode { actor: 1, seq: 0 }));
+    assert!(rt; asked.fetched == Some(fetched));
+    assert!(rt; asked.idle);
+    assert!(rt; asked.decoded == Some(Event::Decode { actor: 1, seq: 1 }));
+    assert!(rt; asked.full);
+    assert!(rt; asked.going == 1);
+    assert!(rt; asked.first_count == 1);
+    assert!(rt; asked.second_count == 3);
+    assert!(rt; asked.told);
+    assert!(rt; asked.own);
+    counts(&rt, "alone", asked.miscount);
 }
 
-/// Who asks by the second pass and by the reply to it, and what was asked, by the ask itself and by the reply.
-type Answered = ([u8; 2], [core_lock::Asked; 2]);
+/// Who asks by the second pass and by the reply to it, and what was asked, by the ask itself and by
+/// the reply.
+#[derive(Clone, Copy, Drop)]
+struct Replied {
+    passes_actor: u8,
+    replys_actor: u8,
+    asked: core_lock::Asked,
+    replys_asked: core_lock::Asked,
+}
 
-fn answered_with<L: Origin>(core: Core, blank: Blank) -> Answered
+fn answered_with<L: Origin>(core: Core, blank: Blank) -> Replied
     requires name { blank.name ≡ L.name }
     requires parts { (blank.parts ≡ L.parts) × (L.parts ≡ 16) }
     requires origin { (core.setup ≡ L.setup) × (core.limit ≡ L.limit) }
@@ -311,17 +346,22 @@ fn answered_with<L: Origin>(core: Core, blank: Blank) -> Answered
     let (mut held, mut passes) = Held::<L>::new(core, blank);
     let ask = Ask::Decode(0);
     let asked = ask.asked();
-    let reply = held.step(&mut passes[1], ask, &mut InOrder);
-    let answered = ([passes[1].actor(), reply.actor()], [asked, reply.asked()]);
+    let reply = held.step(&mut passes[1], ask, &mut Behind);
+    let answered = Replied {
+        passes_actor: passes[1].actor(),
+        replys_actor: reply.actor(),
+        asked,
+        replys_asked: reply.asked(),
+    };
     abandon(worked(reply.said()));
     answered
 }
 
-fn answered_alone(core: Core) -> Answered {
+fn answered_alone(core: Core) -> Replied {
     answered_with::<Brand>(core, Blank::new(16))
 }
 
-fn answered(alloc: Global) -> Option<Answered> {
+fn answered(alloc: Global) -> Option<Replied> {
     let image = first_image(alloc)?;
     let core = Core::new(&image, config(), 4, alloc).ok()?;
     Some(answered_alone(core))
@@ -329,6 +369,10 @@ fn answered(alloc: Global) -> Option<Answered> {
 
 #[test]
 fn a_reply_tells_who_asked_and_what(rt: HostRuntime) {
-    let told = ([1, 1], [core_lock::Asked::Decode(0); 2]);
-    assert!(rt; answered(rt.alloc()) == Some(told));
+    let answered = answered(rt.alloc()).expect(&rt, "a core");
+    let decode = core_lock::Asked::Decode(0);
+    assert!(rt; answered.passes_actor == 1);
+    assert!(rt; answered.replys_actor == 1);
+    assert!(rt; answered.asked == decode);
+    assert!(rt; answered.replys_asked == decode);
 }

@@ -1,3 +1,4 @@
+mod asking;
 mod listing;
 mod printing;
 mod refusing;
@@ -11,7 +12,14 @@ use std::io::Write;
 use std::str;
 use std::sync::Wait;
 
-/// Performs a line, for the exit status and what was written to standard error.
+/// The exit status, and what was written to standard error.
+#[derive(Drop)]
+struct Told {
+    status: u8,
+    err: Vec<u8>,
+}
+
+/// Performs a line.
 fn performed<P: Predict, W: Write, R: Wait>(
     rt: &R,
     line: &Line<'_>,
@@ -19,10 +27,10 @@ fn performed<P: Predict, W: Write, R: Wait>(
     predict: &mut P,
     out: &mut W,
     alloc: Global,
-) -> (u8, Vec<u8>) {
+) -> Told {
     let mut err = Vec::new(alloc);
     let status = perform(rt, line, inputs, predict, out, &mut err, alloc);
-    (status, err)
+    Told { status, err }
 }
 
 /// The line of a script that is run, with what is printed beside the asks and the report.
@@ -40,7 +48,8 @@ fn text(bytes: &[u8]) -> &str {
     str::from_utf8(bytes).unwrap_or("not UTF-8")
 }
 
-/// Whether what was printed is like a text in which a star stands for any text: it begins and ends so, and has what is in between.
+/// Whether what was printed is like a text in which a star stands for any text: it begins and ends
+/// so, and has what is in between.
 fn is_like(printed: &[u8], like: &str) -> bool {
     let printed = text(printed);
     let Some((start, others)) = like.split_once('*') else {
@@ -60,33 +69,41 @@ fn is_like(printed: &[u8], like: &str) -> bool {
 struct Run {
     config: &'static [u8],
     words: &'static [u32],
-    script: &'static [u8],
+    script: &'static str,
     /// Whether the records are printed before the report.
     records: bool,
     /// Whether the tables are printed after the asks.
     show: bool,
 }
 
-/// The exit status of a run and what it printed. There is none where something is written to standard error, or no memory is left.
+/// The exit status of a run and what it printed.
+#[derive(Drop)]
+struct Printed {
+    status: u8,
+    out: Vec<u8>,
+}
+
+/// How a run ends. There is no answer where something is written to standard error, or no memory
+/// is left.
 fn outcome<P: Predict, R: Wait>(
     rt: &R,
     run: &Run,
     predict: &mut P,
     alloc: Global,
-) -> Option<(u8, Vec<u8>)> {
+) -> Option<Printed> {
     let Ok(file) = file_of(run.words, 0, alloc) else {
         return None;
     };
     let inputs = Inputs {
-        config: Some(run.config),
-        image: Some(&file),
-        second: Some(run.script),
+        config: Ok(run.config),
+        image: Ok(&file),
+        second: Ok(run.script.as_bytes()),
     };
     let line = step_line(run.records, run.show);
     let mut out = Vec::new(alloc);
-    let (status, err) = performed(rt, &line, &inputs, predict, &mut out, alloc);
+    let Told { status, err } = performed(rt, &line, &inputs, predict, &mut out, alloc);
     if err.is_empty() {
-        Some((status, out))
+        Some(Printed { status, out })
     } else {
         None
     }

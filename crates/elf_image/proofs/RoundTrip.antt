@@ -1,26 +1,35 @@
 -- A written file passes all checks, and its image is the one that was written.
-use Rattle.std.proofs.Common.{◌≡◌, ℕ, suc, ◌+◌, ◌-◌, ◌*◌, ◌%◌, ◌^◌, ◌<◌, ◌≤◌, ◌&&◌, Bool, true, false, List, [], ◌∷◌, ◌++◌, length, get_or, take, drop, map, refl, sym, ◌∙◌, ap, subst, arith, cond, Some, inl, append_assoc, append-nil, length-append}
-use Rattle.std.specs.Prelude.{All, AllPairs, find, flat_map, count_by, slice_index, IsPermutation, IsTrue, nat_le, nat_lt}
-use Rattle.std.proofs.lemmas.List.{take_at, drop_at}
+use Rattle.std.proofs.Common.{◌≡◌, ℕ, suc, ◌+◌, ◌-◌, ◌*◌, ◌%◌, ◌^◌, ◌<◌, ◌≤◌, ◌&&◌, Bool, true, false, List, [], ◌∷◌}
+use Rattle.std.proofs.Common.{◌++◌, length, get_or, take, drop, map, refl, sym, ◌∙◌, ap, subst, arith, cond, Some, inl}
+use Rattle.std.proofs.Common.{append_assoc, append-nil, length-append}
+use Rattle.std.specs.Prelude.{All, AllPairs, find, flat_map, count_by, slice_index, IsPermutation, IsTrue, nat_le}
+use Rattle.std.specs.Prelude.{nat_lt}
+use Rattle.std.proofs.{lemmas.List.take_at, lemmas.List.drop_at, lemmas.List.Kept.AllPairs-cons}
+use Rattle.std.proofs.{lemmas.List.Sums.sum_by-cons, lemmas.Bool.Decides.nat_tests}
 use Rattle.std.proofs.lemmas.List.Elements.{All-nil, All-cons, All-head, All-tail, All-weaker}
-use Rattle.std.proofs.lemmas.List.Kept.{AllPairs-cons}
-use Rattle.std.proofs.lemmas.List.Sums.{sum_by-cons}
-use Rattle.std.proofs.lemmas.Bool.Decides.{nat_tests}
-use Rattle.elf_image.specs.declared.program_header.ProgramHeader.{ProgramHeader}
-use Rattle.elf_image.specs.declared.refusal.LoadRefused.{LoadRefused}
-use Rattle.elf_image.specs.declared.refusal.LoadRefused.TheVariants.{TooShort, NotElf, NotClass32, NotLittleEndian, WrongVersion, NotExecutable, NotRiscV, WrongHeaderSize, TableOutsideFile, WrongSegmentCount, SegmentOutsideFile, WrongMemorySize, SegmentOutsideRam, SegmentsOverlap, WrongCodeSegment, MisalignedCode, WrongEntry, OutOfMemory}
-use Rattle.elf_image.specs.Image.{ProgramSegment, ProgramImage, IsWellFormed, ram_start, is_code_segment, is_writable_segment, code_segment, code_start, code_size}
+use Rattle.elf_image.specs.{declared.program_header.ProgramHeader.ProgramHeader}
+use Rattle.elf_image.specs.{declared.refusal.LoadRefused.LoadRefused, Loaded.segment_of, Loaded.image_from}
+use Rattle.elf_image.specs.{Loaded.IsImageOf, Written.file_header, Written.program_headers, Written.file_of}
+use Rattle.elf_image.specs.declared.refusal.LoadRefused.TheVariants.{TooShort, NotElf, NotClass32, NotLittleEndian}
+use Rattle.elf_image.specs.declared.refusal.LoadRefused.TheVariants.{WrongVersion, NotExecutable, NotRiscV}
+use Rattle.elf_image.specs.declared.refusal.LoadRefused.TheVariants.{WrongHeaderSize, TableOutsideFile}
+use Rattle.elf_image.specs.declared.refusal.LoadRefused.TheVariants.{WrongSegmentCount, SegmentOutsideFile}
+use Rattle.elf_image.specs.declared.refusal.LoadRefused.TheVariants.{WrongMemorySize, SegmentOutsideRam}
+use Rattle.elf_image.specs.declared.refusal.LoadRefused.TheVariants.{SegmentsOverlap, WrongCodeSegment, MisalignedCode}
+use Rattle.elf_image.specs.declared.refusal.LoadRefused.TheVariants.{WrongEntry, OutOfMemory}
+use Rattle.elf_image.specs.Image.{ProgramSegment, ProgramImage, IsWellFormed, ram_start, is_code_segment}
+use Rattle.elf_image.specs.Image.{is_writable_segment, code_segment, code_start, code_size}
 use Rattle.elf_image.specs.Layout.{half_at, word_at, entry_of, table_offset, table_count, loadable, loadable_from}
 use Rattle.elf_image.specs.Checks.{Passes, AreApart, is_executable, is_writable}
-use Rattle.elf_image.specs.Loaded.{segment_of, image_from, IsImageOf}
-use Rattle.elf_image.specs.Written.{file_header, program_headers, file_of}
-use Rattle.elf_image.proofs.Covering.{EndsBefore, pairs_tail}
-use Rattle.elf_image.proofs.Loading.{find_counted}
-use Rattle.elf_image.proofs.Rising.{AreRising, same_order}
-use Rattle.elf_image.proofs.WrittenFields.{header_of, headers_of, Fits, magic, class, order, version, file_version, kind, machine, header_size, entry_size, table, table_length, enters, length-file_header, length-program_headers, loadable_read}
+use Rattle.elf_image.proofs.{Covering.EndsBefore, Covering.pairs_tail, Loading.find_counted, Rising.AreRising}
+use Rattle.elf_image.proofs.{Rising.same_order}
+use Rattle.elf_image.proofs.WrittenFields.{header_of, headers_of, Fits, magic, class, order, version, file_version}
+use Rattle.elf_image.proofs.WrittenFields.{kind, machine, header_size, entry_size, table, table_length, enters}
+use Rattle.elf_image.proofs.WrittenFields.{length-file_header, length-program_headers, loadable_read}
 
 -- a fact of each header that is written, from that of its segment
-headers_all : (P : ProgramHeader → Type 0) (Q : ProgramSegment → Type 0) → ((s : ProgramSegment) (offset : ℕ) → Q s → P (header_of s offset))
+headers_all : (P : ProgramHeader → Type 0) (Q : ProgramSegment → Type 0)
+    → ((s : ProgramSegment) (offset : ℕ) → Q s → P (header_of s offset))
     → (segments : List ProgramSegment) (offset : ℕ) → All Q segments → All P (headers_of segments offset)
 headers_all P Q from [] offset all = All-nil P
 headers_all P Q from (s ∷ segments) offset all =
@@ -39,14 +48,17 @@ headers_pairs R E from [] offset pairs = λ i j d less inside. absurd (omega ari
 headers_pairs R E from (s ∷ segments) offset pairs =
     let next : ℕ = offset + length s.bytes in
     AllPairs-cons R (header_of s offset) (headers_of segments next)
-    (headers_all (R (header_of s offset)) (E s) (λ t q e. from s t offset q e) segments next (pairs_head E s segments pairs))
+    (headers_all (R (header_of s offset)) (E s) (λ t q e. from s t offset q e) segments next
+    (pairs_head E s segments pairs))
     (headers_pairs R E from segments next (pairs_tail E s segments pairs))
 
-length-headers_of : (segments : List ProgramSegment) (offset : ℕ) → length (headers_of segments offset) ≡ length segments
+length-headers_of : (segments : List ProgramSegment) (offset : ℕ)
+    → length (headers_of segments offset) ≡ length segments
 length-headers_of [] offset = refl
 length-headers_of (s ∷ segments) offset = ap (λ (n : ℕ). suc n) (length-headers_of segments (offset + length s.bytes))
 
-count-headers_of : (segments : List ProgramSegment) (offset : ℕ) → count_by is_executable (headers_of segments offset) ≡ count_by is_code_segment segments
+count-headers_of : (segments : List ProgramSegment) (offset : ℕ)
+    → count_by is_executable (headers_of segments offset) ≡ count_by is_code_segment segments
 count-headers_of [] offset = refl
 count-headers_of (s ∷ segments) offset =
     let next : ℕ = offset + length s.bytes in
@@ -55,17 +67,21 @@ count-headers_of (s ∷ segments) offset =
     ∙ sym (sum_by-cons (λ (t : ProgramSegment). cond (is_code_segment t) 1 0) s segments)
 
 -- each segment's bytes are before the end of the contents
-headers_inside : (segments : List ProgramSegment) (offset end : ℕ) → offset + length (flat_map (λ s. s.bytes) segments) ≤ end
+headers_inside : (segments : List ProgramSegment) (offset end : ℕ)
+    → offset + length (flat_map (λ s. s.bytes) segments) ≤ end
     → All (λ h. h.offset + h.file_size ≤ end) (headers_of segments offset)
 headers_inside [] offset end inside = All-nil (λ (h : ProgramHeader). h.offset + h.file_size ≤ end)
 headers_inside (s ∷ segments) offset end inside =
     let next : ℕ = offset + length s.bytes in
-    let more : offset + (length s.bytes + length (flat_map (λ t. t.bytes) segments)) ≤ end = rw (← length-append s.bytes (flat_map (λ t. t.bytes) segments)) inside in
-    All-cons (λ (h : ProgramHeader). h.offset + h.file_size ≤ end) (header_of s offset) (headers_of segments next) (omega arith)
+    let more : offset + (length s.bytes + length (flat_map (λ t. t.bytes) segments)) ≤ end =
+    rw (← length-append s.bytes (flat_map (λ t. t.bytes) segments)) inside in
+    All-cons (λ (h : ProgramHeader). h.offset + h.file_size ≤ end) (header_of s offset) (headers_of segments next)
+    (omega arith)
     (headers_inside segments next end (omega arith))
 
 -- the headers' fields fit
-fits_from : (segments : List ProgramSegment) (offset : ℕ) → All (λ s. (s.address < 2 ^ 32) × (length s.bytes ≤ 16777216) × (s.flags < 8)) segments
+fits_from : (segments : List ProgramSegment) (offset : ℕ)
+    → All (λ s. (s.address < 2 ^ 32) × (length s.bytes ≤ 16777216) × (s.flags < 8)) segments
     → offset + 16777216 * length segments < 2 ^ 32 → Fits segments offset
 fits_from [] offset all below = tt
 fits_from (s ∷ segments) offset all below =
@@ -82,13 +98,15 @@ fits_from (s ∷ segments) offset all below =
 segment_back : (s : ProgramSegment) (offset : ℕ) (front rest : List ℕ) → offset ≡ length front → s.flags < 8
     → segment_of (front ++ (s.bytes ++ rest)) (header_of s offset) ≡ s
 segment_back s offset front rest at flags =
-    let cut : drop offset (front ++ (s.bytes ++ rest)) ≡ s.bytes ++ rest = drop_at front (s.bytes ++ rest) offset (sym at) in
+    let cut : drop offset (front ++ (s.bytes ++ rest)) ≡ s.bytes ++ rest =
+    drop_at front (s.bytes ++ rest) offset (sym at) in
     let kept : take (length s.bytes) (s.bytes ++ rest) ≡ s.bytes = take_at s.bytes rest (length s.bytes) refl in
     let no_more : length s.bytes - length s.bytes ≡ 0 = omega arith in
     let low : s.flags % 8 ≡ s.flags = omega arith in
     rw (cut, kept, no_more, append-nil, low) refl
 
-segments_back : (segments : List ProgramSegment) (offset : ℕ) (front rest : List ℕ) → offset ≡ length front → All (λ s. s.flags < 8) segments
+segments_back : (segments : List ProgramSegment) (offset : ℕ) (front rest : List ℕ) → offset ≡ length front
+    → All (λ s. s.flags < 8) segments
     → map (segment_of (front ++ (flat_map (λ s. s.bytes) segments ++ rest))) (headers_of segments offset) ≡ segments
 segments_back [] offset front rest at flags = refl
 segments_back (s ∷ segments) offset front rest at flags =
@@ -100,12 +118,14 @@ segments_back (s ∷ segments) offset front rest at flags =
     let behind_first : front ++ (s.bytes ++ others ++ rest) ≡ front ++ s.bytes ++ (others ++ rest)
     = behind_front ∙ sym (append_assoc front s.bytes (others ++ rest)) in
     let head : segment_of (front ++ (s.bytes ++ others ++ rest)) (header_of s offset) ≡ s
-    = ap (λ (l : List ℕ). segment_of l (header_of s offset)) behind_front ∙ segment_back s offset front (others ++ rest) at (All-head Small s segments flags) in
+    = ap (λ (l : List ℕ). segment_of l (header_of s offset)) behind_front
+    ∙ segment_back s offset front (others ++ rest) at (All-head Small s segments flags) in
     let after : next ≡ length (front ++ s.bytes) = omega (arith, at, length-append front s.bytes) in
     let tail : map (segment_of (front ++ (s.bytes ++ others ++ rest))) (headers_of segments next) ≡ segments
     = ap (λ (l : List ℕ). map (segment_of l) (headers_of segments next)) behind_first
     ∙ segments_back segments next (front ++ s.bytes) rest after (All-tail Small s segments flags) in
-    ap (λ (t : ProgramSegment). t ∷ map (segment_of (front ++ (s.bytes ++ others ++ rest))) (headers_of segments next)) head
+    ap (λ (t : ProgramSegment). t ∷ map (segment_of (front ++ (s.bytes ++ others ++ rest))) (headers_of segments next))
+    head
     ∙ ap (λ (ts : List ProgramSegment). s ∷ ts) tail
 
 -- where one passes, any that passes is the one that is found
@@ -117,27 +137,32 @@ none_passes : {X : Type 0} (p : X → Bool) (xs : List X) → count_by p xs ≡ 
 none_passes {X} p [] none = All-nil (λ (t : X). p t ≡ true → ⊥)
 none_passes {X} p (x ∷ xs) none =
     let sum : cond (p x) 1 0 + count_by p xs ≡ 0 = sym (sum_by-cons (λ (t : X). cond (p t) 1 0) x xs) ∙ none in
-    All-cons (λ (t : X). p t ≡ true → ⊥) x xs (λ passes. passed_once (p x) (count_by p xs) passes sum) (none_passes p xs (omega (arith, sum)))
+    All-cons (λ (t : X). p t ≡ true → ⊥) x xs (λ passes. passed_once (p x) (count_by p xs) passes sum)
+    (none_passes p xs (omega (arith, sum)))
 
-by_first : {X : Type 0} (p : X → Bool) (x : X) (xs : List X) (s : X) (b : Bool) → p x ≡ b → cond b (Some x) (find p xs) ≡ Some s
+by_first : {X : Type 0} (p : X → Bool) (x : X) (xs : List X) (s : X) (b : Bool) → p x ≡ b
+    → cond b (Some x) (find p xs) ≡ Some s
     → cond b 1 0 + count_by p xs ≡ 1 → (find p xs ≡ Some s → count_by p xs ≡ 1 → All (λ t. p t ≡ true → t ≡ s) xs)
     → All (λ t. p t ≡ true → t ≡ s) (x ∷ xs)
 by_first {X} p x xs s true is here sum rest =
     let Same : X → Type 0 = λ t. p t ≡ true → t ≡ s in
     All-cons Same x xs (λ passes. cc)
-    (All-weaker (λ (t : X). p t ≡ true → ⊥) Same (λ t none passes. absurd (none passes)) xs (none_passes p xs (omega (arith, sum))))
+    (All-weaker (λ (t : X). p t ≡ true → ⊥) Same (λ t none passes. absurd (none passes)) xs
+    (none_passes p xs (omega (arith, sum))))
 by_first {X} p x xs s false is later sum rest =
     let Same : X → Type 0 = λ t. p t ≡ true → t ≡ s in
     All-cons Same x xs (λ passes. cc) (rest later (omega (arith, sum)))
 
-one_passes : {X : Type 0} (p : X → Bool) (xs : List X) (s : X) → find p xs ≡ Some s → count_by p xs ≡ 1 → All (λ t. p t ≡ true → t ≡ s) xs
+one_passes : {X : Type 0} (p : X → Bool) (xs : List X) (s : X) → find p xs ≡ Some s → count_by p xs ≡ 1
+    → All (λ t. p t ≡ true → t ≡ s) xs
 one_passes {X} p [] s found one = All-nil (λ (t : X). p t ≡ true → t ≡ s)
 one_passes {X} p (x ∷ xs) s found one =
     let sum : cond (p x) 1 0 + count_by p xs ≡ 1 = sym (sum_by-cons (λ (t : X). cond (p t) 1 0) x xs) ∙ one in
     by_first p x xs s (p x) refl found sum (one_passes p xs s)
 
 -- the tests of an interval
-tests_within : (start size addr : ℕ) → nat_le start addr && nat_lt addr (start + size) ≡ true → (start ≤ addr) × (addr < start + size)
+tests_within : (start size addr : ℕ) → nat_le start addr && nat_lt addr (start + size) ≡ true
+    → (start ≤ addr) × (addr < start + size)
 tests_within start size addr within = (grind (arith, nat_tests), grind (arith, nat_tests))
 
 module _ (image : ProgramImage) (ok : IsWellFormed image) where
@@ -171,13 +196,20 @@ module _ (image : ProgramImage) (ok : IsWellFormed image) where
   fits = fits_from image.segments table_end small (omega (arith, ok.count.1))
 
   entry_fits : image.entry < 2 ^ 32
-  entry_fits = omega (arith, (tests_within (code_start image) (code_size image) image.entry ok.entry_in_code).1, ok.code_within.1, ok.ram.2)
+  entry_fits =
+      omega (
+        arith,
+        (tests_within (code_start image) (code_size image) image.entry ok.entry_in_code).1,
+        ok.code_within.1,
+        ok.ram.2,
+      )
 
   at_file : (P : List ℕ → Type 0) → P (head ++ (headers ++ contents)) → P (file_of image)
   at_file P = subst P (sym whole)
 
   pub entry_written : entry_of (file_of image) ≡ image.entry
-  entry_written = at_file (λ l. entry_of l ≡ image.entry) (enters image.entry (length image.segments) (headers ++ contents) entry_fits)
+  entry_written = at_file (λ l. entry_of l ≡ image.entry)
+      (enters image.entry (length image.segments) (headers ++ contents) entry_fits)
 
   table_written : table_offset (file_of image) ≡ 52
   table_written = at_file (λ l. table_offset l ≡ 52) (table image.entry (length image.segments) (headers ++ contents))
@@ -190,7 +222,8 @@ module _ (image : ProgramImage) (ok : IsWellFormed image) where
   loadable_written =
       rw (table_written, count_written)
       (at_file (λ l. loadable_from l 52 (length image.segments) ≡ headers_of image.segments table_end)
-      (loadable_read image.segments table_end head contents 52 (sym (length-file_header image.entry (length image.segments) [])) fits))
+      (loadable_read image.segments table_end head contents 52
+      (sym (length-file_header image.entry (length image.segments) [])) fits))
 
   segments_written : map (segment_of (file_of image)) (headers_of image.segments table_end) ≡ image.segments
   segments_written =
@@ -200,7 +233,8 @@ module _ (image : ProgramImage) (ok : IsWellFormed image) where
         length-file_header image.entry (length image.segments) [],
         length-program_headers image.segments table_end,
       ) in
-      subst (λ (l : List ℕ). map (segment_of l) (headers_of image.segments table_end) ≡ image.segments) (sym contents_last)
+      subst (λ (l : List ℕ). map (segment_of l) (headers_of image.segments table_end) ≡ image.segments)
+      (sym contents_last)
       (segments_back image.segments table_end (head ++ headers) [] before ok.flags)
 
   length_written : length (file_of image) ≡ table_end + length contents
@@ -215,20 +249,24 @@ module _ (image : ProgramImage) (ok : IsWellFormed image) where
 
   rising_written : AreRising (λ h. h.address) (headers_of image.segments table_end)
   rising_written =
-      headers_pairs (λ g h. g.address < h.address) (λ s t. s.address < t.address) (λ s t p q less. less) image.segments table_end
+      headers_pairs (λ g h. g.address < h.address) (λ s t. s.address < t.address)
+      (λ s t p q less. less) image.segments table_end
       (λ i j d less inside. omega (arith, ok.rising i j d less inside, ok.filled i d (omega arith)))
 
   -- what is so of each segment is so of each header that is read
-  each : (P : ProgramHeader → Type 0) (Q : ProgramSegment → Type 0) → ((s : ProgramSegment) (offset : ℕ) → Q s → P (header_of s offset)) → All Q image.segments
+  each : (P : ProgramHeader → Type 0) (Q : ProgramSegment → Type 0)
+      → ((s : ProgramSegment) (offset : ℕ) → Q s → P (header_of s offset)) → All Q image.segments
       → All P (loadable (file_of image))
   each P Q from all = subst (All P) (sym loadable_written) (headers_all P Q from image.segments table_end all)
 
   -- what is so of the code is so of any segment that may be executed
-  code_only : (P : ProgramSegment → Type 0) → ((s : ProgramSegment) → code_segment image ≡ Some s → P s) → All (λ t. is_code_segment t ≡ true → P t) image.segments
+  code_only : (P : ProgramSegment → Type 0) → ((s : ProgramSegment) → code_segment image ≡ Some s → P s)
+      → All (λ t. is_code_segment t ≡ true → P t) image.segments
   unfolding code_segment
   code_only P of_code =
       let found = find_counted is_code_segment image.segments (rw ok.one_code (omega arith)) in
-      All-weaker (λ (t : ProgramSegment). is_code_segment t ≡ true → t ≡ found.0) (λ (t : ProgramSegment). is_code_segment t ≡ true → P t)
+      All-weaker (λ (t : ProgramSegment). is_code_segment t ≡ true → t ≡ found.0)
+      (λ (t : ProgramSegment). is_code_segment t ≡ true → P t)
       (λ t same passes. subst P (sym (same passes)) (of_code found.0 found.1)) image.segments
       (one_passes is_code_segment image.segments found.0 found.1 ok.one_code)
 
@@ -253,42 +291,58 @@ module _ (image : ProgramImage) (ok : IsWellFormed image) where
   entered : All (λ t. is_code_segment t ≡ true → IsEntered t) image.segments
   unfolding IsEntered
   entered = code_only IsEntered (λ s found.
-      rw (← start_of s found, ← size_of s found) (tests_within (code_start image) (code_size image) image.entry ok.entry_in_code))
+      rw (← start_of s found, ← size_of s found)
+      (tests_within (code_start image) (code_size image) image.entry ok.entry_in_code))
 
   pub passes : (check : LoadRefused) → Passes (file_of image) image.ram check
   unfolding IsAligned IsEntered
   passes TooShort = omega (arith, length_written)
-  passes NotElf = at_file (λ l. take 4 l ≡ 0x7f ∷ 0x45 ∷ 0x4c ∷ 0x46 ∷ []) (magic image.entry (length image.segments) (headers ++ contents))
-  passes NotClass32 = at_file (λ l. slice_index l 4 ≡ 1) (class image.entry (length image.segments) (headers ++ contents))
-  passes NotLittleEndian = at_file (λ l. slice_index l 5 ≡ 1) (order image.entry (length image.segments) (headers ++ contents))
-  passes WrongVersion = at_file (λ l. (slice_index l 6 ≡ 1) × (word_at l 20 ≡ 1))
-      (version image.entry (length image.segments) (headers ++ contents), file_version image.entry (length image.segments) (headers ++ contents))
-  passes NotExecutable = at_file (λ l. half_at l 16 ≡ 2) (kind image.entry (length image.segments) (headers ++ contents))
-  passes NotRiscV = at_file (λ l. half_at l 18 ≡ 243) (machine image.entry (length image.segments) (headers ++ contents))
-  passes WrongHeaderSize = at_file (λ l. (half_at l 40 ≡ 52) × (half_at l 42 ≡ 32))
-      (header_size image.entry (length image.segments) (headers ++ contents), entry_size image.entry (length image.segments) (headers ++ contents))
+  passes NotElf = at_file (λ l. take 4 l ≡ 0x7f ∷ 0x45 ∷ 0x4c ∷ 0x46 ∷ [])
+      (magic image.entry (length image.segments) (headers ++ contents))
+  passes NotClass32 =
+      at_file (λ l. slice_index l 4 ≡ 1) (class image.entry (length image.segments) (headers ++ contents))
+  passes NotLittleEndian =
+      at_file (λ l. slice_index l 5 ≡ 1) (order image.entry (length image.segments) (headers ++ contents))
+  passes WrongVersion = at_file (λ l. (slice_index l 6 ≡ 1) × (word_at l 20 ≡ 1)) (
+    version image.entry (length image.segments) (headers ++ contents),
+    file_version image.entry (length image.segments) (headers ++ contents),
+  )
+  passes NotExecutable =
+      at_file (λ l. half_at l 16 ≡ 2) (kind image.entry (length image.segments) (headers ++ contents))
+  passes NotRiscV =
+      at_file (λ l. half_at l 18 ≡ 243) (machine image.entry (length image.segments) (headers ++ contents))
+  passes WrongHeaderSize = at_file (λ l. (half_at l 40 ≡ 52) × (half_at l 42 ≡ 32)) (
+    header_size image.entry (length image.segments) (headers ++ contents),
+    entry_size image.entry (length image.segments) (headers ++ contents),
+  )
   passes TableOutsideFile = omega (arith, length_written, table_written, count_written)
   passes WrongSegmentCount = rw (loadable_written, length-headers_of image.segments table_end) ok.count
   passes SegmentOutsideFile =
       subst (All (λ h. h.offset + h.file_size ≤ length (file_of image))) (sym loadable_written)
       (headers_inside image.segments table_end (length (file_of image)) (omega (arith, length_written)))
   passes WrongMemorySize =
-      each (λ h. (0 < h.memory_size) × (h.file_size ≤ h.memory_size)) (λ s. 0 < length s.bytes) (λ s offset filled. (filled, omega arith)) ok.filled
+      each (λ h. (0 < h.memory_size) × (h.file_size ≤ h.memory_size)) (λ s. 0 < length s.bytes)
+      (λ s offset filled. (filled, omega arith)) ok.filled
   passes SegmentOutsideRam =
       each (λ h. (ram_start ≤ h.address) × (h.address + h.memory_size ≤ ram_start + image.ram))
-      (λ s. (ram_start ≤ s.address) × (s.address + length s.bytes ≤ ram_start + image.ram)) (λ s offset within. within) ok.within
+      (λ s. (ram_start ≤ s.address) × (s.address + length s.bytes ≤ ram_start + image.ram))
+      (λ s offset within. within) ok.within
   passes SegmentsOverlap =
-      subst (AllPairs AreApart) (sym loadable_written) (headers_pairs AreApart EndsBefore (λ s t p q before. inl before) image.segments table_end ok.rising)
+      subst (AllPairs AreApart) (sym loadable_written)
+      (headers_pairs AreApart EndsBefore (λ s t p q before. inl before) image.segments table_end ok.rising)
   passes WrongCodeSegment = (
     rw loadable_written (count-headers_of image.segments table_end ∙ ok.one_code),
-    each (λ h. is_executable h && is_writable h ≡ false) (λ s. is_code_segment s && is_writable_segment s ≡ false) (λ s offset read_only. read_only) ok.read_only,
+    each (λ h. is_executable h && is_writable h ≡ false) (λ s. is_code_segment s && is_writable_segment s ≡ false)
+        (λ s offset read_only. read_only) ok.read_only,
   )
   passes MisalignedCode =
-      each (λ h. IsTrue (is_executable h) → (h.address % 4 ≡ 0) × (h.memory_size % 4 ≡ 0)) (λ s. is_code_segment s ≡ true → IsAligned s)
+      each (λ h. IsTrue (is_executable h) → (h.address % 4 ≡ 0) × (h.memory_size % 4 ≡ 0))
+      (λ s. is_code_segment s ≡ true → IsAligned s)
       (λ s offset so. so) aligned
   passes WrongEntry = (
     rw entry_written ok.entry_aligned,
-    each (λ h. IsTrue (is_executable h) → (h.address ≤ entry_of (file_of image)) × (entry_of (file_of image) < h.address + h.memory_size))
+    each (λ h. IsTrue (is_executable h)
+        → (h.address ≤ entry_of (file_of image)) × (entry_of (file_of image) < h.address + h.memory_size))
         (λ s. is_code_segment s ≡ true → IsEntered s) (λ s offset so passed. rw entry_written (so passed)) entered,
   )
   passes OutOfMemory = tt
@@ -299,5 +353,7 @@ module _ (image : ProgramImage) (ok : IsWellFormed image) where
       let moved : IsPermutation (headers_of image.segments table_end) of_file.order
       = subst (λ (hs : List ProgramHeader). IsPermutation hs of_file.order) loadable_written of_file.all in
       let in_order : of_file.order ≡ headers_of image.segments table_end
-      = same_order (λ (h : ProgramHeader). h.address) (headers_of image.segments table_end) of_file.order rising_written moved of_file.rising in
-      of_file.same ∙ ap (λ (hs : List ProgramHeader). image_from (file_of image) image.ram hs) in_order ∙ rw (entry_written, segments_written) refl
+      = same_order (λ (h : ProgramHeader). h.address) (headers_of image.segments table_end) of_file.order rising_written
+      moved of_file.rising in
+      of_file.same ∙ ap (λ (hs : List ProgramHeader). image_from (file_of image) image.ram hs) in_order
+      ∙ rw (entry_written, segments_written) refl

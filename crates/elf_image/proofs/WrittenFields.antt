@@ -1,10 +1,10 @@
 -- What the headers of a written file read as.
-use Rattle.std.proofs.Common.{◌≡◌, ℕ, ◌+◌, ◌*◌, ◌^◌, ◌<◌, List, [], ◌∷◌, ◌++◌, length, take, refl, sym, ◌∙◌, ap, arith, append_assoc, length-append}
+use Rattle.std.proofs.Common.{◌≡◌, ℕ, ◌+◌, ◌*◌, ◌^◌, ◌<◌, List, [], ◌∷◌, ◌++◌, length, take, refl, sym, ◌∙◌, ap, arith}
+use Rattle.std.proofs.Common.{append_assoc, length-append}
 use Rattle.std.specs.Prelude.{slice_index, filter}
 use Rattle.std.proofs.Math.Seq.{drop-append-add}
 use Rattle.byteorder.specs.Numbers.{little_number-reads_back}
-use Rattle.elf_image.specs.declared.program_header.ProgramHeader.{ProgramHeader}
-use Rattle.elf_image.specs.Image.{ProgramSegment}
+use Rattle.elf_image.specs.{declared.program_header.ProgramHeader.ProgramHeader, Image.ProgramSegment}
 use Rattle.elf_image.specs.Layout.{half_at, word_at, header_at, headers_from, loadable_from, is_loadable}
 use Rattle.elf_image.specs.Written.{half_bytes, word_bytes, file_header, program_header, program_headers}
 
@@ -27,7 +27,8 @@ headers_of (s ∷ segments) offset = header_of s offset ∷ headers_of segments 
 abbrev pub Fits : List ProgramSegment → ℕ → Type 0
 Fits [] offset = Unit {0}
 Fits (s ∷ segments) offset =
-    (offset < 2 ^ 32) × (s.address < 2 ^ 32) × (length s.bytes < 2 ^ 32) × (s.flags < 2 ^ 32) × Fits segments (offset + length s.bytes)
+    (offset < 2 ^ 32) × (s.address < 2 ^ 32) × (length s.bytes < 2 ^ 32) × (s.flags < 2 ^ 32)
+    × Fits segments (offset + length s.bytes)
 
 module _ (entry count : ℕ) (rest : List ℕ) where
   pub magic : take 4 (file_header entry count ++ rest) ≡ 0x7f ∷ 0x45 ∷ 0x4c ∷ 0x46 ∷ []
@@ -98,7 +99,8 @@ header_behind front xs place is =
     let seventh = word_behind front xs (place + 24) 24 (omega arith) in
     rw (first, second, third, fifth, sixth, seventh) refl
 
-header_read : (s : ProgramSegment) (offset : ℕ) (rest : List ℕ) → offset < 2 ^ 32 → s.address < 2 ^ 32 → length s.bytes < 2 ^ 32 → s.flags < 2 ^ 32
+header_read : (s : ProgramSegment) (offset : ℕ) (rest : List ℕ) → offset < 2 ^ 32 → s.address < 2 ^ 32
+    → length s.bytes < 2 ^ 32 → s.flags < 2 ^ 32
     → header_at (program_header s offset ++ rest) 0 ≡ header_of s offset
 unfolding header_at program_header word_at word_bytes
 header_read s offset rest a b c d =
@@ -112,7 +114,8 @@ length-program_header : (s : ProgramSegment) (offset : ℕ) → length (program_
 unfolding program_header word_bytes
 length-program_header s offset = refl
 
-pub length-program_headers : (segments : List ProgramSegment) (offset : ℕ) → length (program_headers segments offset) ≡ 32 * length segments
+pub length-program_headers : (segments : List ProgramSegment) (offset : ℕ)
+    → length (program_headers segments offset) ≡ 32 * length segments
 unfolding program_headers
 length-program_headers [] offset = omega arith
 length-program_headers (s ∷ segments) offset =
@@ -121,8 +124,10 @@ length-program_headers (s ∷ segments) offset =
     omega (arith, length-append (program_header s offset) (program_headers segments (offset + length s.bytes)))
 
 -- the table is read as it was written
-pub headers_read : (segments : List ProgramSegment) (offset : ℕ) (front tail : List ℕ) (place : ℕ) → place ≡ length front → Fits segments offset
-    → headers_from (front ++ (program_headers segments offset ++ tail)) place (length segments) ≡ headers_of segments offset
+pub headers_read : (segments : List ProgramSegment) (offset : ℕ) (front tail : List ℕ) (place : ℕ)
+    → place ≡ length front → Fits segments offset
+    → headers_from (front ++ (program_headers segments offset ++ tail)) place (length segments)
+    ≡ headers_of segments offset
 unfolding headers_from program_headers
 headers_read [] offset front tail place at fits = refl
 headers_read (s ∷ segments) offset front tail place at fits =
@@ -136,19 +141,27 @@ headers_read (s ∷ segments) offset front tail place at fits =
     let head : header_at (front ++ (first ++ program_headers segments next ++ tail)) place ≡ header_of s offset
     = ap (λ (l : List ℕ). header_at l place) behind_front ∙ header_behind front (first ++ others) place at
     ∙ header_read s offset others fits.0 fits.1 fits.2 fits.3 in
-    let after : place + 32 ≡ length (front ++ first) = omega (arith, at, length-append front first, length-program_header s offset) in
-    let rest : headers_from (front ++ (first ++ program_headers segments next ++ tail)) (place + 32) (length segments) ≡ headers_of segments next
+    let after : place + 32 ≡ length (front ++ first) =
+    omega (arith, at, length-append front first, length-program_header s offset) in
+    let rest : headers_from (front ++ (first ++ program_headers segments next ++ tail)) (place + 32) (length segments)
+    ≡ headers_of segments next
     = ap (λ (l : List ℕ). headers_from l (place + 32) (length segments)) behind_first
     ∙ headers_read segments next (front ++ first) tail (place + 32) after fits.4 in
-    ap (λ (h : ProgramHeader). h ∷ headers_from (front ++ (first ++ program_headers segments next ++ tail)) (place + 32) (length segments)) head
+    ap (λ (h : ProgramHeader). h ∷ headers_from (front ++ (first ++ program_headers segments next ++ tail)) (place + 32)
+    (length segments)) head
     ∙ ap (λ (hs : List ProgramHeader). header_of s offset ∷ hs) rest
 
-all_loadable : (segments : List ProgramSegment) (offset : ℕ) → filter is_loadable (headers_of segments offset) ≡ headers_of segments offset
+all_loadable : (segments : List ProgramSegment) (offset : ℕ)
+    → filter is_loadable (headers_of segments offset) ≡ headers_of segments offset
 all_loadable [] offset = refl
-all_loadable (s ∷ segments) offset = ap (λ (hs : List ProgramHeader). header_of s offset ∷ hs) (all_loadable segments (offset + length s.bytes))
+all_loadable (s ∷ segments) offset =
+    ap (λ (hs : List ProgramHeader). header_of s offset ∷ hs) (all_loadable segments (offset + length s.bytes))
 
-pub loadable_read : (segments : List ProgramSegment) (offset : ℕ) (front tail : List ℕ) (place : ℕ) → place ≡ length front → Fits segments offset
-    → loadable_from (front ++ (program_headers segments offset ++ tail)) place (length segments) ≡ headers_of segments offset
+pub loadable_read : (segments : List ProgramSegment) (offset : ℕ) (front tail : List ℕ) (place : ℕ)
+    → place ≡ length front → Fits segments offset
+    → loadable_from (front ++ (program_headers segments offset ++ tail)) place (length segments)
+    ≡ headers_of segments offset
 unfolding loadable_from
 loadable_read segments offset front tail place at fits =
-    ap (λ (hs : List ProgramHeader). filter is_loadable hs) (headers_read segments offset front tail place at fits) ∙ all_loadable segments offset
+    ap (λ (hs : List ProgramHeader). filter is_loadable hs) (headers_read segments offset front tail place at fits)
+    ∙ all_loadable segments offset

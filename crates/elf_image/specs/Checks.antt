@@ -1,11 +1,24 @@
 -- The checks that a file passes before it is loaded, and which refusal a file gets.
 -- [ELF32 for the fields; the profile, its order and its bounds are this project's own choice]
-use Rattle.std.specs.Prelude.{◌≡◌, ℕ, ◌+◌, ◌*◌, ◌/◌, ◌%◌, ◌<◌, ◌≤◌, ◌⊎◌, Bool, ◌==◌, IsTrue, List, [], ◌∷◌, length, take, slice_index, All, AllPairs, count_by, false, ◌&&◌}
-use Rattle.elf_image.specs.declared.program_header.ProgramHeader.{ProgramHeader}
-use Rattle.elf_image.specs.declared.refusal.LoadRefused.{LoadRefused}
-use Rattle.elf_image.specs.declared.refusal.LoadRefused.TheVariants.{TooShort, NotElf, NotClass32, NotLittleEndian, WrongVersion, NotExecutable, NotRiscV, WrongHeaderSize, TableOutsideFile, WrongSegmentCount, SegmentOutsideFile, WrongMemorySize, SegmentOutsideRam, SegmentsOverlap, WrongCodeSegment, MisalignedCode, WrongEntry, OutOfMemory}
-use Rattle.elf_image.specs.Refusal.{number_of}
-use Rattle.elf_image.specs.Image.{ram_start}
+use Rattle.std.specs.Prelude.{◌≡◌, ℕ, ◌+◌, ◌*◌, ◌/◌, ◌%◌, ◌<◌, ◌≤◌, ◌⊎◌, Bool, ◌==◌, IsTrue, List}
+use Rattle.std.specs.Prelude.{[], ◌∷◌, length, take, slice_index, All, AllPairs, count_by, false}
+use Rattle.std.specs.Prelude.{◌&&◌}
+use Rattle.elf_image.specs.{declared.program_header.ProgramHeader.ProgramHeader}
+use Rattle.elf_image.specs.{declared.refusal.LoadRefused.LoadRefused, Refusal.reason_number}
+use Rattle.elf_image.specs.{Image.ram_start}
+use Rattle.elf_image.specs.declared.refusal.LoadRefused.TheVariants.{TooShort, NotElf, NotClass32}
+use Rattle.elf_image.specs.declared.refusal.LoadRefused.TheVariants.{NotLittleEndian, WrongVersion}
+use Rattle.elf_image.specs.declared.refusal.LoadRefused.TheVariants.{NotExecutable, NotRiscV}
+use Rattle.elf_image.specs.declared.refusal.LoadRefused.TheVariants.{WrongHeaderSize}
+use Rattle.elf_image.specs.declared.refusal.LoadRefused.TheVariants.{TableOutsideFile}
+use Rattle.elf_image.specs.declared.refusal.LoadRefused.TheVariants.{WrongSegmentCount}
+use Rattle.elf_image.specs.declared.refusal.LoadRefused.TheVariants.{SegmentOutsideFile}
+use Rattle.elf_image.specs.declared.refusal.LoadRefused.TheVariants.{WrongMemorySize}
+use Rattle.elf_image.specs.declared.refusal.LoadRefused.TheVariants.{SegmentOutsideRam}
+use Rattle.elf_image.specs.declared.refusal.LoadRefused.TheVariants.{SegmentsOverlap}
+use Rattle.elf_image.specs.declared.refusal.LoadRefused.TheVariants.{WrongCodeSegment}
+use Rattle.elf_image.specs.declared.refusal.LoadRefused.TheVariants.{MisalignedCode, WrongEntry}
+use Rattle.elf_image.specs.declared.refusal.LoadRefused.TheVariants.{OutOfMemory}
 use Rattle.elf_image.specs.Layout.{half_at, word_at, entry_of, table_offset, table_count, loadable}
 
 -- The segment's flags have X, the lowest bit, and W, the next.
@@ -32,16 +45,25 @@ Passes file ram WrongHeaderSize = (half_at file 40 ≡ 52) × (half_at file 42 �
 Passes file ram TableOutsideFile = table_offset file + 32 * table_count file ≤ length file
 Passes file ram WrongSegmentCount = (0 < length (loadable file)) × (length (loadable file) ≤ 8)
 Passes file ram SegmentOutsideFile = All (λ h. h.offset + h.file_size ≤ length file) (loadable file)
-Passes file ram WrongMemorySize = All (λ h. (0 < h.memory_size) × (h.file_size ≤ h.memory_size)) (loadable file)
-Passes file ram SegmentOutsideRam = All (λ h. (ram_start ≤ h.address) × (h.address + h.memory_size ≤ ram_start + ram)) (loadable file)
+Passes file ram WrongMemorySize =
+    All (λ h. (0 < h.memory_size) × (h.file_size ≤ h.memory_size)) (loadable file)
+Passes file ram SegmentOutsideRam =
+    All (λ h. (ram_start ≤ h.address) × (h.address + h.memory_size ≤ ram_start + ram))
+    (loadable file)
 Passes file ram SegmentsOverlap = AllPairs AreApart (loadable file)
-Passes file ram WrongCodeSegment = (count_by is_executable (loadable file) ≡ 1) × All (λ h. is_executable h && is_writable h ≡ false) (loadable file)
-Passes file ram MisalignedCode = All (λ h. IsTrue (is_executable h) → (h.address % 4 ≡ 0) × (h.memory_size % 4 ≡ 0)) (loadable file)
+Passes file ram WrongCodeSegment = (count_by is_executable (loadable file) ≡ 1)
+    × All (λ h. is_executable h && is_writable h ≡ false) (loadable file)
+Passes file ram MisalignedCode =
+    All (λ h. IsTrue (is_executable h) → (h.address % 4 ≡ 0) × (h.memory_size % 4 ≡ 0))
+    (loadable file)
 Passes file ram WrongEntry = (entry_of file % 4 ≡ 0)
-    × All (λ h. IsTrue (is_executable h) → (h.address ≤ entry_of file) × (entry_of file < h.address + h.memory_size)) (loadable file)
+    × All (λ h. IsTrue (is_executable h)
+    → (h.address ≤ entry_of file) × (entry_of file < h.address + h.memory_size)) (loadable file)
 Passes file ram OutOfMemory = Unit {0}
 
--- The refusal is the first check that the file fails, or want of memory where it passes all of them.
-pub record IsRefusal (file : List ℕ) (ram : ℕ) (reason : LoadRefused) : Type 0 where
-  pub fails : number_of reason < 18 → Passes file ram reason → ⊥
-  pub before : (earlier : LoadRefused) → number_of earlier < number_of reason → Passes file ram earlier
+-- The refusal is the first check that the file fails, or want of memory where it passes all of
+-- them.
+pub record IsLoadRefusal (file : List ℕ) (ram : ℕ) (reason : LoadRefused) : Type 0 where
+  pub fails : reason_number reason < 18 → Passes file ram reason → ⊥
+  pub before : (earlier : LoadRefused) → reason_number earlier < reason_number reason
+      → Passes file ram earlier

@@ -1,15 +1,19 @@
 -- What a program image means: the memory, the code and the entry that every hart starts from.
-use Rattle.std.specs.Prelude.{◌≡◌, ℕ, ◌+◌, ◌-◌, ◌*◌, ◌/◌, ◌%◌, ◌^◌, ◌<◌, ◌≤◌, Bool, false, ◌==◌, nat_lt, nat_le, ◌&&◌, IsTrue, if◌then◌else◌, min, max, List, length, slice_index, find, All, AllPairs, count_by, Option, Some, None}
+use Rattle.std.specs.Prelude.{◌≡◌, ℕ, ◌+◌, ◌-◌, ◌*◌, ◌/◌, ◌%◌, ◌^◌, ◌<◌, ◌≤◌, Bool, false, ◌==◌}
+use Rattle.std.specs.Prelude.{nat_lt, nat_le, ◌&&◌, IsTrue, if◌then◌else◌, min, max, List, length}
+use Rattle.std.specs.Prelude.{slice_index, find, All, AllPairs, count_by, Option, Some, None}
 use Rattle.std.specs.Option.{option_map_or}
 
--- A loadable segment: where it starts, its bytes in memory (the part from the file, then zeros up to the memory
--- size), and the permission flags of its program header, X 1, W 2 and R 4. [ELF32, program header]
+-- A loadable segment: where it starts, its bytes in memory (the part from the file, then zeros up
+-- to the memory size), and the permission flags of its program header, X 1, W 2 and R 4. [ELF32,
+-- program header]
 pub record ProgramSegment : Type 0 where
   pub address : ℕ
   pub bytes : List ℕ
   pub flags : ℕ
 
--- An image: the size of RAM in bytes, the address of the first instruction, and the segments by rising address.
+-- An image: the size of RAM in bytes, the address of the first instruction, and the segments by
+-- rising address.
 pub record ProgramImage : Type 0 where
   pub ram : ℕ
   pub entry : ℕ
@@ -29,7 +33,8 @@ in_ram image addr n = nat_le ram_start addr && nat_le (addr + n) (ram_start + im
 
 -- The address is one of the segment's.
 abbrev pub covers : ProgramSegment → ℕ → Bool
-covers segment addr = nat_le segment.address addr && nat_lt addr (segment.address + length segment.bytes)
+covers segment addr =
+    nat_le segment.address addr && nat_lt addr (segment.address + length segment.bytes)
 
 -- The byte of a segment at an address that it covers.
 abbrev pub segment_byte : ProgramSegment → ℕ → ℕ
@@ -37,7 +42,8 @@ segment_byte segment addr = slice_index segment.bytes (addr - segment.address)
 
 -- The byte at an address: that of the segment which covers it, and 0 where none does.
 abbrev pub byte_among : List ProgramSegment → ℕ → ℕ
-byte_among segments addr = option_map_or (λ segment. segment_byte segment addr) (find (λ segment. covers segment addr) segments) 0
+byte_among segments addr = option_map_or (λ segment. segment_byte segment addr)
+    (find (λ segment. covers segment addr) segments) 0
 
 -- The byte that memory holds at the start.
 unfoldable pub byte_in : ProgramImage → ℕ → ℕ
@@ -64,20 +70,26 @@ code_size image = option_map_or (λ segment. length segment.bytes) (code_segment
 
 -- The byte at the address is part of the code.
 abbrev pub in_code : ProgramImage → ℕ → Bool
-in_code image addr = nat_le (code_start image) addr && nat_lt addr (code_start image + code_size image)
+in_code image addr =
+    nat_le (code_start image) addr && nat_lt addr (code_start image + code_size image)
 
 -- Some of the n bytes from the address is part of the code.
 abbrev pub touches_code : ProgramImage → ℕ → ℕ → Bool
-touches_code image addr n = nat_lt (max addr (code_start image)) (min (addr + n) (code_start image + code_size image))
+touches_code image addr n =
+    nat_lt (max addr (code_start image)) (min (addr + n) (code_start image + code_size image))
 
--- The four bytes from the address as a number, the lowest first. [RISC-V Unprivileged ISA, little-endian memory]
+-- The four bytes from the address as a number, the lowest first. [RISC-V Unprivileged ISA,
+-- little-endian memory]
 unfoldable pub word_in : ProgramImage → ℕ → ℕ
 word_in image addr =
-    byte_in image addr + 2 ^ 8 * byte_in image (addr + 1) + 2 ^ 16 * byte_in image (addr + 2) + 2 ^ 24 * byte_in image (addr + 3)
+    byte_in image addr + 2 ^ 8 * byte_in image (addr + 1) + 2 ^ 16 * byte_in image (addr + 2)
+    + 2 ^ 24 * byte_in image (addr + 3)
 
--- There is an instruction word at the pc: it is a multiple of 4 and all four bytes are part of the code.
+-- There is an instruction word at the pc: it is a multiple of 4 and all four bytes are part of the
+-- code.
 abbrev pub has_code_word : ProgramImage → ℕ → Bool
-has_code_word image pc = pc % 4 == 0 && nat_le (code_start image) pc && nat_le (pc + 4) (code_start image + code_size image)
+has_code_word image pc = pc % 4 == 0 && nat_le (code_start image) pc
+    && nat_le (pc + 4) (code_start image + code_size image)
 
 -- The instruction word at the pc, where there is one.
 unfoldable pub code_word : ProgramImage → ℕ → Option ℕ
@@ -89,14 +101,17 @@ pub record IsWellFormed (image : ProgramImage) : Type 0 where
   -- there are 1 to 8 segments, none of them empty, and all lie in RAM
   pub count : (0 < length image.segments) × (length image.segments ≤ 8)
   pub filled : All (λ s. 0 < length s.bytes) image.segments
-  pub within : All (λ s. (ram_start ≤ s.address) × (s.address + length s.bytes ≤ ram_start + image.ram)) image.segments
+  pub within : All
+      (λ s. (ram_start ≤ s.address) × (s.address + length s.bytes ≤ ram_start + image.ram))
+      image.segments
   -- each ends where the next begins or before it
   pub rising : AllPairs (λ s t. s.address + length s.bytes ≤ t.address) image.segments
   pub flags : All (λ s. s.flags < 8) image.segments
   -- one segment may be executed, and it may not be written
   pub one_code : count_by is_code_segment image.segments ≡ 1
   pub read_only : All (λ s. is_code_segment s && is_writable_segment s ≡ false) image.segments
-  pub code_within : (ram_start ≤ code_start image) × (code_start image + code_size image ≤ ram_start + image.ram)
+  pub code_within : (ram_start ≤ code_start image)
+      × (code_start image + code_size image ≤ ram_start + image.ram)
   pub code_aligned : (code_start image % 4 ≡ 0) × (code_size image % 4 ≡ 0)
   pub entry_aligned : image.entry % 4 ≡ 0
   pub entry_in_code : IsTrue (in_code image image.entry)

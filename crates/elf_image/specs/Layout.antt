@@ -1,4 +1,5 @@
--- Where the fields of an ELF32 file lie, in little-endian order. [ELF32, "ELF Header" and "Program Header"]
+-- Where the fields of an ELF32 file lie, in little-endian order. [ELF32, "ELF Header" and "Program
+-- Header"]
 use Rattle.std.specs.Prelude.{ℕ, zero, suc, ◌+◌, Bool, ◌==◌, List, [], ◌∷◌, drop, filter}
 use Rattle.byteorder.specs.Endian.{little_number}
 use Rattle.elf_image.specs.declared.program_header.ProgramHeader.{ProgramHeader}
@@ -10,7 +11,8 @@ half_at file place = little_number 2 (drop place file)
 unfoldable pub word_at : List ℕ → ℕ → ℕ
 word_at file place = little_number 4 (drop place file)
 
--- e_entry, e_phoff and e_phnum: the first instruction, and where the table of program headers lies and how many it has.
+-- e_entry, e_phoff and e_phnum: the first instruction, and where the table of program headers lies
+-- and how many it has.
 abbrev pub entry_of : List ℕ → ℕ
 entry_of file = word_at file 24
 
@@ -20,7 +22,8 @@ table_offset file = word_at file 28
 abbrev pub table_count : List ℕ → ℕ
 table_count file = half_at file 44
 
--- The fields of the program header at a place, without p_paddr and p_align, which nothing here reads.
+-- The fields of the program header at a place, without p_paddr and p_align, which nothing here
+-- reads.
 unfoldable pub header_at : List ℕ → ℕ → ProgramHeader
 header_at file place = record {
   kind = word_at file place;

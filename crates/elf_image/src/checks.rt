@@ -1,17 +1,20 @@
 //! The checks of the segments: each is made over all loadable segments before the next.
 
-ghost use Rattle.std.specs.Prelude.{◌≡◌, ◌+◌, ◌%◌, ◌<◌, ◌≤◌, ◌↔◌, ◌&&◌, false, length, IsTrue, All, AllPairs, count_by, IfErr, OnOk};
+ghost use Rattle.std.specs.Prelude.{◌≡◌, ◌+◌, ◌%◌, ◌<◌, ◌≤◌, ◌↔◌, ◌&&◌, false, length, IsTrue, All};
+ghost use Rattle.std.specs.Prelude.{AllPairs, count_by, IfErr, OnOk};
 ghost use Rattle.elf_image.specs.Image.{ram_start};
-ghost use Rattle.elf_image.specs.Checks.{is_executable, is_writable, AreApart, Passes, IsRefusal};
+ghost use Rattle.elf_image.specs.Checks.{is_executable, is_writable, AreApart, Passes};
+ghost use Rattle.elf_image.specs.Checks.{IsLoadRefusal};
 ghost use Rattle.elf_image.specs.Layout.{entry_of, loadable};
-ghost use Rattle.elf_image.specs.Refusal.{number_of};
+ghost use Rattle.elf_image.specs.Refusal.{reason_number};
 ghost use Rattle.elf_image.specs.declared.refusal.LoadRefused.{LoadRefused as Refusal};
 
 use crate::program_header::ProgramHeader;
 use crate::ram_size::{RAM_START, RamSize};
 use crate::refusal::LoadRefused;
 
-/// Makes the checks of where the loadable segments lie, 10 to 14, on a file that passes those before.
+/// Makes the checks of where the loadable segments lie, 10 to 14, on a file that passes those
+/// before.
 pub(crate) fn check_places(
     file: &[u8],
     ram: RamSize,
@@ -19,9 +22,10 @@ pub(crate) fn check_places(
 ) -> Result<(), LoadRefused>
     requires headers { headers.now ≡ loadable file.now }
     requires most { length headers.now ≤ 8 }
-    requires passed { (check : Refusal) → number_of check < 10 → Passes file.now ram check }
-    ensures refused { IfErr result (λ reason. IsRefusal file.now ram reason) }
-    ensures passes { OnOk result ((check : Refusal) → number_of check < 15 → Passes file.now ram check) }
+    requires passed { (check : Refusal) → reason_number check < 10 → Passes file.now ram check }
+    ensures refused { IfErr result (λ reason. IsLoadRefusal file.now ram reason) }
+    ensures passes { OnOk result ((check : Refusal) → reason_number check < 15
+        → Passes file.now ram check) }
 {
     if headers.is_empty() {
         return Err(LoadRefused::WrongSegmentCount);
@@ -51,8 +55,8 @@ pub(crate) fn check_code(
     requires headers { headers.now ≡ loadable file.now }
     requires most { length headers.now ≤ 8 }
     requires entry { entry ≡ entry_of file.now }
-    requires passed { (check : Refusal) → number_of check < 15 → Passes file.now ram check }
-    ensures refused { IfErr result (λ reason. IsRefusal file.now ram reason) }
+    requires passed { (check : Refusal) → reason_number check < 15 → Passes file.now ram check }
+    ensures refused { IfErr result (λ reason. IsLoadRefusal file.now ram reason) }
     ensures passes { OnOk result ((check : Refusal) → Passes file.now ram check) }
 {
     if !one_is_executable(headers) || !code_is_read_only(headers) {
@@ -78,7 +82,8 @@ fn are_in_file(headers: &[ProgramHeader], file: &[u8]) -> bool
 
 /// Whether each segment has bytes in memory, and no fewer than in the file.
 fn have_memory(headers: &[ProgramHeader]) -> bool
-    ensures { IsTrue result ↔ All (λ h. (0 < h.memory_size) × (h.file_size ≤ h.memory_size)) headers.now }
+    ensures { IsTrue result
+        ↔ All (λ h. (0 < h.memory_size) × (h.file_size ≤ h.memory_size)) headers.now }
 {
     headers
         .iter()
@@ -88,7 +93,8 @@ fn have_memory(headers: &[ProgramHeader]) -> bool
 /// Whether each segment is wholly in RAM.
 fn are_in_ram(headers: &[ProgramHeader], ram: RamSize) -> bool
     ensures { IsTrue result
-        ↔ All (λ h. (ram_start ≤ h.address) × (h.address + h.memory_size ≤ ram_start + ram)) headers.now }
+        ↔ All (λ h. (ram_start ≤ h.address) × (h.address + h.memory_size ≤ ram_start + ram))
+        headers.now }
 {
     let end = RAM_START as u64 + ram.bytes() as u64;
     headers.iter().all(|h| RAM_START <= h.address && h.address as u64 + h.memory_size as u64 <= end)
@@ -128,7 +134,8 @@ fn code_is_read_only(headers: &[ProgramHeader]) -> bool
 /// Whether an executable segment's address and size are multiples of 4.
 fn code_is_aligned(headers: &[ProgramHeader]) -> bool
     ensures { IsTrue result
-        ↔ All (λ h. IsTrue (is_executable h) → (h.address % 4 ≡ 0) × (h.memory_size % 4 ≡ 0)) headers.now }
+        ↔ All (λ h. IsTrue (is_executable h) → (h.address % 4 ≡ 0) × (h.memory_size % 4 ≡ 0))
+        headers.now }
 {
     headers.iter().all(|h| !h.is_executable() || h.address % 4 == 0 && h.memory_size % 4 == 0)
 }
@@ -136,7 +143,8 @@ fn code_is_aligned(headers: &[ProgramHeader]) -> bool
 /// Whether the entry is in each executable segment.
 fn entry_is_in_code(headers: &[ProgramHeader], entry: u32) -> bool
     ensures { IsTrue result
-        ↔ All (λ h. IsTrue (is_executable h) → (h.address ≤ entry) × (entry < h.address + h.memory_size)) headers.now }
+        ↔ All (λ h. IsTrue (is_executable h)
+        → (h.address ≤ entry) × (entry < h.address + h.memory_size)) headers.now }
 {
     headers.iter().all(|h| {
         !h.is_executable()

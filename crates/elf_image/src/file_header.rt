@@ -2,9 +2,9 @@
 
 ghost use Rattle.std.specs.Prelude.{◌≡◌, ℕ, ◌+◌, ◌*◌, ◌<◌, ◌≤◌, length, IfOk, IfErr, OnOk};
 ghost use Rattle.elf_image.specs.Layout.{half_at, word_at, entry_of, table_offset, table_count};
-ghost use Rattle.elf_image.specs.Refusal.{number_of};
+ghost use Rattle.elf_image.specs.Refusal.{reason_number};
 ghost use Rattle.elf_image.specs.declared.refusal.LoadRefused.{LoadRefused as Refusal};
-ghost use Rattle.elf_image.specs.Checks.{Passes, IsRefusal};
+ghost use Rattle.elf_image.specs.Checks.{Passes, IsLoadRefusal};
 
 use crate::refusal::LoadRefused;
 use byteorder::{ByteOrder, LittleEndian};
@@ -37,8 +37,9 @@ pub(crate) fn read_word(file: &[u8], place: usize) -> u32
 
 /// Makes the checks of the identification and the version, 1 to 5.
 fn check_identification(file: &[u8]) -> Result<(), LoadRefused>
-    ensures refused { IfErr result (λ reason. (ram : ℕ) → IsRefusal file.now ram reason) }
-    ensures passes { OnOk result ((ram : ℕ) (check : Refusal) → number_of check < 6 → Passes file.now ram check) }
+    ensures refused { IfErr result (λ reason. (ram : ℕ) → IsLoadRefusal file.now ram reason) }
+    ensures passes { OnOk result ((ram : ℕ) (check : Refusal) → reason_number check < 6
+        → Passes file.now ram check) }
     ensures whole { OnOk result (52 ≤ length file.now) }
 {
     if file.len() < 52 {
@@ -61,10 +62,12 @@ fn check_identification(file: &[u8]) -> Result<(), LoadRefused>
 
 /// Makes the checks of the file header, 1 to 9.
 pub(crate) fn read_file_header(file: &[u8]) -> Result<FileHeader, LoadRefused>
-    ensures refused { IfErr result (λ reason. (ram : ℕ) → IsRefusal file.now ram reason) }
-    ensures passes { OnOk result ((ram : ℕ) (check : Refusal) → number_of check < 10 → Passes file.now ram check) }
+    ensures refused { IfErr result (λ reason. (ram : ℕ) → IsLoadRefusal file.now ram reason) }
+    ensures passes { OnOk result ((ram : ℕ) (check : Refusal) → reason_number check < 10
+        → Passes file.now ram check) }
     ensures whole { OnOk result (52 ≤ length file.now) }
-    ensures table { OnOk result (table_offset file.now + 32 * table_count file.now ≤ length file.now) }
+    ensures table { OnOk result
+        (table_offset file.now + 32 * table_count file.now ≤ length file.now) }
     ensures entry { IfOk result (λ header. header.entry ≡ entry_of file.now) }
     ensures offset { IfOk result (λ header. header.table_offset ≡ table_offset file.now) }
     ensures count { IfOk result (λ header. header.table_count ≡ table_count file.now) }

@@ -1,7 +1,10 @@
 //! An image: what memory holds at the start, where the code is, and the entry.
 
-ghost use Rattle.std.specs.Prelude.{◌≡◌, ◌+◌, ◌%◌, ◌^◌, ◌<◌, ◌≤◌, ◌↔◌, Some, IsTrue, IsSome, IfSome, IfOk, length};
-ghost use Rattle.elf_image.specs.Image.{IsWellFormed, ram_start, in_ram, byte_in, code_segment, code_start, code_size, in_code, word_in, has_code_word, code_word};
+ghost use Rattle.std.specs.Prelude.{◌≡◌, ◌+◌, ◌%◌, ◌^◌, ◌<◌, ◌≤◌, ◌↔◌, Some, IsTrue, IsSome};
+ghost use Rattle.std.specs.Prelude.{IfSome, IfOk, length};
+ghost use Rattle.elf_image.specs.Image.{IsWellFormed, ram_start, in_ram, byte_in, code_segment};
+ghost use Rattle.elf_image.specs.Image.{code_start, code_size, in_code, word_in, has_code_word};
+ghost use Rattle.elf_image.specs.Image.{code_word};
 
 use crate::file_header::read_word;
 use crate::ram_size::{RAM_START, RamSize};
@@ -24,7 +27,8 @@ impl Model for Image {
 
     ghost view = { λ a. record { ram = a.ram; entry = a.entry; segments = a.segments.items } };
 
-    ghost invariant = { λ a. IsWellFormed (record { ram = a.ram; entry = a.entry; segments = a.segments.items }) };
+    ghost invariant = { λ a. IsWellFormed
+        (record { ram = a.ram; entry = a.entry; segments = a.segments.items }) };
 }
 
 impl Image {
@@ -81,8 +85,9 @@ impl Image {
         Some(byte_among(&self.segments, addr))
     }
 
-    /// The instruction word at a pc, the lowest byte first (RISC-V Unprivileged ISA, "Base Instruction-Length
-    /// Encoding"). None where the pc isn't a multiple of 4 or one of the four bytes isn't part of the code.
+    /// The instruction word at a pc, the lowest byte first (RISC-V Unprivileged ISA, "Base
+    /// Instruction-Length Encoding"). None where the pc isn't a multiple of 4 or one of the four
+    /// bytes isn't part of the code.
     #[tactic(auto, unfolding(crate::specs::Image::code_word))]
     pub fn code_word(&self, pc: u32) -> Option<u32>
         ensures { result ≡ code_word self.now pc }

@@ -1,6 +1,8 @@
-//! Program images: an ELF32 file is checked and becomes the memory that the harts start from. `load` makes an `Image`
-//! of a file or says which check it fails first; an `Image` tells the bytes, the words of the code and the entry.
-//! Read `ram_size`, `segment`, `image`, `refusal`, `file_header`, `program_header`, `checks`, `loader`, `writer`.
+//! Program images: an ELF32 file is checked and becomes the memory that the harts start from.
+//! `load` makes an `Image` of a file or says which check it fails first; an `Image` tells the
+//! bytes, the words of the code and the entry.
+//! Read `ram_size`, `segment`, `image`, `refusal`, `file_header`, `program_header`, `checks`,
+//! `loader`, `writer`.
 #![tactic(auto)]
 
 mod checks;

@@ -3,7 +3,7 @@
 ghost use Rattle.std.specs.Prelude.{◌≡◌, IfOk, IfErr, OnOk, IsPermutation};
 ghost use Rattle.std.specs.List.Sorted.{IsNonDecreasingBy};
 ghost use Rattle.elf_image.specs.declared.refusal.LoadRefused.{LoadRefused as Refusal};
-ghost use Rattle.elf_image.specs.Checks.{Passes, IsRefusal};
+ghost use Rattle.elf_image.specs.Checks.{Passes, IsLoadRefusal};
 ghost use Rattle.elf_image.specs.Layout.{entry_of, loadable};
 ghost use Rattle.elf_image.specs.Loaded.{IsImageOf};
 
@@ -24,7 +24,8 @@ fn sort_by_address(headers: &mut [ProgramHeader])
     headers.sort_unstable_by_key(|h| h.address);
 }
 
-/// The image of a file that passes all checks, where these are its loadable headers by rising address.
+/// The image of a file that passes all checks, where these are its loadable headers by rising
+/// address.
 fn make_image(
     alloc: Global,
     file: &[u8],
@@ -44,10 +45,10 @@ fn make_image(
     Ok(Image::new(ram, entry, segments))
 }
 
-/// The image of an ELF32 file, in a RAM of this size. The first check that the file fails is the refusal; memory
-/// is asked for after all of them.
+/// The image of an ELF32 file, in a RAM of this size. The first check that the file fails is the
+/// refusal; memory is asked for after all of them.
 pub fn load(alloc: Global, file: &[u8], ram: RamSize) -> Result<Image, LoadRefused>
-    ensures refused { IfErr result (λ reason. IsRefusal file.now ram reason) }
+    ensures refused { IfErr result (λ reason. IsLoadRefusal file.now ram reason) }
     ensures passes { OnOk result ((check : Refusal) → Passes file.now ram check) }
     ensures image { IfOk result (λ image. IsImageOf file.now ram image) }
 {

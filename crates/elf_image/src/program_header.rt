@@ -40,8 +40,8 @@ fn read_header(file: &[u8], place: usize) -> ProgramHeader
 }
 
 #[tactic(auto, using(crate::proofs::Table::loadable_with, crate::proofs::Table::loadable_without, crate::proofs::Table::loadable_none))]
-/// The headers of the loadable segments among so many headers from a place on, in that order. None where there
-/// are more than an image has.
+/// The headers of the loadable segments among so many headers from a place on, in that order. None
+/// where there are more than an image has.
 pub(crate) fn read_loadable(
     file: &[u8],
     place: usize,

@@ -1,7 +1,7 @@
 //! Why a file is no program image.
 
 ghost use Rattle.std.specs.Prelude.{◌≡◌};
-ghost use Rattle.elf_image.specs.Refusal.{number_of};
+ghost use Rattle.elf_image.specs.Refusal.{reason_number};
 
 use thiserror::Error;
 
@@ -55,7 +55,7 @@ pub enum LoadRefused {
 impl LoadRefused {
     /// The number of the check, from 1 to 18.
     pub fn number(self) -> u8
-        ensures { result ≡ number_of self }
+        ensures { result ≡ reason_number self }
     {
         match self {
             LoadRefused::TooShort => 1,

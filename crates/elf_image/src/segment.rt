@@ -1,6 +1,7 @@
 //! A segment of an image, as it lies in memory.
 
-ghost use Rattle.std.specs.Prelude.{◌≡◌, ◌+◌, ◌<◌, ◌≤◌, ◌↔◌, length, map, find, option_copied, All, IsTrue, IfOk, IfSome};
+ghost use Rattle.std.specs.Prelude.{◌≡◌, ◌+◌, ◌<◌, ◌≤◌, ◌↔◌, length, map, find, option_copied, All};
+ghost use Rattle.std.specs.Prelude.{IsTrue, IfOk, IfSome};
 ghost use Rattle.elf_image.specs.Image.{is_code_segment, covers, segment_byte, byte_among};
 ghost use Rattle.elf_image.specs.Loaded.{segment_of};
 

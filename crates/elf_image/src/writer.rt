@@ -5,7 +5,8 @@ ghost use Rattle.elf_image.specs.Image.{ProgramImage};
 ghost use Rattle.elf_image.specs.Checks.{Passes};
 ghost use Rattle.elf_image.specs.Loaded.{IsImageOf};
 ghost use Rattle.elf_image.specs.declared.refusal.LoadRefused.{LoadRefused as Refusal};
-ghost use Rattle.elf_image.specs.Written.{half_bytes, word_bytes, file_header, program_header, program_headers, file_of};
+ghost use Rattle.elf_image.specs.Written.{half_bytes, word_bytes, file_header, program_header};
+ghost use Rattle.elf_image.specs.Written.{program_headers, file_of};
 
 use crate::image::Image;
 use crate::segment::Segment;
@@ -86,7 +87,8 @@ fn push_program_headers(
 
 /// Appends the bytes of the segments.
 fn push_contents(file: &mut Vec<u8>, segments: &[Segment]) -> Result<(), AllocError>
-    ensures { OnOk result (file.new.items ≡ file.old.items ++ flat_map (λ s. s.bytes) segments.now) }
+    ensures { OnOk result
+        (file.new.items ≡ file.old.items ++ flat_map (λ s. s.bytes) segments.now) }
 {
     for segment in segments {
         file.extend_from_slice(segment.bytes())?;
@@ -94,14 +96,16 @@ fn push_contents(file: &mut Vec<u8>, segments: &[Segment]) -> Result<(), AllocEr
     Ok(())
 }
 
-/// The file of an image: the file header, one program header for each segment by rising address, and the segments'
-/// bytes in that order without gaps.
+/// The file of an image: the file header, one program header for each segment by rising address,
+/// and the segments' bytes in that order without gaps.
 #[tactic(auto, unfolding(crate::specs::Written::file_of))]
 pub fn write(alloc: Global, image: &Image) -> Result<Vec<u8>, AllocError>
     ensures exact { IfOk result (λ file. file.items ≡ file_of image.now) }
     // `load` accepts the file in a RAM of the image's own size, and its image is this one.
-    ensures passes { IfOk result (λ file. (check : Refusal) → Passes file.items image.now.ram check) }
-    ensures only { IfOk result (λ file. (other : ProgramImage) → IsImageOf file.items image.now.ram other → other ≡ image.now) }
+    ensures passes { IfOk result (λ file. (check : Refusal)
+        → Passes file.items image.now.ram check) }
+    ensures only { IfOk result (λ file. (other : ProgramImage)
+        → IsImageOf file.items image.now.ram other → other ≡ image.now) }
 {
     let segments = image.segments();
     let mut file = start_file(alloc, image.entry(), segments.len() as u16)?;

@@ -1,19 +1,16 @@
 -- The fields of an event's line: it is they, joined by spaces, and none has a space.
 
-use Rattle.std.proofs.Common.{◌≡◌, ℕ, ◌*◌, ◌^◌, ◌<◌, List, [], ◌∷◌, ◌++◌, Option, None, Some, refl, ◌∙◌, ap, arith, append_assoc}
-use Rattle.std.specs.Fmt.{decimal}
-use Rattle.std.specs.Prelude.{IfSome}
-use Rattle.text_fields.specs.Spelling.{hex, optional}
-use Rattle.text_fields.specs.Splitting.{Lacks}
+use Rattle.std.proofs.Common.{◌≡◌, ℕ, ◌*◌, ◌^◌, ◌<◌, List, [], ◌∷◌, ◌++◌, Option, None, Some, refl, ◌∙◌, ap, arith}
+use Rattle.std.proofs.Common.{append_assoc}
+use Rattle.std.specs.{Fmt.decimal, Prelude.IfSome}
+use Rattle.text_fields.specs.{Spelling.hex, Spelling.optional, Splitting.Lacks}
 use Rattle.text_fields.proofs.LacksLaws.{Lacks-append, Lacks-decimal, Lacks-hex}
-use Rattle.events.specs.declared.effect.Next.{Next}
-use Rattle.events.specs.declared.effect.Next.TheVariants.{Pc, Ended, Stopped}
-use Rattle.events.specs.declared.effect.Written.{Written}
-use Rattle.events.specs.declared.event.Event.{Event}
+use Rattle.events.specs.{declared.effect.Next.Next, declared.effect.Next.TheVariants.Pc}
+use Rattle.events.specs.{declared.effect.Next.TheVariants.Ended, declared.effect.Next.TheVariants.Stopped}
+use Rattle.events.specs.{declared.effect.Written.Written, declared.event.Event.Event, Kind.event_kind, Kind.letter_of}
+use Rattle.events.specs.{Range.IsEventInRange, Range.IsNext}
 use Rattle.events.specs.declared.event.Event.TheVariants.{Fetch, Decode, Rename, Issue, Complete, Drop, Retire}
-use Rattle.events.specs.Kind.{kind_of, letter_of}
 use Rattle.events.specs.Line.{address_text, datum_text, line_of, next_text}
-use Rattle.events.specs.Range.{InRange, IsNext}
 use Rattle.events.proofs.Joining.{AllLack, joined}
 
 -- the fields after the letter
@@ -46,13 +43,14 @@ seven_joined letter actor seq a b c d e =
     step_joined letter actor seq ((32 ∷ a) ++ (32 ∷ b) ++ (32 ∷ c) ++ (32 ∷ d) ++ (32 ∷ e))
     ∙ ap (λ text. letter ∷ 32 ∷ (actor ++ 32 ∷ (seq ++ text))) (five_joined a b c d e)
 
-pub line_of-joined : (e : Event) → line_of e ≡ joined ((letter_of (kind_of e) ∷ []) ∷ fields_of e)
+pub line_of-joined : (e : Event) → line_of e ≡ joined ((letter_of (event_kind e) ∷ []) ∷ fields_of e)
 line_of-joined (Fetch actor hart seq pc word predicted) = simp append_assoc
 line_of-joined (Decode actor seq) = simp append_assoc
 line_of-joined (Rename actor seq phys) = simp append_assoc
 line_of-joined (Issue actor seq) = simp append_assoc
 line_of-joined (Complete actor seq o) =
-    seven_joined 67 (decimal actor) (decimal seq) (optional (hex 8) o.value) (next_text o.next) (optional (hex 8) o.addr)
+    seven_joined 67 (decimal actor) (decimal seq) (optional (hex 8) o.value) (next_text o.next)
+    (optional (hex 8) o.addr)
     (optional (hex 8) o.datum) (optional (hex 2) o.out)
 line_of-joined (Drop actor seq) = simp append_assoc
 line_of-joined (Retire actor seq e) =
@@ -63,7 +61,8 @@ line_of-joined (Retire actor seq e) =
 pub next_lacks : (n : Next) → IsNext n → Lacks 32 (next_text n)
 next_lacks (Pc pc) within = Lacks-append 32 (112 ∷ []) (hex 8 pc) refl (Lacks-hex 32 8 pc refl)
 next_lacks (Ended status) within = Lacks-append 32 (101 ∷ []) (hex 8 status) refl (Lacks-hex 32 8 status refl)
-next_lacks (Stopped cause) within = Lacks-append 32 (115 ∷ []) (decimal cause) refl (Lacks-decimal 32 cause refl (omega arith))
+next_lacks (Stopped cause) within =
+    Lacks-append 32 (115 ∷ []) (decimal cause) refl (Lacks-decimal 32 cause refl (omega arith))
 
 pub optional_hex_lacks : (count : ℕ) (o : Option ℕ) → Lacks 32 (optional (hex count) o)
 optional_hex_lacks count None = refl
@@ -84,10 +83,16 @@ phys_lacks (Some p) within = Lacks-decimal 32 p refl (omega arith)
 pub number_lacks : (n : ℕ) → n < 2 ^ 24 → Lacks 32 (decimal n)
 number_lacks n small = Lacks-decimal 32 n refl (omega arith)
 
-pub fields_lack : (e : Event) → InRange e → AllLack (fields_of e)
+pub fields_lack : (e : Event) → IsEventInRange e → AllLack (fields_of e)
 fields_lack (Fetch actor hart seq pc word predicted) within = (
   number_lacks actor (omega arith),
-  (number_lacks hart (omega arith), (number_lacks seq (omega arith), (Lacks-hex 32 8 pc refl, (optional_hex_lacks 8 word, (Lacks-hex 32 8 predicted refl, tt))))),
+  (
+    number_lacks hart (omega arith),
+    (
+      number_lacks seq (omega arith),
+      (Lacks-hex 32 8 pc refl, (optional_hex_lacks 8 word, (Lacks-hex 32 8 predicted refl, tt))),
+    ),
+  ),
 )
 fields_lack (Decode actor seq) within = (number_lacks actor (omega arith), (number_lacks seq (omega arith), tt))
 fields_lack (Rename actor seq phys) within =

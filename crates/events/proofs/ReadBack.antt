@@ -1,31 +1,28 @@
 -- The line of an event in range is read back as it.
 
-use Rattle.std.proofs.Common.{◌≡◌, ℕ, suc, ◌*◌, ◌^◌, ◌<◌, ◌≤◌, ◌⊎◌, inl, inr, true, ◌==◌, List, [], ◌∷◌, length, Option, None, Some, Ok, refl, ◌∙◌, arith, lit<, lit≤}
+use Rattle.std.proofs.Common.{◌≡◌, ℕ, suc, ◌*◌, ◌^◌, ◌<◌, ◌≤◌, ◌⊎◌, inl, inr, true, ◌==◌, List, [], ◌∷◌, length, Option}
+use Rattle.std.proofs.Common.{None, Some, Ok, refl, ◌∙◌, arith, lit<, lit≤}
 use Rattle.std.proofs.lemmas.Bool.Decides.{nat_tests}
-use Rattle.std.specs.Fmt.{decimal}
-use Rattle.std.specs.Prelude.{IfSome}
-use Rattle.text_fields.specs.Reading.{decimal_field, hex_field, optional_field}
-use Rattle.text_fields.specs.Spelling.{dash, hex, optional}
-use Rattle.text_fields.specs.Splitting.{field_count, Lacks}
-use Rattle.text_fields.proofs.DecimalLaws.{decimal_field-decimal}
-use Rattle.text_fields.proofs.HexLaws.{hex_field-hex}
-use Rattle.text_fields.proofs.LacksLaws.{Lacks-hex}
-use Rattle.text_fields.proofs.OptionalLaws.{optional_decimal-back, optional_field-optional, optional_hex-back, hex_no_dash}
-use Rattle.events.specs.declared.effect.Effect.{Effect}
-use Rattle.events.specs.declared.effect.Next.{Next}
-use Rattle.events.specs.declared.effect.Next.TheVariants.{Pc, Ended, Stopped}
-use Rattle.events.specs.declared.effect.Outcome.{Outcome}
-use Rattle.events.specs.declared.effect.Written.{Written}
-use Rattle.events.specs.declared.event.Event.{Event}
+use Rattle.std.specs.{Fmt.decimal, Prelude.IfSome}
+use Rattle.text_fields.specs.{Reading.decimal_field, Reading.hex_field, Reading.optional_field, Spelling.dash}
+use Rattle.text_fields.specs.{Spelling.hex, Spelling.optional, Splitting.field_count, Splitting.Lacks}
+use Rattle.text_fields.proofs.{DecimalLaws.decimal_field-decimal, HexLaws.hex_field-hex, LacksLaws.Lacks-hex}
+use Rattle.text_fields.proofs.OptionalLaws.{optional_decimal-back, optional_field-optional, optional_hex-back}
+use Rattle.text_fields.proofs.OptionalLaws.{hex_no_dash}
+use Rattle.events.specs.{declared.effect.Effect.Effect, declared.effect.Next.Next, declared.effect.Next.TheVariants.Pc}
+use Rattle.events.specs.{declared.effect.Next.TheVariants.Ended, declared.effect.Next.TheVariants.Stopped}
+use Rattle.events.specs.{declared.effect.Outcome.Outcome, declared.effect.Written.Written, declared.event.Event.Event}
+use Rattle.events.specs.{declared.kind.EventKind.EventKind, Kind.fields_after, Kind.event_kind, Kind.letter_of}
 use Rattle.events.specs.declared.event.Event.TheVariants.{Fetch, Decode, Rename, Issue, Complete, Drop, Retire}
-use Rattle.events.specs.declared.kind.EventKind.{EventKind}
 use Rattle.events.specs.declared.kind.EventKind.TheVariants as kind
-use Rattle.events.specs.Kind.{fields_after, kind_of, letter_of}
 use Rattle.events.specs.Line.{address_text, datum_text, line_of, next_text}
-use Rattle.events.specs.Range.{InRange, IsEffect, IsNext, IsOutcome, IsWord, IsWritten}
-use Rattle.events.specs.Reading.{complete_of, decode_of, drop_of, effect_of, ended_of, event_fields, event_of, fetch_of, issue_of, kind_named, next_of, of_fields, outcome_of, pc_of, rename_of, retire_of, sized_field, stopped_of, write_of}
+use Rattle.events.specs.Range.{IsEventInRange, IsEffect, IsNext, IsOutcome, IsWord, IsWritten}
+use Rattle.events.specs.Reading.{complete_of, decode_of, drop_of, effect_of, ended_of, event_fields, event_of, fetch_of}
+use Rattle.events.specs.Reading.{issue_of, kind_named, next_field, of_fields, outcome_of, pc_field, rename_of}
+use Rattle.events.specs.Reading.{retire_of, sized_field, stopped_of, write_fields}
 use Rattle.events.proofs.Joining.{AllLack, count-joined, first-joined, joined, others-joined}
-use Rattle.events.proofs.Fields.{address_lacks, datum_lacks, fields_lack, fields_of, line_of-joined, next_lacks, number_lacks, optional_hex_lacks}
+use Rattle.events.proofs.Fields.{address_lacks, datum_lacks, fields_lack, fields_of, line_of-joined, next_lacks}
+use Rattle.events.proofs.Fields.{number_lacks, optional_hex_lacks}
 
 -- what a line of so many fields is read as, by its letter
 letter_lacks : (k : EventKind) → Lacks 32 (letter_of k ∷ [])
@@ -52,12 +49,13 @@ unfolding event_of
 by_letter k f fs lack many =
     let start = first-joined (letter_of k ∷ []) f fs (letter_lacks k) in
     let after = others-joined (letter_of k ∷ []) f fs (letter_lacks k) in
-    let count : (field_count 32 (joined (f ∷ fs)) == fields_after k) ≡ true = grind (arith, nat_tests, count-joined f fs lack, many) in
+    let count : (field_count 32 (joined (f ∷ fs)) == fields_after k) ≡ true =
+    grind (arith, nat_tests, count-joined f fs lack, many) in
     rw (start, after, letter_names k, count) refl
 
 -- the fields are read back
-pub next_back : (n : Next) → IsNext n → next_of (next_text n) ≡ Ok n
-unfolding next_of pc_of ended_of stopped_of
+pub next_back : (n : Next) → IsNext n → next_field (next_text n) ≡ Ok n
+unfolding next_field pc_field ended_of stopped_of
 next_back (Pc pc) within = rw hex_field-hex refl
 next_back (Ended status) within = rw hex_field-hex refl
 next_back (Stopped cause) within = rw (decimal_field-decimal 8 cause within (lit< tt)) refl
@@ -68,7 +66,8 @@ words_back o within = optional_hex-back 8 o within
 bytes_back : (o : Option ℕ) → IfSome o (λ byte. byte < 256) → optional_field (hex_field 2) (optional (hex 2) o) ≡ Ok o
 bytes_back o within = optional_hex-back 2 o within
 
-phys_back : (phys : Option ℕ) → IfSome phys (λ p. p < 504) → optional_field (decimal_field 503) (optional decimal phys) ≡ Ok phys
+phys_back : (phys : Option ℕ) → IfSome phys (λ p. p < 504)
+    → optional_field (decimal_field 503) (optional decimal phys) ≡ Ok phys
 phys_back None within = optional_decimal-back 503 None (lit< tt) tt
 phys_back (Some p) within = optional_decimal-back 503 (Some p) (lit< tt) (omega arith)
 
@@ -84,7 +83,8 @@ four_back : (datum : ℕ) → datum < 2 ^ 32 → sized_field (hex 8 datum) ≡ O
 unfolding sized_field
 four_back datum small = rw (hex_field-hex 8 datum small) refl
 
-sized_back : (n datum : ℕ) → (n ≡ 1) ⊎ (n ≡ 2) ⊎ (n ≡ 4) → datum < 2 ^ (8 * n) → sized_field (hex (2 * n) datum) ≡ Ok (n, datum)
+sized_back : (n datum : ℕ) → (n ≡ 1) ⊎ (n ≡ 2) ⊎ (n ≡ 4) → datum < 2 ^ (8 * n)
+    → sized_field (hex (2 * n) datum) ≡ Ok (n, datum)
 sized_back n datum (inl is) small = rw is (one_back datum (rw is at small))
 sized_back n datum (inr (inl is)) small = rw is (two_back datum (rw is at small))
 sized_back n datum (inr (inr is)) small = rw is (four_back datum (rw is at small))
@@ -98,8 +98,8 @@ some_sized_back n datum size small =
     optional_field-optional sized_field (λ number. hex (2 * number.0) number.1) (Some (n, datum))
     (hex_no_dash (2 * n) datum) (sized_back n datum size small)
 
-pub write_back : (w : Option Written) → IfSome w IsWritten → write_of (address_text w) (datum_text w) ≡ Ok w
-unfolding write_of
+pub write_back : (w : Option Written) → IfSome w IsWritten → write_fields (address_text w) (datum_text w) ≡ Ok w
+unfolding write_fields
 write_back None within = rw (words_back None tt, no_sized_back) refl
 write_back (Some w) within = rw (words_back (Some w.addr) within.0, some_sized_back w.n w.datum within.1 within.2) refl
 
@@ -173,7 +173,7 @@ seq_back : (seq : ℕ) → seq < 2 ^ 24 → decimal_field 16777215 (decimal seq)
 seq_back seq small = decimal_field-decimal 16777215 seq (omega arith) (lit< tt)
 
 -- the fields of each kind
-pub fields_back : (e : Event) → InRange e → event_fields (kind_of e) (joined (fields_of e)) ≡ Ok e
+pub fields_back : (e : Event) → IsEventInRange e → event_fields (event_kind e) (joined (fields_of e)) ≡ Ok e
 unfolding fetch_of decode_of rename_of issue_of complete_of drop_of retire_of
 fields_back (Fetch actor hart seq pc word predicted) within =
     let actor_free = number_lacks actor (omega arith) in
@@ -270,7 +270,7 @@ fields_back (Retire actor seq e) within =
     ) refl
 
 -- as many fields as its kind has
-fields_many : (e : Event) → length (fields_of e) ≡ fields_after (kind_of e)
+fields_many : (e : Event) → length (fields_of e) ≡ fields_after (event_kind e)
 fields_many (Fetch actor hart seq pc word predicted) = refl
 fields_many (Decode actor seq) = refl
 fields_many (Rename actor seq phys) = refl
@@ -294,6 +294,7 @@ from_fields : (k : EventKind) (e : Event) (fs : List (List ℕ)) → AllLack fs 
 from_fields k e [] lack many back = absurd (omega (arith, some_fields k, many))
 from_fields k e (f ∷ fs) lack many back = by_letter k f fs lack many ∙ rw back refl
 
-pub event_of-line_of : (e : Event) → InRange e → event_of (line_of e) ≡ Ok e
+pub event_of-line_of : (e : Event) → IsEventInRange e → event_of (line_of e) ≡ Ok e
 event_of-line_of e within =
-    rw line_of-joined (from_fields (kind_of e) e (fields_of e) (fields_lack e within) (fields_many e) (fields_back e within))
+    rw line_of-joined
+    (from_fields (event_kind e) e (fields_of e) (fields_lack e within) (fields_many e) (fields_back e within))

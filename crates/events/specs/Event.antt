@@ -2,7 +2,8 @@
 
 use Rattle.std.specs.Prelude.{ℕ}
 use Rattle.events.specs.declared.event.Event.{Event}
-use Rattle.events.specs.declared.event.Event.TheVariants.{Fetch, Decode, Rename, Issue, Complete, Drop, Retire}
+use Rattle.events.specs.declared.event.Event.TheVariants.{Fetch, Decode, Rename, Issue, Complete}
+use Rattle.events.specs.declared.event.Event.TheVariants.{Drop, Retire}
 
 -- the actor that made an event
 abbrev pub actor_of : Event → ℕ

@@ -2,15 +2,16 @@
 
 use Rattle.std.specs.Prelude.{◌≤◌, length}
 use Rattle.std.specs.Vec.{vec_capacity}
-use Rattle.events.specs.History.{EventList}
-use Rattle.events.specs.declared.history.History.TheInside.{Inside}
+use Rattle.numbers.specs.Sizes.{most_events}
+use Rattle.events.specs.{History.EventList, declared.history.History.TheInside.Inside}
 
 -- what callers see of it
 abbrev pub event_list : Inside → EventList
 event_list h = record { limit = h.limit; items = h.events.items }
 
--- the events are within the limit, room for all of them has been made, and a number of 24 bits tells them apart
+-- the events are within the limit, room for all of them has been made, and a number of 24 bits
+-- tells them apart
 pub record IsRoomy (h : Inside) : Type 0 where
   pub within : length h.events.items ≤ h.limit
   pub roomy : h.limit ≤ vec_capacity h.events
-  pub small : h.limit ≤ 16777216
+  pub small : h.limit ≤ most_events

@@ -1,10 +1,10 @@
 -- The seven kinds of event and the letters of their lines. (This project's own choice.)
 
 use Rattle.std.specs.Prelude.{ℕ, ◌==◌, if◌then◌else◌, Option, None, Some}
-use Rattle.events.specs.declared.event.Event.{Event}
+use Rattle.events.specs.{declared.event.Event.Event, declared.kind.EventKind.EventKind}
 use Rattle.events.specs.declared.event.Event.TheVariants as event
-use Rattle.events.specs.declared.kind.EventKind.{EventKind}
-use Rattle.events.specs.declared.kind.EventKind.TheVariants.{Fetch, Decode, Rename, Issue, Complete, Drop, Retire}
+use Rattle.events.specs.declared.kind.EventKind.TheVariants.{Fetch, Decode, Rename, Issue, Complete}
+use Rattle.events.specs.declared.kind.EventKind.TheVariants.{Drop, Retire}
 
 -- `F`, `D`, `R`, `I`, `C`, `X` or `T`
 abbrev pub letter_of : EventKind → ℕ
@@ -29,16 +29,18 @@ fields_after Retire = 7
 -- the kind whose lines begin with a letter
 abbrev pub kind_of_letter : ℕ → Option EventKind
 kind_of_letter letter =
-    if letter == 70 then Some Fetch else (if letter == 68 then Some Decode else (if letter == 82 then Some Rename
-    else (if letter == 73 then Some Issue else (if letter == 67 then Some Complete else (if letter == 88 then Some Drop
+    if letter == 70 then Some Fetch
+    else (if letter == 68 then Some Decode else (if letter == 82 then Some Rename
+    else (if letter == 73 then Some Issue
+    else (if letter == 67 then Some Complete else (if letter == 88 then Some Drop
     else (if letter == 84 then Some Retire else None))))))
 
 -- the kind of an event
-abbrev pub kind_of : Event → EventKind
-kind_of (event.Fetch actor hart seq pc word predicted) = Fetch
-kind_of (event.Decode actor seq) = Decode
-kind_of (event.Rename actor seq phys) = Rename
-kind_of (event.Issue actor seq) = Issue
-kind_of (event.Complete actor seq outcome) = Complete
-kind_of (event.Drop actor seq) = Drop
-kind_of (event.Retire actor seq effect) = Retire
+abbrev pub event_kind : Event → EventKind
+event_kind (event.Fetch actor hart seq pc word predicted) = Fetch
+event_kind (event.Decode actor seq) = Decode
+event_kind (event.Rename actor seq phys) = Rename
+event_kind (event.Issue actor seq) = Issue
+event_kind (event.Complete actor seq outcome) = Complete
+event_kind (event.Drop actor seq) = Drop
+event_kind (event.Retire actor seq effect) = Retire

@@ -1,7 +1,12 @@
+pub mod EffectInside
 pub mod Event
 pub mod History
 pub mod HistoryInside
 pub mod Kind
 pub mod Line
+pub mod OutcomeInside
 pub mod Range
 pub mod Reading
+pub mod TagLaws
+pub mod Tagged
+pub mod Width

@@ -1,18 +1,17 @@
--- How events and records are spelled, each on one line without its newline. The fields stand apart by one space; `-` is
--- no value. (This project's own choice.)
+-- How events and records are spelled, each on one line without its newline. The fields stand apart
+-- by one space; `-` is no value. (This project's own choice.)
 
-use Rattle.std.specs.Prelude.{ℕ, ◌*◌, List, ◌∷◌, ◌++◌, Option}
-use Rattle.std.specs.Prelude.{codes}
+use Rattle.std.specs.Prelude.{ℕ, ◌*◌, List, ◌∷◌, ◌++◌, Option, codes}
 use Rattle.std.specs.Fmt.{decimal}
 use Rattle.text_fields.specs.Spelling.{hex, optional}
-use Rattle.events.specs.declared.effect.Effect.{Effect}
-use Rattle.events.specs.declared.effect.Next.{Next}
-use Rattle.events.specs.declared.effect.Next.TheVariants.{Pc, Ended, Stopped}
-use Rattle.events.specs.declared.effect.Outcome.{Outcome}
-use Rattle.events.specs.declared.effect.Record.{Record}
-use Rattle.events.specs.declared.effect.Written.{Written}
-use Rattle.events.specs.declared.event.Event.{Event}
-use Rattle.events.specs.declared.event.Event.TheVariants.{Fetch, Decode, Rename, Issue, Complete, Drop, Retire}
+use Rattle.events.specs.{declared.effect.Effect.Effect, declared.effect.Next.Next}
+use Rattle.events.specs.{declared.effect.Next.TheVariants.Pc}
+use Rattle.events.specs.{declared.effect.Next.TheVariants.Ended}
+use Rattle.events.specs.{declared.effect.Next.TheVariants.Stopped, declared.effect.Outcome.Outcome}
+use Rattle.events.specs.{declared.effect.Record.Record, declared.effect.Written.Written}
+use Rattle.events.specs.{declared.event.Event.Event}
+use Rattle.events.specs.declared.event.Event.TheVariants.{Fetch, Decode, Rename, Issue, Complete}
+use Rattle.events.specs.declared.event.Event.TheVariants.{Drop, Retire}
 
 -- a field, after the space that parts it from what stands before
 abbrev pub after_space : List ℕ → List ℕ
@@ -34,13 +33,15 @@ datum_text write = optional (λ w. hex (2 * w.n) w.datum) write
 
 -- value next addr data out
 abbrev pub outcome_text : Outcome → List ℕ
-outcome_text outcome = after_space (optional (hex 8) outcome.value) ++ after_space (next_text outcome.next)
+outcome_text outcome =
+    after_space (optional (hex 8) outcome.value) ++ after_space (next_text outcome.next)
     ++ after_space (optional (hex 8) outcome.addr) ++ after_space (optional (hex 8) outcome.datum)
     ++ after_space (optional (hex 2) outcome.out)
 
 -- value next waddr wdata out
 abbrev pub effect_text : Effect → List ℕ
-effect_text effect = after_space (optional (hex 8) effect.value) ++ after_space (next_text effect.next)
+effect_text effect =
+    after_space (optional (hex 8) effect.value) ++ after_space (next_text effect.next)
     ++ after_space (address_text effect.write) ++ after_space (datum_text effect.write)
     ++ after_space (optional (hex 2) effect.out)
 
@@ -50,11 +51,13 @@ step_text letter actor seq = letter ++ after_space (decimal actor) ++ after_spac
 
 -- a letter and the fields of its kind
 abbrev pub line_of : Event → List ℕ
-line_of (Fetch actor hart seq pc word predicted) = codes "F" ++ after_space (decimal actor) ++ after_space (decimal hart)
+line_of (Fetch actor hart seq pc word predicted) =
+    codes "F" ++ after_space (decimal actor) ++ after_space (decimal hart)
     ++ after_space (decimal seq) ++ after_space (hex 8 pc) ++ after_space (optional (hex 8) word)
     ++ after_space (hex 8 predicted)
 line_of (Decode actor seq) = step_text (codes "D") actor seq
-line_of (Rename actor seq phys) = step_text (codes "R") actor seq ++ after_space (optional decimal phys)
+line_of (Rename actor seq phys) =
+    step_text (codes "R") actor seq ++ after_space (optional decimal phys)
 line_of (Issue actor seq) = step_text (codes "I") actor seq
 line_of (Complete actor seq outcome) = step_text (codes "C") actor seq ++ outcome_text outcome
 line_of (Drop actor seq) = step_text (codes "X") actor seq
@@ -62,5 +65,6 @@ line_of (Retire actor seq effect) = step_text (codes "T") actor seq ++ effect_te
 
 -- hart pc word value next waddr wdata out
 abbrev pub record_text_of : Record → List ℕ
-record_text_of r = decimal r.hart ++ after_space (hex 8 r.pc) ++ after_space (optional (hex 8) r.word)
+record_text_of r =
+    decimal r.hart ++ after_space (hex 8 r.pc) ++ after_space (optional (hex 8) r.word)
     ++ effect_text r.effect

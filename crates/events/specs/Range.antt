@@ -1,13 +1,14 @@
 -- Which numbers the fields of an event may have. (This project's own choice.)
 
-use Rattle.std.specs.Prelude.{◌≡◌, ℕ, ◌*◌, ◌^◌, ◌<◌, ◌≤◌, ◌⊎◌, IfSome}
-use Rattle.events.specs.declared.effect.Effect.{Effect}
-use Rattle.events.specs.declared.effect.Next.{Next}
-use Rattle.events.specs.declared.effect.Next.TheVariants.{Pc, Ended, Stopped}
-use Rattle.events.specs.declared.effect.Outcome.{Outcome}
-use Rattle.events.specs.declared.effect.Written.{Written}
-use Rattle.events.specs.declared.event.Event.{Event}
-use Rattle.events.specs.declared.event.Event.TheVariants.{Fetch, Decode, Rename, Issue, Complete, Drop, Retire}
+use Rattle.std.specs.Prelude.{ℕ, ◌*◌, ◌^◌, ◌<◌, ◌≤◌, IfSome}
+use Rattle.events.specs.{declared.effect.Effect.Effect, declared.effect.Next.Next}
+use Rattle.events.specs.{declared.effect.Next.TheVariants.Pc}
+use Rattle.events.specs.{declared.effect.Next.TheVariants.Ended}
+use Rattle.events.specs.{declared.effect.Next.TheVariants.Stopped, declared.effect.Outcome.Outcome}
+use Rattle.events.specs.{declared.effect.Written.Written, Width.HasWidth}
+use Rattle.events.specs.{declared.event.Event.Event}
+use Rattle.events.specs.declared.event.Event.TheVariants.{Fetch, Decode, Rename, Issue, Complete}
+use Rattle.events.specs.declared.event.Event.TheVariants.{Drop, Retire}
 
 -- all that a line needs to have room for an event: a write is of four bytes at most
 abbrev pub HasShortWrite : Event → Type 0
@@ -31,7 +32,7 @@ IsNext (Stopped cause) = cause ≤ 8
 
 -- a number of 1, 2 or 4 bytes
 abbrev pub IsWritten : Written → Type 0
-IsWritten w = IsWord w.addr × ((w.n ≡ 1) ⊎ (w.n ≡ 2) ⊎ (w.n ≡ 4)) × (w.datum < 2 ^ (8 * w.n))
+IsWritten w = IsWord w.addr × HasWidth w × (w.datum < 2 ^ (8 * w.n))
 
 -- the fields of a Complete
 pub record IsOutcome (o : Outcome) : Type 0 where
@@ -49,16 +50,16 @@ pub record IsEffect (e : Effect) : Type 0 where
   pub out : IfSome e.out (λ byte. byte < 256)
 
 -- one of sixteen actors, and an instruction's number of 24 bits
-abbrev pub IsStep : ℕ → ℕ → Type 0
-IsStep actor seq = (actor < 16) × (seq < 2 ^ 24)
+abbrev pub HasActorAndNumber : ℕ → ℕ → Type 0
+HasActorAndNumber actor seq = (actor < 16) × (seq < 2 ^ 24)
 
 -- the fields of an event are within the ranges that a trace allows them
-abbrev pub InRange : Event → Type 0
-InRange (Fetch actor hart seq pc word predicted) =
-    IsStep actor seq × (hart < 8) × IsWord pc × IfSome word IsWord × IsWord predicted
-InRange (Decode actor seq) = IsStep actor seq
-InRange (Rename actor seq phys) = IsStep actor seq × IfSome phys (λ p. p < 504)
-InRange (Issue actor seq) = IsStep actor seq
-InRange (Complete actor seq outcome) = IsStep actor seq × IsOutcome outcome
-InRange (Drop actor seq) = IsStep actor seq
-InRange (Retire actor seq effect) = IsStep actor seq × IsEffect effect
+abbrev pub IsEventInRange : Event → Type 0
+IsEventInRange (Fetch actor hart seq pc word predicted) =
+    HasActorAndNumber actor seq × (hart < 8) × IsWord pc × IfSome word IsWord × IsWord predicted
+IsEventInRange (Decode actor seq) = HasActorAndNumber actor seq
+IsEventInRange (Rename actor seq phys) = HasActorAndNumber actor seq × IfSome phys (λ p. p < 504)
+IsEventInRange (Issue actor seq) = HasActorAndNumber actor seq
+IsEventInRange (Complete actor seq outcome) = HasActorAndNumber actor seq × IsOutcome outcome
+IsEventInRange (Drop actor seq) = HasActorAndNumber actor seq
+IsEventInRange (Retire actor seq effect) = HasActorAndNumber actor seq × IsEffect effect

@@ -1,30 +1,32 @@
--- How a line is read back as an event: what the reader answers on every text. The rules are tried in their order, the
--- fields from left to right. (This project's own choice.)
+-- How a line is read back as an event: what the reader answers on every text. The rules are tried
+-- in their order, the fields from left to right. (This project's own choice.)
 
-use Rattle.std.specs.Prelude.{ℕ, ◌/◌, ◌||◌, ◌==◌, if◌then◌else◌, List, length, drop, slice_index, Option, None, Some, Result, Ok, Err}
-use Rattle.text_fields.specs.declared.read.FieldError.{FieldError}
-use Rattle.text_fields.specs.declared.read.FieldError.TheVariants.{Misspelled, OutOfRange}
-use Rattle.text_fields.specs.Reading.{decimal_field, hex_field, optional_field}
-use Rattle.text_fields.specs.Splitting.{field, field_count, rest}
-use Rattle.events.specs.declared.effect.Effect.{Effect}
-use Rattle.events.specs.declared.effect.Next.{Next}
-use Rattle.events.specs.declared.effect.Next.TheVariants.{Pc, Ended, Stopped}
-use Rattle.events.specs.declared.effect.Outcome.{Outcome}
-use Rattle.events.specs.declared.effect.Written.{Written}
-use Rattle.events.specs.declared.event.Event.{Event}
-use Rattle.events.specs.declared.event.Event.TheVariants.{Fetch, Decode, Rename, Issue, Complete, Drop, Retire}
-use Rattle.events.specs.Kind.{fields_after, kind_of_letter}
-use Rattle.events.specs.declared.kind.EventKind.{EventKind}
+use Rattle.std.specs.Prelude.{ℕ, ◌/◌, ◌||◌, ◌==◌, if◌then◌else◌, List, length, drop, slice_index}
+use Rattle.std.specs.Prelude.{Option, None, Some, Result, Ok, Err}
+use Rattle.text_fields.specs.{declared.read.FieldError.FieldError}
+use Rattle.text_fields.specs.{declared.read.FieldError.TheVariants.Misspelled}
+use Rattle.text_fields.specs.{declared.read.FieldError.TheVariants.OutOfRange}
+use Rattle.text_fields.specs.{Reading.decimal_field, Reading.hex_field, Reading.optional_field}
+use Rattle.text_fields.specs.{Splitting.field, Splitting.field_count, Splitting.rest}
+use Rattle.events.specs.{declared.effect.Effect.Effect, declared.effect.Next.Next}
+use Rattle.events.specs.{declared.effect.Next.TheVariants.Pc}
+use Rattle.events.specs.{declared.effect.Next.TheVariants.Ended}
+use Rattle.events.specs.{declared.effect.Next.TheVariants.Stopped, declared.effect.Outcome.Outcome}
+use Rattle.events.specs.{declared.effect.Written.Written, declared.event.Event.Event}
+use Rattle.events.specs.{Kind.fields_after, Kind.kind_of_letter, declared.kind.EventKind.EventKind}
+use Rattle.events.specs.{declared.read.Rule.Rule, declared.read.Rule.TheVariants.UnknownLetter}
+use Rattle.events.specs.{declared.read.Rule.TheVariants.FieldCount}
+use Rattle.events.specs.{declared.read.Rule.TheVariants.Field}
+use Rattle.events.specs.declared.event.Event.TheVariants.{Fetch, Decode, Rename, Issue, Complete}
+use Rattle.events.specs.declared.event.Event.TheVariants.{Drop, Retire}
 use Rattle.events.specs.declared.kind.EventKind.TheVariants as kind
-use Rattle.events.specs.declared.read.Rule.{Rule}
-use Rattle.events.specs.declared.read.Rule.TheVariants.{UnknownLetter, FieldCount, Field}
 
 -- the number of a rule that a line breaks
-abbrev pub number_of : Rule → ℕ
-number_of UnknownLetter = 3
-number_of FieldCount = 4
-number_of (Field Misspelled) = 5
-number_of (Field OutOfRange) = 6
+abbrev pub rule_number : Rule → ℕ
+rule_number UnknownLetter = 3
+rule_number FieldCount = 4
+rule_number (Field Misspelled) = 5
+rule_number (Field OutOfRange) = 6
 
 -- the rest of a reading, which goes on only with what was read
 infixl 10 ◌>>=◌
@@ -33,15 +35,15 @@ Ok value >>= next = next value
 Err error >>= next = Err error
 
 -- the first field of a line, and those after it
-abbrev pub first : List ℕ → List ℕ
-first fields = field 32 fields
+abbrev pub first_field : List ℕ → List ℕ
+first_field fields = field 32 fields
 
 abbrev pub others : List ℕ → List ℕ
 others fields = rest 32 fields
 
 -- what stands after a `p`: the next pc
-unfoldable pub pc_of : List ℕ → Result Next FieldError
-pc_of digits = do
+unfoldable pub pc_field : List ℕ → Result Next FieldError
+pc_field digits = do
   pc ← hex_field 8 digits
   Ok (Pc pc)
 
@@ -61,9 +63,9 @@ unfoldable pub stopped_of : List ℕ → Result Next FieldError
 stopped_of digits = cause_read (decimal_field 8 digits)
 
 -- what comes next, by its letter
-unfoldable pub next_of : List ℕ → Result Next FieldError
-next_of text =
-    if slice_index text 0 == 112 then pc_of (drop 1 text)
+unfoldable pub next_field : List ℕ → Result Next FieldError
+next_field text =
+    if slice_index text 0 == 112 then pc_field (drop 1 text)
     else (if slice_index text 0 == 101 then ended_of (drop 1 text)
     else (if slice_index text 0 == 115 then stopped_of (drop 1 text) else Err Misspelled))
 
@@ -78,13 +80,14 @@ sized_field text =
 -- a write has both an address and a number, or neither
 abbrev pub written_of : Option ℕ → Option (ℕ × ℕ) → Result (Option Written) FieldError
 written_of None None = Ok None
-written_of (Some addr) (Some number) = Ok (Some (record { addr = addr; n = number.0; datum = number.1 }))
+written_of (Some addr) (Some number) =
+    Ok (Some (record { addr = addr; n = number.0; datum = number.1 }))
 written_of None (Some number) = Err Misspelled
 written_of (Some addr) None = Err Misspelled
 
 -- the fields of a write
-unfoldable pub write_of : List ℕ → List ℕ → Result (Option Written) FieldError
-write_of address datum = do
+unfoldable pub write_fields : List ℕ → List ℕ → Result (Option Written) FieldError
+write_fields address datum = do
   addr ← optional_field (hex_field 8) address
   number ← optional_field sized_field datum
   written_of addr number
@@ -92,69 +95,70 @@ write_of address datum = do
 -- value next addr data out
 unfoldable pub outcome_of : List ℕ → Result Outcome FieldError
 outcome_of fields = do
-  value ← optional_field (hex_field 8) (first fields)
-  next ← next_of (first (others fields))
-  addr ← optional_field (hex_field 8) (first (others (others fields)))
-  datum ← optional_field (hex_field 8) (first (others (others (others fields))))
+  value ← optional_field (hex_field 8) (first_field fields)
+  next ← next_field (first_field (others fields))
+  addr ← optional_field (hex_field 8) (first_field (others (others fields)))
+  datum ← optional_field (hex_field 8) (first_field (others (others (others fields))))
   out ← optional_field (hex_field 2) (others (others (others (others fields))))
   Ok (record { value = value; next = next; addr = addr; datum = datum; out = out })
 
 -- value next waddr wdata out
 unfoldable pub effect_of : List ℕ → Result Effect FieldError
 effect_of fields = do
-  value ← optional_field (hex_field 8) (first fields)
-  next ← next_of (first (others fields))
-  write ← write_of (first (others (others fields))) (first (others (others (others fields))))
+  value ← optional_field (hex_field 8) (first_field fields)
+  next ← next_field (first_field (others fields))
+  write ← write_fields (first_field (others (others fields)))
+      (first_field (others (others (others fields))))
   out ← optional_field (hex_field 2) (others (others (others (others fields))))
   Ok (record { value = value; next = next; write = write; out = out })
 
 -- an event of each kind, from the fields after its letter
 unfoldable pub fetch_of : List ℕ → Result Event FieldError
 fetch_of fields = do
-  actor ← decimal_field 15 (first fields)
-  hart ← decimal_field 7 (first (others fields))
-  seq ← decimal_field 16777215 (first (others (others fields)))
-  pc ← hex_field 8 (first (others (others (others fields))))
-  word ← optional_field (hex_field 8) (first (others (others (others (others fields)))))
+  actor ← decimal_field 15 (first_field fields)
+  hart ← decimal_field 7 (first_field (others fields))
+  seq ← decimal_field 16777215 (first_field (others (others fields)))
+  pc ← hex_field 8 (first_field (others (others (others fields))))
+  word ← optional_field (hex_field 8) (first_field (others (others (others (others fields)))))
   predicted ← hex_field 8 (others (others (others (others (others fields)))))
   Ok (Fetch actor hart seq pc word predicted)
 
 unfoldable pub decode_of : List ℕ → Result Event FieldError
 decode_of fields = do
-  actor ← decimal_field 15 (first fields)
+  actor ← decimal_field 15 (first_field fields)
   seq ← decimal_field 16777215 (others fields)
   Ok (Decode actor seq)
 
 unfoldable pub rename_of : List ℕ → Result Event FieldError
 rename_of fields = do
-  actor ← decimal_field 15 (first fields)
-  seq ← decimal_field 16777215 (first (others fields))
+  actor ← decimal_field 15 (first_field fields)
+  seq ← decimal_field 16777215 (first_field (others fields))
   phys ← optional_field (decimal_field 503) (others (others fields))
   Ok (Rename actor seq phys)
 
 unfoldable pub issue_of : List ℕ → Result Event FieldError
 issue_of fields = do
-  actor ← decimal_field 15 (first fields)
+  actor ← decimal_field 15 (first_field fields)
   seq ← decimal_field 16777215 (others fields)
   Ok (Issue actor seq)
 
 unfoldable pub complete_of : List ℕ → Result Event FieldError
 complete_of fields = do
-  actor ← decimal_field 15 (first fields)
-  seq ← decimal_field 16777215 (first (others fields))
+  actor ← decimal_field 15 (first_field fields)
+  seq ← decimal_field 16777215 (first_field (others fields))
   outcome ← outcome_of (others (others fields))
   Ok (Complete actor seq outcome)
 
 unfoldable pub drop_of : List ℕ → Result Event FieldError
 drop_of fields = do
-  actor ← decimal_field 15 (first fields)
+  actor ← decimal_field 15 (first_field fields)
   seq ← decimal_field 16777215 (others fields)
   Ok (Drop actor seq)
 
 unfoldable pub retire_of : List ℕ → Result Event FieldError
 retire_of fields = do
-  actor ← decimal_field 15 (first fields)
-  seq ← decimal_field 16777215 (first (others fields))
+  actor ← decimal_field 15 (first_field fields)
+  seq ← decimal_field 16777215 (first_field (others fields))
   effect ← effect_of (others (others fields))
   Ok (Retire actor seq effect)
 
@@ -181,8 +185,9 @@ of_fields (Err error) = Err (Field error)
 abbrev pub event_as : Option EventKind → List ℕ → Result Event Rule
 event_as None fields = Err UnknownLetter
 event_as (Some kind) fields =
-    if field_count 32 fields == fields_after kind then of_fields (event_fields kind fields) else Err FieldCount
+    if field_count 32 fields == fields_after kind then of_fields (event_fields kind fields)
+    else Err FieldCount
 
 -- the event of a line without its newline
 unfoldable pub event_of : List ℕ → Result Event Rule
-event_of line = event_as (kind_named (first line)) (others line)
+event_of line = event_as (kind_named (first_field line)) (others line)

@@ -2,12 +2,7 @@ ghost use Rattle.std.specs.Prelude.{◌≡◌};
 
 use crate::effect::{Effect, Outcome};
 use crate::kind::EventKind;
-
-/// The number of an instruction: how many were fetched before it.
-pub type Seq = u32;
-
-/// The number of a physical register.
-pub type Phys = u16;
+pub use numbers::{Phys, Seq};
 
 /// One atomic step of the core. `actor` made it; `seq` is the instruction that it moves on.
 #[derive(Clone, Copy, Debug, PartialEq, Eq, Drop)]
@@ -50,13 +45,16 @@ pub enum Event {
     },
 }
 
+// A history of ten million events is to have room in a third of a gigabyte.
+const _: () = prove!(size_of::<Event>() <= 32);
+
 impl Event {
     ghost use Rattle.events.specs.Event.{actor_of, seq_of};
-    ghost use Rattle.events.specs.Kind.{kind_of};
+    ghost use Rattle.events.specs.Kind.{event_kind};
 
     /// What it does to its instruction.
     pub fn kind(&self) -> EventKind
-        ensures { result ≡ kind_of self.now }
+        ensures { result ≡ event_kind self.now }
     {
         match self {
             Event::Fetch { .. } => EventKind::Fetch,

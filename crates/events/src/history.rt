@@ -1,13 +1,16 @@
 //! The history: every event so far, up to a limit that is set when it is made.
 
-ghost use Rattle.std.specs.Prelude.{◌≡◌, ◌∷◌, ◌++◌, [], ◌<◌, ◌≤◌, ◌↔◌, length, IsTrue, IfOk, OnOk, OnErr, IsOk};
+ghost use Rattle.std.specs.Prelude.{◌≡◌, ◌∷◌, ◌++◌, [], ◌<◌, ◌≤◌, ◌↔◌, length, IsTrue, IfOk, OnOk};
+ghost use Rattle.std.specs.Prelude.{OnErr, IsOk};
 ghost use Rattle.std.specs.Bool.{OnFalse};
 
 use crate::event::Event;
+use numbers::sizes::MOST_EVENTS;
 use std::alloc::{AllocError, Global};
 use std::marker::Model;
 
-/// The events so far, the oldest first. All its room is made at once, so that `push` takes no memory.
+/// The events so far, the oldest first. All its room is made at once, so that `push` takes no
+/// memory.
 #[derive(Drop)]
 pub struct History {
     limit: u32,
@@ -33,9 +36,10 @@ pub struct Full;
 
 impl History {
     /// The largest limit: numbers of 24 bits tell so many instructions apart.
-    pub const MAX_LIMIT: u32 = 16_777_216;
+    pub const MAX_LIMIT: u32 = MOST_EVENTS;
 
-    /// An empty history with room for `limit` events, 0 to `MAX_LIMIT`. No other function of a history takes memory.
+    /// An empty history with room for `limit` events, 0 to `MAX_LIMIT`. No other function of a
+    /// history takes memory.
     pub fn with_limit(limit: u32, alloc: Global) -> Result<History, AllocError>
         requires { limit ≤ Self.MAX_LIMIT }
         ensures { IfOk result (λ h. h ≡ record { limit = limit; items = [] }) }
@@ -50,7 +54,8 @@ impl History {
     pub fn push(&mut self, event: Event) -> Result<(), Full>
         ensures room { IsOk result ↔ (length self.old.items < self.old.limit) }
         ensures full { OnErr result (length self.old.items ≡ self.old.limit) }
-        ensures pushed { OnOk result (self.new ≡ record self.old { items = self.old.items ++ event ∷ [] }) }
+        ensures pushed { OnOk result
+            (self.new ≡ record self.old { items = self.old.items ++ event ∷ [] }) }
         ensures unchanged { OnErr result (self.new ≡ self.old) }
     {
         if self.is_full() {

@@ -1,4 +1,5 @@
-//! What the core does, one event a step: the events, what a retired instruction did, and the history that grows by them.
+//! What the core does, one event a step: the events, what a retired instruction did, and the
+//! history that grows by them.
 //!
 //! Read in this order: `effect` (results and records), `kind`, `event`, `history`, `print`, `read`,
 //! `laws` (the one is the other's inverse).
@@ -12,7 +13,7 @@ pub mod laws;
 pub mod print;
 pub mod read;
 
-pub use effect::{Cause, Effect, Next, Outcome, Record, Written};
+pub use effect::{Cause, Effect, EffectFields, Next, Outcome, OutcomeFields, Record, Written};
 pub use event::{Event, Phys, Seq};
 pub use history::{Full, History};
 pub use kind::EventKind;

@@ -5,7 +5,8 @@ ghost use Rattle.std.specs.Fmt.{decimal};
 ghost use Rattle.arrayvec.specs.ArrayString.{array_string_len};
 ghost use Rattle.text_fields.specs.Spelling.{hex, optional};
 ghost use Rattle.events.specs.Range.{HasShortWrite};
-ghost use Rattle.events.specs.Line.{after_space, next_text, address_text, datum_text, outcome_text, effect_text, step_text, line_of, record_text_of};
+ghost use Rattle.events.specs.Line.{after_space, next_text, address_text, datum_text, outcome_text};
+ghost use Rattle.events.specs.Line.{effect_text, step_text, line_of, record_text_of};
 
 use crate::effect::{Effect, Next, Outcome, Record, Written};
 use crate::event::{Event, Seq};
@@ -79,7 +80,8 @@ fn push_next_field(line: &mut Line, next: Next)
 fn push_write_fields(line: &mut Line, write: Option<Written>)
     requires room { array_string_len line.old + 18 ≤ 64 }
     requires bytes { IfSome write (λ w. w.n ≤ 4) }
-    ensures spelled { line.new.bytes ≡ line.old.bytes ++ after_space (address_text write) ++ after_space (datum_text write) }
+    ensures spelled { line.new.bytes ≡ line.old.bytes ++ after_space (address_text write)
+        ++ after_space (datum_text write) }
     ensures length { array_string_len line.new ≤ array_string_len line.old + 18 }
 {
     match write {
@@ -101,11 +103,11 @@ fn push_outcome(line: &mut Line, outcome: &Outcome)
     requires { array_string_len line.old + 40 ≤ 64 }
     ensures spelled { line.new.bytes ≡ line.old.bytes ++ outcome_text outcome.now }
 {
-    push_optional_word_field(line, outcome.value);
-    push_next_field(line, outcome.next);
-    push_optional_word_field(line, outcome.addr);
-    push_optional_word_field(line, outcome.datum);
-    push_optional_byte_field(line, outcome.out);
+    push_optional_word_field(line, outcome.value());
+    push_next_field(line, outcome.next());
+    push_optional_word_field(line, outcome.addr());
+    push_optional_word_field(line, outcome.datum());
+    push_optional_byte_field(line, outcome.out());
 }
 
 fn push_effect(line: &mut Line, effect: &Effect)
@@ -113,10 +115,10 @@ fn push_effect(line: &mut Line, effect: &Effect)
     requires bytes { IfSome effect.now.write (λ w. w.n ≤ 4) }
     ensures spelled { line.new.bytes ≡ line.old.bytes ++ effect_text effect.now }
 {
-    push_optional_word_field(line, effect.value);
-    push_next_field(line, effect.next);
-    push_write_fields(line, effect.write);
-    push_optional_byte_field(line, effect.out);
+    push_optional_word_field(line, effect.value());
+    push_next_field(line, effect.next());
+    push_write_fields(line, effect.write());
+    push_optional_byte_field(line, effect.out());
 }
 
 // A line that begins with the letter of an event, its actor and the instruction that it moves on.

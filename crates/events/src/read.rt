@@ -2,9 +2,13 @@
 
 ghost use Rattle.std.specs.Prelude.{◌≡◌, ◌<◌, IfOk, IfSome};
 ghost use Rattle.text_fields.specs.Reading.{decimal_field, hex_field, optional_field};
-ghost use Rattle.events.specs.Reading.{number_of, next_of, pc_of, ended_of, stopped_of, sized_field, write_of, outcome_of, effect_of, fetch_of, decode_of, rename_of, issue_of, complete_of, drop_of, retire_of, event_fields, kind_named, event_of};
+ghost use Rattle.events.specs.Width.{HasWidth, IsWidth};
+ghost use Rattle.events.specs.Reading.{rule_number, next_field, pc_field, ended_of, stopped_of};
+ghost use Rattle.events.specs.Reading.{sized_field, write_fields, outcome_of, effect_of, fetch_of};
+ghost use Rattle.events.specs.Reading.{decode_of, rename_of, issue_of, complete_of, drop_of};
+ghost use Rattle.events.specs.Reading.{retire_of, event_fields, kind_named, event_of};
 
-use crate::effect::{Effect, Next, Outcome, Written};
+use crate::effect::{Effect, EffectFields, Next, Outcome, OutcomeFields, Written};
 use crate::event::{Event, Phys, Seq};
 use crate::kind::EventKind;
 use text_fields::{
@@ -25,9 +29,10 @@ pub enum Rule {
 }
 
 impl Rule {
-    /// Its number: 3 an unknown letter, 4 a wrong number of fields, 5 a field spelled otherwise, 6 a number out of range.
+    /// Its number: 3 an unknown letter, 4 a wrong number of fields, 5 a field spelled otherwise, 6
+    /// a number out of range.
     pub fn number(self) -> u8
-        ensures { result ≡ number_of self }
+        ensures { result ≡ rule_number self }
     {
         match self {
             Rule::UnknownLetter => 3,
@@ -145,9 +150,9 @@ fn read_fetch(fields: &[u8]) -> Result<Event, FieldError>
     })
 }
 
-#[tactic(auto, unfolding(crate::specs::Reading::pc_of))]
+#[tactic(auto, unfolding(crate::specs::Reading::pc_field))]
 fn read_pc(digits: &[u8]) -> Result<Next, FieldError>
-    ensures { result ≡ pc_of digits.now }
+    ensures { result ≡ pc_field digits.now }
 {
     Ok(Next::Pc(read_hex(digits, 8)?))
 }
@@ -169,9 +174,9 @@ fn read_stopped(digits: &[u8]) -> Result<Next, FieldError>
     }
 }
 
-#[tactic(auto, unfolding(crate::specs::Reading::next_of))]
+#[tactic(auto, unfolding(crate::specs::Reading::next_field))]
 fn read_next(text: &[u8]) -> Result<Next, FieldError>
-    ensures { result ≡ next_of text.now }
+    ensures { result ≡ next_field text.now }
 {
     match text.first() {
         Some(b'p') => read_pc(&text[1..]),
@@ -184,7 +189,8 @@ fn read_next(text: &[u8]) -> Result<Next, FieldError>
 // The number of a write, and of how many bytes it is.
 #[tactic(auto, unfolding(crate::specs::Reading::sized_field))]
 fn read_sized(text: &[u8]) -> Result<(u8, u32), FieldError>
-    ensures { result ≡ sized_field text.now }
+    ensures value { result ≡ sized_field text.now }
+    ensures sized { IfOk result (λ number. IsWidth number.0) }
 {
     if text.len() != 2 && text.len() != 4 && text.len() != 8 {
         return Err(FieldError::Misspelled);
@@ -195,7 +201,8 @@ fn read_sized(text: &[u8]) -> Result<(u8, u32), FieldError>
 
 #[tactic(auto, unfolding(text_fields::specs::Reading::optional_field))]
 fn read_optional_sized(text: &[u8]) -> Result<Option<(u8, u32)>, FieldError>
-    ensures { result ≡ optional_field sized_field text.now }
+    ensures value { result ≡ optional_field sized_field text.now }
+    ensures sized { IfOk result (λ number. IfSome number (λ some. IsWidth some.0)) }
 {
     if text.len() == 1 && text[0] == b'-' {
         return Ok(None);
@@ -203,9 +210,10 @@ fn read_optional_sized(text: &[u8]) -> Result<Option<(u8, u32)>, FieldError>
     Ok(Some(read_sized(text)?))
 }
 
-#[tactic(auto, unfolding(crate::specs::Reading::write_of))]
+#[tactic(auto, unfolding(crate::specs::Reading::write_fields))]
 fn read_write(address: &[u8], datum: &[u8]) -> Result<Option<Written>, FieldError>
-    ensures { result ≡ write_of address.now datum.now }
+    ensures value { result ≡ write_fields address.now datum.now }
+    ensures sized { IfOk result (λ write. IfSome write HasWidth) }
 {
     let addr = read_optional_word(address)?;
     let number = read_optional_sized(datum)?;
@@ -224,13 +232,13 @@ fn read_outcome(fields: &[u8]) -> Result<Outcome, FieldError>
     let (next, fields) = split_field(fields, b' ');
     let (addr, fields) = split_field(fields, b' ');
     let (datum, out) = split_field(fields, b' ');
-    Ok(Outcome {
+    Ok(Outcome::new(OutcomeFields {
         value: read_optional_word(value)?,
         next: read_next(next)?,
         addr: read_optional_word(addr)?,
         datum: read_optional_word(datum)?,
         out: read_optional_byte(out)?,
-    })
+    }))
 }
 
 #[tactic(auto, unfolding(crate::specs::Reading::effect_of))]
@@ -241,12 +249,12 @@ fn read_effect(fields: &[u8]) -> Result<Effect, FieldError>
     let (next, fields) = split_field(fields, b' ');
     let (address, fields) = split_field(fields, b' ');
     let (datum, out) = split_field(fields, b' ');
-    Ok(Effect {
+    Ok(Effect::new(EffectFields {
         value: read_optional_word(value)?,
         next: read_next(next)?,
         write: read_write(address, datum)?,
         out: read_optional_byte(out)?,
-    })
+    }))
 }
 
 #[tactic(auto, unfolding(crate::specs::Reading::complete_of))]
@@ -298,7 +306,8 @@ fn kind_named(text: &[u8]) -> Option<EventKind>
     EventKind::from_letter(text[0])
 }
 
-/// The event of a line without its newline, or the first rule that the line breaks, its fields from left to right.
+/// The event of a line without its newline, or the first rule that the line breaks, its fields from
+/// left to right.
 #[tactic(auto, unfolding(crate::specs::Reading::event_of))]
 pub fn read_event_line(line: &[u8]) -> Result<Event, Rule>
     ensures { result ≡ event_of line.now }

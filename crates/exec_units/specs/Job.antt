@@ -2,10 +2,10 @@
 use Rattle.std.specs.Prelude.{ℕ, None}
 use Rattle.rv_decode.specs.declared.op.Op.{Op}
 use Rattle.events.specs.declared.effect.Outcome.{Outcome}
-use Rattle.smt_model.specs.Exec.{exec, covered_yet}
-use Rattle.smt_model.specs.Fields.{outcome_of}
+use Rattle.smt_model.specs.{Exec.exec, Exec.covered_yet, Outcomes.outcome_of}
 
--- An instruction's number, what was found at its pc, the pc, and the numbers of its first and its second source:
+-- An instruction's number, what was found at its pc, the pc, and the numbers of its first and its
+-- second source:
 -- 0 where it has none.
 pub record JobView : Type 0 where
   pub seq : ℕ
@@ -19,7 +19,7 @@ pub record DoneView : Type 0 where
   pub job : JobView
   pub outcome : Outcome
 
--- What a unit makes of a job: all that the instruction computes, with no look at memory and without the faults of its
--- access.
+-- What a unit makes of a job: all that the instruction computes, with no look at memory and without
+-- the faults of its access.
 unfoldable pub outcome_of_job : JobView → Outcome
 outcome_of_job job = outcome_of job.op (exec covered_yet job.op job.pc job.first job.second) None

@@ -4,9 +4,9 @@ ghost use Rattle.smt_model.specs.Exec.{next_pc, just_next, gives, touches, jump_
 use events::Next;
 use std::marker::Model;
 
-/// What an instruction computes from its operands, before memory is asked: a number for its register, what comes next,
-/// the address that it touches, the number that it hands to memory, and the byte that it puts out. What doesn't count for
-/// its kind is 0.
+/// What an instruction computes from its operands, before memory is asked: a number for its
+/// register, what comes next, the address that it touches, the number that it hands to memory, and
+/// the byte that it puts out. What doesn't count for its kind is 0.
 #[derive(Drop)]
 pub struct Computed {
     pub value: u32,
@@ -21,7 +21,13 @@ impl Model for Computed {
 
     ghost Value = { ComputedView };
 
-    ghost view = { λ a. record { value = a.value; next = a.next; addr = a.addr; datum = a.datum; out = a.out } };
+    ghost view = { λ a. record {
+      value = a.value;
+      next = a.next;
+      addr = a.addr;
+      datum = a.datum;
+      out = a.out;
+    } };
 }
 
 impl Computed {

@@ -1,4 +1,5 @@
-//! What an instruction computes from its operands, by its form (RISC-V Unprivileged ISA, chapters "RV32I", "M" and "A").
+//! What an instruction computes from its operands, by its form (RISC-V Unprivileged ISA, chapters
+//! "RV32I", "M" and "A").
 
 ghost use Rattle.std.specs.Prelude.{◌≡◌};
 ghost use Rattle.smt_model.specs.Exec.{extended, computed_of, covered_yet, is_executed, exec};
@@ -11,8 +12,8 @@ use events::Next;
 use rv_decode::{Instr, Op};
 use rv_word::add;
 
-/// What is computed at `pc` by what was found there: a word that is no instruction, or none that is executed yet,
-/// stops with cause 2, and no word with cause 1.
+/// What is computed at `pc` by what was found there: a word that is no instruction, or none that is
+/// executed yet, stops with cause 2, and no word with cause 1.
 #[tactic(auto, unfolding(smt_model::specs::Exec::exec))]
 pub fn execute(op: Op, pc: u32, a: u32, b: u32) -> Computed
     ensures { result ≡ exec covered_yet op pc a b }
@@ -25,18 +26,11 @@ pub fn execute(op: Op, pc: u32, a: u32, b: u32) -> Computed
 }
 
 /// Whether the simulator executes the instruction yet: every one that touches no memory.
-#[tactic(auto, unfolding(smt_model::specs::Exec::is_executed))]
+#[tactic(auto, using(crate::proofs::Executed::executed_yet))]
 fn is_executed(instr: Instr) -> bool
     ensures { result ≡ is_executed covered_yet instr }
 {
-    !matches!(
-        instr,
-        Instr::Load { .. }
-            | Instr::Store { .. }
-            | Instr::LoadReserved { .. }
-            | Instr::StoreConditional { .. }
-            | Instr::Amo { .. }
-    )
+    !instr.kind().touches_memory()
 }
 
 /// What the instruction at `pc` computes from the numbers of its first and its second source.

@@ -4,8 +4,8 @@ use events::{Outcome, Seq};
 use rv_decode::Op;
 use std::marker::Model;
 
-/// An instruction that is lent to a unit, with its operands. It can't be let go: the unit works on it, or it is
-/// abandoned.
+/// An instruction that is lent to a unit, with its operands. It can't be let go: the unit works on
+/// it, or it is abandoned.
 pub struct Job {
     seq: Seq,
     op: Op,
@@ -19,12 +19,18 @@ impl Model for Job {
 
     ghost Value = { JobView };
 
-    ghost view = { λ a. record { seq = a.seq; op = a.op; pc = a.pc; first = a.first; second = a.second } };
+    ghost view = { λ a. record {
+      seq = a.seq;
+      op = a.op;
+      pc = a.pc;
+      first = a.first;
+      second = a.second;
+    } };
 }
 
 impl Job {
-    /// The job of the instruction with the number `seq`, which stands at `pc`. `first` and `second` are the numbers of
-    /// its sources, 0 where it has none.
+    /// The job of the instruction with the number `seq`, which stands at `pc`. `first` and `second`
+    /// are the numbers of its sources, 0 where it has none.
     pub fn new(seq: Seq, op: Op, pc: u32, first: u32, second: u32) -> Self
         ensures { result ≡ record { seq = seq; op = op; pc = pc; first = first; second = second } }
     {
@@ -84,7 +90,8 @@ impl Job {
     }
 }
 
-/// A job that a unit has done, with what it came to. It can't be let go: the core takes its outcome, or it is abandoned.
+/// A job that a unit has done, with what it came to. It can't be let go: the core takes its
+/// outcome, or it is abandoned.
 pub struct Done {
     job: Job,
     outcome: Outcome,

@@ -1,6 +1,7 @@
 ghost use Rattle.std.specs.Prelude.{◌≡◌, ◌%◌, ◌*◌, ◌^◌};
 ghost use Rattle.smt_model.specs.Kinds.{store_size};
-ghost use Rattle.smt_model.specs.Exec.{is_taken, immediate_value, shift_value, register_value, muldiv_value};
+ghost use Rattle.smt_model.specs.Exec.{is_taken, immediate_value, shift_value, register_value};
+ghost use Rattle.smt_model.specs.Exec.{muldiv_value};
 
 use rv_decode::{BranchOp, ImmediateOp, MulDivOp, RegisterOp, ShiftOp, StoreOp};
 

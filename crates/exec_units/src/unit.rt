@@ -5,7 +5,8 @@ use crate::execute::execute;
 use crate::job::{Done, Job};
 use crate::outcome::outcome;
 
-/// A unit's work: it executes the instruction of the job, and hands the job back with what that came to.
+/// A unit's work: it executes the instruction of the job, and hands the job back with what that
+/// came to.
 #[tactic(auto, unfolding(crate::specs::Job::outcome_of_job))]
 pub fn work(job: Job) -> Done
     ensures { result ≡ record { job = job; outcome = outcome_of_job job } }

@@ -1,15 +1,21 @@
-ghost use Rattle.std.specs.Prelude.{◌≡◌, ℕ, ◌+◌, ◌*◌, ◌<◌, ◌≤◌, ◌==◌, ◌&&◌, ◌||◌, not, false, nat_le, nat_lt, IsTrue, IfSome, IfNone};
+ghost use Rattle.std.specs.Prelude.{◌≡◌, ℕ, ◌+◌, ◌<◌, ◌≤◌, ◌==◌, ◌&&◌, ◌||◌, not, false, nat_le};
+ghost use Rattle.std.specs.Prelude.{nat_lt, IsTrue, IfSome, IfNone};
+ghost use Rattle.numbers.specs.Sizes.{most_harts, most_extra, most_registers};
+ghost use Rattle.numbers.specs.Layout.{first_extra};
 ghost use Rattle.free_list.specs.Flags.{holds, IsLeast};
 
+use numbers::sizes::MOST_REGISTERS;
+use numbers::{Phys, first_extra};
 use std::marker::Model;
 
-/// The number of a physical register, 0 to 511.
-pub type Phys = u16;
+// Words of 64 bits, a bit for each register.
+const WORDS: usize = MOST_REGISTERS / 64;
 
-/// Which of the physical registers 0 to 511 are free. A clause sees a flag for each, and reads it by `holds`.
+/// Which of the physical registers 0 to 511 are free. A clause sees a flag for each, and reads it
+/// by `holds`.
 #[derive(Drop)]
 pub struct FreeList {
-    words: [u64; 8],
+    words: [u64; WORDS],
 }
 
 impl Model for FreeList {
@@ -24,14 +30,17 @@ impl Model for FreeList {
 }
 
 impl FreeList {
-    /// The list of a core that begins: it holds `extra` registers, those above the 31 of each of its `harts` harts.
+    /// The list of a core that begins: it holds `extra` registers, those above the 31 of each of
+    /// its `harts` harts.
     pub fn new(harts: u8, extra: u16) -> Self
-        requires harts_fit { harts ≤ 8 }
-        requires extra_fit { extra ≤ 256 }
-        ensures { (q : ℕ) → holds result q ≡ (nat_le (31 * harts) q && nat_lt q (31 * harts + extra)) }
+        requires harts_fit { harts ≤ most_harts }
+        requires extra_fit { extra ≤ most_extra }
+        ensures { (q : ℕ)
+            → holds result q
+            ≡ (nat_le (first_extra harts) q && nat_lt q (first_extra harts + extra)) }
     {
-        let first = 31 * u16::from(harts);
-        let mut list = FreeList { words: [0; 8] };
+        let first = first_extra(harts);
+        let mut list = FreeList { words: [0; WORDS] };
         for register in first..first + extra {
             list.give(register);
         }
@@ -41,7 +50,7 @@ impl FreeList {
     /// Whether `register` is free. None from 512 on is.
     pub fn holds(&self, register: Phys) -> bool
         ensures value { result ≡ holds self.now register }
-        ensures range { IsTrue result → register < 512 }
+        ensures range { IsTrue result → register < most_registers }
     {
         match self.words.get(usize::from(register / 64)) {
             Some(word) => word >> (register % 64) & 1 == 1,
@@ -65,7 +74,8 @@ impl FreeList {
     /// Takes the free register of the least number out of the list, if one is free.
     pub fn take(&mut self) -> Option<Phys>
         ensures least { IfSome result (IsLeast self.old) }
-        ensures taken { IfSome result (λ p. (q : ℕ) → holds self.new q ≡ (holds self.old q && not (q == p))) }
+        ensures taken { IfSome result
+            (λ p. (q : ℕ) → holds self.new q ≡ (holds self.old q && not (q == p))) }
         ensures none { IfNone result ((q : ℕ) → holds self.old q ≡ false) }
         ensures unchanged { IfNone result (self.new ≡ self.old) }
     {
@@ -77,7 +87,7 @@ impl FreeList {
     /// Takes `register` out of the list, and tells whether it was there.
     pub fn take_this(&mut self, register: Phys) -> bool
         ensures was { result ≡ holds self.old register }
-        ensures range { IsTrue result → register < 512 }
+        ensures range { IsTrue result → register < most_registers }
         ensures taken { (q : ℕ) → holds self.new q ≡ (holds self.old q && not (q == register)) }
     {
         let was = self.holds(register);
@@ -89,7 +99,7 @@ impl FreeList {
 
     /// Puts `register`, which isn't in the list, back into it.
     pub fn give(&mut self, register: Phys)
-        requires range { register < 512 }
+        requires range { register < most_registers }
         requires absent { holds self.old register ≡ false }
         ensures { (q : ℕ) → holds self.new q ≡ (holds self.old q || (q == register)) }
     {

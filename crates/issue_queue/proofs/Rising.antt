@@ -1,51 +1,58 @@
 -- Entries by rising number: after one more, after some less, and which ready one is the oldest.
-use Rattle.std.proofs.Common.{◌≡◌, ◌≢◌, ℕ, ◌<◌, ◌≤◌, ◌==◌, ltb, Bool, true, false, cond, Some, List, [], ◌∷◌, map, filter, refl, sym, ap, ◌∙◌, subst, arith}
+use Rattle.std.proofs.Common.{◌≡◌, ◌≢◌, ℕ, ◌<◌, ◌≤◌, ◌==◌, ltb, Bool, true, false, cond, Some, List, [], ◌∷◌, map}
+use Rattle.std.proofs.Common.{filter, refl, sym, ap, ◌∙◌, subst, arith}
 use Rattle.std.specs.List.{AllByRecursion}
 use Rattle.std.proofs.lemmas.Bool.{ltb-true, ltb-false, eqb-false, or_parts, false≢true}
 use Rattle.rv_decode.specs.declared.op.UnitKind.{UnitKind}
-use Rattle.issue_queue.specs.declared.entry.Entry.{Entry}
-use Rattle.issue_queue.specs.Entry.{can_issue, woken_entry}
-use Rattle.issue_queue.specs.Queue.{Queue, IsRising, has_number, inserted, first_ready, IsOldest}
+use Rattle.issue_queue.specs.{declared.entry.Entry.Entry, Entry.can_issue, Entry.woken_entry}
+use Rattle.issue_queue.specs.Queue.{Queue, AreEntriesRising, has_number, inserted_entry, first_ready, IsOldestReady}
 
 -- some less
-AllByRecursion-filter : (P : Entry → Type 0) (test : Entry → Bool) (xs : List Entry) → AllByRecursion P xs → AllByRecursion P (filter test xs)
+AllByRecursion-filter : (P : Entry → Type 0) (test : Entry → Bool) (xs : List Entry) → AllByRecursion P xs
+    → AllByRecursion P (filter test xs)
 AllByRecursion-filter P test [] all = tt
 AllByRecursion-filter P test (x ∷ xs) all =
     elim (test x) as (λ b. AllByRecursion P (cond b (x ∷ filter test xs) (filter test xs)))
     [ true ↦ (all.0, AllByRecursion-filter P test xs all.1) | false ↦ AllByRecursion-filter P test xs all.1 ]
 
-pub IsRising-filter : (test : Entry → Bool) (xs : List Entry) → IsRising xs → IsRising (filter test xs)
+pub IsRising-filter : (test : Entry → Bool) (xs : List Entry) → AreEntriesRising xs → AreEntriesRising (filter test xs)
 IsRising-filter test [] rising = tt
 IsRising-filter test (x ∷ xs) rising =
-    elim (test x) as (λ b. IsRising (cond b (x ∷ filter test xs) (filter test xs))) [
+    elim (test x) as (λ b. AreEntriesRising (cond b (x ∷ filter test xs) (filter test xs))) [
       | true ↦ (AllByRecursion-filter (λ y. x.seq < y.seq) test xs rising.0, IsRising-filter test xs rising.1)
       | false ↦ IsRising-filter test xs rising.1
     ]
 
 -- a value that is handed on leaves the numbers
-AllByRecursion-woken : (n register value : ℕ) (xs : List Entry) → AllByRecursion (λ y. n < y.seq) xs → AllByRecursion (λ y. n < y.seq) (map (woken_entry register value) xs)
+AllByRecursion-woken : (n register value : ℕ) (xs : List Entry) → AllByRecursion (λ y. n < y.seq) xs
+    → AllByRecursion (λ y. n < y.seq) (map (woken_entry register value) xs)
 AllByRecursion-woken n register value [] all = tt
 AllByRecursion-woken n register value (x ∷ xs) all = (all.0, AllByRecursion-woken n register value xs all.1)
 
-pub IsRising-woken : (register value : ℕ) (xs : List Entry) → IsRising xs → IsRising (map (woken_entry register value) xs)
+pub IsRising-woken : (register value : ℕ) (xs : List Entry) → AreEntriesRising xs
+    → AreEntriesRising (map (woken_entry register value) xs)
 IsRising-woken register value [] rising = tt
-IsRising-woken register value (x ∷ xs) rising = (AllByRecursion-woken x.seq register value xs rising.0, IsRising-woken register value xs rising.1)
+IsRising-woken register value (x ∷ xs) rising =
+    (AllByRecursion-woken x.seq register value xs rising.0, IsRising-woken register value xs rising.1)
 
 -- one more
-AllByRecursion-inserted : (P : Entry → Type 0) (e : Entry) (xs : List Entry) → P e → AllByRecursion P xs → AllByRecursion P (inserted e xs)
+AllByRecursion-inserted : (P : Entry → Type 0) (e : Entry) (xs : List Entry) → P e → AllByRecursion P xs
+    → AllByRecursion P (inserted_entry e xs)
 AllByRecursion-inserted P e [] here all = (here, tt)
 AllByRecursion-inserted P e (x ∷ xs) here all =
-    elim (ltb e.seq x.seq) as (λ b. AllByRecursion P (cond b (e ∷ x ∷ xs) (x ∷ inserted e xs)))
+    elim (ltb e.seq x.seq) as (λ b. AllByRecursion P (cond b (e ∷ x ∷ xs) (x ∷ inserted_entry e xs)))
     [ true ↦ (here, all) | false ↦ (all.0, AllByRecursion-inserted P e xs here all.1) ]
 
 -- what is above x is above what is below x
-AllByRecursion-below : (m n : ℕ) (xs : List Entry) → m < n → AllByRecursion (λ y. n < y.seq) xs → AllByRecursion (λ y. m < y.seq) xs
+AllByRecursion-below : (m n : ℕ) (xs : List Entry) → m < n → AllByRecursion (λ y. n < y.seq) xs
+    → AllByRecursion (λ y. m < y.seq) xs
 AllByRecursion-below m n [] below all = tt
 AllByRecursion-below m n (x ∷ xs) below all = (omega (arith, all.0), AllByRecursion-below m n xs below all.1)
 
 -- e in front of x, or behind it
-placed : (e x : Entry) (xs : List Entry) → IsRising (x ∷ xs) → x.seq ≢ e.seq → IsRising (inserted e xs)
-    → (b : Bool) → ltb e.seq x.seq ≡ b → IsRising (cond b (e ∷ x ∷ xs) (x ∷ inserted e xs))
+placed : (e x : Entry) (xs : List Entry) → AreEntriesRising (x ∷ xs) → x.seq ≢ e.seq
+    → AreEntriesRising (inserted_entry e xs)
+    → (b : Bool) → ltb e.seq x.seq ≡ b → AreEntriesRising (cond b (e ∷ x ∷ xs) (x ∷ inserted_entry e xs))
 placed e x xs rising other later true is =
     let below : e.seq < x.seq = ltb-true e.seq x.seq is in
     ((below, AllByRecursion-below e.seq x.seq xs below rising.0), rising)
@@ -53,28 +60,33 @@ placed e x xs rising other later false is =
     let above : x.seq ≤ e.seq = ltb-false e.seq x.seq is in
     (AllByRecursion-inserted (λ y. x.seq < y.seq) e xs (omega arith) rising.0, later)
 
-pub IsRising-inserted : (e : Entry) (xs : List Entry) → IsRising xs → has_number e.seq xs ≡ false → IsRising (inserted e xs)
+pub IsRising-inserted : (e : Entry) (xs : List Entry) → AreEntriesRising xs → has_number e.seq xs ≡ false
+    → AreEntriesRising (inserted_entry e xs)
 IsRising-inserted e [] rising absent = (tt, tt)
 IsRising-inserted e (x ∷ xs) rising absent =
     let others = or_parts (x.seq == e.seq) (has_number e.seq xs) absent in
-    placed e x xs rising (eqb-false x.seq e.seq others.0) (IsRising-inserted e xs rising.1 others.1) (ltb e.seq x.seq) refl
+    placed e x xs rising (eqb-false x.seq e.seq others.0) (IsRising-inserted e xs rising.1 others.1)
+    (ltb e.seq x.seq) refl
 
 -- the first ready one is the oldest
-none_below : (kind : UnitKind) (n : ℕ) (xs : List Entry) → AllByRecursion (λ y. n < y.seq) xs → AllByRecursion (λ y. can_issue kind y ≡ true → n ≤ y.seq) xs
+none_below : (kind : UnitKind) (n : ℕ) (xs : List Entry) → AllByRecursion (λ y. n < y.seq) xs
+    → AllByRecursion (λ y. can_issue kind y ≡ true → n ≤ y.seq) xs
 none_below kind n [] all = tt
 none_below kind n (x ∷ xs) all = (λ _. omega (arith, all.0), none_below kind n xs all.1)
 
-oldest_step : (kind : UnitKind) (e x : Entry) (xs : List Entry) → IsRising (x ∷ xs)
-    → (first_ready kind xs ≡ Some e → IsOldest kind xs e)
-    → (b : Bool) → can_issue kind x ≡ b → cond b (Some x) (first_ready kind xs) ≡ Some e → IsOldest kind (x ∷ xs) e
+oldest_step : (kind : UnitKind) (e x : Entry) (xs : List Entry) → AreEntriesRising (x ∷ xs)
+    → (first_ready kind xs ≡ Some e → IsOldestReady kind xs e)
+    → (b : Bool) → can_issue kind x ≡ b → cond b (Some x) (first_ready kind xs) ≡ Some e → IsOldestReady kind (x ∷ xs) e
 oldest_step kind e x xs rising later true is found =
     let it : x ≡ e = cc in
-    subst (IsOldest kind (x ∷ xs)) it (record { ready = is; oldest = ((λ _. omega arith), none_below kind x.seq xs rising.0) })
+    subst (IsOldestReady kind (x ∷ xs)) it
+    (record { ready = is; oldest = ((λ _. omega arith), none_below kind x.seq xs rising.0) })
 oldest_step kind e x xs rising later false is found =
     let oldest = later found in
     record { ready = oldest.ready; oldest = ((λ ready. absurd (false≢true (sym is ∙ ready))), oldest.oldest) }
 
-pub IsOldest-first_ready : (kind : UnitKind) (e : Entry) (xs : List Entry) → IsRising xs → first_ready kind xs ≡ Some e → IsOldest kind xs e
+pub IsOldest-first_ready : (kind : UnitKind) (e : Entry) (xs : List Entry) → AreEntriesRising xs
+    → first_ready kind xs ≡ Some e → IsOldestReady kind xs e
 IsOldest-first_ready kind e [] rising found = absurd cc
 IsOldest-first_ready kind e (x ∷ xs) rising found =
     oldest_step kind e x xs rising (IsOldest-first_ready kind e xs rising.1) (can_issue kind x) refl found

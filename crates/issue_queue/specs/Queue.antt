@@ -1,9 +1,9 @@
 -- The instructions of all harts that wait, by rising number.
-use Rattle.std.specs.Prelude.{◌≡◌, ℕ, ◌<◌, ◌≤◌, ◌==◌, ◌&&◌, not, nat_lt, Bool, true, List, [], ◌∷◌, Option, find, if◌then◌else◌}
+use Rattle.std.specs.Prelude.{◌≡◌, ℕ, ◌<◌, ◌≤◌, ◌==◌, ◌&&◌, not, nat_lt, Bool, true, List, [], ◌∷◌}
+use Rattle.std.specs.Prelude.{Option, find, if◌then◌else◌}
 use Rattle.std.specs.List.{AllByRecursion, list_any}
 use Rattle.rv_decode.specs.declared.op.UnitKind.{UnitKind}
-use Rattle.issue_queue.specs.declared.entry.Entry.{Entry}
-use Rattle.issue_queue.specs.Entry.{can_issue}
+use Rattle.issue_queue.specs.{declared.entry.Entry.Entry, Entry.can_issue}
 
 -- a queue: how many entries it has room for, and those it has
 pub record Queue : Type 0 where
@@ -11,25 +11,25 @@ pub record Queue : Type 0 where
   pub entries : List Entry
 
 -- each number is above those before it
-abbrev pub IsRising : List Entry → Type 0
-IsRising [] = Unit {0}
-IsRising (x ∷ xs) = AllByRecursion (λ y. x.seq < y.seq) xs × IsRising xs
+abbrev pub AreEntriesRising : List Entry → Type 0
+AreEntriesRising [] = Unit {0}
+AreEntriesRising (x ∷ xs) = AllByRecursion (λ y. x.seq < y.seq) xs × AreEntriesRising xs
 
 -- an entry has this number
 abbrev pub has_number : ℕ → List Entry → Bool
 has_number seq xs = list_any (λ x. x.seq == seq) xs
 
 -- the entries with one more, before the first of a higher number
-abbrev pub inserted : Entry → List Entry → List Entry
-inserted e [] = e ∷ []
-inserted e (x ∷ xs) = if nat_lt e.seq x.seq then e ∷ x ∷ xs else x ∷ inserted e xs
+abbrev pub inserted_entry : Entry → List Entry → List Entry
+inserted_entry e [] = e ∷ []
+inserted_entry e (x ∷ xs) = if nat_lt e.seq x.seq then e ∷ x ∷ xs else x ∷ inserted_entry e xs
 
 -- the first entry that a unit of this kind may take up
 abbrev pub first_ready : UnitKind → List Entry → Option Entry
 first_ready kind xs = find (can_issue kind) xs
 
 -- a unit of this kind may take up e, and no entry of a lower number
-pub record IsOldest (kind : UnitKind) (xs : List Entry) (e : Entry) : Type 0 where
+pub record IsOldestReady (kind : UnitKind) (xs : List Entry) (e : Entry) : Type 0 where
   pub ready : can_issue kind e ≡ true
   pub oldest : AllByRecursion (λ x. can_issue kind x ≡ true → e.seq ≤ x.seq) xs
 

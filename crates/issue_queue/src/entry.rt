@@ -1,12 +1,7 @@
 ghost use Rattle.std.specs.Prelude.{◌≡◌, ◌∷◌, []};
 
+use numbers::{Phys, Seq};
 use rv_decode::{Op, UnitKind};
-
-/// The number of an instruction: how many were fetched before it.
-pub type Seq = u32;
-
-/// The number of a physical register.
-pub type Phys = u16;
 
 /// An operand of an instruction that waits.
 #[derive(Clone, Copy, Debug, PartialEq, Eq, Drop)]
@@ -18,7 +13,7 @@ pub enum Source {
 }
 
 impl Source {
-    ghost use Rattle.issue_queue.specs.Entry.{is_value, woken};
+    ghost use Rattle.issue_queue.specs.Entry.{is_value, woken_source};
 
     /// Whether the value is known.
     pub fn is_value(self) -> bool
@@ -28,7 +23,7 @@ impl Source {
     }
 
     fn woken(self, register: Phys, value: u32) -> Source
-        ensures { result ≡ woken register value self }
+        ensures { result ≡ woken_source register value self }
     {
         match self {
             Source::Waits(waited) if waited == register => Source::Value(value),
@@ -49,11 +44,11 @@ pub struct Entry {
 }
 
 impl Entry {
-    ghost use Rattle.issue_queue.specs.Entry.{is_ready, can_issue, woken_entry};
+    ghost use Rattle.issue_queue.specs.Entry.{has_values, can_issue, woken_entry};
 
     /// Whether both operands are known.
     pub fn is_ready(&self) -> bool
-        ensures { result ≡ is_ready self.now }
+        ensures { result ≡ has_values self.now }
     {
         self.sources.iter().all(|source| source.is_value())
     }
@@ -62,7 +57,7 @@ impl Entry {
     pub fn can_issue(&self, kind: UnitKind) -> bool
         ensures { result ≡ can_issue kind self.now }
     {
-        self.op.unit() == kind && self.is_ready()
+        kind == self.op.unit() && self.is_ready()
     }
 
     pub(crate) fn wake(&mut self, register: Phys, value: u32)
@@ -78,7 +73,8 @@ impl Default for Entry {
     ghost use Rattle.issue_queue.specs.declared.entry.Source.TheVariants.{Value};
 
     fn default() -> Self
-        ensures { result ≡ record { seq = 0; hart = 0; op = NoWord; pc = 0; sources = Value 0 ∷ Value 0 ∷ [] } }
+        ensures { result
+            ≡ record { seq = 0; hart = 0; op = NoWord; pc = 0; sources = Value 0 ∷ Value 0 ∷ [] } }
     {
         Entry {
             seq: 0,

@@ -1,37 +1,45 @@
-ghost use Rattle.std.specs.Prelude.{◌≡◌, ℕ, ◌<◌, ◌≤◌, ◌==◌, [], length, insert, map, filter, count_by, false, IfSome, IfNone};
+ghost use Rattle.std.specs.Prelude.{◌≡◌, ℕ, ◌<◌, ◌≤◌, ◌==◌, [], length, insert, map, filter};
+ghost use Rattle.std.specs.Prelude.{count_by, false, IfSome, IfNone};
 ghost use Rattle.std.specs.List.{AllByRecursion};
 ghost use Rattle.std.specs.Option.{option_map};
+ghost use Rattle.numbers.specs.Sizes.{most_queued};
 ghost use Rattle.issue_queue.specs.Entry.{woken_entry, can_issue};
-ghost use Rattle.issue_queue.specs.Queue.{has_number, inserted, first_ready, IsOldest, IsRising, is_other, stays};
+ghost use Rattle.issue_queue.specs.Queue.{has_number, inserted_entry, first_ready, IsOldestReady};
+ghost use Rattle.issue_queue.specs.Queue.{AreEntriesRising, is_other, stays};
 
-use crate::entry::{Entry, Phys, Seq};
+use crate::entry::Entry;
 use arrayvec::ArrayVec;
+use numbers::sizes::MOST_QUEUED;
+use numbers::{Phys, Seq};
 use rv_decode::UnitKind;
 use std::marker::Model;
 
-/// The instructions of all harts that wait, by rising number, and how many there is room for: 4 to 64 in a core.
+/// The instructions of all harts that wait, by rising number, and how many there is room for: 4 to
+/// 64 in a core.
 /// A clause sees both.
 #[derive(Drop)]
 pub struct IssueQueue {
     size: usize,
-    entries: ArrayVec<Entry, 64>,
+    entries: ArrayVec<Entry, MOST_QUEUED>,
 }
 
 impl Model for IssueQueue {
-    ghost use Rattle.issue_queue.specs.Queue.{Queue, IsRising};
+    ghost use Rattle.numbers.specs.Sizes.{most_queued};
+    ghost use Rattle.issue_queue.specs.Queue.{Queue, AreEntriesRising};
     ghost use Rattle.std.specs.Prelude.{◌≤◌, length};
 
     ghost Value = { Queue };
 
     ghost view = { λ a. record { size = a.size; entries = a.entries.items } };
 
-    ghost invariant = { λ a. (a.size ≤ 64) × (length a.entries.items ≤ a.size) × IsRising a.entries.items };
+    ghost invariant = { λ a. (a.size ≤ most_queued) × (length a.entries.items ≤ a.size)
+        × AreEntriesRising a.entries.items };
 }
 
 impl IssueQueue {
     /// An empty queue with room for `size` entries.
     pub fn new(size: u8) -> Self
-        requires { size ≤ 64 }
+        requires { size ≤ most_queued }
         ensures { result ≡ record { size = size; entries = [] } }
     {
         IssueQueue {
@@ -66,8 +74,8 @@ impl IssueQueue {
     /// The instructions, by rising number.
     pub fn entries(&self) -> &[Entry]
         ensures entries { result.now ≡ self.now.entries }
-        ensures bound { length result.now ≤ 64 }
-        ensures rising { IsRising result.now }
+        ensures bound { length result.now ≤ most_queued }
+        ensures rising { AreEntriesRising result.now }
     {
         self.entries.as_slice()
     }
@@ -93,7 +101,7 @@ impl IssueQueue {
     pub fn insert(&mut self, entry: Entry)
         requires room { length self.old.entries < self.old.size }
         requires absent { has_number entry.seq self.old.entries ≡ false }
-        ensures { self.new ≡ record self.old { entries = inserted entry self.old.entries } }
+        ensures { self.new ≡ record self.old { entries = inserted_entry entry self.old.entries } }
     {
         let index = place_of(&entry, self.entries());
         self.entries.insert(index, entry);
@@ -101,7 +109,8 @@ impl IssueQueue {
 
     /// A physical register has its value: every source that waits for it has that value now.
     pub fn wake(&mut self, register: Phys, value: u32)
-        ensures { self.new ≡ record self.old { entries = map (woken_entry register value) self.old.entries } }
+        ensures { self.new
+            ≡ record self.old { entries = map (woken_entry register value) self.old.entries } }
     {
         wake_all(self.entries.as_mut_slice(), register, value);
     }
@@ -116,8 +125,10 @@ impl IssueQueue {
     /// Takes out the ready instruction of the lowest number that a unit of this kind executes.
     pub fn take_oldest(&mut self, kind: UnitKind) -> Option<Entry>
         ensures value { result ≡ first_ready kind self.old.entries }
-        ensures oldest { IfSome result (IsOldest kind self.old.entries) }
-        ensures taken { IfSome result (λ x. self.new ≡ record self.old { entries = filter (is_other x.seq) self.old.entries }) }
+        ensures oldest { IfSome result (IsOldestReady kind self.old.entries) }
+        ensures taken { IfSome result
+            (λ x. self.new
+            ≡ record self.old { entries = filter (is_other x.seq) self.old.entries }) }
         ensures none { IfNone result (self.new ≡ self.old) }
     {
         let entry = first_ready(kind, self.entries())?;
@@ -134,7 +145,8 @@ impl IssueQueue {
 
     /// Takes out a hart's instructions that are younger than `after`.
     pub fn squash(&mut self, hart: u8, after: Seq)
-        ensures { self.new ≡ record self.old { entries = filter (stays hart after) self.old.entries } }
+        ensures { self.new
+            ≡ record self.old { entries = filter (stays hart after) self.old.entries } }
     {
         self.entries
             .retain(|entry| !(entry.hart == hart && after < entry.seq));
@@ -144,7 +156,7 @@ impl IssueQueue {
 // Where an entry belongs among these.
 fn place_of(entry: &Entry, entries: &[Entry]) -> usize
     ensures bound { result ≤ length entries.now }
-    ensures place { inserted entry.now entries.now ≡ insert entries.now result entry.now }
+    ensures place { inserted_entry entry.now entries.now ≡ insert entries.now result entry.now }
 {
     for (i, other) in entries.iter().enumerate() {
         if entry.seq < other.seq {

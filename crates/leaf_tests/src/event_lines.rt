@@ -1,7 +1,7 @@
 use crate::rows::holds;
 use events::{
-    Effect, Event, EventKind, History, Next, Outcome, Record, Written, print_event, print_record,
-    read_event_line,
+    Effect, EffectFields, Event, EventKind, History, Next, Outcome, OutcomeFields, Record, Written,
+    print_event, print_record, read_event_line,
 };
 use std::alloc::Global;
 
@@ -23,13 +23,13 @@ macro_rules! complete {
         Event::Complete {
             actor: $actor,
             seq: $seq,
-            outcome: Outcome {
+            outcome: Outcome::new(OutcomeFields {
                 value: $value,
                 next: $next,
                 addr: $addr,
                 datum: $datum,
                 out: None,
-            },
+            }),
         }
     };
 }
@@ -39,12 +39,12 @@ macro_rules! retire {
         Event::Retire {
             actor: $actor,
             seq: $seq,
-            effect: Effect {
+            effect: Effect::new(EffectFields {
                 value: $value,
                 next: $next,
                 write: $write,
                 out: $out,
-            },
+            }),
         }
     };
 }
@@ -63,54 +63,57 @@ const SECOND: Next = Next::Pc(0x8000_0004);
 
 const THIRD: Next = Next::Pc(0x8000_0008);
 
-/// The trace of the program 00500513 05d00893 00000073 (addi x10,x0,5; addi x17,x0,93; ecall), which ends with status 5.
-static TRACE: [(Event, &str); 18] = [
-    (
-        fetch!(0, 0x8000_0000, 0x0050_0513, 0x8000_0004),
-        "F 0 0 0 80000000 00500513 80000004",
-    ),
-    (
-        fetch!(1, 0x8000_0004, 0x05d0_0893, 0x8000_0008),
-        "F 0 0 1 80000004 05d00893 80000008",
-    ),
-    (
-        fetch!(2, 0x8000_0008, 0x0000_0073, 0x8000_000c),
-        "F 0 0 2 80000008 00000073 8000000c",
-    ),
-    (Event::Decode { actor: 0, seq: 0 }, "D 0 0"),
-    (Event::Decode { actor: 0, seq: 1 }, "D 0 1"),
-    (Event::Decode { actor: 0, seq: 2 }, "D 0 2"),
-    (rename!(0, 0, Some(31)), "R 0 0 31"),
-    (rename!(0, 1, Some(32)), "R 0 1 32"),
-    (rename!(0, 2, None), "R 0 2 -"),
-    (Event::Issue { actor: 0, seq: 0 }, "I 0 0"),
-    (
-        complete!(0, 0, Some(5), SECOND, None, None),
-        "C 0 0 00000005 p80000004 - - -",
-    ),
-    (Event::Issue { actor: 0, seq: 1 }, "I 0 1"),
-    (
-        complete!(0, 1, Some(93), THIRD, None, None),
-        "C 0 1 0000005d p80000008 - - -",
-    ),
-    (Event::Issue { actor: 0, seq: 2 }, "I 0 2"),
-    (
-        complete!(0, 2, None, Next::Ended(5), None, None),
-        "C 0 2 - e00000005 - - -",
-    ),
-    (
-        retire!(0, 0, Some(5), SECOND, None, None),
-        "T 0 0 00000005 p80000004 - - -",
-    ),
-    (
-        retire!(0, 1, Some(93), THIRD, None, None),
-        "T 0 1 0000005d p80000008 - - -",
-    ),
-    (
-        retire!(0, 2, None, Next::Ended(5), None, None),
-        "T 0 2 - e00000005 - - -",
-    ),
-];
+/// The trace of the program 00500513 05d00893 00000073 (addi x10,x0,5; addi x17,x0,93; ecall),
+/// which ends with status 5.
+fn trace() -> [(Event, &'static str); 18] {
+    [
+        (
+            fetch!(0, 0x8000_0000, 0x0050_0513, 0x8000_0004),
+            "F 0 0 0 80000000 00500513 80000004",
+        ),
+        (
+            fetch!(1, 0x8000_0004, 0x05d0_0893, 0x8000_0008),
+            "F 0 0 1 80000004 05d00893 80000008",
+        ),
+        (
+            fetch!(2, 0x8000_0008, 0x0000_0073, 0x8000_000c),
+            "F 0 0 2 80000008 00000073 8000000c",
+        ),
+        (Event::Decode { actor: 0, seq: 0 }, "D 0 0"),
+        (Event::Decode { actor: 0, seq: 1 }, "D 0 1"),
+        (Event::Decode { actor: 0, seq: 2 }, "D 0 2"),
+        (rename!(0, 0, Some(31)), "R 0 0 31"),
+        (rename!(0, 1, Some(32)), "R 0 1 32"),
+        (rename!(0, 2, None), "R 0 2 -"),
+        (Event::Issue { actor: 0, seq: 0 }, "I 0 0"),
+        (
+            complete!(0, 0, Some(5), SECOND, None, None),
+            "C 0 0 00000005 p80000004 - - -",
+        ),
+        (Event::Issue { actor: 0, seq: 1 }, "I 0 1"),
+        (
+            complete!(0, 1, Some(93), THIRD, None, None),
+            "C 0 1 0000005d p80000008 - - -",
+        ),
+        (Event::Issue { actor: 0, seq: 2 }, "I 0 2"),
+        (
+            complete!(0, 2, None, Next::Ended(5), None, None),
+            "C 0 2 - e00000005 - - -",
+        ),
+        (
+            retire!(0, 0, Some(5), SECOND, None, None),
+            "T 0 0 00000005 p80000004 - - -",
+        ),
+        (
+            retire!(0, 1, Some(93), THIRD, None, None),
+            "T 0 1 0000005d p80000008 - - -",
+        ),
+        (
+            retire!(0, 2, None, Next::Ended(5), None, None),
+            "T 0 2 - e00000005 - - -",
+        ),
+    ]
+}
 
 const BEHIND: Next = Next::Pc(0x8000_0018);
 
@@ -125,60 +128,63 @@ macro_rules! written {
 }
 
 /// Stores, bytes put out, stops, and what is dropped, renamed or fetched without a word.
-static OTHERS: [(Event, &str); 10] = [
-    (
-        complete!(5, 5, None, BEHIND, Some(0x8000_1001), Some(0xaa)),
-        "C 5 5 - p80000018 80001001 000000aa -",
-    ),
-    (
-        retire!(2, 5, None, BEHIND, written!(1), None),
-        "T 2 5 - p80000018 80001001 aa -",
-    ),
-    (
-        retire!(2, 5, None, BEHIND, written!(2), None),
-        "T 2 5 - p80000018 80001001 00aa -",
-    ),
-    (
-        retire!(2, 5, None, BEHIND, written!(4), None),
-        "T 2 5 - p80000018 80001001 000000aa -",
-    ),
-    (
-        retire!(2, 5, None, BEHIND, None, Some(0xa)),
-        "T 2 5 - p80000018 - - 0a",
-    ),
-    (
-        retire!(0, 9, None, Next::Stopped(0), None, None),
-        "T 0 9 - s0 - - -",
-    ),
-    (
-        complete!(0, 9, None, Next::Stopped(8), None, None),
-        "C 0 9 - s8 - - -",
-    ),
-    (
-        Event::Drop {
-            actor: 15,
-            seq: 16_777_215,
-        },
-        "X 15 16777215",
-    ),
-    (rename!(1, 10, Some(503)), "R 1 10 503"),
-    (
-        Event::Fetch {
-            actor: 0,
-            hart: 7,
-            seq: 3,
-            pc: 0x9000_0000,
-            word: None,
-            predicted: 0x9000_0004,
-        },
-        "F 0 7 3 90000000 - 90000004",
-    ),
-];
+fn others() -> [(Event, &'static str); 10] {
+    [
+        (
+            complete!(5, 5, None, BEHIND, Some(0x8000_1001), Some(0xaa)),
+            "C 5 5 - p80000018 80001001 000000aa -",
+        ),
+        (
+            retire!(2, 5, None, BEHIND, written!(1), None),
+            "T 2 5 - p80000018 80001001 aa -",
+        ),
+        (
+            retire!(2, 5, None, BEHIND, written!(2), None),
+            "T 2 5 - p80000018 80001001 00aa -",
+        ),
+        (
+            retire!(2, 5, None, BEHIND, written!(4), None),
+            "T 2 5 - p80000018 80001001 000000aa -",
+        ),
+        (
+            retire!(2, 5, None, BEHIND, None, Some(0xa)),
+            "T 2 5 - p80000018 - - 0a",
+        ),
+        (
+            retire!(0, 9, None, Next::Stopped(0), None, None),
+            "T 0 9 - s0 - - -",
+        ),
+        (
+            complete!(0, 9, None, Next::Stopped(8), None, None),
+            "C 0 9 - s8 - - -",
+        ),
+        (
+            Event::Drop {
+                actor: 15,
+                seq: 16_777_215,
+            },
+            "X 15 16777215",
+        ),
+        (rename!(1, 10, Some(503)), "R 1 10 503"),
+        (
+            Event::Fetch {
+                actor: 0,
+                hart: 7,
+                seq: 3,
+                pc: 0x9000_0000,
+                word: None,
+                predicted: 0x9000_0004,
+            },
+            "F 0 7 3 90000000 - 90000004",
+        ),
+    ]
+}
 
-/// Whether an event is printed as this line and read back from it. What a table's event writes is short.
+/// Whether an event is printed as this line and read back from it. What a table's event writes is
+/// short.
 fn is_line(event: &Event, line: &str) -> bool {
     if let Event::Retire { effect, .. } = *event {
-        if let Some(write) = effect.write {
+        if let Some(write) = effect.write() {
             if write.n > 4 {
                 return false;
             }
@@ -189,14 +195,14 @@ fn is_line(event: &Event, line: &str) -> bool {
 
 #[test]
 fn prints_the_trace_of_a_program_that_ends(rt: HostRuntime) {
-    for (event, line) in &TRACE {
+    for (event, line) in &trace() {
         holds(&rt, line, is_line(event, line));
     }
 }
 
 #[test]
 fn prints_stores_stops_and_what_is_dropped(rt: HostRuntime) {
-    for (event, line) in &OTHERS {
+    for (event, line) in &others() {
         holds(&rt, line, is_line(event, line));
     }
 }
@@ -207,66 +213,92 @@ fn prints_the_record_of_a_byte_store(rt: HostRuntime) {
         hart: 0,
         pc: 0x8000_0014,
         word: Some(0x0073_00a3),
-        effect: Effect {
+        effect: Effect::new(EffectFields {
             value: None,
             next: BEHIND,
             write: written!(1),
             out: None,
-        },
+        }),
     };
     assert!(rt; print_record(&record).as_str() == "0 80000014 007300a3 - p80000018 80001001 aa -");
 }
 
 /// The first three issues.
-static ISSUES: [Event; 3] = [
+const ISSUES: [Event; 3] = [
     Event::Issue { actor: 7, seq: 0 },
     Event::Issue { actor: 7, seq: 1 },
     Event::Issue { actor: 7, seq: 2 },
 ];
 
-/// Whether a history was full before each of four issues, and whether it took it.
-type Taken = [(bool, bool); 4];
-
-fn push_issues(history: &mut History) -> Taken {
-    let mut taken = [(false, false); 4];
-    for (seq, told) in (0..4u32).zip(&mut taken) {
-        let full = history.is_full();
-        let pushed = history.push(Event::Issue { actor: 7, seq });
-        *told = (full, pushed.is_ok());
-    }
-    taken
+/// Whether a history was full before an issue, and whether it took it.
+#[derive(Clone, Copy, PartialEq, Drop)]
+struct Push {
+    full: bool,
+    taken: bool,
 }
 
-/// What a history with this limit tells: whether it is empty at first, how it takes four issues, and at the end its limit, whether it is
-/// empty or full, how many it has, and whether they are the first that were pushed.
-fn told(limit: u8, alloc: Global) -> Option<(bool, Taken, (u32, bool, bool, usize), bool)> {
+fn push_issues(history: &mut History) -> [Push; 4] {
+    let refused = Push {
+        full: false,
+        taken: false,
+    };
+    let mut pushes = [refused; 4];
+    for (seq, push) in (0..4u32).zip(&mut pushes) {
+        push.full = history.is_full();
+        push.taken = history.push(Event::Issue { actor: 7, seq }).is_ok();
+    }
+    pushes
+}
+
+/// What a history with a limit tells: whether it is empty at first, how it takes four issues, and
+/// at the end its limit, whether it is empty or full, how many it has, and whether they are the
+/// first that were pushed.
+#[derive(Clone, Copy, Drop)]
+struct Told {
+    empty_at_first: bool,
+    pushes: [Push; 4],
+    limit: u32,
+    empty: bool,
+    full: bool,
+    events: usize,
+    first_ones: bool,
+}
+
+fn told_by_history(limit: u8, alloc: Global) -> Option<Told> {
     let Ok(mut history) = History::with_limit(limit as u32, alloc) else {
         return None;
     };
-    let empty = history.is_empty();
-    let taken = push_issues(&mut history);
-    let end = (
-        history.limit(),
-        history.is_empty(),
-        history.is_full(),
-        history.len(),
-    );
-    let first = ISSUES.get(..limit as usize) == Some(history.events());
-    Some((empty, taken, end, first))
+    let empty_at_first = history.is_empty();
+    let pushes = push_issues(&mut history);
+    Some(Told {
+        empty_at_first,
+        pushes,
+        limit: history.limit(),
+        empty: history.is_empty(),
+        full: history.is_full(),
+        events: history.len(),
+        first_ones: ISSUES.get(..limit as usize) == Some(history.events()),
+    })
 }
 
 #[test]
 fn a_history_takes_events_up_to_its_limit(rt: HostRuntime) {
-    let none = (true, [(true, false); 4], (0, true, true, 0), true);
-    assert!(rt; told(0, rt.alloc()) == Some(none));
-    let (takes, refuses) = ((false, true), (true, false));
-    let three = (
-        true,
-        [takes, takes, takes, refuses],
-        (3, false, true, 3),
-        true,
-    );
-    assert!(rt; told(3, rt.alloc()) == Some(three));
+    let takes = Push {
+        full: false,
+        taken: true,
+    };
+    let refuses = Push {
+        full: true,
+        taken: false,
+    };
+    let none = told_by_history(0, rt.alloc()).expect(&rt, "a history");
+    assert!(rt; none.empty_at_first && none.empty && none.full && none.first_ones);
+    assert!(rt; none.pushes == [refuses; 4]);
+    assert!(rt; (none.limit, none.events) == (0, 0));
+    let three = told_by_history(3, rt.alloc()).expect(&rt, "a history");
+    assert!(rt; three.empty_at_first && !three.empty && three.full && three.first_ones);
+    assert!(rt; three.pushes == [takes, takes, takes, refuses]);
+    assert!(rt; (three.limit, three.events) == (3, 3));
 }
 
 /// Lines, by the number of the first rule that each breaks.

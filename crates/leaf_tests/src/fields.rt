@@ -115,19 +115,41 @@ fn reads_lower_case_hexadecimal_of_the_given_length(rt: HostRuntime) {
     }
 }
 
-/// Texts with how many fields they have, the first field, and what comes behind its separator.
-static CUT: [(&[u8], usize, &[u8], &[u8]); 5] = [
-    (b"C 5 5", 3, b"C", b"5 5"),
-    (b"C", 1, b"C", b""),
-    (b" C", 2, b"", b"C"),
-    (b"C ", 2, b"C", b""),
-    (b"", 1, b"", b""),
+/// A text, how many fields it has, the first field, and what comes behind its separator.
+#[derive(Clone, Copy, Drop)]
+struct Cut {
+    text: &'static str,
+    count: usize,
+    first: &'static str,
+    others: &'static str,
+}
+
+macro_rules! cut {
+    ($text:expr, $count:expr, $first:expr, $others:expr) => {
+        Cut {
+            text: $text,
+            count: $count,
+            first: $first,
+            others: $others,
+        }
+    };
+}
+
+static CUT: [Cut; 5] = [
+    cut!("C 5 5", 3, "C", "5 5"),
+    cut!("C", 1, "C", ""),
+    cut!(" C", 2, "", "C"),
+    cut!("C ", 2, "C", ""),
+    cut!("", 1, "", ""),
 ];
 
 #[test]
 fn cuts_a_text_at_its_first_separator(rt: HostRuntime) {
-    for (text, count, first, others) in &CUT {
-        let cut = (field_count(text, b' '), split_field(text, b' '));
-        assert!(rt; cut == (*count, (*first, *others)));
+    for cut in &CUT {
+        let text = cut.text.as_bytes();
+        holds(&rt, cut.text, field_count(text, b' ') == cut.count);
+        let (first, others) = split_field(text, b' ');
+        holds(&rt, cut.text, first == cut.first.as_bytes());
+        holds(&rt, cut.text, others == cut.others.as_bytes());
     }
 }

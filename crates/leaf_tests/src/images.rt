@@ -8,8 +8,9 @@ use std::alloc::{AllocError, Global};
 use std::process::Abort;
 use std::test::Fail;
 
-/// The file of a program of three words: `addi x10,x0,5`, `addi x17,x0,93`, `ecall` at 80000000, where it enters.
-const EXIT_WITH_5: [u8; 96] = [
+/// The file of a program of three words: `addi x10,x0,5`, `addi x17,x0,93`, `ecall` at 80000000,
+/// where it enters.
+pub const EXIT_WITH_5: [u8; 96] = [
     0x7f, 0x45, 0x4c, 0x46, 1, 1, 1, 0, 0, 0, 0, 0, 0, 0, 0, 0, // identification
     2, 0, 243, 0, 1, 0, 0, 0, 0, 0, 0, 0x80, 52, 0, 0, 0, // executable, RISC-V, version, entry, table
     0, 0, 0, 0, 0, 0, 0, 0, 52, 0, 32, 0, 1, 0, 0, 0, 0, 0, 0, 0, // header sizes, one program header
@@ -29,8 +30,8 @@ fn push_words(file: &mut Vec<u8>, words: &[u32]) -> Result<(), AllocError> {
     Ok(())
 }
 
-/// A file of these segments, at most 99, where the bytes 1 to 16 come after the headers, at 52 and 32 for each. Its header is that of
-/// `EXIT_WITH_5` but for the entry and the number of segments.
+/// A file of these segments, at most 99, where the bytes 1 to 16 come after the headers, at 52 and
+/// 32 for each. Its header is that of `EXIT_WITH_5` but for the entry and the number of segments.
 fn file_of(alloc: Global, entry: u32, segments: &[Placed]) -> Result<Vec<u8>, AllocError> {
     let count = segments.len().min(99) as u32;
     let header = [
@@ -62,7 +63,7 @@ fn file_of(alloc: Global, entry: u32, segments: &[Placed]) -> Result<Vec<u8>, Al
 }
 
 /// The image of a file, where it is accepted.
-fn image_of(alloc: Global, file: &[u8], ram: u32) -> Option<Image> {
+pub fn image_of(alloc: Global, file: &[u8], ram: u32) -> Option<Image> {
     load(alloc, file, RamSize::new(ram)?).ok()
 }
 
@@ -194,7 +195,8 @@ fn segments_lie_where_their_headers_say_and_end_in_zeros(rt: HostRuntime) -> Res
     Ok(())
 }
 
-/// Whether these bytes, from a place on, are written of a file's image, and what is written is loaded as the same image.
+/// Whether these bytes, from a place on, are written of a file's image, and what is written is
+/// loaded as the same image.
 fn is_written(alloc: Global, file: &[u8], place: usize, bytes: &[u8]) -> Option<bool> {
     let image = image_of(alloc, file, 8192)?;
     let Ok(written) = write(alloc, &image) else {
@@ -204,7 +206,8 @@ fn is_written(alloc: Global, file: &[u8], place: usize, bytes: &[u8]) -> Option<
     Some(written.get(place..) == Some(bytes) && again.same_as(&image))
 }
 
-/// From the program headers on. The segments come by rising address, and what is zero in memory alone is in the file.
+/// From the program headers on. The segments come by rising address, and what is zero in memory
+/// alone is in the file.
 static WRITTEN: [u8; 75] = [
     1, 0, 0, 0, 116, 0, 0, 0, 0, 0, 0, 0x80, 0, 0, 0, 0x80, // the data, at byte 116
     3, 0, 0, 0, 3, 0, 0, 0, 6, 0, 0, 0, 1, 0, 0, 0, // 3 bytes, flags R and W

@@ -1,6 +1,6 @@
 ghost use Rattle.std.specs.Prelude.{◌≡◌};
 
-use events::{Next, Outcome};
+use events::{Next, OutcomeFields};
 use retire_squash::{Active, ActiveList, Stage};
 use rv_decode::Op;
 
@@ -29,12 +29,21 @@ fn cut_behind_3(active: &mut ActiveList) -> [Option<Active>; 3] {
 }
 
 /// The oldest as it stands and as it leaves.
-fn leaving(active: &mut ActiveList) -> Option<[Active; 2]> {
+#[derive(Clone, Copy, Drop)]
+struct Leaving {
+    head: Active,
+    popped: Active,
+}
+
+fn pop_oldest(active: &mut ActiveList) -> Option<Leaving> {
     let head = active.head()?;
     if active.is_empty() {
         return None;
     }
-    Some([head, active.pop()])
+    Some(Leaving {
+        head,
+        popped: active.pop(),
+    })
 }
 
 #[test]
@@ -45,16 +54,15 @@ fn instructions_leave_from_the_old_end_and_are_cut_from_the_young_end(rt: HostRu
     active.append(renamed(3));
     active.append(renamed(5));
     active.append(renamed(9));
-    let room = (
-        active.may_append(10),
-        active.may_append(9),
-        active.is_full(),
-    );
-    assert!(rt; (room, active.len()) == ((true, false, false), 4));
+    assert!(rt; active.may_append(10) && !active.may_append(9));
+    assert!(rt; !active.is_full() && active.len() == 4);
     assert!(rt; cut_behind_3(&mut active) == [Some(renamed(9)), Some(renamed(5)), None]);
     assert!(rt; active.items() == [renamed(2), renamed(3)].as_slice());
-    assert!(rt; leaving(&mut active) == Some([renamed(2); 2]));
-    assert!(rt; leaving(&mut active) == Some([renamed(3); 2]));
+    for seq in [2, 3] {
+        let left = pop_oldest(&mut active).expect(&rt, "an oldest one");
+        assert!(rt; left.head == renamed(seq));
+        assert!(rt; left.popped == renamed(seq));
+    }
     assert!(rt; active.is_empty() && active.head().is_none());
 }
 
@@ -71,7 +79,7 @@ fn stages(active: &ActiveList) -> [Option<Stage>; 4] {
 
 #[test]
 fn a_stage_is_set_at_one_number_alone(rt: HostRuntime) {
-    let outcome = Outcome {
+    let outcome = OutcomeFields {
         value: Some(9),
         next: Next::Pc(0x8000_000c),
         addr: None,

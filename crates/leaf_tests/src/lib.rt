@@ -1,4 +1,5 @@
-//! The tests of the crates below the core. They stand in one crate, since a crate with tests of its own is proved twice by the gate.
+//! The tests of the crates below the core. They stand in one crate, since a crate with tests of its
+//! own is proved twice by the gate.
 //! Each module has the tests of one crate, through its public calls alone.
 #![tactic(auto)]
 
@@ -15,7 +16,11 @@ mod in_flight;
 #[cfg(test)]
 mod inputs;
 #[cfg(test)]
+mod looks;
+#[cfg(test)]
 mod maps;
+#[cfg(test)]
+mod memories;
 #[cfg(test)]
 mod operations;
 #[cfg(test)]

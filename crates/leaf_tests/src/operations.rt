@@ -1,9 +1,10 @@
 //! The operations against words that another machine gave.
 //!
-//! The tables of results were made by hand with qemu-riscv32 7.2 (Debian 12): a program in assembly, put together by
-//! the GNU assembler 2.40 for rv32ima, runs each instruction on each pair of PAIRS (for an atomic the memory holds the
-//! first of the pair and rs2 the second) and writes the words that come out. A sign extension of n bits is there SLLI and
-//! SRAI by 32 - n, and for 8 and 16 bits the program compared it with LB and LH. The folder tools/word_values has a program
+//! The tables of results were made by hand with qemu-riscv32 7.2 (Debian 12): a program in
+//! assembly, put together by the GNU assembler 2.40 for rv32ima, runs each instruction on each pair
+//! of PAIRS (for an atomic the memory holds the first of the pair and rs2 the second) and writes
+//! the words that come out. A sign extension of n bits is there SLLI and SRAI by 32 - n, and for 8
+//! and 16 bits the program compared it with LB and LH. The folder tools/word_values has a program
 //! that gives all these words again.
 
 use crate::rows::{holds, holds_at};
@@ -358,8 +359,8 @@ fn sign_extension_agrees_with_another_machine(rt: HostRuntime) {
     }
 }
 
-/// The rows of the ISA's table of division by zero and overflow, and the corners of the high products and of the
-/// signed and unsigned atomics.
+/// The rows of the ISA's table of division by zero and overflow, and the corners of the high
+/// products and of the signed and unsigned atomics.
 #[test]
 fn the_corners_are_those_of_the_manual(rt: HostRuntime) {
     let found = [

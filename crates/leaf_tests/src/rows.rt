@@ -1,7 +1,8 @@
-//! What the tests share. Each assertion with a message of its own costs more to prove than a call of one of these.
+//! What the tests share. Each assertion with a message of its own costs more to prove than a call
+//! of one of these.
 
 ghost use Rattle.std.specs.Prelude.{IfSome};
-ghost use Rattle.rv_decode.specs.Table.{InRange};
+ghost use Rattle.rv_decode.specs.Table.{IsInstructionInRange};
 
 use rv_decode::{Instr, decode};
 use rv_text::print;
@@ -18,6 +19,13 @@ pub fn holds_at(rt: &impl Abort, word: u32, is: bool) {
     assert!(rt; is, "at {word:#x}");
 }
 
+/// Asserts that a file is refused as wanted, and names its row and the number of the refusal that
+/// came where it is not; 0 stands for none.
+pub fn refuses(rt: &impl Abort, row: usize, found: Option<u8>, wanted: Option<u8>) {
+    let came = found.unwrap_or(0);
+    assert!(rt; found == wanted, "at row {row} came {came}");
+}
+
 /// The word and the text of a row: eight digits, a space, and the text.
 pub fn word_and_text(row: &str) -> Option<(u32, &str)> {
     let (word, text) = row.split_once(' ')?;
@@ -29,7 +37,7 @@ pub fn word_and_text(row: &str) -> Option<(u32, &str)> {
 
 /// What a word is read as, where it is printed as this text at this address.
 pub fn instr_of(word: u32, pc: u32, text: &str) -> Option<Instr>
-    ensures { IfSome result InRange }
+    ensures { IfSome result IsInstructionInRange }
 {
     let instr = decode(word)?;
     if print(instr, pc).as_str() == text {

@@ -6,7 +6,8 @@ mod words;
 
 use words::{BASE, WORDS, WRAPPING};
 
-/// Whether a word is spelled as this text at this address, and the text read as what the word is read as.
+/// Whether a word is spelled as this text at this address, and the text read as what the word is
+/// read as.
 fn is_spelled(word: u32, pc: u32, text: &str) -> bool {
     match instr_of(word, pc, text) {
         Some(instr) => parse(text, pc) == Ok(instr),
@@ -29,8 +30,8 @@ fn each_row_is_spelled_and_read_as_another_disassembler_spells_it(rt: HostRuntim
     }
 }
 
-/// The texts that are refused at pc 80000000, by the number of their reason, with how many they are. A bar stands between two. Each text
-/// has the reason that comes first from the left.
+/// The texts that are refused at pc 80000000, by the number of their reason, with how many they
+/// are. A bar stands between two. Each text has the reason that comes first from the left.
 static REFUSED: [(u8, u32, &str); 4] = [
     // no name of a row; the first text is empty, and the second a space
     (

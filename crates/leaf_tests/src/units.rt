@@ -1,5 +1,5 @@
 use crate::rows::holds;
-use events::{Next, Outcome};
+use events::{Next, OutcomeFields};
 use exec_units::{Job, work};
 use rv_decode::{BranchOp, ImmediateOp, Instr, LoadOp, MulDivOp, Op};
 
@@ -46,7 +46,7 @@ const EBREAK: Op = Op::Known(Instr::Ebreak);
 
 macro_rules! outcome {
     ($value:expr, $next:expr, $out:expr) => {
-        Outcome {
+        OutcomeFields {
             value: $value,
             next: $next,
             addr: None,
@@ -59,7 +59,7 @@ macro_rules! outcome {
 const BEHIND: Next = Next::Pc(0x8000_0004);
 
 /// An instruction with its two numbers, and what it computes.
-static ROWS: [(&str, Op, u32, u32, Outcome); 12] = [
+static ROWS: [(&str, Op, u32, u32, OutcomeFields); 12] = [
     ("addi", ADDI, 0, 0, outcome!(Some(5), BEHIND, None)),
     (
         "addi wraps",
@@ -129,16 +129,29 @@ static ROWS: [(&str, Op, u32, u32, Outcome); 12] = [
 ];
 
 /// What a job done says: its outcome, its instruction, and its outcome again as it is handed back.
-fn done(op: Op, first: u32, second: u32) -> (Outcome, Op, Outcome) {
+#[derive(Clone, Copy, Drop)]
+struct Said {
+    outcome: OutcomeFields,
+    op: Op,
+    handed_back: OutcomeFields,
+}
+
+fn done(op: Op, first: u32, second: u32) -> Said {
     let done = work(Job::new(3, op, PC, first, second));
-    (done.outcome(), done.job().op(), done.into_outcome())
+    Said {
+        outcome: done.outcome().fields(),
+        op: done.job().op(),
+        handed_back: done.into_outcome().fields(),
+    }
 }
 
 #[test]
 fn a_unit_hands_back_what_the_instruction_computes(rt: HostRuntime) {
     for (name, op, first, second, expected) in &ROWS {
         let said = done(*op, *first, *second);
-        holds(&rt, name, said == (*expected, *op, *expected));
+        holds(&rt, name, said.outcome == *expected);
+        holds(&rt, name, said.op == *op);
+        holds(&rt, name, said.handed_back == *expected);
     }
 }
 

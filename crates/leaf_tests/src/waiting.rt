@@ -29,7 +29,8 @@ fn put(rt: &impl Abort, queue: &mut IssueQueue, seq: u32, hart: u8, op: Op, sour
     queue.insert(entry);
 }
 
-// Hart 0 has a product of what a load of its own gives, and hart 1 a load and two instructions of no register.
+// Hart 0 has a product of what a load of its own gives, and hart 1 a load and two instructions of
+// no register.
 fn filled(rt: &impl Abort) -> IssueQueue {
     let known = [Source::Value(0x8000_1000), Source::Value(0)];
     let none = [Source::Value(0); 2];

@@ -1,15 +1,12 @@
-ghost use Rattle.std.specs.Prelude.{◌≡◌, ℕ, ◌+◌, ◌-◌, ◌*◌, ◌<◌, ◌==◌, if◌then◌else◌, All};
+ghost use Rattle.std.specs.Prelude.{◌≡◌, ℕ, ◌<◌, ◌==◌, if◌then◌else◌, All};
+ghost use Rattle.numbers.specs.Layout.{first_register};
 ghost use Rattle.rename_map.specs.Maps.{lookup, committed_of, renamed_by, IsWritable};
 
+use numbers::{Phys, Reg, first_register};
 use std::marker::Model;
 
-/// The number of a register, 0 to 31. Those of a map are 1 to 31, since x0 isn't renamed.
-pub type Reg = u8;
-
-/// The number of a physical register.
-pub type Phys = u16;
-
-/// Where a hart's registers x1 to x31 are: the speculative map and the committed one. A clause sees both.
+/// Where a hart's registers x1 to x31 are: the speculative map and the committed one. A clause sees
+/// both. x0 isn't renamed.
 #[derive(Drop)]
 pub struct HartMaps {
     // By register; place 0 is unused.
@@ -29,14 +26,16 @@ impl Model for HartMaps {
 }
 
 impl HartMaps {
-    /// The maps of a hart that begins: both have its 31 registers in the 31 physical registers from `31 * hart` on.
+    /// The maps of a hart that begins: both have its 31 registers in the physical registers that it
+    /// begins with.
     pub fn new(hart: u8) -> Self
-        ensures speculative { (r : ℕ) → 0 < r → r < 32 → lookup result r ≡ 31 * hart + r - 1 }
-        ensures committed { (r : ℕ) → 0 < r → r < 32 → committed_of result r ≡ 31 * hart + r - 1 }
+        ensures speculative { (r : ℕ) → 0 < r → r < 32 → lookup result r ≡ first_register hart r }
+        ensures committed { (r : ℕ) → 0 < r → r < 32
+            → committed_of result r ≡ first_register hart r }
     {
         let mut map = [0; 32];
         for register in 1..32 {
-            map[register] = 31 * u16::from(hart) + register as u16 - 1;
+            map[usize::from(register)] = first_register(hart, register);
         }
         HartMaps {
             speculative: map,
@@ -63,18 +62,21 @@ impl HartMaps {
     /// An instruction that will write `register` has `phys` for it.
     pub fn rename(&mut self, register: Reg, phys: Phys)
         requires { IsWritable register }
-        ensures renamed { (r : ℕ) → lookup self.new r ≡ (if r == register then phys else lookup self.old r) }
+        ensures renamed { (r : ℕ)
+            → lookup self.new r ≡ (if r == register then phys else lookup self.old r) }
         ensures committed { self.new.committed ≡ self.old.committed }
     {
         let place = usize::from(register);
         self.speculative[place] = phys;
     }
 
-    /// An instruction that wrote `register` at `phys` retires. Answers where the value before it was, which is free now.
+    /// An instruction that wrote `register` at `phys` retires. Answers where the value before it
+    /// was, which is free now.
     pub fn commit(&mut self, register: Reg, phys: Phys) -> Phys
         requires { IsWritable register }
         ensures before { result ≡ committed_of self.old register }
-        ensures committed { (r : ℕ) → committed_of self.new r ≡ (if r == register then phys else committed_of self.old r) }
+        ensures committed { (r : ℕ)
+            → committed_of self.new r ≡ (if r == register then phys else committed_of self.old r) }
         ensures speculative { self.new.speculative ≡ self.old.speculative }
     {
         let place = usize::from(register);
@@ -93,7 +95,8 @@ impl HartMaps {
     /// The speculative map becomes the committed one with these renamings, the oldest first.
     pub fn rebuild(&mut self, renamings: &[(Reg, Phys)])
         requires { All (λ x. IsWritable x.0) renamings.now }
-        ensures rebuilt { (r : ℕ) → lookup self.new r ≡ renamed_by renamings.now r (committed_of self.old r) }
+        ensures rebuilt { (r : ℕ)
+            → lookup self.new r ≡ renamed_by renamings.now r (committed_of self.old r) }
         ensures committed { self.new.committed ≡ self.old.committed }
     {
         self.restore();

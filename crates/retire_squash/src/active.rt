@@ -1,7 +1,8 @@
 ghost use Rattle.std.specs.Prelude.{◌≡◌, None};
 
-use events::{Outcome, Phys, Seq};
-use rv_decode::{Op, Reg};
+use events::OutcomeFields;
+use numbers::{Phys, Reg, Seq};
+use rv_decode::Op;
 
 /// How far an instruction in flight has come.
 #[derive(Clone, Copy, Debug, PartialEq, Eq, Drop)]
@@ -11,7 +12,7 @@ pub enum Stage {
     /// A unit works on it.
     Issued,
     /// It waits to retire, with this outcome.
-    Completed(Outcome),
+    Completed(OutcomeFields),
 }
 
 /// An instruction in flight: renamed, and not yet retired or squashed.

@@ -1,27 +1,31 @@
-ghost use Rattle.std.specs.Prelude.{◌≡◌, ◌↔◌, ◌<◌, ◌≤◌, ◌==◌, [], ◌∷◌, ◌++◌, length, drop, find, IsTrue, IfSome, IfNone};
-ghost use Rattle.retire_squash.specs.Active.{Above, Within, IsRising, with_stage};
+ghost use Rattle.std.specs.Prelude.{◌≡◌, ◌↔◌, ◌<◌, ◌≤◌, ◌==◌, [], ◌∷◌, ◌++◌, length, drop, find};
+ghost use Rattle.std.specs.Prelude.{IsTrue, IfSome, IfNone};
+ghost use Rattle.numbers.specs.Sizes.{most_in_flight};
+ghost use Rattle.retire_squash.specs.Active.{Above, Within, AreActivesRising, with_stage};
 
 use crate::active::{Active, Stage};
 use arrayvec::ArrayVec;
-use events::{Outcome, Seq};
+use events::OutcomeFields;
+use numbers::Seq;
+use numbers::sizes::MOST_IN_FLIGHT;
 use std::marker::Model;
 
 /// The instructions of a hart in flight, at most 64, oldest first. A clause sees it as their list.
 #[derive(Drop)]
 pub struct ActiveList {
-    items: ArrayVec<Active, 64>,
+    items: ArrayVec<Active, MOST_IN_FLIGHT>,
 }
 
 impl Model for ActiveList {
     ghost use Rattle.std.specs.Prelude.{List};
     ghost use Rattle.retire_squash.specs.declared.active.Active.{Active};
-    ghost use Rattle.retire_squash.specs.Active.{IsRising};
+    ghost use Rattle.retire_squash.specs.Active.{AreActivesRising};
 
     ghost Value = { List Active };
 
     ghost view = { λ a. a.items.items };
 
-    ghost invariant = { λ a. IsRising a.items.items };
+    ghost invariant = { λ a. AreActivesRising a.items.items };
 }
 
 impl ActiveList {
@@ -37,7 +41,7 @@ impl ActiveList {
     /// How many instructions are in flight.
     pub fn len(&self) -> usize
         ensures value { result ≡ length self.now }
-        ensures bound { result ≤ 64 }
+        ensures bound { result ≤ most_in_flight }
     {
         self.items.len()
     }
@@ -51,8 +55,8 @@ impl ActiveList {
 
     /// Whether there is no room for another.
     pub fn is_full(&self) -> bool
-        ensures value { result ≡ (length self.now == 64) }
-        ensures bound { length self.now ≤ 64 }
+        ensures value { result ≡ (length self.now == most_in_flight) }
+        ensures bound { length self.now ≤ most_in_flight }
     {
         self.items.is_full()
     }
@@ -60,8 +64,8 @@ impl ActiveList {
     /// The instructions, oldest first.
     pub fn items(&self) -> &[Active]
         ensures items { result.now ≡ self.now }
-        ensures bound { length result.now ≤ 64 }
-        ensures rising { IsRising result.now }
+        ensures bound { length result.now ≤ most_in_flight }
+        ensures rising { AreActivesRising result.now }
     {
         self.items.as_slice()
     }
@@ -81,16 +85,17 @@ impl ActiveList {
         self.items.iter().copied().find(|active| active.seq == seq)
     }
 
-    /// Whether an instruction of this number may be added: there is room, and all in flight are older.
+    /// Whether an instruction of this number may be added: there is room, and all in flight are
+    /// older.
     pub fn may_append(&self, seq: Seq) -> bool
-        ensures { IsTrue result ↔ (length self.now < 64) × Above seq self.now }
+        ensures { IsTrue result ↔ (length self.now < most_in_flight) × Above seq self.now }
     {
-        self.len() < 64 && are_older(self.items(), seq)
+        self.len() < MOST_IN_FLIGHT && are_older(self.items(), seq)
     }
 
     /// Adds an instruction, which is younger than all that are in flight.
     pub fn append(&mut self, active: Active)
-        requires room { length self.old < 64 }
+        requires room { length self.old < most_in_flight }
         requires above { Above active.seq self.old }
         ensures { self.new ≡ self.old ++ active ∷ [] }
     {
@@ -114,7 +119,7 @@ impl ActiveList {
     }
 
     /// The instruction of this number has its outcome, if it is in flight.
-    pub fn complete(&mut self, seq: Seq, outcome: Outcome)
+    pub fn complete(&mut self, seq: Seq, outcome: OutcomeFields)
         ensures { self.new ≡ with_stage seq (Stage.Completed outcome) self.old }
     {
         set_stage(self.items.as_mut_slice(), seq, Stage::Completed(outcome));
@@ -122,9 +127,11 @@ impl ActiveList {
 
     /// Takes the youngest instruction out, if its number is above `after`.
     ///
-    /// Called until it answers `None` it cuts off all younger ones than `after`, and hands over one after another.
+    /// Called until it answers `None` it cuts off all younger ones than `after`, and hands over one
+    /// after another.
     pub fn cut_youngest(&mut self, after: Seq) -> Option<Active>
-        ensures some { IfSome result (λ cut. (self.old ≡ self.new ++ cut ∷ []) × (after < cut.seq)) }
+        ensures some { IfSome result
+            (λ cut. (self.old ≡ self.new ++ cut ∷ []) × (after < cut.seq)) }
         ensures none { IfNone result ((self.new ≡ self.old) × Within after self.old) }
     {
         let youngest = self.items.last()?;

@@ -1,7 +1,8 @@
-//! The instructions of one hart that are in flight, in program order: appended as they are renamed, retired from the
-//! old end, and cut from the young end where the hart strayed.
+//! The instructions of one hart that are in flight, in program order: appended as they are renamed,
+//! retired from the old end, and squashed from the young end where the hart was mispredicted.
 //!
-//! Read in this order: `active` (an instruction in flight), `active_list`. A core keeps one list for each hart.
+//! Read in this order: `active` (an instruction in flight), `active_list`. A core keeps one list
+//! for each hart.
 #![tactic(auto)]
 
 pub mod active;

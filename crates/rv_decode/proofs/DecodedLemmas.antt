@@ -1,9 +1,11 @@
-use Rattle.std.proofs.Common.{ℕ, ◌<◌, Bool, true, false, Option, Some, None, IfSome, option_and_then, if◌then◌else◌, rules}
-use Rattle.rv_decode.specs.declared.instr.Instr.{Instr}
-use Rattle.rv_decode.specs.declared.op.Op.{Op}
+use Rattle.std.proofs.Common.{ℕ, ◌<◌, Bool, true, false, Option, Some, None, IfSome, option_and_then, if◌then◌else◌}
+use Rattle.std.proofs.Common.{rules}
+use Rattle.rv_decode.specs.{declared.instr.Instr.Instr, declared.op.Op.Op}
 use Rattle.rv_decode.specs.Fields.{imm_i, imm_s, imm_b, imm_j, imm_u}
-use Rattle.rv_decode.specs.Table.{IsSigned, IsDistance, IsUpper, InRange, OpInRange}
-use Rattle.rv_decode.specs.Decode.{decoded, branch_of, jalr_of, load_of, store_of, immediate_of, shift_of, register_of, muldiv_of, fence_of, system_of, atomic_of, load_reserved_of, store_conditional_of, amo_of, op_of_instr, op_of_word}
+use Rattle.rv_decode.specs.Table.{IsSigned, IsDistance, IsUpper, IsInstructionInRange, OpInRange}
+use Rattle.rv_decode.specs.Decode.{decoded, branch_of, jalr_of, load_of, store_of, immediate_of, shift_of, register_of}
+use Rattle.rv_decode.specs.Decode.{muldiv_of, fence_of, system_of, atomic_of, load_reserved_of, store_conditional_of}
+use Rattle.rv_decode.specs.Decode.{amo_of, op_of_instr, op_of_word}
 use Rattle.rv_decode.specs.Registers.{rd_of, rs1_of, rs2_of, op_rd, op_rs1, op_rs2}
 
 -- What is found at a pc is in range.
@@ -34,12 +36,13 @@ either : (test : Bool) (x y : Option Instr) → InRangeOrNone x → InRangeOrNon
 either true x y p q = p
 either false x y p q = q
 
-after : {A : Type 0} (o : Option A) (f : A → Option Instr) → ((a : A) → InRangeOrNone (f a)) → InRangeOrNone (option_and_then f o)
+after : {A : Type 0} (o : Option A) (f : A → Option Instr) → ((a : A) → InRangeOrNone (f a))
+    → InRangeOrNone (option_and_then f o)
 unfolding InRangeOrNone op_of_instr
 after (Some a) f p = p a
 after None f p = tt
 
-some : (instr : Instr) → InRange instr → InRangeOrNone (Some instr)
+some : (instr : Instr) → IsInstructionInRange instr → InRangeOrNone (Some instr)
 unfolding InRangeOrNone op_of_instr
 some instr p = p
 
@@ -107,7 +110,24 @@ atomic word = search (steps, load_reserved, store_conditional, amo)
 
 decoded_in_range : (word : ℕ) → InRangeOrNone (decoded word)
 unfolding decoded
-decoded_in_range word = search (rules, either, some, none, j_in_range, u_in_range, jalr, branch, load, store, immediate, register, fence, system, atomic) depth 30
+decoded_in_range word =
+    search (
+      rules,
+      either,
+      some,
+      none,
+      j_in_range,
+      u_in_range,
+      jalr,
+      branch,
+      load,
+      store,
+      immediate,
+      register,
+      fence,
+      system,
+      atomic,
+    ) depth 30
 
 pub op_of_word_in_range : (word : Option ℕ) → OpInRange (op_of_word word)
 unfolding op_of_word InRangeOrNone

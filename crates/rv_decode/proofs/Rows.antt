@@ -1,8 +1,8 @@
 use Rattle.std.proofs.Common.{◌≡◌, Some, None, pos, refl, false}
-use Rattle.rv_decode.specs.declared.instr.ImmediateOp.TheVariants.{Addi}
-use Rattle.rv_decode.specs.declared.instr.MulDivOp.TheVariants.{Mul}
+use Rattle.rv_decode.specs.{declared.instr.ImmediateOp.TheVariants.Addi, declared.instr.MulDivOp.TheVariants.Mul}
 use Rattle.rv_decode.specs.declared.instr.Instr.TheVariants.{Immediate, MulDiv, Ecall, LoadReserved, StoreConditional}
-use Rattle.rv_decode.specs.Decode.{decoded, immediate_of, immediate_op, register_of, muldiv_of, muldiv_op, system_of, atomic_of, load_reserved_of, store_conditional_of}
+use Rattle.rv_decode.specs.Decode.{decoded, immediate_of, immediate_op, register_of, muldiv_of, muldiv_op, system_of}
+use Rattle.rv_decode.specs.Decode.{atomic_of, load_reserved_of, store_conditional_of}
 
 -- Worked rows: the words of small programs, by hand, and words that are no row.
 

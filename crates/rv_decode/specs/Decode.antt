@@ -1,28 +1,35 @@
 use Rattle.std.specs.Prelude.{ℕ, ◌==◌, if◌then◌else◌, Option, Some, None, option_and_then}
 use Rattle.rv_word.specs.declared.amo_kind.AmoKind.{AmoKind}
 use Rattle.rv_word.specs.declared.amo_kind.AmoKind.TheVariants as amo
-use Rattle.rv_decode.specs.declared.instr.BranchOp.{BranchOp}
+use Rattle.rv_decode.specs.{declared.instr.BranchOp.BranchOp, declared.instr.LoadOp.LoadOp}
+use Rattle.rv_decode.specs.{declared.instr.StoreOp.StoreOp, declared.instr.StoreOp.TheVariants.Sb}
+use Rattle.rv_decode.specs.{declared.instr.StoreOp.TheVariants.Sh}
+use Rattle.rv_decode.specs.{declared.instr.StoreOp.TheVariants.Sw}
+use Rattle.rv_decode.specs.{declared.instr.ImmediateOp.ImmediateOp, declared.instr.ShiftOp.ShiftOp}
+use Rattle.rv_decode.specs.{declared.instr.ShiftOp.TheVariants.Slli}
+use Rattle.rv_decode.specs.{declared.instr.ShiftOp.TheVariants.Srli}
+use Rattle.rv_decode.specs.{declared.instr.ShiftOp.TheVariants.Srai}
+use Rattle.rv_decode.specs.{declared.instr.RegisterOp.RegisterOp, declared.instr.MulDivOp.MulDivOp}
+use Rattle.rv_decode.specs.{declared.instr.Instr.Instr, declared.op.Op.Op}
+use Rattle.rv_decode.specs.{declared.op.Op.TheVariants.Known, declared.op.Op.TheVariants.Illegal}
+use Rattle.rv_decode.specs.{declared.op.Op.TheVariants.NoWord}
 use Rattle.rv_decode.specs.declared.instr.BranchOp.TheVariants.{Beq, Bne, Blt, Bge, Bltu, Bgeu}
-use Rattle.rv_decode.specs.declared.instr.LoadOp.{LoadOp}
 use Rattle.rv_decode.specs.declared.instr.LoadOp.TheVariants.{Lb, Lh, Lw, Lbu, Lhu}
-use Rattle.rv_decode.specs.declared.instr.StoreOp.{StoreOp}
-use Rattle.rv_decode.specs.declared.instr.StoreOp.TheVariants.{Sb, Sh, Sw}
-use Rattle.rv_decode.specs.declared.instr.ImmediateOp.{ImmediateOp}
-use Rattle.rv_decode.specs.declared.instr.ImmediateOp.TheVariants.{Addi, Slti, Sltiu, Xori, Ori, Andi}
-use Rattle.rv_decode.specs.declared.instr.ShiftOp.{ShiftOp}
-use Rattle.rv_decode.specs.declared.instr.ShiftOp.TheVariants.{Slli, Srli, Srai}
-use Rattle.rv_decode.specs.declared.instr.RegisterOp.{RegisterOp}
-use Rattle.rv_decode.specs.declared.instr.RegisterOp.TheVariants.{Add, Sub, Sll, Slt, Sltu, Xor, Srl, Sra, Or, And}
-use Rattle.rv_decode.specs.declared.instr.MulDivOp.{MulDivOp}
-use Rattle.rv_decode.specs.declared.instr.MulDivOp.TheVariants.{Mul, Mulh, Mulhsu, Mulhu, Div, Divu, Rem, Remu}
-use Rattle.rv_decode.specs.declared.instr.Instr.{Instr}
-use Rattle.rv_decode.specs.declared.instr.Instr.TheVariants.{Lui, Auipc, Jal, Jalr, Branch, Load, Store, Immediate, Shift, Register, MulDiv, Fence, Ecall, Ebreak, LoadReserved, StoreConditional, Amo}
-use Rattle.rv_decode.specs.declared.op.Op.{Op}
-use Rattle.rv_decode.specs.declared.op.Op.TheVariants.{Known, Illegal, NoWord}
-use Rattle.rv_decode.specs.Fields.{opcode_at, rd_at, funct3_at, rs1_at, rs2_at, funct7_at, funct5_at, ordering_at, imm_i, imm_s, imm_b, imm_u, imm_j}
+use Rattle.rv_decode.specs.declared.instr.ImmediateOp.TheVariants.{Addi, Slti, Sltiu, Xori, Ori}
+use Rattle.rv_decode.specs.declared.instr.ImmediateOp.TheVariants.{Andi}
+use Rattle.rv_decode.specs.declared.instr.RegisterOp.TheVariants.{Add, Sub, Sll, Slt, Sltu, Xor}
+use Rattle.rv_decode.specs.declared.instr.RegisterOp.TheVariants.{Srl, Sra, Or, And}
+use Rattle.rv_decode.specs.declared.instr.MulDivOp.TheVariants.{Mul, Mulh, Mulhsu, Mulhu, Div, Divu}
+use Rattle.rv_decode.specs.declared.instr.MulDivOp.TheVariants.{Rem, Remu}
+use Rattle.rv_decode.specs.declared.instr.Instr.TheVariants.{Lui, Auipc, Jal, Jalr, Branch, Load}
+use Rattle.rv_decode.specs.declared.instr.Instr.TheVariants.{Store, Immediate, Shift, Register}
+use Rattle.rv_decode.specs.declared.instr.Instr.TheVariants.{MulDiv, Fence, Ecall, Ebreak}
+use Rattle.rv_decode.specs.declared.instr.Instr.TheVariants.{LoadReserved, StoreConditional, Amo}
+use Rattle.rv_decode.specs.Fields.{opcode_at, rd_at, funct3_at, rs1_at, rs2_at, funct7_at}
+use Rattle.rv_decode.specs.Fields.{funct5_at, ordering_at, imm_i, imm_s, imm_b, imm_u, imm_j}
 
--- Which instruction a word is, found as a reader of the manual finds it: by the opcode, then by the funct fields
--- (RISC-V Unprivileged ISA, chapter "RV32/64G Instruction Set Listings").
+-- Which instruction a word is, found as a reader of the manual finds it: by the opcode, then by the
+-- funct fields (RISC-V Unprivileged ISA, chapter "RV32/64G Instruction Set Listings").
 
 infixl 10 ◌>>=◌
 abbrev pub ◌>>=◌ : {A B : Type 0} → Option A → (A → Option B) → Option B
@@ -121,7 +128,8 @@ amo_kind funct5 =
 -- the instruction of each opcode
 
 unfoldable pub jalr_of : ℕ → Option Instr
-jalr_of word = if funct3_at word == 0b000 then Some (Jalr (rd_at word) (rs1_at word) (imm_i word)) else None
+jalr_of word =
+    if funct3_at word == 0b000 then Some (Jalr (rd_at word) (rs1_at word) (imm_i word)) else None
 
 unfoldable pub branch_of : ℕ → Option Instr
 branch_of word = do
@@ -174,10 +182,12 @@ system_of word =
 
 unfoldable pub load_reserved_of : ℕ → Option Instr
 load_reserved_of word =
-    if rs2_at word == 0 then Some (LoadReserved (rd_at word) (rs1_at word) (ordering_at word)) else None
+    if rs2_at word == 0 then Some (LoadReserved (rd_at word) (rs1_at word) (ordering_at word))
+    else None
 
 unfoldable pub store_conditional_of : ℕ → Option Instr
-store_conditional_of word = Some (StoreConditional (rd_at word) (rs1_at word) (rs2_at word) (ordering_at word))
+store_conditional_of word =
+    Some (StoreConditional (rd_at word) (rs1_at word) (rs2_at word) (ordering_at word))
 
 unfoldable pub amo_of : ℕ → Option Instr
 amo_of word = do

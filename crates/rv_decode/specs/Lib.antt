@@ -2,3 +2,4 @@ pub mod Fields
 pub mod Table
 pub mod Decode
 pub mod Registers
+pub mod Kinds

@@ -1,10 +1,14 @@
-use Rattle.std.specs.Prelude.{ℕ, Option, Some, None}
-use Rattle.rv_decode.specs.declared.instr.Instr.{Instr}
-use Rattle.rv_decode.specs.declared.instr.Instr.TheVariants.{Lui, Auipc, Jal, Jalr, Branch, Load, Store, Immediate, Shift, Register, MulDiv, Fence, Ecall, Ebreak, LoadReserved, StoreConditional, Amo}
-use Rattle.rv_decode.specs.declared.op.Op.{Op}
-use Rattle.rv_decode.specs.declared.op.Op.TheVariants.{Known, Illegal, NoWord}
-use Rattle.rv_decode.specs.declared.op.UnitKind.{UnitKind}
-use Rattle.rv_decode.specs.declared.op.UnitKind.TheVariants.{Alu, Mul, Mem}
+use Rattle.std.specs.Prelude.{ℕ, Bool, true, false, Option, Some, None}
+use Rattle.rv_decode.specs.{declared.instr.Instr.Instr, declared.op.Op.Op}
+use Rattle.rv_decode.specs.{declared.op.Op.TheVariants.Known, declared.op.Op.TheVariants.Illegal}
+use Rattle.rv_decode.specs.{declared.op.Op.TheVariants.NoWord, declared.op.UnitKind.UnitKind}
+use Rattle.rv_decode.specs.{declared.op.UnitKind.TheVariants.Alu}
+use Rattle.rv_decode.specs.{declared.op.UnitKind.TheVariants.Mul}
+use Rattle.rv_decode.specs.{declared.op.UnitKind.TheVariants.Mem}
+use Rattle.rv_decode.specs.declared.instr.Instr.TheVariants.{Lui, Auipc, Jal, Jalr, Branch, Load}
+use Rattle.rv_decode.specs.declared.instr.Instr.TheVariants.{Store, Immediate, Shift, Register}
+use Rattle.rv_decode.specs.declared.instr.Instr.TheVariants.{MulDiv, Fence, Ecall, Ebreak}
+use Rattle.rv_decode.specs.declared.instr.Instr.TheVariants.{LoadReserved, StoreConditional, Amo}
 
 -- the register that an instruction writes; x0 counts as one
 unfoldable pub rd_of : Instr → Option ℕ
@@ -98,3 +102,10 @@ unfoldable pub op_unit : Op → UnitKind
 op_unit (Known instr) = unit_of instr
 op_unit Illegal = Alu
 op_unit NoWord = Alu
+
+-- two kinds of unit are the same
+abbrev pub same_unit : UnitKind → UnitKind → Bool
+same_unit Alu Alu = true
+same_unit Mul Mul = true
+same_unit Mem Mem = true
+same_unit _ _ = false

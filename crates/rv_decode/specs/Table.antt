@@ -1,28 +1,37 @@
-use Rattle.std.specs.Prelude.{◌≡◌, ℕ, Option, Some, IfSome, ◌<◌, ◌%◌, ◌^◌, ◌-◌, unsigned_abs, ℤ, pos, neg_ℤ, ◌≤ℤ◌, ◌<ℤ◌}
+use Rattle.std.specs.Prelude.{◌≡◌, ℕ, Option, Some, IfSome, ◌<◌, ◌%◌, ◌^◌, ◌-◌, unsigned_abs, ℤ}
+use Rattle.std.specs.Prelude.{pos, neg_ℤ, ◌≤ℤ◌, ◌<ℤ◌}
 use Rattle.rv_word.specs.declared.amo_kind.AmoKind.{AmoKind}
 use Rattle.rv_word.specs.declared.amo_kind.AmoKind.TheVariants as amo
-use Rattle.rv_decode.specs.declared.instr.BranchOp.{BranchOp}
+use Rattle.rv_decode.specs.{declared.instr.BranchOp.BranchOp, declared.instr.LoadOp.LoadOp}
+use Rattle.rv_decode.specs.{declared.instr.StoreOp.StoreOp, declared.instr.StoreOp.TheVariants.Sb}
+use Rattle.rv_decode.specs.{declared.instr.StoreOp.TheVariants.Sh}
+use Rattle.rv_decode.specs.{declared.instr.StoreOp.TheVariants.Sw}
+use Rattle.rv_decode.specs.{declared.instr.ImmediateOp.ImmediateOp, declared.instr.ShiftOp.ShiftOp}
+use Rattle.rv_decode.specs.{declared.instr.ShiftOp.TheVariants.Slli}
+use Rattle.rv_decode.specs.{declared.instr.ShiftOp.TheVariants.Srli}
+use Rattle.rv_decode.specs.{declared.instr.ShiftOp.TheVariants.Srai}
+use Rattle.rv_decode.specs.{declared.instr.RegisterOp.RegisterOp, declared.instr.MulDivOp.MulDivOp}
+use Rattle.rv_decode.specs.{declared.instr.Instr.Instr, declared.op.Op.Op}
+use Rattle.rv_decode.specs.{declared.op.Op.TheVariants.Known, declared.op.Op.TheVariants.Illegal}
+use Rattle.rv_decode.specs.{declared.op.Op.TheVariants.NoWord}
 use Rattle.rv_decode.specs.declared.instr.BranchOp.TheVariants.{Beq, Bne, Blt, Bge, Bltu, Bgeu}
-use Rattle.rv_decode.specs.declared.instr.LoadOp.{LoadOp}
 use Rattle.rv_decode.specs.declared.instr.LoadOp.TheVariants.{Lb, Lh, Lw, Lbu, Lhu}
-use Rattle.rv_decode.specs.declared.instr.StoreOp.{StoreOp}
-use Rattle.rv_decode.specs.declared.instr.StoreOp.TheVariants.{Sb, Sh, Sw}
-use Rattle.rv_decode.specs.declared.instr.ImmediateOp.{ImmediateOp}
-use Rattle.rv_decode.specs.declared.instr.ImmediateOp.TheVariants.{Addi, Slti, Sltiu, Xori, Ori, Andi}
-use Rattle.rv_decode.specs.declared.instr.ShiftOp.{ShiftOp}
-use Rattle.rv_decode.specs.declared.instr.ShiftOp.TheVariants.{Slli, Srli, Srai}
-use Rattle.rv_decode.specs.declared.instr.RegisterOp.{RegisterOp}
-use Rattle.rv_decode.specs.declared.instr.RegisterOp.TheVariants.{Add, Sub, Sll, Slt, Sltu, Xor, Srl, Sra, Or, And}
-use Rattle.rv_decode.specs.declared.instr.MulDivOp.{MulDivOp}
-use Rattle.rv_decode.specs.declared.instr.MulDivOp.TheVariants.{Mul, Mulh, Mulhsu, Mulhu, Div, Divu, Rem, Remu}
-use Rattle.rv_decode.specs.declared.instr.Instr.{Instr}
-use Rattle.rv_decode.specs.declared.instr.Instr.TheVariants.{Lui, Auipc, Jal, Jalr, Branch, Load, Store, Immediate, Shift, Register, MulDiv, Fence, Ecall, Ebreak, LoadReserved, StoreConditional, Amo}
-use Rattle.rv_decode.specs.declared.op.Op.{Op}
-use Rattle.rv_decode.specs.declared.op.Op.TheVariants.{Known, Illegal, NoWord}
-use Rattle.rv_decode.specs.Fields.{opcode_at, rd_at, funct3_at, rs1_at, rs2_at, funct7_at, funct5_at, ordering_at, imm_i, imm_s, imm_b, imm_u, imm_j}
+use Rattle.rv_decode.specs.declared.instr.ImmediateOp.TheVariants.{Addi, Slti, Sltiu, Xori, Ori}
+use Rattle.rv_decode.specs.declared.instr.ImmediateOp.TheVariants.{Andi}
+use Rattle.rv_decode.specs.declared.instr.RegisterOp.TheVariants.{Add, Sub, Sll, Slt, Sltu, Xor}
+use Rattle.rv_decode.specs.declared.instr.RegisterOp.TheVariants.{Srl, Sra, Or, And}
+use Rattle.rv_decode.specs.declared.instr.MulDivOp.TheVariants.{Mul, Mulh, Mulhsu, Mulhu, Div, Divu}
+use Rattle.rv_decode.specs.declared.instr.MulDivOp.TheVariants.{Rem, Remu}
+use Rattle.rv_decode.specs.declared.instr.Instr.TheVariants.{Lui, Auipc, Jal, Jalr, Branch, Load}
+use Rattle.rv_decode.specs.declared.instr.Instr.TheVariants.{Store, Immediate, Shift, Register}
+use Rattle.rv_decode.specs.declared.instr.Instr.TheVariants.{MulDiv, Fence, Ecall, Ebreak}
+use Rattle.rv_decode.specs.declared.instr.Instr.TheVariants.{LoadReserved, StoreConditional, Amo}
+use Rattle.rv_decode.specs.Fields.{opcode_at, rd_at, funct3_at, rs1_at, rs2_at, funct7_at}
+use Rattle.rv_decode.specs.Fields.{funct5_at, ordering_at, imm_i, imm_s, imm_b, imm_u, imm_j}
 
--- The instruction table (RISC-V Unprivileged ISA, chapter "RV32/64G Instruction Set Listings"): which word spells
--- which instruction. Each form has one equation, and each operation of a form its row of funct fields.
+-- The instruction table (RISC-V Unprivileged ISA, chapter "RV32/64G Instruction Set Listings"):
+-- which word spells which instruction. Each form has one equation, and each operation of a form its
+-- row of funct fields.
 
 -- funct3 of each row of a form
 
@@ -95,11 +104,13 @@ amo_row amo.Max = 0b10100
 amo_row amo.Minu = 0b11000
 amo_row amo.Maxu = 0b11100
 
--- the word spells the instruction: its fixed bits are the row's, and its fields are the instruction's
+-- the word spells the instruction: its fixed bits are the row's, and its fields are the
+-- instruction's
 abbrev pub Spells : ℕ → Instr → Type 0
 Spells word (Lui rd imm) = (opcode_at word ≡ 0b0110111) × (rd ≡ rd_at word) × (imm ≡ imm_u word)
 Spells word (Auipc rd imm) = (opcode_at word ≡ 0b0010111) × (rd ≡ rd_at word) × (imm ≡ imm_u word)
-Spells word (Jal rd offset) = (opcode_at word ≡ 0b1101111) × (rd ≡ rd_at word) × (offset ≡ imm_j word)
+Spells word (Jal rd offset) =
+    (opcode_at word ≡ 0b1101111) × (rd ≡ rd_at word) × (offset ≡ imm_j word)
 Spells word (Jalr rd rs1 offset) =
     (opcode_at word ≡ 0b1100111) × (funct3_at word ≡ 0b000)
     × (rd ≡ rd_at word) × (rs1 ≡ rs1_at word) × (offset ≡ imm_i word)
@@ -116,19 +127,23 @@ Spells word (Immediate op rd rs1 imm) =
     (opcode_at word ≡ 0b0010011) × (funct3_at word ≡ immediate_row op)
     × (rd ≡ rd_at word) × (rs1 ≡ rs1_at word) × (imm ≡ imm_i word)
 Spells word (Shift op rd rs1 amount) =
-    (opcode_at word ≡ 0b0010011) × (funct7_at word ≡ (shift_row op).0) × (funct3_at word ≡ (shift_row op).1)
+    (opcode_at word ≡ 0b0010011) × (funct7_at word ≡ (shift_row op).0)
+    × (funct3_at word ≡ (shift_row op).1)
     × (rd ≡ rd_at word) × (rs1 ≡ rs1_at word) × (amount ≡ rs2_at word)
 Spells word (Register op rd rs1 rs2) =
-    (opcode_at word ≡ 0b0110011) × (funct7_at word ≡ (register_row op).0) × (funct3_at word ≡ (register_row op).1)
+    (opcode_at word ≡ 0b0110011) × (funct7_at word ≡ (register_row op).0)
+    × (funct3_at word ≡ (register_row op).1)
     × (rd ≡ rd_at word) × (rs1 ≡ rs1_at word) × (rs2 ≡ rs2_at word)
 Spells word (MulDiv op rd rs1 rs2) =
     (opcode_at word ≡ 0b0110011) × (funct7_at word ≡ 0b0000001) × (funct3_at word ≡ muldiv_row op)
     × (rd ≡ rd_at word) × (rs1 ≡ rs1_at word) × (rs2 ≡ rs2_at word)
-Spells word Fence = (opcode_at word ≡ 0b0001111) × (funct3_at word ≡ 0b000)  -- the other fields are free
+Spells word Fence =
+    (opcode_at word ≡ 0b0001111) × (funct3_at word ≡ 0b000)  -- the other fields are free
 Spells word Ecall = word ≡ 0x00000073
 Spells word Ebreak = word ≡ 0x00100073
 Spells word (LoadReserved rd rs1 ordering) =
-    (opcode_at word ≡ 0b0101111) × (funct3_at word ≡ 0b010) × (funct5_at word ≡ 0b00010) × (rs2_at word ≡ 0)
+    (opcode_at word ≡ 0b0101111) × (funct3_at word ≡ 0b010) × (funct5_at word ≡ 0b00010)
+    × (rs2_at word ≡ 0)
     × (rd ≡ rd_at word) × (rs1 ≡ rs1_at word) × (ordering ≡ ordering_at word)
 Spells word (StoreConditional rd rs1 rs2 ordering) =
     (opcode_at word ≡ 0b0101111) × (funct3_at word ≡ 0b010) × (funct5_at word ≡ 0b00011)
@@ -150,28 +165,28 @@ abbrev pub IsUpper : ℕ → Type 0
 IsUpper imm = (imm < 2 ^ 32) × (imm % 2 ^ 12 ≡ 0)
 
 -- each field of the instruction fits in the bits that its form has for it
-abbrev pub InRange : Instr → Type 0
-InRange (Lui rd imm) = (rd < 32) × IsUpper imm
-InRange (Auipc rd imm) = (rd < 32) × IsUpper imm
-InRange (Jal rd offset) = (rd < 32) × IsDistance 21 offset
-InRange (Jalr rd rs1 offset) = (rd < 32) × (rs1 < 32) × IsSigned 12 offset
-InRange (Branch _ rs1 rs2 offset) = (rs1 < 32) × (rs2 < 32) × IsDistance 13 offset
-InRange (Load _ rd rs1 offset) = (rd < 32) × (rs1 < 32) × IsSigned 12 offset
-InRange (Store _ rs2 rs1 offset) = (rs2 < 32) × (rs1 < 32) × IsSigned 12 offset
-InRange (Immediate _ rd rs1 imm) = (rd < 32) × (rs1 < 32) × IsSigned 12 imm
-InRange (Shift _ rd rs1 amount) = (rd < 32) × (rs1 < 32) × (amount < 32)
-InRange (Register _ rd rs1 rs2) = (rd < 32) × (rs1 < 32) × (rs2 < 32)
-InRange (MulDiv _ rd rs1 rs2) = (rd < 32) × (rs1 < 32) × (rs2 < 32)
-InRange Fence = Unit {0}
-InRange Ecall = Unit {0}
-InRange Ebreak = Unit {0}
-InRange (LoadReserved rd rs1 _) = (rd < 32) × (rs1 < 32)
-InRange (StoreConditional rd rs1 rs2 _) = (rd < 32) × (rs1 < 32) × (rs2 < 32)
-InRange (Amo _ rd rs1 rs2 _) = (rd < 32) × (rs1 < 32) × (rs2 < 32)
+abbrev pub IsInstructionInRange : Instr → Type 0
+IsInstructionInRange (Lui rd imm) = (rd < 32) × IsUpper imm
+IsInstructionInRange (Auipc rd imm) = (rd < 32) × IsUpper imm
+IsInstructionInRange (Jal rd offset) = (rd < 32) × IsDistance 21 offset
+IsInstructionInRange (Jalr rd rs1 offset) = (rd < 32) × (rs1 < 32) × IsSigned 12 offset
+IsInstructionInRange (Branch _ rs1 rs2 offset) = (rs1 < 32) × (rs2 < 32) × IsDistance 13 offset
+IsInstructionInRange (Load _ rd rs1 offset) = (rd < 32) × (rs1 < 32) × IsSigned 12 offset
+IsInstructionInRange (Store _ rs2 rs1 offset) = (rs2 < 32) × (rs1 < 32) × IsSigned 12 offset
+IsInstructionInRange (Immediate _ rd rs1 imm) = (rd < 32) × (rs1 < 32) × IsSigned 12 imm
+IsInstructionInRange (Shift _ rd rs1 amount) = (rd < 32) × (rs1 < 32) × (amount < 32)
+IsInstructionInRange (Register _ rd rs1 rs2) = (rd < 32) × (rs1 < 32) × (rs2 < 32)
+IsInstructionInRange (MulDiv _ rd rs1 rs2) = (rd < 32) × (rs1 < 32) × (rs2 < 32)
+IsInstructionInRange Fence = Unit {0}
+IsInstructionInRange Ecall = Unit {0}
+IsInstructionInRange Ebreak = Unit {0}
+IsInstructionInRange (LoadReserved rd rs1 _) = (rd < 32) × (rs1 < 32)
+IsInstructionInRange (StoreConditional rd rs1 rs2 _) = (rd < 32) × (rs1 < 32) × (rs2 < 32)
+IsInstructionInRange (Amo _ rd rs1 rs2 _) = (rd < 32) × (rs1 < 32) × (rs2 < 32)
 
 -- the same of what is found at a pc
 abbrev pub OpInRange : Op → Type 0
-OpInRange (Known instr) = InRange instr
+OpInRange (Known instr) = IsInstructionInRange instr
 OpInRange Illegal = Unit {0}
 OpInRange NoWord = Unit {0}
 
@@ -179,4 +194,4 @@ OpInRange NoWord = Unit {0}
 pub record IsReading (word : ℕ) (result : Option Instr) : Type 0 where
   pub found : IfSome result (λ instr. Spells word instr)
   pub only : (instr : Instr) → Spells word instr → result ≡ Some instr
-  pub in_range : IfSome result InRange
+  pub in_range : IfSome result IsInstructionInRange

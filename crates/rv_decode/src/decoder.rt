@@ -2,7 +2,7 @@
 
 ghost use Rattle.std.specs.Prelude.{◌≡◌, IfSome};
 ghost use Rattle.rv_decode.specs.Fields.{opcode_at};
-ghost use Rattle.rv_decode.specs.Table.{Spells, InRange, IsReading};
+ghost use Rattle.rv_decode.specs.Table.{Spells, IsInstructionInRange, IsReading};
 ghost use Rattle.rv_decode.specs.Decode.{
   decoded,
   jalr_of,
@@ -163,7 +163,7 @@ pub fn decode(word: u32) -> Option<Instr>
     ensures value { result ≡ decoded word }
     ensures found { IfSome result (λ instr. Spells word instr) }
     ensures only { (instr : _) → Spells word instr → result ≡ Some instr }
-    ensures in_range { IfSome result InRange }
+    ensures in_range { IfSome result IsInstructionInRange }
 {
     match bits(word, 0, 7) {
         LUI => Some(Instr::Lui {

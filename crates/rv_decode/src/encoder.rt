@@ -16,7 +16,8 @@ ghost use Rattle.rv_decode.specs.Fields.{
   imm_u,
   imm_j,
 };
-ghost use Rattle.rv_decode.specs.Table.{Spells, InRange, IsSigned, IsDistance, IsUpper};
+ghost use Rattle.rv_decode.specs.Table.{Spells, IsInstructionInRange, IsSigned, IsDistance};
+ghost use Rattle.rv_decode.specs.Table.{IsUpper};
 
 use crate::fields::bits;
 use crate::instr::{Instr, Ordering, Reg};
@@ -164,7 +165,7 @@ fn format_atomic(funct5: u32, rd: Reg, rs1: Reg, rs2: Reg, ordering: Ordering) -
 
 /// A word that spells the instruction. FENCE's free fields are those of `fence iorw,iorw`.
 pub fn encode(instr: Instr) -> u32
-    requires { InRange instr }
+    requires { IsInstructionInRange instr }
     ensures spelled { Spells result instr }
     ensures fence { instr ≡ Instr.Fence → result ≡ 0x0FF0000F }
 {

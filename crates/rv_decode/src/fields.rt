@@ -1,4 +1,5 @@
-//! The fields of a word, and the numbers that its immediates spell (RISC-V Unprivileged ISA, chapter "RV32I").
+//! The fields of a word, and the numbers that its immediates spell (RISC-V Unprivileged ISA,
+//! chapter "RV32I").
 
 ghost use Rattle.std.specs.Prelude.{◌≡◌, ◌<◌, ◌≤◌, ◌*◌, ◌^◌, nat_lt, pos, ◌-ℤ◌, if◌then◌else◌};
 ghost use Rattle.rv_decode.specs.Fields.{

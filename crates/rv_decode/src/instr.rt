@@ -1,7 +1,5 @@
+pub use numbers::Reg;
 use rv_word::AmoKind;
-
-/// The number of a register, 0 to 31.
-pub type Reg = u8;
 
 /// The condition of a conditional branch.
 #[derive(Clone, Copy, Debug, PartialEq, Eq, Drop)]
@@ -79,7 +77,8 @@ pub enum MulDivOp {
     Remu,
 }
 
-/// The ordering bits of an atomic instruction. They are read, written and printed, and have no other effect here.
+/// The ordering bits of an atomic instruction. They are read, written and printed, and have no
+/// other effect here.
 #[derive(Clone, Copy, Debug, PartialEq, Eq, Drop)]
 pub struct Ordering {
     pub aq: bool,
@@ -88,8 +87,8 @@ pub struct Ordering {
 
 /// An instruction of RV32IMA (RISC-V Unprivileged ISA, chapters "RV32I", "M" and "A").
 ///
-/// Registers are 0 to 31. `offset` and `imm` of the I, S, B and J forms are signed; `imm` of the U form is the whole
-/// word, its low twelve bits 0; `amount` is 0 to 31.
+/// Registers are 0 to 31. `offset` and `imm` of the I, S, B and J forms are signed; `imm` of the U
+/// form is the whole word, its low twelve bits 0; `amount` is 0 to 31.
 #[derive(Clone, Copy, Debug, PartialEq, Eq, Drop)]
 pub enum Instr {
     Lui {

@@ -1,4 +1,5 @@
-//! The opcodes, bits 6 to 0 of a word (RISC-V Unprivileged ISA, chapter "RV32/64G Instruction Set Listings").
+//! The opcodes, bits 6 to 0 of a word (RISC-V Unprivileged ISA, chapter "RV32/64G Instruction Set
+//! Listings").
 
 pub(crate) const LUI: u32 = 0b0110111;
 

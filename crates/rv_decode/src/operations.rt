@@ -144,8 +144,10 @@ pub(crate) fn immediate_funct3(op: ImmediateOp) -> u32
 #[tactic(auto, unfolding(crate::specs::Decode::shift_op))]
 pub(crate) fn shift_operation(funct7: u32, funct3: u32) -> Option<ShiftOp>
     ensures value { result ≡ shift_op funct7 funct3 }
-    ensures found { IfSome result (λ op. (funct7 ≡ (shift_row op).0) × (funct3 ≡ (shift_row op).1)) }
-    ensures only { (op : _) → funct7 ≡ (shift_row op).0 → funct3 ≡ (shift_row op).1 → result ≡ Some op }
+    ensures found { IfSome result
+        (λ op. (funct7 ≡ (shift_row op).0) × (funct3 ≡ (shift_row op).1)) }
+    ensures only { (op : _) → funct7 ≡ (shift_row op).0 → funct3 ≡ (shift_row op).1
+        → result ≡ Some op }
 {
     Some(match (funct7, funct3) {
         (0b0000000, 0b001) => ShiftOp::Slli,
@@ -171,8 +173,10 @@ pub(crate) fn shift_functs(op: ShiftOp) -> (u32, u32)
 #[tactic(auto, unfolding(crate::specs::Decode::register_op))]
 pub(crate) fn register_operation(funct7: u32, funct3: u32) -> Option<RegisterOp>
     ensures value { result ≡ register_op funct7 funct3 }
-    ensures found { IfSome result (λ op. (funct7 ≡ (register_row op).0) × (funct3 ≡ (register_row op).1)) }
-    ensures only { (op : _) → funct7 ≡ (register_row op).0 → funct3 ≡ (register_row op).1 → result ≡ Some op }
+    ensures found { IfSome result
+        (λ op. (funct7 ≡ (register_row op).0) × (funct3 ≡ (register_row op).1)) }
+    ensures only { (op : _) → funct7 ≡ (register_row op).0 → funct3 ≡ (register_row op).1
+        → result ≡ Some op }
 {
     Some(match (funct7, funct3) {
         (0b0000000, 0b000) => RegisterOp::Add,

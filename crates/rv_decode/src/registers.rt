@@ -7,13 +7,13 @@ use crate::op::{Op, UnitKind};
 
 impl Instr {
     ghost use Rattle.rv_decode.specs.Registers.{rd_of, rs1_of, rs2_of, unit_of};
-    ghost use Rattle.rv_decode.specs.Table.{InRange};
+    ghost use Rattle.rv_decode.specs.Table.{IsInstructionInRange};
 
     /// The register that the instruction writes, x0 among them.
     #[tactic(auto, unfolding(crate::specs::Registers::rd_of))]
     pub fn rd(self) -> Option<Reg>
         ensures value { result ≡ rd_of self }
-        ensures below { InRange self → IfSome result (λ register. register < 32) }
+        ensures below { IsInstructionInRange self → IfSome result (λ register. register < 32) }
     {
         match self {
             Instr::Lui { rd, .. }
@@ -40,7 +40,7 @@ impl Instr {
     #[tactic(auto, unfolding(crate::specs::Registers::rs1_of))]
     pub fn rs1(self) -> Option<Reg>
         ensures value { result ≡ rs1_of self }
-        ensures below { InRange self → IfSome result (λ register. register < 32) }
+        ensures below { IsInstructionInRange self → IfSome result (λ register. register < 32) }
     {
         match self {
             Instr::Jalr { rs1, .. }
@@ -67,7 +67,7 @@ impl Instr {
     #[tactic(auto, unfolding(crate::specs::Registers::rs2_of))]
     pub fn rs2(self) -> Option<Reg>
         ensures value { result ≡ rs2_of self }
-        ensures below { InRange self → IfSome result (λ register. register < 32) }
+        ensures below { IsInstructionInRange self → IfSome result (λ register. register < 32) }
     {
         match self {
             Instr::Branch { rs2, .. }

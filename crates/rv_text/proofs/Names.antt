@@ -1,41 +1,40 @@
 -- No two rows have the same name: a search of the rows by name finds each row by its own.
-use Rattle.std.proofs.Common.{◌≡◌, ℕ, Bool, true, false, ◌==◌, if◌then◌else◌, List, [], ◌∷◌, ◌++◌, length, Option, Some, None, refl, sym, ap, ◌∙◌, arith}
-use Rattle.std.specs.Prelude.{IfSome, IfNone}
-use Rattle.std.specs.List.{flat_map, position_or_len}
-use Rattle.std.specs.Str.{bytes_eq}
+use Rattle.std.proofs.Common.{◌≡◌, ℕ, Bool, true, false, ◌==◌, if◌then◌else◌, List, [], ◌∷◌, ◌++◌, length, Option, Some}
+use Rattle.std.proofs.Common.{None, refl, sym, ap, ◌∙◌, arith}
+use Rattle.std.specs.{Prelude.IfSome, Prelude.IfNone, List.flat_map, List.position_or_len, Str.bytes_eq}
 use Rattle.std.proofs.lemmas.List.{length-append}
 use Rattle.rv_word.specs.declared.amo_kind.AmoKind.{AmoKind}
 use Rattle.rv_word.specs.declared.amo_kind.AmoKind.TheVariants as kinds
-use Rattle.rv_decode.specs.declared.instr.BranchOp.{BranchOp}
+use Rattle.rv_decode.specs.{declared.instr.BranchOp.BranchOp, declared.instr.LoadOp.LoadOp}
+use Rattle.rv_decode.specs.{declared.instr.StoreOp.StoreOp, declared.instr.StoreOp.TheVariants.Sb}
+use Rattle.rv_decode.specs.{declared.instr.StoreOp.TheVariants.Sh, declared.instr.StoreOp.TheVariants.Sw}
+use Rattle.rv_decode.specs.{declared.instr.ImmediateOp.ImmediateOp, declared.instr.ShiftOp.ShiftOp}
+use Rattle.rv_decode.specs.{declared.instr.ShiftOp.TheVariants.Slli, declared.instr.ShiftOp.TheVariants.Srli}
+use Rattle.rv_decode.specs.{declared.instr.ShiftOp.TheVariants.Srai, declared.instr.RegisterOp.RegisterOp}
+use Rattle.rv_decode.specs.{declared.instr.MulDivOp.MulDivOp, declared.instr.Ordering.Ordering}
 use Rattle.rv_decode.specs.declared.instr.BranchOp.TheVariants.{Beq, Bne, Blt, Bge, Bltu, Bgeu}
-use Rattle.rv_decode.specs.declared.instr.LoadOp.{LoadOp}
 use Rattle.rv_decode.specs.declared.instr.LoadOp.TheVariants.{Lb, Lh, Lw, Lbu, Lhu}
-use Rattle.rv_decode.specs.declared.instr.StoreOp.{StoreOp}
-use Rattle.rv_decode.specs.declared.instr.StoreOp.TheVariants.{Sb, Sh, Sw}
-use Rattle.rv_decode.specs.declared.instr.ImmediateOp.{ImmediateOp}
 use Rattle.rv_decode.specs.declared.instr.ImmediateOp.TheVariants.{Addi, Slti, Sltiu, Xori, Ori, Andi}
-use Rattle.rv_decode.specs.declared.instr.ShiftOp.{ShiftOp}
-use Rattle.rv_decode.specs.declared.instr.ShiftOp.TheVariants.{Slli, Srli, Srai}
-use Rattle.rv_decode.specs.declared.instr.RegisterOp.{RegisterOp}
 use Rattle.rv_decode.specs.declared.instr.RegisterOp.TheVariants.{Add, Sub, Sll, Slt, Sltu, Xor, Srl, Sra, Or, And}
-use Rattle.rv_decode.specs.declared.instr.MulDivOp.{MulDivOp}
 use Rattle.rv_decode.specs.declared.instr.MulDivOp.TheVariants.{Mul, Mulh, Mulhsu, Mulhu, Div, Divu, Rem, Remu}
-use Rattle.rv_decode.specs.declared.instr.Ordering.{Ordering}
-use Rattle.rv_text.specs.declared.mnemonic.Mnemonic.{Mnemonic}
-use Rattle.rv_text.specs.declared.mnemonic.Mnemonic.TheVariants.{Lui, Auipc, Jal, Jalr, Branch, Load, Store, Immediate, Shift, Register, MulDiv, Fence, Ecall, Ebreak, Atomic}
-use Rattle.rv_text.specs.declared.mnemonic.AtomicOp.{AtomicOp}
-use Rattle.rv_text.specs.declared.mnemonic.AtomicOp.TheVariants.{LoadReserved, StoreConditional, Amo}
-use Rattle.rv_text.specs.Mnemonic.{name_of, atomic_name, ordering_name, IsPlain}
+use Rattle.rv_text.specs.{declared.mnemonic.Mnemonic.Mnemonic, declared.mnemonic.AtomicOp.AtomicOp}
+use Rattle.rv_text.specs.{declared.mnemonic.AtomicOp.TheVariants.LoadReserved}
+use Rattle.rv_text.specs.{declared.mnemonic.AtomicOp.TheVariants.StoreConditional}
+use Rattle.rv_text.specs.{declared.mnemonic.AtomicOp.TheVariants.Amo}
+use Rattle.rv_text.specs.declared.mnemonic.Mnemonic.TheVariants.{Lui, Auipc, Jal, Jalr, Branch, Load, Store, Immediate}
+use Rattle.rv_text.specs.declared.mnemonic.Mnemonic.TheVariants.{Shift, Register, MulDiv, Fence, Ecall, Ebreak, Atomic}
+use Rattle.rv_text.specs.Mnemonic.{mnemonic_name, atomic_name, ordering_name, IsPlain}
 
 first_named : List ℕ → List Mnemonic → Option Mnemonic
 first_named text [] = None
-first_named text (m ∷ ms) = if bytes_eq (name_of m) text then Some m else first_named text ms
+first_named text (m ∷ ms) = if bytes_eq (mnemonic_name m) text then Some m else first_named text ms
 
 ordering_of : Bool → Bool → Ordering
 ordering_of a r = record { aq = a; rl = r }
 
 atomics : List AtomicOp
-atomics = LoadReserved ∷ StoreConditional ∷ Amo kinds.Swap ∷ Amo kinds.Add ∷ Amo kinds.Xor ∷ Amo kinds.And ∷ Amo kinds.Or ∷ Amo kinds.Min ∷ Amo kinds.Max ∷ Amo kinds.Minu ∷ Amo kinds.Maxu ∷ []
+atomics = LoadReserved ∷ StoreConditional ∷ Amo kinds.Swap ∷ Amo kinds.Add ∷ Amo kinds.Xor ∷ Amo kinds.And
+    ∷ Amo kinds.Or ∷ Amo kinds.Min ∷ Amo kinds.Max ∷ Amo kinds.Minu ∷ Amo kinds.Maxu ∷ []
 
 rows : List Mnemonic
 rows = Lui ∷ Auipc ∷ Jal ∷ Jalr ∷ Fence ∷ Ecall ∷ Ebreak
@@ -44,67 +43,76 @@ rows = Lui ∷ Auipc ∷ Jal ∷ Jalr ∷ Fence ∷ Ecall ∷ Ebreak
     ∷ Store Sb ∷ Store Sh ∷ Store Sw
     ∷ Immediate Addi ∷ Immediate Slti ∷ Immediate Sltiu ∷ Immediate Xori ∷ Immediate Ori ∷ Immediate Andi
     ∷ Shift Slli ∷ Shift Srli ∷ Shift Srai
-    ∷ Register Add ∷ Register Sub ∷ Register Sll ∷ Register Slt ∷ Register Sltu ∷ Register Xor ∷ Register Srl ∷ Register Sra ∷ Register Or ∷ Register And
+    ∷ Register Add ∷ Register Sub ∷ Register Sll ∷ Register Slt ∷ Register Sltu ∷ Register Xor ∷ Register Srl
+    ∷ Register Sra ∷ Register Or ∷ Register And
     ∷ MulDiv Mul ∷ MulDiv Mulh ∷ MulDiv Mulhsu ∷ MulDiv Mulhu ∷ MulDiv Div ∷ MulDiv Divu ∷ MulDiv Rem ∷ MulDiv Remu
     ∷ flat_map (λ op. Atomic op (ordering_of false false) ∷ Atomic op (ordering_of true false)
     ∷ Atomic op (ordering_of false true) ∷ Atomic op (ordering_of true true) ∷ []) atomics
 
-found_branch : (op : BranchOp) → first_named (name_of (Branch op)) rows ≡ Some (Branch op)
+found_branch : (op : BranchOp) → first_named (mnemonic_name (Branch op)) rows ≡ Some (Branch op)
 unfolding first_named rows
 found_branch Beq = refl
 found_branch _ = refl
 
-found_load : (op : LoadOp) → first_named (name_of (Load op)) rows ≡ Some (Load op)
+found_load : (op : LoadOp) → first_named (mnemonic_name (Load op)) rows ≡ Some (Load op)
 unfolding first_named rows
 found_load Lb = refl
 found_load _ = refl
 
-found_store : (op : StoreOp) → first_named (name_of (Store op)) rows ≡ Some (Store op)
+found_store : (op : StoreOp) → first_named (mnemonic_name (Store op)) rows ≡ Some (Store op)
 unfolding first_named rows
 found_store Sb = refl
 found_store _ = refl
 
-found_immediate : (op : ImmediateOp) → first_named (name_of (Immediate op)) rows ≡ Some (Immediate op)
+found_immediate : (op : ImmediateOp) → first_named (mnemonic_name (Immediate op)) rows ≡ Some (Immediate op)
 unfolding first_named rows
 found_immediate Addi = refl
 found_immediate _ = refl
 
-found_shift : (op : ShiftOp) → first_named (name_of (Shift op)) rows ≡ Some (Shift op)
+found_shift : (op : ShiftOp) → first_named (mnemonic_name (Shift op)) rows ≡ Some (Shift op)
 unfolding first_named rows
 found_shift Slli = refl
 found_shift _ = refl
 
-found_register : (op : RegisterOp) → first_named (name_of (Register op)) rows ≡ Some (Register op)
+found_register : (op : RegisterOp) → first_named (mnemonic_name (Register op)) rows ≡ Some (Register op)
 unfolding first_named rows
 found_register Add = refl
 found_register _ = refl
 
-found_mul_div : (op : MulDivOp) → first_named (name_of (MulDiv op)) rows ≡ Some (MulDiv op)
+found_mul_div : (op : MulDivOp) → first_named (mnemonic_name (MulDiv op)) rows ≡ Some (MulDiv op)
 unfolding first_named rows
 found_mul_div Mul = refl
 found_mul_div _ = refl
 
-found_amo_plain_plain : (kind : AmoKind) → first_named (name_of (Atomic (Amo kind) (ordering_of false false))) rows ≡ Some (Atomic (Amo kind) (ordering_of false false))
+found_amo_plain_plain : (kind : AmoKind)
+    → first_named (mnemonic_name (Atomic (Amo kind) (ordering_of false false))) rows
+    ≡ Some (Atomic (Amo kind) (ordering_of false false))
 unfolding first_named rows atomics ordering_of
 found_amo_plain_plain kinds.Swap = refl
 found_amo_plain_plain _ = refl
 
-found_amo_plain_rl : (kind : AmoKind) → first_named (name_of (Atomic (Amo kind) (ordering_of false true))) rows ≡ Some (Atomic (Amo kind) (ordering_of false true))
+found_amo_plain_rl : (kind : AmoKind)
+    → first_named (mnemonic_name (Atomic (Amo kind) (ordering_of false true))) rows
+    ≡ Some (Atomic (Amo kind) (ordering_of false true))
 unfolding first_named rows atomics ordering_of
 found_amo_plain_rl kinds.Swap = refl
 found_amo_plain_rl _ = refl
 
-found_amo_aq_plain : (kind : AmoKind) → first_named (name_of (Atomic (Amo kind) (ordering_of true false))) rows ≡ Some (Atomic (Amo kind) (ordering_of true false))
+found_amo_aq_plain : (kind : AmoKind)
+    → first_named (mnemonic_name (Atomic (Amo kind) (ordering_of true false))) rows
+    ≡ Some (Atomic (Amo kind) (ordering_of true false))
 unfolding first_named rows atomics ordering_of
 found_amo_aq_plain kinds.Swap = refl
 found_amo_aq_plain _ = refl
 
-found_amo_aq_rl : (kind : AmoKind) → first_named (name_of (Atomic (Amo kind) (ordering_of true true))) rows ≡ Some (Atomic (Amo kind) (ordering_of true true))
+found_amo_aq_rl : (kind : AmoKind) → first_named (mnemonic_name (Atomic (Amo kind) (ordering_of true true))) rows
+    ≡ Some (Atomic (Amo kind) (ordering_of true true))
 unfolding first_named rows atomics ordering_of
 found_amo_aq_rl kinds.Swap = refl
 found_amo_aq_rl _ = refl
 
-found_atomic : (op : AtomicOp) (a r : Bool) → first_named (name_of (Atomic op (ordering_of a r))) rows ≡ Some (Atomic op (ordering_of a r))
+found_atomic : (op : AtomicOp) (a r : Bool)
+    → first_named (mnemonic_name (Atomic op (ordering_of a r))) rows ≡ Some (Atomic op (ordering_of a r))
 unfolding first_named rows atomics ordering_of
 found_atomic (Amo kind) false false = found_amo_plain_plain kind
 found_atomic (Amo kind) false true = found_amo_plain_rl kind
@@ -119,7 +127,7 @@ found_atomic _ false true = refl
 found_atomic _ true false = refl
 found_atomic _ true true = refl
 
-found : (m : Mnemonic) → first_named (name_of m) rows ≡ Some m
+found : (m : Mnemonic) → first_named (mnemonic_name m) rows ≡ Some m
 unfolding first_named rows
 found (Branch op) = found_branch op
 found (Load op) = found_load op
@@ -131,30 +139,41 @@ found (MulDiv op) = found_mul_div op
 found (Atomic op ordering) = unfold ordering_of in found_atomic op ordering.aq ordering.rl
 found _ = refl
 
-pub name_of-injective : (m n : Mnemonic) → name_of m ≡ name_of n → m ≡ n
+pub name_of-injective : (m n : Mnemonic) → mnemonic_name m ≡ mnemonic_name n → m ≡ n
 name_of-injective m n e =
     let both : Some m ≡ Some n = sym (found m) ∙ ap (λ text. first_named text rows) e ∙ found n in
     cc
 
 -- the row that a text was found to name is the only one
-pub only_named : (text : List ℕ) (m : Mnemonic) → text ≡ name_of m → (n : Mnemonic) → text ≡ name_of n → Some m ≡ Some n
+pub only_named : (text : List ℕ) (m : Mnemonic) → text ≡ mnemonic_name m → (n : Mnemonic) → text ≡ mnemonic_name n
+    → Some m ≡ Some n
 only_named text m is n e = ap Some (name_of-injective m n (sym is ∙ e))
 
 -- the name of an atomic is what stands before the dot
-dot_place : (op : AtomicOp) (rest : List ℕ) → position_or_len (λ b. b == 46) (atomic_name op ++ 46 ∷ rest) ≡ length (atomic_name op)
+dot_place : (op : AtomicOp) (rest : List ℕ)
+    → position_or_len (λ b. b == 46) (atomic_name op ++ 46 ∷ rest) ≡ length (atomic_name op)
 dot_place (Amo kinds.Swap) rest = refl
 dot_place (Amo _) rest = refl
 dot_place _ rest = refl
 
-plain_from_no_dot : (m : Mnemonic) (text : List ℕ) → position_or_len (λ b. b == 46) text ≡ length text → text ≡ name_of m → IsPlain m
+plain_from_no_dot : (m : Mnemonic) (text : List ℕ) → position_or_len (λ b. b == 46) text ≡ length text
+    → text ≡ mnemonic_name m → IsPlain m
 plain_from_no_dot (Atomic op ordering) text none e =
-    let whole : position_or_len (λ b. b == 46) (name_of (Atomic op ordering)) ≡ length (name_of (Atomic op ordering)) = rw (← e) none in
-    absurd (omega (arith, whole, dot_place op (ordering_name ordering), length-append (atomic_name op) (46 ∷ ordering_name ordering)))
+    let whole : position_or_len (λ b. b == 46) (mnemonic_name (Atomic op ordering))
+    ≡ length (mnemonic_name (Atomic op ordering)) = rw (← e) none in
+    absurd
+    (omega (
+      arith,
+      whole,
+      dot_place op (ordering_name ordering),
+      length-append (atomic_name op) (46 ∷ ordering_name ordering),
+    ))
 plain_from_no_dot _ text none e = tt
 
 -- what a search of the rows without a dot gives, where the text has none
-pub only_plain : (text : List ℕ) (r : Option Mnemonic) → IfSome r (λ m. (text ≡ name_of m) × IsPlain m) →
-    IfNone r ((m : Mnemonic) → IsPlain m → text ≡ name_of m → ⊥) → position_or_len (λ b. b == 46) text ≡ length text →
-    (m : Mnemonic) → text ≡ name_of m → r ≡ Some m
+pub only_plain : (text : List ℕ) (r : Option Mnemonic) → IfSome r (λ m. (text ≡ mnemonic_name m) × IsPlain m) →
+    IfNone r ((m : Mnemonic) → IsPlain m → text ≡ mnemonic_name m → ⊥)
+    → position_or_len (λ b. b == 46) text ≡ length text →
+    (m : Mnemonic) → text ≡ mnemonic_name m → r ≡ Some m
 only_plain text (Some m) is none place n e = only_named text m is.0 n e
 only_plain text None is none place n e = absurd (none n (plain_from_no_dot n text place e) e)

@@ -1,29 +1,22 @@
 -- The whole text: where its name ends, and the two laws of reading.
-use Rattle.std.proofs.Common.{◌≡◌, ℕ, ◌+◌, ◌^◌, ◌<◌, Bool, true, false, not, ◌==◌, List, [], ◌∷◌, ◌++◌, length, Result, Ok, Err, refl, sym, ◌∙◌, ap, arith}
-use Rattle.std.specs.Prelude.{IfOk}
-use Rattle.std.specs.List.{prefix_len, list_all}
-use Rattle.std.proofs.lemmas.Bool.{and_parts}
-use Rattle.std.proofs.lemmas.List.{take_at, drop_at, take-append-drop}
+use Rattle.std.proofs.Common.{◌≡◌, ℕ, ◌+◌, ◌^◌, ◌<◌, Bool, true, false, not, ◌==◌, List, [], ◌∷◌, ◌++◌, length, Result}
+use Rattle.std.proofs.Common.{Ok, Err, refl, sym, ◌∙◌, ap, arith}
+use Rattle.std.specs.{Prelude.IfOk, List.prefix_len, List.list_all}
+use Rattle.std.proofs.{lemmas.Bool.and_parts, lemmas.List.take_at, lemmas.List.drop_at, lemmas.List.take-append-drop}
 use Rattle.rv_word.specs.declared.amo_kind.AmoKind.TheVariants as kinds
-use Rattle.rv_decode.specs.declared.instr.BranchOp.TheVariants.{Beq}
-use Rattle.rv_decode.specs.declared.instr.LoadOp.TheVariants.{Lb}
-use Rattle.rv_decode.specs.declared.instr.StoreOp.TheVariants.{Sb}
-use Rattle.rv_decode.specs.declared.instr.ImmediateOp.TheVariants.{Addi}
-use Rattle.rv_decode.specs.declared.instr.ShiftOp.TheVariants.{Slli}
-use Rattle.rv_decode.specs.declared.instr.RegisterOp.TheVariants.{Add}
-use Rattle.rv_decode.specs.declared.instr.MulDivOp.TheVariants.{Mul}
-use Rattle.rv_decode.specs.declared.instr.Instr.{Instr}
+use Rattle.rv_decode.specs.{declared.instr.BranchOp.TheVariants.Beq, declared.instr.LoadOp.TheVariants.Lb}
+use Rattle.rv_decode.specs.{declared.instr.StoreOp.TheVariants.Sb, declared.instr.ImmediateOp.TheVariants.Addi}
+use Rattle.rv_decode.specs.{declared.instr.ShiftOp.TheVariants.Slli, declared.instr.RegisterOp.TheVariants.Add}
+use Rattle.rv_decode.specs.{declared.instr.MulDivOp.TheVariants.Mul, declared.instr.Instr.Instr}
 use Rattle.rv_decode.specs.declared.instr.Instr.TheVariants as instr
-use Rattle.rv_text.specs.declared.refused.TextRefused.{TextRefused}
-use Rattle.rv_text.specs.declared.mnemonic.Mnemonic.{Mnemonic}
-use Rattle.rv_text.specs.declared.mnemonic.Mnemonic.TheVariants.{Branch, Load, Store, Immediate, Shift, Register, MulDiv, Atomic}
-use Rattle.rv_text.specs.declared.mnemonic.AtomicOp.{AtomicOp}
-use Rattle.rv_text.specs.declared.mnemonic.AtomicOp.TheVariants.{Amo}
-use Rattle.rv_text.specs.Mnemonic.{name_of, atomic_name, width_and_bits}
+use Rattle.rv_text.specs.{declared.refused.TextRefused.TextRefused, declared.mnemonic.Mnemonic.Mnemonic}
+use Rattle.rv_text.specs.{declared.mnemonic.AtomicOp.AtomicOp, declared.mnemonic.AtomicOp.TheVariants.Amo}
+use Rattle.rv_text.specs.{Mnemonic.mnemonic_name, Mnemonic.atomic_name, Mnemonic.width_and_bits, Reading.name_in}
+use Rattle.rv_text.specs.{Reading.behind_name, Reading.instr_at}
+use Rattle.rv_text.specs.declared.mnemonic.Mnemonic.TheVariants.{Branch, Load, Store, Immediate, Shift, Register}
+use Rattle.rv_text.specs.declared.mnemonic.Mnemonic.TheVariants.{MulDiv, Atomic}
 use Rattle.rv_text.specs.Spelling.{mnemonic_of, register_text, operands_of, spelling_of, Says}
-use Rattle.rv_text.specs.Reading.{name_in, behind_name, instr_at}
-use Rattle.rv_text.proofs.InstrLaws.{instr_takes, instr_again}
-use Rattle.rv_text.proofs.Names.{name_of-injective}
+use Rattle.rv_text.proofs.{InstrLaws.instr_takes, InstrLaws.instr_again, Names.name_of-injective}
 
 -- ---- no name has a space, and operands begin with one
 
@@ -44,7 +37,7 @@ spaceless_atomic (Amo kinds.Swap) a r = spaceless_bits a r
 spaceless_atomic (Amo _) a r = spaceless_bits a r
 spaceless_atomic _ a r = spaceless_bits a r
 
-spaceless : (m : Mnemonic) → IsSpaceless (name_of m)
+spaceless : (m : Mnemonic) → IsSpaceless (mnemonic_name m)
 spaceless (Branch Beq) = refl
 spaceless (Branch _) = refl
 spaceless (Load Lb) = refl
@@ -67,40 +60,44 @@ unfolding register_text
 operands_apart pc instr.Fence = refl
 operands_apart pc _ = refl
 
-prefix_len-append : (p : ℕ → Bool) (front rest : List ℕ) → list_all p front ≡ true → prefix_len p rest ≡ 0 → prefix_len p (front ++ rest) ≡ length front
+prefix_len-append : (p : ℕ → Bool) (front rest : List ℕ) → list_all p front ≡ true → prefix_len p rest ≡ 0
+    → prefix_len p (front ++ rest) ≡ length front
 prefix_len-append p [] rest all none = none
 prefix_len-append p (c ∷ cs) rest all none =
     let parts = and_parts (p c) (list_all p cs) all in
     rw (parts.0) (ap (λ n. 1 + n) (prefix_len-append p cs rest parts.1 none) ∙ omega arith)
 
-place : (pc : ℕ) (i : Instr) → prefix_len is_no_space (spelling_of i pc) ≡ length (name_of (mnemonic_of i))
-place pc i = prefix_len-append is_no_space (name_of (mnemonic_of i)) (operands_of i pc) (spaceless (mnemonic_of i)) (operands_apart pc i)
+place : (pc : ℕ) (i : Instr) → prefix_len is_no_space (spelling_of i pc) ≡ length (mnemonic_name (mnemonic_of i))
+place pc i = prefix_len-append is_no_space (mnemonic_name (mnemonic_of i)) (operands_of i pc)
+    (spaceless (mnemonic_of i)) (operands_apart pc i)
 
-name_in-spelling : (pc : ℕ) (i : Instr) → name_in (spelling_of i pc) ≡ name_of (mnemonic_of i)
-name_in-spelling pc i = take_at (name_of (mnemonic_of i)) (operands_of i pc) _ (sym (place pc i))
+name_in-spelling : (pc : ℕ) (i : Instr) → name_in (spelling_of i pc) ≡ mnemonic_name (mnemonic_of i)
+name_in-spelling pc i = take_at (mnemonic_name (mnemonic_of i)) (operands_of i pc) _ (sym (place pc i))
 
 behind_name-spelling : (pc : ℕ) (i : Instr) → behind_name (spelling_of i pc) ≡ operands_of i pc
-behind_name-spelling pc i = drop_at (name_of (mnemonic_of i)) (operands_of i pc) _ (sym (place pc i))
+behind_name-spelling pc i = drop_at (mnemonic_name (mnemonic_of i)) (operands_of i pc) _ (sym (place pc i))
 
 -- ---- the two laws
 
 -- the name of the row, in the text of its instruction
-pub row_named : (pc : ℕ) (text : List ℕ) (i : Instr) → Says text i pc → name_in text ≡ name_of (mnemonic_of i)
+pub row_named : (pc : ℕ) (text : List ℕ) (i : Instr) → Says text i pc → name_in text ≡ mnemonic_name (mnemonic_of i)
 row_named pc text i says = ap name_in says.spelled ∙ name_in-spelling pc i
 
-pub read_is_said : (pc : ℕ) → pc < 2 ^ 32 → (text : List ℕ) (row : Mnemonic) (i : Instr) → name_in text ≡ name_of row
+pub read_is_said : (pc : ℕ) → pc < 2 ^ 32 → (text : List ℕ) (row : Mnemonic) (i : Instr)
+    → name_in text ≡ mnemonic_name row
     → instr_at pc row (behind_name text) ≡ Ok i → Says text i pc
 read_is_said pc here text row i named e =
     let read = instr_takes pc here row (behind_name text) i e in
     let whole : text ≡ name_in text ++ behind_name text = sym (take-append-drop (prefix_len is_no_space text) text) in
-    let parts : name_in text ++ behind_name text ≡ name_of row ++ operands_of i pc = rw (named, read.spelled) refl in
+    let parts : name_in text ++ behind_name text ≡ mnemonic_name row ++ operands_of i pc =
+    rw (named, read.spelled) refl in
     record {
       in_range = read.in_range;
       has_word = read.has_word;
-      spelled = whole ∙ parts ∙ ap (λ (m : Mnemonic). name_of m ++ operands_of i pc) (sym read.row);
+      spelled = whole ∙ parts ∙ ap (λ (m : Mnemonic). mnemonic_name m ++ operands_of i pc) (sym read.row);
     }
 
-pub said_is_read : (pc : ℕ) → pc < 2 ^ 32 → (text : List ℕ) (row : Mnemonic) → name_in text ≡ name_of row
+pub said_is_read : (pc : ℕ) → pc < 2 ^ 32 → (text : List ℕ) (row : Mnemonic) → name_in text ≡ mnemonic_name row
     → (i : Instr) → Says text i pc → instr_at pc row (behind_name text) ≡ Ok i
 said_is_read pc here text row named i says =
     let same : row ≡ mnemonic_of i = name_of-injective row (mnemonic_of i) (sym named ∙ row_named pc text i says) in
@@ -108,7 +105,8 @@ said_is_read pc here text row named i says =
     rw (same, text_after) (instr_again pc here i says.in_range says.has_word)
 
 -- the same of a result
-pub result_is_said : (pc : ℕ) → pc < 2 ^ 32 → (text : List ℕ) (row : Mnemonic) (r : Result Instr TextRefused) → name_in text ≡ name_of row
+pub result_is_said : (pc : ℕ) → pc < 2 ^ 32 → (text : List ℕ) (row : Mnemonic) (r : Result Instr TextRefused)
+    → name_in text ≡ mnemonic_name row
     → r ≡ instr_at pc row (behind_name text) → IfOk r (λ i. Says text i pc)
 result_is_said pc here text row (Ok i) named e = read_is_said pc here text row i named (sym e)
 result_is_said pc here text row (Err error) named e = tt

@@ -1,27 +1,34 @@
--- The name of each row of the instruction table, in lower case (RISC-V Unprivileged ISA, chapter "RV32/64G Instruction Set
--- Listings").
+-- The name of each row of the instruction table, in lower case (RISC-V Unprivileged ISA, chapter
+-- "RV32/64G Instruction Set Listings").
 use Rattle.std.specs.Prelude.{ℕ, Bool, true, false, List, ◌∷◌, ◌++◌, codes}
 use Rattle.rv_word.specs.declared.amo_kind.AmoKind.{AmoKind}
 use Rattle.rv_word.specs.declared.amo_kind.AmoKind.TheVariants as kinds
-use Rattle.rv_decode.specs.declared.instr.BranchOp.{BranchOp}
+use Rattle.rv_decode.specs.{declared.instr.BranchOp.BranchOp, declared.instr.LoadOp.LoadOp}
+use Rattle.rv_decode.specs.{declared.instr.StoreOp.StoreOp, declared.instr.StoreOp.TheVariants.Sb}
+use Rattle.rv_decode.specs.{declared.instr.StoreOp.TheVariants.Sh}
+use Rattle.rv_decode.specs.{declared.instr.StoreOp.TheVariants.Sw}
+use Rattle.rv_decode.specs.{declared.instr.ImmediateOp.ImmediateOp, declared.instr.ShiftOp.ShiftOp}
+use Rattle.rv_decode.specs.{declared.instr.ShiftOp.TheVariants.Slli}
+use Rattle.rv_decode.specs.{declared.instr.ShiftOp.TheVariants.Srli}
+use Rattle.rv_decode.specs.{declared.instr.ShiftOp.TheVariants.Srai}
+use Rattle.rv_decode.specs.{declared.instr.RegisterOp.RegisterOp, declared.instr.MulDivOp.MulDivOp}
+use Rattle.rv_decode.specs.{declared.instr.Ordering.Ordering}
 use Rattle.rv_decode.specs.declared.instr.BranchOp.TheVariants.{Beq, Bne, Blt, Bge, Bltu, Bgeu}
-use Rattle.rv_decode.specs.declared.instr.LoadOp.{LoadOp}
 use Rattle.rv_decode.specs.declared.instr.LoadOp.TheVariants.{Lb, Lh, Lw, Lbu, Lhu}
-use Rattle.rv_decode.specs.declared.instr.StoreOp.{StoreOp}
-use Rattle.rv_decode.specs.declared.instr.StoreOp.TheVariants.{Sb, Sh, Sw}
-use Rattle.rv_decode.specs.declared.instr.ImmediateOp.{ImmediateOp}
-use Rattle.rv_decode.specs.declared.instr.ImmediateOp.TheVariants.{Addi, Slti, Sltiu, Xori, Ori, Andi}
-use Rattle.rv_decode.specs.declared.instr.ShiftOp.{ShiftOp}
-use Rattle.rv_decode.specs.declared.instr.ShiftOp.TheVariants.{Slli, Srli, Srai}
-use Rattle.rv_decode.specs.declared.instr.RegisterOp.{RegisterOp}
-use Rattle.rv_decode.specs.declared.instr.RegisterOp.TheVariants.{Add, Sub, Sll, Slt, Sltu, Xor, Srl, Sra, Or, And}
-use Rattle.rv_decode.specs.declared.instr.MulDivOp.{MulDivOp}
-use Rattle.rv_decode.specs.declared.instr.MulDivOp.TheVariants.{Mul, Mulh, Mulhsu, Mulhu, Div, Divu, Rem, Remu}
-use Rattle.rv_decode.specs.declared.instr.Ordering.{Ordering}
-use Rattle.rv_text.specs.declared.mnemonic.Mnemonic.{Mnemonic}
-use Rattle.rv_text.specs.declared.mnemonic.Mnemonic.TheVariants.{Lui, Auipc, Jal, Jalr, Branch, Load, Store, Immediate, Shift, Register, MulDiv, Fence, Ecall, Ebreak, Atomic}
-use Rattle.rv_text.specs.declared.mnemonic.AtomicOp.{AtomicOp}
-use Rattle.rv_text.specs.declared.mnemonic.AtomicOp.TheVariants.{LoadReserved, StoreConditional, Amo}
+use Rattle.rv_decode.specs.declared.instr.ImmediateOp.TheVariants.{Addi, Slti, Sltiu, Xori, Ori}
+use Rattle.rv_decode.specs.declared.instr.ImmediateOp.TheVariants.{Andi}
+use Rattle.rv_decode.specs.declared.instr.RegisterOp.TheVariants.{Add, Sub, Sll, Slt, Sltu, Xor}
+use Rattle.rv_decode.specs.declared.instr.RegisterOp.TheVariants.{Srl, Sra, Or, And}
+use Rattle.rv_decode.specs.declared.instr.MulDivOp.TheVariants.{Mul, Mulh, Mulhsu, Mulhu, Div, Divu}
+use Rattle.rv_decode.specs.declared.instr.MulDivOp.TheVariants.{Rem, Remu}
+use Rattle.rv_text.specs.{declared.mnemonic.Mnemonic.Mnemonic, declared.mnemonic.AtomicOp.AtomicOp}
+use Rattle.rv_text.specs.{declared.mnemonic.AtomicOp.TheVariants.LoadReserved}
+use Rattle.rv_text.specs.{declared.mnemonic.AtomicOp.TheVariants.StoreConditional}
+use Rattle.rv_text.specs.{declared.mnemonic.AtomicOp.TheVariants.Amo}
+use Rattle.rv_text.specs.declared.mnemonic.Mnemonic.TheVariants.{Lui, Auipc, Jal, Jalr, Branch}
+use Rattle.rv_text.specs.declared.mnemonic.Mnemonic.TheVariants.{Load, Store, Immediate, Shift}
+use Rattle.rv_text.specs.declared.mnemonic.Mnemonic.TheVariants.{Register, MulDiv, Fence, Ecall}
+use Rattle.rv_text.specs.declared.mnemonic.Mnemonic.TheVariants.{Ebreak, Atomic}
 
 abbrev pub branch_name : BranchOp → List ℕ
 branch_name Beq = codes "beq"
@@ -104,22 +111,22 @@ width_and_bits true true = codes "w.aqrl"
 abbrev pub ordering_name : Ordering → List ℕ
 ordering_name ordering = width_and_bits ordering.aq ordering.rl
 
-abbrev pub name_of : Mnemonic → List ℕ
-name_of Lui = codes "lui"
-name_of Auipc = codes "auipc"
-name_of Jal = codes "jal"
-name_of Jalr = codes "jalr"
-name_of (Branch op) = branch_name op
-name_of (Load op) = load_name op
-name_of (Store op) = store_name op
-name_of (Immediate op) = immediate_name op
-name_of (Shift op) = shift_name op
-name_of (Register op) = register_name op
-name_of (MulDiv op) = mul_div_name op
-name_of Fence = codes "fence"
-name_of Ecall = codes "ecall"
-name_of Ebreak = codes "ebreak"
-name_of (Atomic op ordering) = atomic_name op ++ 46 ∷ ordering_name ordering  -- 46 is '.'
+abbrev pub mnemonic_name : Mnemonic → List ℕ
+mnemonic_name Lui = codes "lui"
+mnemonic_name Auipc = codes "auipc"
+mnemonic_name Jal = codes "jal"
+mnemonic_name Jalr = codes "jalr"
+mnemonic_name (Branch op) = branch_name op
+mnemonic_name (Load op) = load_name op
+mnemonic_name (Store op) = store_name op
+mnemonic_name (Immediate op) = immediate_name op
+mnemonic_name (Shift op) = shift_name op
+mnemonic_name (Register op) = register_name op
+mnemonic_name (MulDiv op) = mul_div_name op
+mnemonic_name Fence = codes "fence"
+mnemonic_name Ecall = codes "ecall"
+mnemonic_name Ebreak = codes "ebreak"
+mnemonic_name (Atomic op ordering) = atomic_name op ++ 46 ∷ ordering_name ordering  -- 46 is '.'
 
 -- no atomic
 abbrev pub IsPlain : Mnemonic → Type 0

@@ -1,25 +1,31 @@
--- Reading the operands of a row from left to right, with the first refusal that is met. A number is read as far as its
--- digits go.
-use Rattle.std.specs.Prelude.{◌≡◌, ℕ, suc, ◌+◌, ◌*◌, ◌%◌, ◌^◌, Bool, not, ◌&&◌, nat_lt, ◌==◌, if◌then◌else◌, ℤ, pos, negsuc, List, [], length, take, drop, slice_index, codes, unwrap_or, position, Result, Ok, Err}
-use Rattle.std.specs.Char.{is_ascii_digit, is_ascii_hexdigit}
-use Rattle.std.specs.List.{position_or_len}
-use Rattle.std.specs.Str.{bytes_eq}
+-- Reading the operands of a row from left to right, with the first refusal that is met. A number is
+-- read as far as its digits go.
+use Rattle.std.specs.Prelude.{◌≡◌, ℕ, suc, ◌+◌, ◌*◌, ◌%◌, ◌^◌, Bool, not, ◌&&◌, nat_lt, ◌==◌}
+use Rattle.std.specs.Prelude.{if◌then◌else◌, ℤ, pos, negsuc, List, [], length, take, drop}
+use Rattle.std.specs.Prelude.{slice_index, codes, unwrap_or, position, Result, Ok, Err}
+use Rattle.std.specs.{Char.is_ascii_digit, Char.is_ascii_hexdigit, List.position_or_len}
+use Rattle.std.specs.{Str.bytes_eq}
 use Rattle.rv_word.specs.Word.{signed, difference_of}
-use Rattle.rv_decode.specs.declared.instr.Instr.{Instr}
+use Rattle.rv_decode.specs.{declared.instr.Instr.Instr, declared.instr.Ordering.Ordering}
 use Rattle.rv_decode.specs.declared.instr.Instr.TheVariants as instr
-use Rattle.rv_decode.specs.declared.instr.Ordering.{Ordering}
-use Rattle.text_fields.specs.declared.read.FieldError.{FieldError}
+use Rattle.text_fields.specs.{declared.read.FieldError.FieldError, Reading.decimal_field}
+use Rattle.text_fields.specs.{Reading.signed_field, Reading.hex_field}
 use Rattle.text_fields.specs.declared.read.FieldError.TheVariants as fields
-use Rattle.text_fields.specs.Reading.{decimal_field, signed_field, hex_field}
-use Rattle.rv_text.specs.declared.refused.TextRefused.{TextRefused}
-use Rattle.rv_text.specs.declared.refused.TextRefused.TheVariants.{UnknownName, WrongOperand, OutOfRange, TrailingText}
-use Rattle.rv_text.specs.declared.mnemonic.Mnemonic.{Mnemonic}
-use Rattle.rv_text.specs.declared.mnemonic.Mnemonic.TheVariants.{Lui, Auipc, Jal, Jalr, Branch, Load, Store, Immediate, Shift, Register, MulDiv, Fence, Ecall, Ebreak, Atomic}
-use Rattle.rv_text.specs.declared.mnemonic.AtomicOp.{AtomicOp}
-use Rattle.rv_text.specs.declared.mnemonic.AtomicOp.TheVariants.{LoadReserved, StoreConditional, Amo}
+use Rattle.rv_text.specs.{declared.refused.TextRefused.TextRefused}
+use Rattle.rv_text.specs.{declared.mnemonic.Mnemonic.Mnemonic, declared.mnemonic.AtomicOp.AtomicOp}
+use Rattle.rv_text.specs.{declared.mnemonic.AtomicOp.TheVariants.LoadReserved}
+use Rattle.rv_text.specs.{declared.mnemonic.AtomicOp.TheVariants.StoreConditional}
+use Rattle.rv_text.specs.{declared.mnemonic.AtomicOp.TheVariants.Amo}
+use Rattle.rv_text.specs.declared.refused.TextRefused.TheVariants.{UnknownName, WrongOperand}
+use Rattle.rv_text.specs.declared.refused.TextRefused.TheVariants.{OutOfRange, TrailingText}
+use Rattle.rv_text.specs.declared.mnemonic.Mnemonic.TheVariants.{Lui, Auipc, Jal, Jalr, Branch}
+use Rattle.rv_text.specs.declared.mnemonic.Mnemonic.TheVariants.{Load, Store, Immediate, Shift}
+use Rattle.rv_text.specs.declared.mnemonic.Mnemonic.TheVariants.{Register, MulDiv, Fence, Ecall}
+use Rattle.rv_text.specs.declared.mnemonic.Mnemonic.TheVariants.{Ebreak, Atomic}
 
 infixl 10 ◌>>=◌
-abbrev pub ◌>>=◌ : {A B : Type 0} → Result A TextRefused → (A → Result B TextRefused) → Result B TextRefused
+abbrev pub ◌>>=◌ : {A B : Type 0} → Result A TextRefused → (A → Result B TextRefused)
+    → Result B TextRefused
 (Ok x) >>= f = f x
 (Err e) >>= f = Err e
 
@@ -65,7 +71,8 @@ hex_digit_count text = unwrap_or (position (λ c. not (is_ascii_hexdigit c)) tex
 -- these characters, and the text behind them
 unfoldable pub text_after : List ℕ → List ℕ → Result (List ℕ) TextRefused
 text_after before text =
-    if bytes_eq (take (length before) text) before then Ok (drop (length before) text) else Err WrongOperand
+    if bytes_eq (take (length before) text) before then Ok (drop (length before) text)
+    else Err WrongOperand
 
 unfoldable pub register_at : List ℕ → Field ℕ
 register_at before text = do
@@ -119,7 +126,8 @@ is_distance bound (negsuc n) = nat_lt n bound && suc n % 2 == 0
 unfoldable pub target_at : ℕ → ℕ → Field ℤ
 target_at bound pc text = do
   target ← hex_at 8 text
-  if is_distance bound (distance_of pc target.0) then Ok (distance_of pc target.0, target.1) else Err OutOfRange
+  if is_distance bound (distance_of pc target.0) then Ok (distance_of pc target.0, target.1)
+      else Err OutOfRange
 
 -- ---- the operands of a row
 
@@ -129,7 +137,8 @@ end_at suffix text = do
   rest ← text_after suffix text
   if length rest == 0 then Ok tt else Err TrailingText
 
-unfoldable pub two_fields : {A B : Type 0} → Field A → Field B → List ℕ → List ℕ → Result (A × B) TextRefused
+unfoldable pub two_fields : {A B : Type 0} → Field A → Field B → List ℕ → List ℕ
+    → Result (A × B) TextRefused
 two_fields f g suffix text = do
   a ← f text
   b ← g a.1
@@ -185,9 +194,12 @@ unfoldable pub atomic_operands : List ℕ → Result (ℕ × ℕ × ℕ) TextRef
 atomic_operands text = three_fields first_at next_at address_at (codes ")") text
 
 unfoldable pub atomic_at : AtomicOp → Ordering → List ℕ → Result Instr TextRefused
-atomic_at LoadReserved ordering text = load_reserved_operands text >>= λ x. Ok (instr.LoadReserved x.0 x.1 ordering)
-atomic_at StoreConditional ordering text = atomic_operands text >>= λ x. Ok (instr.StoreConditional x.0 x.2 x.1 ordering)
-atomic_at (Amo kind) ordering text = atomic_operands text >>= λ x. Ok (instr.Amo kind x.0 x.2 x.1 ordering)
+atomic_at LoadReserved ordering text =
+    load_reserved_operands text >>= λ x. Ok (instr.LoadReserved x.0 x.1 ordering)
+atomic_at StoreConditional ordering text =
+    atomic_operands text >>= λ x. Ok (instr.StoreConditional x.0 x.2 x.1 ordering)
+atomic_at (Amo kind) ordering text =
+    atomic_operands text >>= λ x. Ok (instr.Amo kind x.0 x.2 x.1 ordering)
 
 -- the instruction of a row that stands at pc and has these operands
 unfoldable pub instr_at : ℕ → Mnemonic → List ℕ → Result Instr TextRefused
@@ -198,7 +210,8 @@ instr_at pc Jalr text = memory_operands text >>= λ x. Ok (instr.Jalr x.0 x.2 x.
 instr_at pc (Branch op) text = branch_operands pc text >>= λ x. Ok (instr.Branch op x.0 x.1 x.2)
 instr_at pc (Load op) text = memory_operands text >>= λ x. Ok (instr.Load op x.0 x.2 x.1)
 instr_at pc (Store op) text = memory_operands text >>= λ x. Ok (instr.Store op x.0 x.2 x.1)
-instr_at pc (Immediate op) text = immediate_operands text >>= λ x. Ok (instr.Immediate op x.0 x.1 x.2)
+instr_at pc (Immediate op) text =
+    immediate_operands text >>= λ x. Ok (instr.Immediate op x.0 x.1 x.2)
 instr_at pc (Shift op) text = shift_operands text >>= λ x. Ok (instr.Shift op x.0 x.1 x.2)
 instr_at pc (Register op) text = register_operands text >>= λ x. Ok (instr.Register op x.0 x.1 x.2)
 instr_at pc (MulDiv op) text = register_operands text >>= λ x. Ok (instr.MulDiv op x.0 x.1 x.2)

@@ -1,5 +1,5 @@
-//! One operand at a time: each function takes an operand off the front of a text and hands on the rest. A number goes as
-//! far as its digits go.
+//! One operand at a time: each function takes an operand off the front of a text and hands on the
+//! rest. A number goes as far as its digits go.
 
 ghost use Rattle.std.specs.Prelude.{◌≡◌, ◌≤◌, ◌<◌, ◌^◌, IfOk, length, not, position};
 ghost use Rattle.std.specs.Char.{is_ascii_digit, is_ascii_hexdigit};
@@ -92,7 +92,8 @@ pub(crate) fn signed(bound: u32, text: &[u8]) -> Result<(i32, &[u8]), TextRefuse
     Ok((read_signed_decimal(number, bound)?, rest))
 }
 
-/// A comma and the amount of a shift. Any number is well spelled, and one that isn't from 0 to 31 is out of range.
+/// A comma and the amount of a shift. Any number is well spelled, and one that isn't from 0 to 31
+/// is out of range.
 #[tactic(auto, unfolding(crate::specs::Reading::amount_at))]
 pub(crate) fn amount(text: &[u8]) -> Result<(u8, &[u8]), TextRefused>
     ensures { Gives (λ x. (x.0, x.1.now)) result (amount_at text.now) }
@@ -139,7 +140,8 @@ fn is_distance(bound: u32, distance: i32) -> bool
     distance % 2 == 0 && -bound <= distance && distance < bound
 }
 
-/// A comma and the target of a jump, given as its distance from `pc`, which is even and from `-bound` to `bound - 1`.
+/// A comma and the target of a jump, given as its distance from `pc`, which is even and from
+/// `-bound` to `bound - 1`.
 #[tactic(auto, unfolding(crate::specs::Reading::target_at))]
 pub(crate) fn target(bound: u32, pc: u32, text: &[u8]) -> Result<(i32, &[u8]), TextRefused>
     ensures { Gives (λ x. (x.0, x.1.now)) result (target_at bound pc text.now) }

@@ -1,7 +1,8 @@
-//! The text of instructions: one spelling for each instruction of RV32IMA at its pc, printed and read.
+//! The text of instructions: one spelling for each instruction of RV32IMA at its pc, printed and
+//! read.
 //!
-//! Read in this order: `mnemonic` (the names of the rows), `printer`, `refused` (why a text is no instruction),
-//! `fields`, `operands`, `parser`.
+//! Read in this order: `mnemonic` (the names of the rows), `printer`, `refused` (why a text is no
+//! instruction), `fields`, `operands`, `parser`.
 #![tactic(auto)]
 
 mod fields;

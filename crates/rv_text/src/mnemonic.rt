@@ -10,7 +10,7 @@ ghost use Rattle.rv_text.specs.Mnemonic.{
   amo_name,
   atomic_name,
   ordering_name,
-  name_of,
+  mnemonic_name,
   IsPlain,
   IsAlone,
 };
@@ -185,8 +185,8 @@ pub(crate) fn ordering_name(ordering: Ordering) -> &'static str
 
 /// The row with this name, where it is no atomic.
 fn plain(text: &str) -> Option<Mnemonic>
-    ensures found { IfSome result (λ m. (text.now ≡ name_of m) × IsPlain m) }
-    ensures none { IfNone result ((m : _) → IsPlain m → text.now ≡ name_of m → ⊥) }
+    ensures found { IfSome result (λ m. (text.now ≡ mnemonic_name m) × IsPlain m) }
+    ensures none { IfNone result ((m : _) → IsPlain m → text.now ≡ mnemonic_name m → ⊥) }
 {
     if let Some(op) = branch_named(text) {
         return Some(Mnemonic::Branch(op));
@@ -214,8 +214,8 @@ fn plain(text: &str) -> Option<Mnemonic>
 
 /// The row with this name that shares its format's operands with no other.
 fn alone_named(text: &str) -> Option<Mnemonic>
-    ensures found { IfSome result (λ m. (text.now ≡ name_of m) × IsAlone m) }
-    ensures none { IfNone result ((m : _) → IsAlone m → text.now ≡ name_of m → ⊥) }
+    ensures found { IfSome result (λ m. (text.now ≡ mnemonic_name m) × IsAlone m) }
+    ensures none { IfNone result ((m : _) → IsAlone m → text.now ≡ mnemonic_name m → ⊥) }
 {
     Some(match text {
         "lui" => Mnemonic::Lui,
@@ -369,8 +369,8 @@ fn ordering(text: &str) -> Option<Ordering>
 
 /// The row whose name the text is.
 pub(crate) fn mnemonic_named(text: &str) -> Option<Mnemonic>
-    ensures found { IfSome result (λ m. text.now ≡ name_of m) }
-    ensures only { (m : _) → text.now ≡ name_of m → result ≡ Some m }
+    ensures found { IfSome result (λ m. text.now ≡ mnemonic_name m) }
+    ensures only { (m : _) → text.now ≡ mnemonic_name m → result ≡ Some m }
 {
     let Some((name, bits)) = text.split_once('.') else {
         return plain(text);

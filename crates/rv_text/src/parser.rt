@@ -1,6 +1,6 @@
 ghost use Rattle.std.specs.Prelude.{◌≡◌, ◌≢◌, IfOk, Ok, Err};
 ghost use Rattle.rv_text.specs.declared.refused.TextRefused.TheVariants.{UnknownName};
-ghost use Rattle.rv_text.specs.Mnemonic.{name_of};
+ghost use Rattle.rv_text.specs.Mnemonic.{mnemonic_name};
 ghost use Rattle.rv_text.specs.Spelling.{Says};
 ghost use Rattle.rv_text.specs.Reading.{name_in, behind_name, instr_at};
 
@@ -27,8 +27,10 @@ pub fn parse(text: &str, pc: u32) -> Result<Instr, TextRefused>
     ensures only { (instr : _) → Says text.now instr pc → result ≡ Ok instr }
 
     // The name is looked up first; then the operands of that row are read from left to right.
-    ensures unknown { ((row : _) → name_in text.now ≢ name_of row) → result ≡ Err UnknownName }
-    ensures operands { (row : _) → name_in text.now ≡ name_of row → result ≡ instr_at pc row (behind_name text.now) }
+    ensures unknown { ((row : _) → name_in text.now ≢ mnemonic_name row)
+        → result ≡ Err UnknownName }
+    ensures operands { (row : _) → name_in text.now ≡ mnemonic_name row
+        → result ≡ instr_at pc row (behind_name text.now) }
 {
     let (name, operands) = split_name(text);
     let Some(row) = mnemonic_named(name) else {

@@ -1,10 +1,10 @@
 ghost use Rattle.std.specs.Prelude.{◌≡◌, ◌+◌, ◌≤◌, ◌++◌, length, codes};
 ghost use Rattle.arrayvec.specs.ArrayString.{array_string_len};
-ghost use Rattle.rv_decode.specs.Table.{InRange};
-ghost use Rattle.rv_text.specs.Mnemonic.{name_of};
+ghost use Rattle.rv_decode.specs.Table.{IsInstructionInRange};
+ghost use Rattle.rv_text.specs.Mnemonic.{mnemonic_name};
 ghost use Rattle.rv_text.specs.Spelling.{
   register_text,
-  first_register,
+  first_register_text,
   next_register,
   address_register,
   signed_text,
@@ -80,7 +80,7 @@ fn jump_target(pc: u32, offset: i32) -> u32
 
 fn push_mnemonic(text: &mut Line, mnemonic: Mnemonic)
     requires { array_string_len text.old ≡ 0 }
-    ensures spelled { text.new.bytes ≡ name_of mnemonic }
+    ensures spelled { text.new.bytes ≡ mnemonic_name mnemonic }
     ensures length { array_string_len text.new ≤ 15 }
 {
     let name = match mnemonic {
@@ -135,7 +135,7 @@ fn mnemonic_of(instr: Instr) -> Mnemonic
 
 fn push_upper(text: &mut Line, rd: Reg, imm: u32)
     requires { array_string_len text.old ≤ 15 }
-    ensures { text.new.bytes ≡ text.old.bytes ++ (first_register rd ++ upper_text imm) }
+    ensures { text.new.bytes ≡ text.old.bytes ++ (first_register_text rd ++ upper_text imm) }
 {
     push_register(text, " x", rd);
     push_hex_operand(text, imm >> 12, 5);
@@ -154,7 +154,8 @@ fn push_memory(text: &mut Line, register: Reg, offset: i32, base: Reg)
 
 fn push_two_registers(text: &mut Line, first: Reg, second: Reg)
     requires { array_string_len text.old ≤ 15 }
-    ensures spelled { text.new.bytes ≡ text.old.bytes ++ (first_register first ++ next_register second) }
+    ensures spelled { text.new.bytes ≡ text.old.bytes
+        ++ (first_register_text first ++ next_register second) }
     ensures length { array_string_len text.new ≤ 25 }
 {
     push_register(text, " x", first);
@@ -171,7 +172,7 @@ fn push_address(text: &mut Line, base: Reg)
 }
 
 fn push_operands(text: &mut Line, instr: Instr, pc: u32)
-    requires in_range { InRange instr }
+    requires in_range { IsInstructionInRange instr }
     requires room { array_string_len text.old ≤ 15 }
     ensures { text.new.bytes ≡ text.old.bytes ++ operands_of instr pc }
 {
@@ -239,7 +240,7 @@ fn push_operands(text: &mut Line, instr: Instr, pc: u32)
 
 /// The one spelling of an instruction that stands at `pc`.
 pub fn print(instr: Instr, pc: u32) -> ArrayString<40>
-    requires { InRange instr }
+    requires { IsInstructionInRange instr }
     ensures { Says result.bytes instr pc }
 {
     let mut text = ArrayString::new();

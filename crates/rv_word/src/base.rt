@@ -1,5 +1,5 @@
-//! The operations of two words of RV32I (RISC-V Unprivileged ISA, chapter "RV32I", "Integer Computational
-//! Instructions").
+//! The operations of two words of RV32I (RISC-V Unprivileged ISA, chapter "RV32I", "Integer
+//! Computational Instructions").
 
 ghost use Rattle.std.specs.Prelude.{◌≡◌};
 ghost use Rattle.rv_word.specs.Word.{

@@ -3,7 +3,8 @@
 ghost use Rattle.std.specs.Prelude.{◌≡◌, ◌≤◌};
 ghost use Rattle.rv_word.specs.Word.{sign_extended};
 
-/// The word that has the low `bits` bits of `v`, 1 to 32 of them, and above them copies of the highest of these.
+/// The word that has the low `bits` bits of `v`, 1 to 32 of them, and above them copies of the
+/// highest of these.
 #[tactic(auto, unfolding(crate::specs::Word::sign_extended))]
 pub fn sext(v: u32, bits: u32) -> u32
     requires some_bits { 1 ≤ bits }

@@ -1,5 +1,5 @@
-//! Multiplication and division (RISC-V Unprivileged ISA, chapter "M"). Nothing traps: division by zero and the one
-//! quotient that has no word are given by the ISA's own table.
+//! Multiplication and division (RISC-V Unprivileged ISA, chapter "M"). Nothing traps: division by
+//! zero and the one quotient that has no word are given by the ISA's own table.
 
 ghost use Rattle.std.specs.Prelude.{◌≡◌};
 ghost use Rattle.rv_word.specs.Word.{
@@ -53,7 +53,8 @@ fn high_word(product: i64) -> u32
     (product.cast_unsigned() >> 32) as u32
 }
 
-/// DIV: the quotient of two signed numbers, rounded toward zero; all ones by zero, and -2^31 for -2^31 by -1.
+/// DIV: the quotient of two signed numbers, rounded toward zero; all ones by zero, and -2^31 for
+/// -2^31 by -1.
 #[tactic(auto, unfolding(crate::specs::Word::signed_quotient_of))]
 pub fn div(a: u32, b: u32) -> u32
     ensures { result ≡ signed_quotient_of a b }
@@ -75,7 +76,8 @@ pub fn divu(a: u32, b: u32) -> u32
     if b == 0 { u32::MAX } else { a / b }
 }
 
-/// REM: the remainder that belongs to `div`, of the sign of `a`; `a` by zero, and 0 for -2^31 by -1.
+/// REM: the remainder that belongs to `div`, of the sign of `a`; `a` by zero, and 0 for -2^31 by
+/// -1.
 #[tactic(auto, unfolding(crate::specs::Word::signed_remainder_of))]
 pub fn rem(a: u32, b: u32) -> u32
     ensures { result ≡ signed_remainder_of a b }

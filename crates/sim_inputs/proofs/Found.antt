@@ -2,9 +2,8 @@
 use Rattle.std.proofs.Common.{◌≡◌, ℕ, Option, Some, None, option_map, Bor, codes, get_or, sym, ◌∙◌, ap, arith}
 use Rattle.clap.specs.Words.{Text, first_of, first_value, found_of, rows_of}
 use Rattle.clap.specs.declared.parser.matches.ArgMatches.{ArgMatches}
-use Rattle.sim_inputs.specs.declared.line.Line.{Line}
+use Rattle.sim_inputs.specs.{declared.line.Line.Line, CommandLine.IsLineOf}
 use Rattle.sim_inputs.specs.declared.line.Line.TheVariants as lines
-use Rattle.sim_inputs.specs.CommandLine.{IsLineOf}
 use Rattle.clap.proofs.WalkLemmas.{first_value-rows}
 
 -- no value was found
@@ -14,7 +13,8 @@ HasNone inner id = None ≡ first_value (found_of inner) id
 apart : (value : Text) → None ≡ Some value → ⊥
 apart value same = cc
 
-no_value : (inner : ArgMatches) (id value : Text) → HasNone inner id → first_of id (rows_of (found_of inner)) ≡ Some value → ⊥
+no_value : (inner : ArgMatches) (id value : Text) → HasNone inner id
+    → first_of id (rows_of (found_of inner)) ≡ Some value → ⊥
 no_value inner id value none found = apart value (none ∙ first_value-rows (found_of inner) id ∙ found)
 
 other_names : codes "step" ≡ codes "list" → ⊥
@@ -23,25 +23,32 @@ other_names same =
     let letters : first 115 108 = ap (λ (t : Text). get_or t 0 0) same in omega (arith, letters)
 
 -- without a file there is no line
-pub step_no_image : (inner : ArgMatches) → HasNone inner (codes "IMAGE") → (line : Line) → IsLineOf (codes "step") (rows_of (found_of inner)) line → ⊥
-step_no_image inner none (lines.Step image script config records show) is = no_value inner (codes "IMAGE") image.now none is.1
+pub step_no_image : (inner : ArgMatches) → HasNone inner (codes "IMAGE") → (line : Line)
+    → IsLineOf (codes "step") (rows_of (found_of inner)) line → ⊥
+step_no_image inner none (lines.Step image script config records show) is =
+    no_value inner (codes "IMAGE") image.now none is.1
 step_no_image inner none (lines.List image config) is = other_names is.0
 
-pub step_no_script : (inner : ArgMatches) → HasNone inner (codes "SCRIPT") → (line : Line) → IsLineOf (codes "step") (rows_of (found_of inner)) line → ⊥
-step_no_script inner none (lines.Step image script config records show) is = no_value inner (codes "SCRIPT") script.now none is.2
+pub step_no_script : (inner : ArgMatches) → HasNone inner (codes "SCRIPT") → (line : Line)
+    → IsLineOf (codes "step") (rows_of (found_of inner)) line → ⊥
+step_no_script inner none (lines.Step image script config records show) is =
+    no_value inner (codes "SCRIPT") script.now none is.2
 step_no_script inner none (lines.List image config) is = other_names is.0
 
-pub list_no_image : (inner : ArgMatches) → HasNone inner (codes "IMAGE") → (line : Line) → IsLineOf (codes "list") (rows_of (found_of inner)) line → ⊥
+pub list_no_image : (inner : ArgMatches) → HasNone inner (codes "IMAGE") → (line : Line)
+    → IsLineOf (codes "list") (rows_of (found_of inner)) line → ⊥
 list_no_image inner none (lines.Step image script config records show) is = other_names (sym is.0)
 list_no_image inner none (lines.List image config) is = no_value inner (codes "IMAGE") image.now none is.1
 
 -- what was found for an option is the value of its row
-pub option_row : (inner : ArgMatches) (id : Text) (found : Option (Bor Text)) → option_map (λ s. s.now) found ≡ first_value (found_of inner) id →
+pub option_row : (inner : ArgMatches) (id : Text) (found : Option (Bor Text))
+    → option_map (λ s. s.now) found ≡ first_value (found_of inner) id →
     first_of id (rows_of (found_of inner)) ≡ option_map (λ s. s.now) found
 option_row inner id found same = sym (same ∙ first_value-rows (found_of inner) id)
 
 -- a value that was found is that of the argument's row
-pub row_value : (inner : ArgMatches) (id value : Text) → Some value ≡ first_value (found_of inner) id → first_of id (rows_of (found_of inner)) ≡ Some value
+pub row_value : (inner : ArgMatches) (id value : Text) → Some value ≡ first_value (found_of inner) id
+    → first_of id (rows_of (found_of inner)) ≡ Some value
 row_value inner id value found = sym (found ∙ first_value-rows (found_of inner) id)
 
 -- no value that was found is none in the argument's row

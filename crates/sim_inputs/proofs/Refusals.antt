@@ -1,27 +1,34 @@
 -- What the matches of the words say of them, and what the kind of an error does.
-use Rattle.std.proofs.Common.{◌≡◌, true, List, [], Option, Some, None, Result, IfSome, IfNone, IfOk, IfErr, refl, sym, subst, inl, inr}
+use Rattle.std.proofs.Common.{◌≡◌, true, List, [], Option, Some, None, Result, IfSome, IfNone, IfOk, IfErr, refl, subst}
+use Rattle.std.proofs.Common.{inl, inr}
 use Rattle.std.specs.Option.{ok_or}
-use Rattle.clap.specs.Words.{App, Text, HasKind, HasMatchesOf, is_simple_and_free, fault_of, kind_of, subcommand_of, subcommand_rows_of}
-use Rattle.clap.specs.declared.error.Error.{Error}
-use Rattle.clap.specs.declared.parser.matches.ArgMatches.{ArgMatches}
-use Rattle.sim_inputs.specs.declared.line.Line.{Line}
-use Rattle.sim_inputs.specs.declared.line.WordsRefused.{WordsRefused}
-use Rattle.sim_inputs.specs.declared.line.WordsRefused.TheVariants.{Help, Refused, Memory}
-use Rattle.sim_inputs.specs.CommandLine.{smtsim, Asks, IsRefusalOf, IsRefusedFor, Names}
+use Rattle.clap.specs.Words.{App, Text, HasKind, HasMatchesOf, is_simple_and_free, fault_of, kind_of, subcommand_of}
+use Rattle.clap.specs.Words.{subcommand_rows_of}
+use Rattle.clap.specs.{declared.error.Error.Error, declared.parser.matches.ArgMatches.ArgMatches}
+use Rattle.sim_inputs.specs.{declared.line.Line.Line, declared.line.WordsRefused.WordsRefused}
+use Rattle.sim_inputs.specs.{declared.line.WordsRefused.TheVariants.Help}
+use Rattle.sim_inputs.specs.{declared.line.WordsRefused.TheVariants.Refused}
+use Rattle.sim_inputs.specs.{declared.line.WordsRefused.TheVariants.Memory}
+use Rattle.sim_inputs.specs.CommandLine.{smtsim, Asks, IsRefusalOf, AreWordsRefusedFor, Names}
 
 is_simple : is_simple_and_free smtsim ≡ true
 is_simple = refl
 
 -- what was matched, and that there is no fault, of the command that was described
-matched : (a : App) (words : List Text) (m : ArgMatches) → a ≡ smtsim → HasMatchesOf a words m → subcommand_rows_of m ≡ subcommand_of smtsim words
+matched : (a : App) (words : List Text) (m : ArgMatches) → a ≡ smtsim → HasMatchesOf a words m
+    → subcommand_rows_of m ≡ subcommand_of smtsim words
 matched a words m same has = (subst (λ (b : App). HasMatchesOf b words m) same has refl).1
 
-faultless : (a : App) (words : List Text) → a ≡ smtsim → (is_simple_and_free a ≡ true → fault_of a words ≡ []) → fault_of smtsim words ≡ []
-faultless a words same none = subst (λ (b : App). is_simple_and_free b ≡ true → fault_of b words ≡ []) same none is_simple
+faultless : (a : App) (words : List Text) → a ≡ smtsim → (is_simple_and_free a ≡ true → fault_of a words ≡ [])
+    → fault_of smtsim words ≡ []
+faultless a words same none =
+    subst (λ (b : App). is_simple_and_free b ≡ true → fault_of b words ≡ []) same none is_simple
 
 -- a line that the matches hold is asked for
-pub asked : (words : List Text) (a : App) (m : ArgMatches) (found : Option Line) (r : Result Line WordsRefused) → r ≡ ok_or found Refused → a ≡ smtsim →
-    HasMatchesOf a words m → (is_simple_and_free a ≡ true → fault_of a words ≡ []) → IfSome found (Names (subcommand_rows_of m)) → IfOk r (Asks words)
+pub asked : (words : List Text) (a : App) (m : ArgMatches) (found : Option Line) (r : Result Line WordsRefused)
+    → r ≡ ok_or found Refused → a ≡ smtsim →
+    HasMatchesOf a words m → (is_simple_and_free a ≡ true → fault_of a words ≡ [])
+    → IfSome found (Names (subcommand_rows_of m)) → IfOk r (Asks words)
 asked words a m None r is same has none held = rw is tt
 asked words a m (Some line) r is same has none held = rw is (record {
   taken = faultless a words same none;
@@ -29,9 +36,11 @@ asked words a m (Some line) r is same has none held = rw is (record {
 })
 
 -- and where they hold none, nothing is asked for
-pub not_asked : (words : List Text) (a : App) (m : ArgMatches) (found : Option Line) (r : Result Line WordsRefused) → r ≡ ok_or found Refused → a ≡ smtsim →
-    HasMatchesOf a words m → (is_simple_and_free a ≡ true → fault_of a words ≡ []) → IfNone found ((line : Line) → Names (subcommand_rows_of m) line → ⊥) →
-    IfErr r (IsRefusedFor words)
+pub not_asked : (words : List Text) (a : App) (m : ArgMatches) (found : Option Line) (r : Result Line WordsRefused)
+    → r ≡ ok_or found Refused → a ≡ smtsim →
+    HasMatchesOf a words m → (is_simple_and_free a ≡ true → fault_of a words ≡ [])
+    → IfNone found ((line : Line) → Names (subcommand_rows_of m) line → ⊥) →
+    IfErr r (AreWordsRefusedFor words)
 not_asked words a m (Some line) r is same has none no_line = rw is tt
 not_asked words a m None r is same has none no_line = rw is (record {
   no_line = λ line asks. no_line line (rw (matched a words m same has) asks.holds);
@@ -39,12 +48,15 @@ not_asked words a m None r is same has none no_line = rw is (record {
 })
 
 -- the kinds of the command that was described
-pub kinds_of : (a : App) (words : List Text) (e : Error) → a ≡ smtsim → (is_simple_and_free a ≡ true → HasKind (fault_of a words) e) →
+pub kinds_of : (a : App) (words : List Text) (e : Error) → a ≡ smtsim
+    → (is_simple_and_free a ≡ true → HasKind (fault_of a words) e) →
     HasKind (fault_of smtsim words) e
-kinds_of a words e same h = subst (λ (b : App). is_simple_and_free b ≡ true → HasKind (fault_of b words) e) same h is_simple
+kinds_of a words e same h =
+    subst (λ (b : App). is_simple_and_free b ≡ true → HasKind (fault_of b words) e) same h is_simple
 
-pub refused_for : (words : List Text) (e : Error) (r : WordsRefused) → HasKind (fault_of smtsim words) e → IsRefusalOf (kind_of e) r →
-    IsRefusedFor words r
+pub refused_for : (words : List Text) (e : Error) (r : WordsRefused) → HasKind (fault_of smtsim words) e
+    → IsRefusalOf (kind_of e) r →
+    AreWordsRefusedFor words r
 refused_for words e (Help text) (inl memory) help = cc
 refused_for words e (Help text) (inr among) help = rw help at among
 refused_for words e Refused (inl memory) other = absurd (other.1 memory)

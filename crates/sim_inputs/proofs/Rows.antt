@@ -8,9 +8,8 @@ use Rattle.clap.proofs.OnLiterals.{clap_on_literals}
 use Rattle.toml.specs.Data.{Data, integer, no_members, member}
 use Rattle.toml.specs.Parse.{parse_document}
 use Rattle.toml.proofs.OnLiterals.{toml_on_literals}
-use Rattle.sim_inputs.specs.CommandLine.{smtsim, is_set}
-use Rattle.sim_inputs.specs.Configuration.{IsConfiguration}
-use Rattle.sim_inputs.specs.declared.settings.Settings.{Settings}
+use Rattle.sim_inputs.specs.{CommandLine.smtsim, CommandLine.is_flag_set, Configuration.IsConfiguration}
+use Rattle.sim_inputs.specs.{declared.settings.Settings.Settings}
 
 -- `step` with a configuration and tables, but no records.
 abbrev words : List Text
@@ -28,11 +27,11 @@ script_is : option_map (λ p. first_of (codes "SCRIPT") p.1) (subcommand_of smts
 unfolding clap_on_literals
 script_is = refl
 
-show_is : option_map (λ p. is_set (codes "show") p.1) (subcommand_of smtsim words) ≡ Some true
+show_is : option_map (λ p. is_flag_set (codes "show") p.1) (subcommand_of smtsim words) ≡ Some true
 unfolding clap_on_literals
 show_is = refl
 
-records_are : option_map (λ p. is_set (codes "records") p.1) (subcommand_of smtsim words) ≡ Some false
+records_are : option_map (λ p. is_flag_set (codes "records") p.1) (subcommand_of smtsim words) ≡ Some false
 unfolding clap_on_literals
 records_are = refl
 
@@ -41,7 +40,8 @@ other_option : fault_of smtsim (codes "smtsim" ∷ codes "list" ∷ codes "--sho
 unfolding clap_on_literals
 other_option = refl
 
-twice : fault_of smtsim (codes "smtsim" ∷ codes "step" ∷ codes "--show" ∷ codes "--show" ∷ codes "a" ∷ codes "b" ∷ []) ≡ ArgumentConflict ∷ []
+twice : fault_of smtsim (codes "smtsim" ∷ codes "step" ∷ codes "--show" ∷ codes "--show" ∷ codes "a" ∷ codes "b" ∷ [])
+    ≡ ArgumentConflict ∷ []
 unfolding clap_on_literals
 twice = refl
 
@@ -67,15 +67,19 @@ number_of (integer (pos n)) = n
 number_of found = 0
 
 -- The settings of a document that has this key alone.
-harts_of : (text : List ℕ) (n : ℕ) (settings : Settings) → parse_document text ≡ Some (member (codes "harts") (integer (pos n)) no_members) →
-    IsConfiguration text settings → (settings.config.harts ≡ n) × (settings.config.extra ≡ 64) × (settings.turns ≡ 1000000000)
+harts_of : (text : List ℕ) (n : ℕ) (settings : Settings)
+    → parse_document text ≡ Some (member (codes "harts") (integer (pos n)) no_members) →
+    IsConfiguration text settings → (settings.config.harts ≡ n) × (settings.config.extra ≡ 64)
+    × (settings.turns ≡ 1000000000)
 harts_of text n settings read is =
-    let members : is.members ≡ member (codes "harts") (integer (pos n)) no_members = same_Some _ _ (sym is.document ∙ read) in
+    let members : is.members ≡ member (codes "harts") (integer (pos n)) no_members =
+    same_Some _ _ (sym is.document ∙ read) in
     let harts = rw members at is.sets.sizes.harts in
     let extra = rw members at is.sets.sizes.extra in
     let turns = rw members at is.sets.turns in (sym (ap number_of harts), extra, turns)
 
-two_harts : (settings : Settings) → IsConfiguration (codes "harts = 2") settings → (settings.config.harts ≡ 2) × (settings.config.extra ≡ 64) × (settings.turns ≡ 1000000000)
+two_harts : (settings : Settings) → IsConfiguration (codes "harts = 2") settings
+    → (settings.config.harts ≡ 2) × (settings.config.extra ≡ 64) × (settings.turns ≡ 1000000000)
 two_harts settings is = harts_of (codes "harts = 2") 2 settings one_key is
 
 -- Nine harts are too many.

@@ -1,18 +1,20 @@
 -- The command line as data, and what its words ask for.
-use Rattle.std.specs.Prelude.{None, ◌≡◌, ◌≢◌, Bool, true, false, List, [], ◌∷◌, Option, Some, IsSomeAnd, option_map, codes}
-use Rattle.std.specs.Option.{option_map_or}
-use Rattle.std.specs.Str.{bytes_eq}
-use Rattle.clap.specs.Words.{App, Row, Rule, Text, IsAmong, app_of, rule_of, fault_of, first_of, new_app, new_rule, subcommand_of, with_rule, with_subcommand}
-use Rattle.clap.specs.declared.builder.arg.Arg.{Arg}
-use Rattle.clap.specs.declared.builder.command.Command.{Command}
-use Rattle.clap.specs.declared.builder.command.Command.TheViews.{out-Command}
-use Rattle.clap.specs.declared.builder.action.ArgAction.TheVariants.{SetTrue}
-use Rattle.clap.specs.declared.error.kind.ErrorKind.{ErrorKind}
-use Rattle.clap.specs.declared.error.kind.ErrorKind.TheVariants.{DisplayHelp, OutOfMemory}
-use Rattle.sim_inputs.specs.declared.line.Line.{Line}
+use Rattle.std.specs.Prelude.{None, ◌≡◌, ◌≢◌, Bool, true, false, List, [], ◌∷◌, Option, Some}
+use Rattle.std.specs.Prelude.{IsSomeAnd, option_map, codes}
+use Rattle.std.specs.{Option.option_map_or, Str.bytes_eq}
+use Rattle.clap.specs.Words.{App, Row, Rule, Text, IsAmong, app_of, rule_of, fault_of, first_of}
+use Rattle.clap.specs.Words.{new_app, new_rule, subcommand_of, with_rule, with_subcommand}
+use Rattle.clap.specs.{declared.builder.arg.Arg.Arg, declared.builder.command.Command.Command}
+use Rattle.clap.specs.{declared.builder.command.Command.TheViews.out-Command}
+use Rattle.clap.specs.{declared.builder.action.ArgAction.TheVariants.SetTrue}
+use Rattle.clap.specs.{declared.error.kind.ErrorKind.ErrorKind}
+use Rattle.clap.specs.{declared.error.kind.ErrorKind.TheVariants.DisplayHelp}
+use Rattle.clap.specs.{declared.error.kind.ErrorKind.TheVariants.OutOfMemory}
+use Rattle.sim_inputs.specs.{declared.line.Line.Line, declared.line.WordsRefused.WordsRefused}
+use Rattle.sim_inputs.specs.{declared.line.WordsRefused.TheVariants.Help}
+use Rattle.sim_inputs.specs.{declared.line.WordsRefused.TheVariants.Refused}
+use Rattle.sim_inputs.specs.{declared.line.WordsRefused.TheVariants.Memory}
 use Rattle.sim_inputs.specs.declared.line.Line.TheVariants as lines
-use Rattle.sim_inputs.specs.declared.line.WordsRefused.{WordsRefused}
-use Rattle.sim_inputs.specs.declared.line.WordsRefused.TheVariants.{Help, Refused, Memory}
 
 -- An argument that names a file and must be there: the image, and the script.
 abbrev pub file_rule : Text → Rule
@@ -41,21 +43,28 @@ abbrev pub show_rule : Rule
 show_rule = flag_rule (codes "show")
 
 -- The subcommand `step IMAGE SCRIPT`, with the options `--config FILE`, `--records` and `--show`.
-abbrev pub step : App
-step = with_rule (with_rule (with_rule (with_rule (with_rule (new_app (codes "step")) image_rule) script_rule) config_rule) records_rule) show_rule
+abbrev pub step_command : App
+step_command =
+    with_rule
+    (with_rule
+    (with_rule (with_rule (with_rule (new_app (codes "step")) image_rule) script_rule)
+    config_rule) records_rule) show_rule
 
 -- The subcommand `list IMAGE`, with the option `--config FILE`.
-abbrev pub list : App
-list = with_rule (with_rule (new_app (codes "list")) image_rule) config_rule
+abbrev pub list_command : App
+list_command = with_rule (with_rule (new_app (codes "list")) image_rule) config_rule
 
--- The whole command line: one of the two subcommands must be there. `clap` adds `--help` and `help`.
+-- The whole command line: one of the two subcommands must be there. `clap` adds `--help` and
+-- `help`.
 abbrev pub top : App
-top = let app = new_app (codes "smtsim") in record app { top = record app.top { subcommand_required = true } }
+top = let app =
+    new_app (codes "smtsim") in record app { top = record app.top { subcommand_required = true } }
 
 abbrev pub smtsim : App
-smtsim = with_subcommand (with_subcommand top step.top) list.top
+smtsim = with_subcommand (with_subcommand top step_command.top) list_command.top
 
--- What `clap` is told: an argument and a command as data, neither of them for the commands below too.
+-- What `clap` is told: an argument and a command as data, neither of them for the commands below
+-- too.
 pub record IsArgument (described : Rule) (argument : Arg) : Type 0 where
   pub rule : rule_of argument ≡ described
   pub local : argument.global ≡ false
@@ -65,24 +74,27 @@ pub record IsCommand (described : App) (command : Command) : Type 0 where
   pub local : (out-Command command).has_globals ≡ false
 
 -- A flag is set: its value is "true".
-abbrev pub is_set : Text → List Row → Bool
-is_set name rows = option_map_or (λ value. bytes_eq value (codes "true")) (first_of name rows) false
+abbrev pub is_flag_set : Text → List Row → Bool
+is_flag_set name rows =
+    option_map_or (λ value. bytes_eq value (codes "true")) (first_of name rows) false
 
 -- A subcommand of this name, with what was found for its arguments and options, is the line.
 abbrev pub IsLineOf : Text → List Row → Line → Type 0
 IsLineOf name rows (lines.Step image script config records show) = (name ≡ codes "step")
-    × (first_of (codes "IMAGE") rows ≡ Some image.now) × (first_of (codes "SCRIPT") rows ≡ Some script.now)
+    × (first_of (codes "IMAGE") rows ≡ Some image.now)
+    × (first_of (codes "SCRIPT") rows ≡ Some script.now)
     × (first_of (codes "config") rows ≡ option_map (λ file. file.now) config)
-    × (is_set (codes "records") rows ≡ records) × (is_set (codes "show") rows ≡ show)
+    × (is_flag_set (codes "records") rows ≡ records) × (is_flag_set (codes "show") rows ≡ show)
 IsLineOf name rows (lines.List image config) = (name ≡ codes "list")
-    × (first_of (codes "IMAGE") rows ≡ Some image.now) × (first_of (codes "config") rows ≡ option_map (λ file. file.now) config)
+    × (first_of (codes "IMAGE") rows ≡ Some image.now)
+    × (first_of (codes "config") rows ≡ option_map (λ file. file.now) config)
 
 -- A subcommand was found, and it is the line.
 abbrev pub Names : Option (Text × List Row) → Line → Type 0
 Names found line = IsSomeAnd found (λ p. IsLineOf p.0 p.1 line)
 
--- The words, the program's name first, ask for the line: the command line takes them without a fault, and they hold the
--- line's subcommand, files and options.
+-- The words, the program's name first, ask for the line: the command line takes them without a
+-- fault, and they hold the line's subcommand, files and options.
 pub record Asks (words : List Text) (line : Line) : Type 0 where
   pub taken : fault_of smtsim words ≡ []
   pub holds : Names (subcommand_of smtsim words) line
@@ -93,10 +105,10 @@ pub record AsksNothing (words : List Text) : Type 0 where
   pub no_help : fault_of smtsim words ≢ DisplayHelp ∷ []
 
 -- When each refusal comes.
-abbrev pub IsRefusedFor : List Text → WordsRefused → Type 0
-IsRefusedFor words (Help text) = IsAmong DisplayHelp (fault_of smtsim words)
-IsRefusedFor words Refused = AsksNothing words
-IsRefusedFor words Memory = Unit {0}
+abbrev pub AreWordsRefusedFor : List Text → WordsRefused → Type 0
+AreWordsRefusedFor words (Help text) = IsAmong DisplayHelp (fault_of smtsim words)
+AreWordsRefusedFor words Refused = AsksNothing words
+AreWordsRefusedFor words Memory = Unit {0}
 
 -- What is made of an error of this kind.
 abbrev pub IsRefusalOf : ErrorKind → WordsRefused → Type 0

@@ -1,50 +1,54 @@
--- What a configuration says: the keys that it may have, and the settings that it makes. (This project's own choice.)
-use Rattle.std.specs.Prelude.{◌≡◌, ℕ, ◌≤◌, ◌&&◌, nat_le, pos, true, List, [], ◌∷◌, map, length, Option, Some, None, All, Contains, IsUtf8, codes}
+-- What a configuration says: the keys that it may have, and the settings that it makes. (This
+-- project's own choice.)
+use Rattle.std.specs.Prelude.{◌≡◌, ℕ, ◌≤◌, ◌&&◌, nat_le, pos, true, List, [], ◌∷◌, map, length}
+use Rattle.std.specs.Prelude.{Option, Some, None, All, Contains, IsUtf8, codes}
+use Rattle.numbers.specs.Sizes.{most_events}
 use Rattle.toml.specs.Data.{Data, string, integer, array, Members, no_members, member, get_member}
-use Rattle.toml.specs.View.{items_of}
-use Rattle.toml.specs.Parse.{parse_document}
-use Rattle.toml.specs.Errors.{IsBlank}
+use Rattle.toml.specs.{View.items_of, Parse.parse_document, Errors.IsBlank}
 use Rattle.elf_image.specs.Image.{IsRamSize}
-use Rattle.smt_model.specs.declared.config.Config.{Config}
-use Rattle.smt_model.specs.declared.config.Role.{Role}
+use Rattle.smt_model.specs.{declared.config.Config.Config, declared.config.Role.Role}
+use Rattle.smt_model.specs.{Setup.are_core_sizes}
 use Rattle.smt_model.specs.declared.config.Role.TheVariants as role
-use Rattle.smt_model.specs.Setup.{are_core_sizes}
-use Rattle.sim_inputs.specs.declared.settings.Settings.{Settings}
-use Rattle.sim_inputs.specs.declared.configuration.ConfigRefused.{ConfigRefused}
+use Rattle.sim_inputs.specs.{declared.settings.Settings.Settings}
+use Rattle.sim_inputs.specs.{declared.configuration.ConfigRefused.ConfigRefused}
 use Rattle.sim_inputs.specs.declared.configuration.ConfigRefused.TheVariants as refused
 
 -- The keys that a configuration may have, and those that a document has.
 abbrev pub known_keys : List (List ℕ)
-known_keys = codes "harts" ∷ codes "extra" ∷ codes "queue" ∷ codes "ram" ∷ codes "limit" ∷ codes "turns" ∷ codes "actors" ∷ []
+known_keys = codes "harts" ∷ codes "extra" ∷ codes "queue" ∷ codes "ram" ∷ codes "limit"
+    ∷ codes "turns" ∷ codes "actors" ∷ []
 
 abbrev pub keys_in : Members → List (List ℕ)
 keys_in no_members = []
 keys_in (member key found rest) = key ∷ keys_in rest
 
 -- The name of an actor's role.
-abbrev pub name_of : Role → List ℕ
-name_of role.Fetch = codes "fetch"
-name_of role.Front = codes "front"
-name_of role.Retire = codes "retire"
-name_of role.Alu = codes "alu"
-name_of role.Mul = codes "mul"
-name_of role.Mem = codes "mem"
+abbrev pub role_name : Role → List ℕ
+role_name role.Fetch = codes "fetch"
+role_name role.Front = codes "front"
+role_name role.Retire = codes "retire"
+role_name role.Alu = codes "alu"
+role_name role.Mul = codes "mul"
+role_name role.Mem = codes "mem"
 
 -- What was found at a key is the number; where nothing was found, the number is the default.
 abbrev pub IsNumber : ℕ → Option Data → ℕ → Type 0
 IsNumber default None number = number ≡ default
 IsNumber default (Some found) number = found ≡ integer (pos number)
 
--- What was found is the list of the roles' names; where nothing was found, there is one actor of each role.
+-- What was found is the list of the roles' names; where nothing was found, there is one actor of
+-- each role.
 abbrev pub AreRoles : Option Data → List Role → Type 0
-AreRoles None roles = roles ≡ role.Fetch ∷ role.Front ∷ role.Retire ∷ role.Alu ∷ role.Mul ∷ role.Mem ∷ []
-AreRoles (Some found) roles = found ≡ array (items_of (map (λ r. string (name_of r)) roles))
+AreRoles None roles =
+    roles ≡ role.Fetch ∷ role.Front ∷ role.Retire ∷ role.Alu ∷ role.Mul ∷ role.Mem ∷ []
+AreRoles (Some found) roles = found ≡ array (items_of (map (λ r. string (role_name r)) roles))
 
--- The settings are those that a simulation may have: a core is made of the sizes and the limit, the memory has a size that it
--- may have, and there are at most 10^18 turns.
+-- The settings are those that a simulation may have: a core is made of the sizes and the limit, the
+-- memory has a size that it may have, and there are at most 10^18 turns.
 pub record AreInRange (settings : Settings) : Type 0 where
-  pub accepted : (are_core_sizes settings.config.harts settings.config.extra settings.config.queue (length settings.config.roles.items)
-      && nat_le settings.limit 16777216) ≡ true
+  pub accepted : (are_core_sizes settings.config.harts settings.config.extra settings.config.queue
+      (length settings.config.roles.items)
+      && nat_le settings.limit most_events) ≡ true
   pub ram : IsRamSize settings.ram
   pub turns : settings.turns ≤ 1000000000000000000
 
@@ -68,15 +72,16 @@ pub record Sets (members : Members) (settings : Settings) : Type 0 where
 abbrev pub IsDefault : Settings → Type 0
 IsDefault = Sets no_members
 
--- The bytes are a configuration that makes these settings: text in UTF-8, and a document by TOML's grammar.
+-- The bytes are a configuration that makes these settings: text in UTF-8, and a document by TOML's
+-- grammar.
 pub record IsConfiguration (text : List ℕ) (settings : Settings) : Type 0 where
   pub utf8 : IsUtf8 text
   pub members : Members
   pub document : parse_document text ≡ Some members
   pub sets : Sets members settings
 
--- When each refusal comes: the bytes are no configuration, whatever the settings. For want of memory no text is refused that has
--- only white space and comments.
+-- When each refusal comes: the bytes are no configuration, whatever the settings. For want of
+-- memory no text is refused that has only white space and comments.
 abbrev pub IsConfigRefusedFor : List ℕ → ConfigRefused → Type 0
 IsConfigRefusedFor text refused.Refused = (settings : Settings) → IsConfiguration text settings → ⊥
 IsConfigRefusedFor text refused.Memory = IsBlank text → ⊥

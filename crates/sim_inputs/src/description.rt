@@ -1,11 +1,13 @@
 ghost use Rattle.std.specs.Prelude.{◌≡◌, IfOk};
 ghost use Rattle.clap.specs.Words.{app_of};
-ghost use Rattle.sim_inputs.specs.CommandLine.{IsArgument, IsCommand, config_rule, file_rule, flag_rule, image_rule, list, smtsim, step};
+ghost use Rattle.sim_inputs.specs.CommandLine.{IsArgument, IsCommand, config_rule, file_rule};
+ghost use Rattle.sim_inputs.specs.CommandLine.{flag_rule, image_rule, list_command, smtsim};
+ghost use Rattle.sim_inputs.specs.CommandLine.{step_command};
 
 use clap::{Arg, ArgAction, Command};
 use std::alloc::{AllocError, Global};
 
-/// How a script is written, for the help of `step`.
+/// How a script is written, for the help of `step_command`.
 const SCRIPT_FORM: &str = "\
 A script has words apart by spaces or newlines, each an ask of an actor:
   F0    actor 0 fetches
@@ -44,9 +46,9 @@ pub fn describe<'a>(alloc: Global) -> Result<Command<'a>, AllocError>
         .subcommand(list)
 }
 
-/// The subcommand `step`.
+/// The subcommand `step_command`.
 fn describe_step<'a>(alloc: Global) -> Result<Command<'a>, AllocError>
-    ensures { IfOk result (IsCommand step) }
+    ensures { IfOk result (IsCommand step_command) }
 {
     Command::new(alloc, "step")
         .about("Make a script's asks of the core in order, and print a report")
@@ -66,9 +68,9 @@ fn describe_step<'a>(alloc: Global) -> Result<Command<'a>, AllocError>
         .arg(flag(alloc, "show", "Print the core's tables, after the asks"))
 }
 
-/// The subcommand `list`.
+/// The subcommand `list_command`.
 fn describe_list<'a>(alloc: Global) -> Result<Command<'a>, AllocError>
-    ensures { IfOk result (IsCommand list) }
+    ensures { IfOk result (IsCommand list_command) }
 {
     Command::new(alloc, "list")
         .about("Print each word of the program's code: address, word, instruction")

@@ -1,14 +1,15 @@
-//! What the program is asked to do, and with which settings: its words, read by `clap`, and its configuration, read by
-//! `toml`. No other crate sees `clap` or `toml`.
+//! What the program is asked to do, and with which settings: its words, read by `clap`, and its
+//! configuration, read by `toml`. No other crate sees `clap` or `toml`.
 //!
-//! Read in this order: `line` (what the words may ask for), `words` (how they are read), `description` (the command line
-//! as it is described to `clap`); then `settings`, `configuration` (how they are read), `roles` and `numbers` (its parts).
+//! Read in this order: `line` (what the words may ask for), `words` (how they are read),
+//! `description` (the command line as it is described to `clap`); then `settings`, `configuration`
+//! (how they are read), `roles` and `ranges` (its parts).
 #![tactic(auto)]
 
 mod configuration;
 mod description;
 mod line;
-mod numbers;
+mod ranges;
 mod roles;
 mod settings;
 mod words;

@@ -16,8 +16,9 @@ pub struct Settings {
     pub turns: u64,
 }
 
-/// The settings where a configuration says nothing: one hart, one actor of each role, 64 extra registers, a queue of 16
-/// entries, 65,536 bytes of memory, room for a million events, and a billion turns.
+/// The settings where a configuration says nothing: one hart, one actor of each role, 64 extra
+/// registers, a queue of 16 entries, 65,536 bytes of memory, room for a million events, and a
+/// billion turns.
 impl Default for Settings {
     ghost use Rattle.sim_inputs.specs.Configuration.{IsDefault};
 

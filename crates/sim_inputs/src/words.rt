@@ -1,7 +1,8 @@
 ghost use Rattle.std.specs.Prelude.{◌≡◌, List, codes, map, IfOk, IfErr, IfSome, IfNone};
 ghost use Rattle.clap.specs.Words.{found_of, kind_of, rows_of, subcommand_rows_of};
 ghost use Rattle.sim_inputs.specs.declared.line.Line.{Line as AnyLine};
-ghost use Rattle.sim_inputs.specs.CommandLine.{is_set, IsLineOf, Names, Asks, IsRefusedFor, IsRefusalOf};
+ghost use Rattle.sim_inputs.specs.CommandLine.{is_flag_set, IsLineOf, Names, Asks};
+ghost use Rattle.sim_inputs.specs.CommandLine.{AreWordsRefusedFor, IsRefusalOf};
 
 use crate::description::describe;
 use crate::line::{Line, WordsRefused};
@@ -12,7 +13,7 @@ use std::alloc::Global;
 /// Reads the program's words, its own name first.
 pub fn read_words<'a>(words: &'a [&'a str], alloc: Global) -> Result<Line<'a>, WordsRefused>
     ensures ok { IfOk result (Asks (map (λ word. word.now) words.entry.now)) }
-    ensures refused { IfErr result (IsRefusedFor (map (λ word. word.now) words.entry.now)) }
+    ensures refused { IfErr result (AreWordsRefusedFor (map (λ word. word.now) words.entry.now)) }
 {
     let Ok(command) = describe(alloc) else {
         return Err(WordsRefused::Memory);
@@ -26,7 +27,8 @@ pub fn read_words<'a>(words: &'a [&'a str], alloc: Global) -> Result<Line<'a>, W
 /// The line that the matches hold.
 fn line_in<'a>(matches: &ArgMatches<'a>) -> Option<Line<'a>>
     ensures held { IfSome result (Names (subcommand_rows_of matches.now)) }
-    ensures none { IfNone result ((line : AnyLine) → Names (subcommand_rows_of matches.now) line → ⊥) }
+    ensures none { IfNone result ((line : AnyLine) → Names (subcommand_rows_of matches.now) line
+        → ⊥) }
 {
     if let Some(step) = matches.subcommand_matches("step") {
         return step_line(step);
@@ -40,7 +42,8 @@ fn line_in<'a>(matches: &ArgMatches<'a>) -> Option<Line<'a>>
 /// The line of the subcommand `step`, from what was found for its arguments.
 fn step_line<'a>(step: &ArgMatches<'a>) -> Option<Line<'a>>
     ensures held { IfSome result (IsLineOf (codes "step") (rows_of (found_of step.now))) }
-    ensures none { IfNone result ((line : AnyLine) → IsLineOf (codes "step") (rows_of (found_of step.now)) line → ⊥) }
+    ensures none { IfNone result
+        ((line : AnyLine) → IsLineOf (codes "step") (rows_of (found_of step.now)) line → ⊥) }
 {
     let Some(image) = step.get_str("IMAGE") else {
         return None;
@@ -60,7 +63,8 @@ fn step_line<'a>(step: &ArgMatches<'a>) -> Option<Line<'a>>
 /// The line of the subcommand `list`.
 fn list_line<'a>(list: &ArgMatches<'a>) -> Option<Line<'a>>
     ensures held { IfSome result (IsLineOf (codes "list") (rows_of (found_of list.now))) }
-    ensures none { IfNone result ((line : AnyLine) → IsLineOf (codes "list") (rows_of (found_of list.now)) line → ⊥) }
+    ensures none { IfNone result
+        ((line : AnyLine) → IsLineOf (codes "list") (rows_of (found_of list.now)) line → ⊥) }
 {
     let Some(image) = list.get_str("IMAGE") else {
         return None;
@@ -73,7 +77,7 @@ fn list_line<'a>(list: &ArgMatches<'a>) -> Option<Line<'a>>
 
 /// Whether a flag is set. (`get_flag` says it for the values "true" and "false" alone.)
 fn is_set(found: &ArgMatches<'_>, name: &str) -> bool
-    ensures { result ≡ is_set name.now (rows_of (found_of found.now)) }
+    ensures { result ≡ is_flag_set name.now (rows_of (found_of found.now)) }
 {
     match found.get_str(name) {
         Some(value) => value == "true",

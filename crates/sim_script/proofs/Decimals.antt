@@ -1,18 +1,18 @@
 -- Lemmas on decimal numbers as texts.
-use Rattle.std.proofs.Common.{◌≡◌, ℕ, zero, suc, ◌<◌, ◌≤◌, ◌^◌, ◌==◌, ◌&&◌, ◌||◌, nat_lt, false, List, length, slice_index, slice_index_or, arith, refl, sym, Result, Ok}
-use Rattle.std.specs.Fmt.{decimal}
-use Rattle.std.specs.Str.Parse.{AllDigits, digits_value, ParsesUnsigned}
-use Rattle.std.proofs.lemmas.List.{get_or_default}
+use Rattle.std.proofs.Common.{◌≡◌, ℕ, zero, suc, ◌<◌, ◌≤◌, ◌^◌, ◌==◌, ◌&&◌, ◌||◌, nat_lt, false, List, length}
+use Rattle.std.proofs.Common.{slice_index, slice_index_or, arith, refl, sym, Result, Ok}
+use Rattle.std.specs.{Fmt.decimal, Str.Parse.AllDigits, Str.Parse.digits_value, Str.Parse.ParsesUnsigned}
+use Rattle.std.proofs.{lemmas.List.get_or_default, lemmas.Bool.Decides.nat_tests}
 use Rattle.std.proofs.lemmas.Str.Parse.{IsNumeralModel, numerals_by_value, tells_digits, digit_at, parse_plain}
 use Rattle.std.proofs.lemmas.Fmt.{digits_decimal, first_decimal, decimal_digit, decimal-digits_value}
-use Rattle.std.proofs.lemmas.Bool.Decides.{nat_tests}
 
 -- decimal digits, as the standard library's `parse` has them
 pub own : IsNumeralModel (AllDigits 10) (digits_value 10)
 own = numerals_by_value _ tells_digits
 
 -- a number's text has no byte below the digits
-pub lacks_decimal : (byte n : ℕ) → byte < 48 → n < 2 ^ 64 → (k d : ℕ) → k < length (decimal n) → slice_index_or (decimal n) k d ≡ byte → ⊥
+pub lacks_decimal : (byte n : ℕ) → byte < 48 → n < 2 ^ 64 → (k d : ℕ) → k < length (decimal n)
+    → slice_index_or (decimal n) k d ≡ byte → ⊥
 lacks_decimal byte n low small k d inside e =
     let range = digit_at (decimal n) k (digits_decimal own n small) inside in
     absurd (omega (arith, range.0, get_or_default (decimal n) k d 0 inside, e))
@@ -33,4 +33,6 @@ spelled text n parsed plain =
     let no_zero : (slice_index text 0 ≡ 48 → length text ≤ 1) = λ first. grind (arith, nat_tests) in
     let answer : Result ℕ ℕ = Ok n in
     let facts = parse_plain own 32 text answer parsed no_plus in
-    rw facts.1 (sym (decimal-digits_value own text facts.0.0 facts.0.1 (λ first. let short = no_zero first in omega (arith, facts.0.1)) (omega (arith, facts.0.2))))
+    rw facts.1
+    (sym (decimal-digits_value own text facts.0.0 facts.0.1
+    (λ first. let short = no_zero first in omega (arith, facts.0.1)) (omega (arith, facts.0.2))))

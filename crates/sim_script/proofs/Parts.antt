@@ -24,7 +24,8 @@ has_byte byte text left right e h =
     rw e at h (length left) 0 (grind (arith, common_steps)) (grind (arith, common_steps))
 
 -- and it is cut there in one way
-pub same_parts : (byte : ℕ) (l r m s : List ℕ) → l ++ byte ∷ r ≡ m ++ byte ∷ s → Lacks byte l → Lacks byte m → (l ≡ m) × (r ≡ s)
+pub same_parts : (byte : ℕ) (l r m s : List ℕ) → l ++ byte ∷ r ≡ m ++ byte ∷ s → Lacks byte l → Lacks byte m
+    → (l ≡ m) × (r ≡ s)
 same_parts byte [] r [] s e hl hm = (cc, cc)
 same_parts byte [] r (y ∷ m) s e hl hm = let head : y ≡ byte = cc in absurd (lacks_head byte y m hm head)
 same_parts byte (x ∷ l) r [] s e hl hm = let head : x ≡ byte = cc in absurd (lacks_head byte x l hl head)

@@ -1,11 +1,12 @@
 -- Lemmas on the pieces of a text.
-use Rattle.std.proofs.Common.{◌≡◌, ℕ, ◌<◌, ◌≤◌, Bool, true, false, not, Option, Some, None, unwrap_or, List, [], ◌∷◌, length, take, drop, ◌+◌, suc, get_or, nat_lt, filter, drop-cons, add-one, length-drop, arith, refl}
+use Rattle.std.proofs.Common.{◌≡◌, ℕ, ◌<◌, ◌≤◌, Bool, true, false, not, Option, Some, None, unwrap_or, List, [], ◌∷◌}
+use Rattle.std.proofs.Common.{length, take, drop, ◌+◌, suc, get_or, nat_lt, filter, drop-cons, add-one, length-drop}
+use Rattle.std.proofs.Common.{arith, refl}
 use Rattle.std.specs.List.{position, position_or_len, slice_split}
-use Rattle.std.proofs.lemmas.List.Splits.{slice_split-cons_yes, slice_split_first, slice_split_none}
-use Rattle.std.proofs.lemmas.List.Sums.{fails_before_first, passes_at_first}
-use Rattle.std.proofs.lemmas.List.Quantifiers.{position-Some}
-use Rattle.std.proofs.lemmas.Grind.{common_steps}
-use Rattle.std.proofs.lemmas.Bool.Decides.{nat_tests}
+use Rattle.std.proofs.{lemmas.List.Splits.slice_split-cons_yes, lemmas.List.Splits.slice_split_first}
+use Rattle.std.proofs.{lemmas.List.Splits.slice_split_none, lemmas.List.Sums.fails_before_first}
+use Rattle.std.proofs.{lemmas.List.Sums.passes_at_first, lemmas.List.Quantifiers.position-Some}
+use Rattle.std.proofs.{lemmas.Grind.common_steps, lemmas.Bool.Decides.nat_tests}
 use Rattle.sim_script.specs.Script.{is_separator, is_inside, pieces}
 
 skip : (x : ℕ) (xs : List ℕ) → is_separator x ≡ true → pieces (x ∷ xs) ≡ pieces xs
@@ -62,9 +63,11 @@ up_to_separator xs n e inside some =
 whole : (xs : List ℕ) → length xs ≤ position_or_len is_separator xs → 0 < length xs → pieces xs ≡ xs ∷ []
 unfolding pieces
 whole xs e some =
-    rw (slice_split_none is_separator xs (λ k d inside. fails_before_first is_separator xs k d (omega arith))) (kept xs [] some)
+    rw (slice_split_none is_separator xs (λ k d inside. fails_before_first is_separator xs k d (omega arith)))
+    (kept xs [] some)
 
-inside_first : (ys : List ℕ) → 0 < length ys → is_separator (get_or ys 0 0) ≡ false → 0 < position_or_len is_separator ys
+inside_first : (ys : List ℕ) → 0 < length ys → is_separator (get_or ys 0 0) ≡ false
+    → 0 < position_or_len is_separator ys
 inside_first [] some e = absurd (omega arith)
 inside_first (y ∷ ys) some e = rw e (omega arith)
 
@@ -72,7 +75,8 @@ not_true : (b : Bool) → not b ≡ true → b ≡ false
 not_true true e = cc
 not_true false e = refl
 
-up_to : (ys zs : List ℕ) (n : ℕ) (o : Option ℕ) → 0 < position_or_len is_separator ys → 0 < length ys → position is_separator ys ≡ o →
+up_to : (ys zs : List ℕ) (n : ℕ) (o : Option ℕ) → 0 < position_or_len is_separator ys → 0 < length ys
+    → position is_separator ys ≡ o →
     n ≡ unwrap_or o (length ys) → zs ≡ drop n ys → pieces ys ≡ take n ys ∷ pieces zs
 up_to ys zs n None some long e end behind =
     let all : take n ys ≡ ys = grind (arith, common_steps) in

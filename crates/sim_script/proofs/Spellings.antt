@@ -2,23 +2,25 @@
 use Rattle.std.proofs.Common.{◌≡◌, ℕ, ◌≤◌, List, ◌∷◌, ◌++◌, arith, sym, ◌∙◌, ◌≢◌, inl, inr}
 use Rattle.std.specs.Fmt.{decimal}
 use Rattle.std.proofs.lemmas.List.Elements.{All-cons, All-append}
-use Rattle.sim_script.specs.declared.actions.Action.{Action}
+use Rattle.sim_script.specs.{declared.actions.Action.Action, declared.actions.Word.Word}
 use Rattle.sim_script.specs.declared.actions.Action.TheVariants as action
-use Rattle.sim_script.specs.declared.actions.Word.{Word}
-use Rattle.sim_script.specs.Script.{action_text, IsInRange, SpellsAction, Spells}
-use Rattle.sim_script.proofs.Parts.{Lacks, has_byte, same_parts}
-use Rattle.sim_script.proofs.Decimals.{lacks_decimal}
+use Rattle.sim_script.specs.Script.{action_text, IsInRange, SpellsAction, SpellsWord}
+use Rattle.sim_script.proofs.{Parts.Lacks, Parts.has_byte, Parts.same_parts, Decimals.lacks_decimal}
 
 -- the parts of an actor and a hart
-pub actor_and_hart : (text left right : List ℕ) (actor hart : ℕ) → actor ≤ 15 → text ≡ left ++ 46 ∷ right → Lacks 46 left →
+pub actor_and_hart : (text left right : List ℕ) (actor hart : ℕ) → actor ≤ 15 → text ≡ left ++ 46 ∷ right
+    → Lacks 46 left →
     text ≡ decimal actor ++ 46 ∷ decimal hart → (left ≡ decimal actor) × (right ≡ decimal hart)
 actor_and_hart text left right actor hart small e lacks spelled =
-    same_parts 46 left right (decimal actor) (decimal hart) (sym e ∙ spelled) lacks (lacks_decimal 46 actor (omega arith) (omega arith))
+    same_parts 46 left right (decimal actor) (decimal hart) (sym e ∙ spelled) lacks
+    (lacks_decimal 46 actor (omega arith) (omega arith))
 
 lacks_one : (letter actor : ℕ) → 48 ≤ letter → actor ≤ 15 → Lacks 42 (letter ∷ decimal actor)
-lacks_one letter actor high small = All-cons (λ b. b ≢ 42) letter (decimal actor) (omega arith) (lacks_decimal 42 actor (omega arith) (omega arith))
+lacks_one letter actor high small =
+    All-cons (λ b. b ≢ 42) letter (decimal actor) (omega arith) (lacks_decimal 42 actor (omega arith) (omega arith))
 
-lacks_two : (letter actor hart : ℕ) → 48 ≤ letter → actor ≤ 15 → hart ≤ 7 → Lacks 42 (letter ∷ (decimal actor ++ 46 ∷ decimal hart))
+lacks_two : (letter actor hart : ℕ) → 48 ≤ letter → actor ≤ 15 → hart ≤ 7
+    → Lacks 42 (letter ∷ (decimal actor ++ 46 ∷ decimal hart))
 lacks_two letter actor hart high small few =
     All-cons (λ b. b ≢ 42) letter _ (omega arith)
     (All-append (λ b. b ≢ 42) (decimal actor) _ (lacks_decimal 42 actor (omega arith) (omega arith))
@@ -35,7 +37,8 @@ lacks_asterisk (action.Complete actor) h = lacks_one 67 actor (omega arith) h
 lacks_asterisk (action.Unit actor) h = lacks_one 85 actor (omega arith) h
 
 -- the parts of a word with an asterisk, and of one without
-pub with_asterisk : (text left right : List ℕ) (w : Word) → text ≡ left ++ 42 ∷ right → Lacks 42 left → Spells text w →
+pub with_asterisk : (text left right : List ℕ) (w : Word) → text ≡ left ++ 42 ∷ right → Lacks 42 left
+    → SpellsWord text w →
     SpellsAction left w.action × (right ≡ decimal w.repeat)
 with_asterisk text left right w e lacks h =
     let free = lacks_asterisk w.action h.in_range in
@@ -46,7 +49,8 @@ with_asterisk text left right w e lacks h =
       | inr alone ↦ absurd (has_byte 42 text left right e (rw alone.0 free))
     ]
 
-pub without_asterisk : (text : List ℕ) (w : Word) → Lacks 42 text → Spells text w → SpellsAction text w.action × (w.repeat ≡ 1)
+pub without_asterisk : (text : List ℕ) (w : Word) → Lacks 42 text → SpellsWord text w
+    → SpellsAction text w.action × (w.repeat ≡ 1)
 without_asterisk text w lacks h =
     elim h.spelled [
       | inl both ↦ absurd (has_byte 42 text (action_text w.action) (decimal w.repeat) both lacks)

@@ -1,11 +1,10 @@
 -- How a script is written (this project's own choice).
-use Rattle.std.specs.Prelude.{◌≡◌, ℕ, ◌+◌, ◌≤◌, ◌==◌, nat_lt, Bool, not, ◌||◌, ◌⊎◌, List, ◌∷◌, ◌++◌, length, filter}
-use Rattle.std.specs.List.{slice_split, AllZip}
-use Rattle.std.specs.Fmt.{decimal}
-use Rattle.sim_script.specs.declared.actions.Action.{Action}
+use Rattle.std.specs.Prelude.{◌≡◌, ℕ, ◌+◌, ◌≤◌, ◌==◌, nat_lt, Bool, not, ◌||◌, ◌⊎◌, List, ◌∷◌, ◌++◌}
+use Rattle.std.specs.Prelude.{length, filter}
+use Rattle.std.specs.{List.slice_split, List.AllZip, Fmt.decimal}
+use Rattle.sim_script.specs.{declared.actions.Action.Action, declared.actions.Word.Word}
+use Rattle.sim_script.specs.{declared.script.ScriptRefused.ScriptRefused}
 use Rattle.sim_script.specs.declared.actions.Action.TheVariants as action
-use Rattle.sim_script.specs.declared.actions.Word.{Word}
-use Rattle.sim_script.specs.declared.script.ScriptRefused.{ScriptRefused}
 use Rattle.sim_script.specs.declared.script.ScriptRefused.TheVariants as refused
 
 -- The pieces of a text between spaces and newlines, the empty ones left out.
@@ -18,7 +17,8 @@ is_inside byte = not (is_separator byte)
 unfoldable pub pieces : List ℕ → List (List ℕ)
 pieces text = filter (λ piece. nat_lt 0 (length piece)) (slice_split is_separator text)
 
--- An action's letter and actor, with the hart behind a point: `F0`, `D1.0`, `R1.0`, `T2.0`, `I3`, `C3`, `U3`.
+-- An action's letter and actor, with the hart behind a point: `F0`, `D1.0`, `R1.0`, `T2.0`, `I3`,
+-- `C3`, `U3`.
 abbrev pub action_text : Action → List ℕ
 action_text (action.Fetch actor) = 70 ∷ decimal actor
 action_text (action.Decode actor hart) = 68 ∷ (decimal actor ++ 46 ∷ decimal hart)
@@ -44,16 +44,17 @@ pub record SpellsAction (text : List ℕ) (action : Action) : Type 0 where
   pub spelled : text ≡ action_text action
 
 -- The text spells the word: its action and, behind an asterisk, how often; once may be left out.
-pub record Spells (text : List ℕ) (word : Word) : Type 0 where
+pub record SpellsWord (text : List ℕ) (word : Word) : Type 0 where
   pub in_range : IsInRange word.action
   pub once : 1 ≤ word.repeat
   pub limit : word.repeat ≤ 100000
   pub spelled :
-      (text ≡ action_text word.action ++ 42 ∷ decimal word.repeat) ⊎ ((text ≡ action_text word.action) × (word.repeat ≡ 1))
+      (text ≡ action_text word.action ++ 42 ∷ decimal word.repeat)
+      ⊎ ((text ≡ action_text word.action) × (word.repeat ≡ 1))
 
 -- The text is a script of these words: its pieces spell them, one after another.
 abbrev pub IsScript : List ℕ → List Word → Type 0
-IsScript text words = AllZip Spells (pieces text) words
+IsScript text words = AllZip SpellsWord (pieces text) words
 
 -- The n-th piece of the text, from 1, is the first that spells no word.
 pub record IsFirstMisspelled (text : List ℕ) (n : ℕ) : Type 0 where
@@ -63,10 +64,10 @@ pub record IsFirstMisspelled (text : List ℕ) (n : ℕ) : Type 0 where
   pub parts : pieces text ≡ before ++ misspelled ∷ after
   pub place : n ≡ length before + 1
   pub words : List Word
-  pub spelled : AllZip Spells before words
-  pub spells_none : (word : Word) → Spells misspelled word → ⊥
+  pub spelled : AllZip SpellsWord before words
+  pub spells_none : (word : Word) → SpellsWord misspelled word → ⊥
 
 -- When each refusal comes.
-abbrev pub IsRefusedFor : List ℕ → ScriptRefused → Type 0
-IsRefusedFor text (refused.Word n) = IsFirstMisspelled text n
-IsRefusedFor text refused.Memory = Unit {0}
+abbrev pub IsScriptRefusedFor : List ℕ → ScriptRefused → Type 0
+IsScriptRefusedFor text (refused.Word n) = IsFirstMisspelled text n
+IsScriptRefusedFor text refused.Memory = Unit {0}

@@ -1,4 +1,5 @@
-ghost use Rattle.std.specs.Prelude.{◌≡◌, ℕ, ◌≤◌, ◌<◌, ◌==◌, ◌&&◌, ◌||◌, nat_lt, ◌∷◌, ◌++◌, length, slice_index, Some, IfSome};
+ghost use Rattle.std.specs.Prelude.{◌≡◌, ℕ, ◌≤◌, ◌<◌, ◌==◌, ◌&&◌, ◌||◌, nat_lt, ◌∷◌, ◌++◌, length};
+ghost use Rattle.std.specs.Prelude.{slice_index, Some, IfSome};
 ghost use Rattle.std.specs.Fmt.{decimal};
 
 use crate::splitting::split_at_byte;
@@ -14,8 +15,10 @@ pub fn read_actor(text: &[u8]) -> Option<u8>
 
 /// An actor, a point, and a hart, 0 to 7.
 pub fn read_actor_and_hart(text: &[u8]) -> Option<(u8, u8)>
-    ensures found { IfSome result (λ p. (p.0 ≤ 15) × (p.1 ≤ 7) × (text.now ≡ decimal p.0 ++ 46 ∷ decimal p.1)) }
-    ensures only { (actor hart : ℕ) → actor ≤ 15 → hart ≤ 7 → text.now ≡ decimal actor ++ 46 ∷ decimal hart →
+    ensures found { IfSome result
+        (λ p. (p.0 ≤ 15) × (p.1 ≤ 7) × (text.now ≡ decimal p.0 ++ 46 ∷ decimal p.1)) }
+    ensures only { (actor hart : ℕ) → actor ≤ 15 → hart ≤ 7
+        → text.now ≡ decimal actor ++ 46 ∷ decimal hart →
         result ≡ Some (actor, hart) }
 {
     let (actor, hart) = split_at_byte(text, b'.')?;
@@ -41,7 +44,9 @@ pub fn read_number(text: &[u8], max: u32) -> Option<u32>
 
 // A plus sign, or a zero before other digits: the standard library's `parse` takes them.
 fn begins_otherwise(text: &[u8]) -> bool
-    ensures { result ≡ (slice_index text.now 0 == 43 || (slice_index text.now 0 == 48 && nat_lt 1 (length text.now))) }
+    ensures { result
+        ≡ (slice_index text.now 0 == 43
+        || (slice_index text.now 0 == 48 && nat_lt 1 (length text.now))) }
 {
     match text.first() {
         Some(b'+') => true,

@@ -1,6 +1,8 @@
-ghost use Rattle.std.specs.Prelude.{◌≡◌, ◌∷◌, ◌<◌, ◌≤◌, [], All, length, position, IfSome, IfNone, IfOk, IfErr};
+ghost use Rattle.std.specs.Prelude.{◌≡◌, ◌∷◌, ◌<◌, ◌≤◌, [], All, length, position, IfSome, IfNone};
+ghost use Rattle.std.specs.Prelude.{IfOk, IfErr};
 ghost use Rattle.sim_script.specs.declared.script.ScriptRefused.TheVariants.{Memory};
-ghost use Rattle.sim_script.specs.Script.{is_separator, is_inside, pieces, IsInRange, IsScript, IsRefusedFor};
+ghost use Rattle.sim_script.specs.Script.{is_separator, is_inside, pieces, IsInRange, IsScript};
+ghost use Rattle.sim_script.specs.Script.{IsScriptRefusedFor};
 
 use crate::actions::Word;
 use crate::spelling::read_word;
@@ -25,12 +27,12 @@ impl From<AllocFailed<Word>> for ScriptRefused {
     }
 }
 
-/// Reads a script: words apart by spaces or newlines, each an action (`F0`, `D1.0`, `R1.0`, `T2.0`, `I3`, `C3`, `U3`)
-/// and, behind an asterisk, how often it is made. An empty script has no words.
+/// Reads a script: words apart by spaces or newlines, each an action (`F0`, `D1.0`, `R1.0`, `T2.0`,
+/// `I3`, `C3`, `U3`) and, behind an asterisk, how often it is made. An empty script has no words.
 pub fn read_script(bytes: &[u8], alloc: Global) -> Result<Vec<Word>, ScriptRefused>
     ensures ok { IfOk result (λ words. IsScript bytes.now words.items) }
     ensures in_range { IfOk result (λ words. All (λ word. IsInRange word.action) words.items) }
-    ensures misspelled { IfErr result (IsRefusedFor bytes.now) }
+    ensures misspelled { IfErr result (IsScriptRefusedFor bytes.now) }
 {
     let mut words = Vec::new(alloc);
     let mut text = bytes;

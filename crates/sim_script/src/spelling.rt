@@ -1,7 +1,7 @@
 ghost use Rattle.std.specs.Prelude.{◌≡◌, Some, IfSome};
 ghost use Rattle.sim_script.specs.declared.actions.Action.{Action as AnyAction};
 ghost use Rattle.sim_script.specs.declared.actions.Word.{Word as AnyWord};
-ghost use Rattle.sim_script.specs.Script.{SpellsAction, Spells};
+ghost use Rattle.sim_script.specs.Script.{SpellsAction, SpellsWord};
 
 use crate::actions::{Action, Word};
 use crate::numbers::{read_actor, read_actor_and_hart, read_number};
@@ -9,8 +9,8 @@ use crate::splitting::split_at_byte;
 
 /// The word that the text spells, if it spells one.
 pub fn read_word(text: &[u8]) -> Option<Word>
-    ensures found { IfSome result (Spells text.now) }
-    ensures only { (word : AnyWord) → Spells text.now word → result ≡ Some word }
+    ensures found { IfSome result (SpellsWord text.now) }
+    ensures only { (word : AnyWord) → SpellsWord text.now word → result ≡ Some word }
 {
     match split_at_byte(text, b'*') {
         Some((action, repeat)) => {

@@ -1,52 +1,81 @@
--- Refusals of the steps, from those of the image, the configuration and the script; and refusals of a line, from those of its
--- configuration and those of its image and script.
-use Rattle.std.specs.Prelude.{◌≡◌, ℕ, true, false, ◌&&◌, nat_le, length, List, [], Option, Some, None, IfSome, IfNone, IfErr, Result, Ok, Err, option_map}
+-- Refusals of the steps, from those of the image, the configuration and the script; and refusals of a line, from those
+-- of its configuration and those of its image and script.
+use Rattle.std.specs.Prelude.{◌≡◌, ◌⊎◌, ℕ, true, false, ◌&&◌, List, [], Option, Some, None, IfErr, Result, Ok, Err}
 use Rattle.std.proofs.Common.{sym, subst, ◌∙◌, arith}
+use mathlib.Core.Logic.{inl, inr}
+use Rattle.std.specs.Io.KnownBytes.{Appends, Keeps}
 use Rattle.elf_image.specs.Image.{ProgramImage}
-use Rattle.sim_inputs.specs.declared.line.Line.{Line}
+use Rattle.sim_inputs.specs.{declared.line.Line.Line, declared.settings.Settings.Settings}
+use Rattle.sim_script.specs.{declared.actions.Word.Word, Script.IsScript}
+use Rattle.sim_inputs.specs.{Configuration.IsConfiguration}
 use Rattle.sim_inputs.specs.declared.line.Line.TheVariants as lines
-use Rattle.sim_inputs.specs.declared.settings.Settings.{Settings}
-use Rattle.sim_inputs.specs.Configuration.{IsConfiguration}
-use Rattle.smt_model.specs.Setup.{is_accepted}
-use Rattle.core_state.specs.Setup.{setup_of}
 use Rattle.simulator.specs.declared.refused.Refused.{Refused}
-use Rattle.simulator.specs.declared.refused.Refused.TheVariants.{Image, Config, Script, Memory, Output}
-use Rattle.simulator.specs.Refusals.{PassesAll, AreAccepted, AreRefused, IsImageRefusal, IsConfigRefusal, IsScriptRefusal, IsRefusedFor}
-use Rattle.simulator.specs.Lines.{IsLineRefusal, IsSettingsRefusal, IsRefusal}
+use Rattle.simulator.specs.declared.refused.Refused.TheVariants.{Image, Config, Script, Memory, File}
+use Rattle.simulator.specs.declared.refused.Refused.TheVariants.{Output}
+use Rattle.simulator.specs.Refusals.{Read, OfFile, PassesAll, AreAccepted, AreRefused, IsImageRefusal, IsConfigRefusal}
+use Rattle.simulator.specs.Refusals.{IsScriptRefusal, AreInputsRefusedFor, IsAsking}
+use Rattle.simulator.specs.Lines.{IsLineRefusal, IsSettingsRefusal, IsRefusal, OfSettings, IsListed, HasEnded}
+use Rattle.simulator.specs.Lines.{IsReportedBy, IsStepLine}
 
 -- What is refused of the image is refused of the steps; then what is of the sizes, and what is of the script.
-pub image_refusal : (file : List ℕ) (settings : Settings) (script : List ℕ) (reason : Refused) → IsImageRefusal file settings.ram reason
-    → IsRefusedFor file settings script reason
-image_refusal file settings script (Image number) is = is
-image_refusal file settings script Config is = absurd is
-image_refusal file settings script (Script number) is = absurd is
-image_refusal file settings script Memory is = tt
-image_refusal file settings script Output is = tt
+pub image_refusal : (image : Read) (settings : Settings) (script : Read) (reason : Refused)
+    → IsImageRefusal image settings.ram reason
+    → AreInputsRefusedFor image settings script reason
+image_refusal image settings script (Image number) is = is
+image_refusal image settings script Config is = absurd is
+image_refusal image settings script (Script number) is = absurd is
+image_refusal image settings script Memory is = tt
+image_refusal image settings script File is = inl is
+image_refusal image settings script Output is = absurd is
 
-pub sizes_refusal : (file : List ℕ) (settings : Settings) (script : List ℕ) (reason : Refused) → PassesAll file settings.ram → IsConfigRefusal settings reason
-    → IsRefusedFor file settings script reason
-sizes_refusal file settings script (Image number) passes is = absurd is
-sizes_refusal file settings script Config passes is = (passes, is)
-sizes_refusal file settings script (Script number) passes is = absurd is
-sizes_refusal file settings script Memory passes is = tt
-sizes_refusal file settings script Output passes is = tt
+pub sizes_refusal : (image : Read) (settings : Settings) (script : Read) (reason : Refused)
+    → OfFile image (λ file. PassesAll file settings.ram) → IsConfigRefusal settings reason
+    → AreInputsRefusedFor image settings script reason
+sizes_refusal image settings script (Image number) passes is = absurd is
+sizes_refusal image settings script Config passes is = (passes, is)
+sizes_refusal image settings script (Script number) passes is = absurd is
+sizes_refusal image settings script Memory passes is = tt
+sizes_refusal image settings script File passes is = absurd is
+sizes_refusal image settings script Output passes is = absurd is
 
-pub script_refusal : (file : List ℕ) (settings : Settings) (script : List ℕ) (reason : Refused) → PassesAll file settings.ram → AreAccepted settings
-    → IsScriptRefusal script reason → IsRefusedFor file settings script reason
-script_refusal file settings script (Image number) passes accepted is = absurd is
-script_refusal file settings script Config passes accepted is = absurd is
-script_refusal file settings script (Script number) passes accepted is = (passes, accepted, is)
-script_refusal file settings script Memory passes accepted is = tt
-script_refusal file settings script Output passes accepted is = tt
+pub script_refusal : (image : Read) (settings : Settings) (script : Read) (reason : Refused)
+    → OfFile image (λ file. PassesAll file settings.ram) → AreAccepted settings
+    → IsScriptRefusal script reason → AreInputsRefusedFor image settings script reason
+script_refusal image settings script (Image number) passes accepted is = absurd is
+script_refusal image settings script Config passes accepted is = absurd is
+script_refusal image settings script (Script number) passes accepted is = ((passes, accepted), is)
+script_refusal image settings script Memory passes accepted is = tt
+script_refusal image settings script File passes accepted is = inr ((passes, accepted), is)
+script_refusal image settings script Output passes accepted is = absurd is
+
+-- Behind inputs that are accepted only the output is refused.
+pub is_asking : (script : Read) (words : List Word) → OfFile script (λ text. IsScript text words) → IsAsking script
+is_asking (Ok text) words is = (words, is)
+is_asking (Err why) words is = absurd is
+
+pub output_refusal : (image : Read) (settings : Settings) (script : Read) (words : List Word) (reason : Refused)
+    → OfFile image (λ file. PassesAll file settings.ram) → AreAccepted settings
+    → OfFile script (λ text. IsScript text words) → reason ≡ Output → AreInputsRefusedFor image settings script reason
+output_refusal image settings script words reason passes accepted is same =
+    subst (AreInputsRefusedFor image settings script) (sym same) ((passes, accepted), is_asking script words is)
+
+pub told_refusal : (image : Read) (settings : Settings) (script : Read) (reason : Refused)
+    → OfFile image (λ file. PassesAll file settings.ram) → AreAccepted settings → IsAsking script
+    → (reason ≡ Memory) ⊎ (reason ≡ Output) → AreInputsRefusedFor image settings script reason
+told_refusal image settings script reason passes accepted asks (inl same) =
+    subst (AreInputsRefusedFor image settings script) (sym same) tt
+told_refusal image settings script reason passes accepted asks (inr same) =
+    subst (AreInputsRefusedFor image settings script) (sym same) ((passes, accepted), asks)
 
 -- What is refused of the configuration is refused of the line.
-pub settings_refusal : (line : Line) (text : List ℕ) (file : Option (List ℕ)) (script : List ℕ) (reason : Refused)
-    → IsSettingsRefusal text reason → IsRefusal line text file script reason
-settings_refusal line text file script (Image number) is = absurd is
-settings_refusal line text file script Config is = is
-settings_refusal line text file script (Script number) is = absurd is
-settings_refusal line text file script Memory is = tt
-settings_refusal line text file script Output is = tt
+pub settings_refusal : (line : Line) (config image script : Read) (reason : Refused)
+    → IsSettingsRefusal config reason → IsRefusal line config image script reason
+settings_refusal line config image script (Image number) is = absurd is
+settings_refusal line config image script Config is = is
+settings_refusal line config image script (Script number) is = absurd is
+settings_refusal line config image script Memory is = tt
+settings_refusal line config image script File is = inl is
+settings_refusal line config image script Output is = absurd is
 
 -- A configuration's settings are never refused for a core.
 never_refused : (text : List ℕ) (settings : Settings) → IsConfiguration text settings → AreRefused settings → ⊥
@@ -55,20 +84,74 @@ never_refused text settings is refused =
     let both : true ≡ false = sym is.sets.in_range.accepted ∙ refused empty in
     absurd (grind (arith, both))
 
-some_refusal : (line : Line) (text : List ℕ) (settings : Settings) → IsConfiguration text settings → (file script : List ℕ) (reason : Refused)
-    → IsLineRefusal line file settings script reason → IsRefusal line text (Some file) script reason
-some_refusal line text settings is file script (Image number) why = (settings, (is, why))
-some_refusal (lines.Step image named config records show) text settings is file script Config why = absurd (never_refused text settings is why.1)
-some_refusal (lines.List image config) text settings is file script Config why = absurd why
-some_refusal line text settings is file script (Script number) why = (settings, (is, why))
-some_refusal line text settings is file script Memory why = tt
-some_refusal line text settings is file script Output why = tt
+-- What holds of the settings of a configuration that was read.
+pub of_settings : (P : Settings → Type 0) (config : Read) (settings : Settings)
+    → OfFile config (λ text. IsConfiguration text settings)
+    → P settings → OfSettings config P
+of_settings P (Ok text) settings is holds = (settings, is, holds)
+of_settings P (Err why) settings is holds = absurd is
 
 -- What is refused of the image and the script is refused of the line.
-pub line_refusal : {B : Type 0} (now : B → List ℕ) (line : Line) (text : List ℕ) (settings : Settings) → IsConfiguration text settings
-    → (image : Option B) (script : List ℕ) (result : Result ℕ Refused) → IfNone image (result ≡ Err Output)
-    → IfErr result (λ reason. IfSome image (λ file. IsLineRefusal line (now file) settings script reason))
-    → IfErr result (IsRefusal line text (option_map now image) script)
-line_refusal now line text settings is image script (Ok status) unread why = tt
-line_refusal now line text settings is None script (Err reason) unread why = subst (λ r. IfErr r (IsRefusal line text None script)) (sym unread) tt
-line_refusal now line text settings is (Some file) script (Err reason) unread why = some_refusal line text settings is (now file) script reason why
+pub line_refusal : (line : Line) (config : Read) (settings : Settings)
+    → OfFile config (λ text. IsConfiguration text settings)
+    → (image script : Read) (reason : Refused) → IsLineRefusal line image settings script reason
+    → IsRefusal line config image script reason
+line_refusal line (Err why) settings is image script reason because = absurd is
+line_refusal line (Ok text) settings is image script (Image number) because = (settings, is, because)
+line_refusal (lines.Step a b c records show) (Ok text) settings is image script Config because =
+    absurd (never_refused text settings is because.1)
+line_refusal (lines.List a c) (Ok text) settings is image script Config because = absurd because
+line_refusal line (Ok text) settings is image script (Script number) because = (settings, is, because)
+line_refusal line (Ok text) settings is image script Memory because = tt
+line_refusal line (Ok text) settings is image script File because = inr (settings, is, because)
+line_refusal line (Ok text) settings is image script Output because = (settings, is, because)
+
+-- An output that failed is refused of the line, with its inputs accepted.
+pub output_refused : (line : Line) (config : Read) (settings : Settings)
+    → OfFile config (λ text. IsConfiguration text settings) → (image script : Read)
+    → OfFile image (λ file. PassesAll file settings.ram) → (IsStepLine line → AreAccepted settings)
+    → (IsStepLine line → IsAsking script) → IsRefusal line config image script Output
+output_refused line (Err why) settings is image script passes accepted asks = absurd is
+output_refused (lines.Step a b c records show) (Ok text) settings is image script passes accepted asks =
+    (settings, is, ((passes, accepted tt), asks tt))
+output_refused (lines.List a c) (Ok text) settings is image script passes accepted asks = (settings, is, passes)
+
+-- A flush changes nothing of what was written.
+pub kept : (old mid new : Option (List ℕ)) (text : List ℕ) → Appends old mid text → Keeps mid new → Appends old new text
+kept None mid new text written flushed = tt
+kept (Some xs) None new text written flushed = absurd written
+kept (Some xs) (Some ys) None text written flushed = absurd flushed
+kept (Some xs) (Some ys) (Some zs) text written flushed = flushed ∙ written
+
+listing_kept : (image : Read) (ram : ℕ) (old mid new : Option (List ℕ)) → Keeps mid new
+    → OfFile image (λ file. IsListed file ram old mid)
+    → OfFile image (λ file. IsListed file ram old new)
+listing_kept (Err why) ram old mid new flushed listed = absurd listed
+listing_kept (Ok file) ram old mid new flushed listed =
+    record { image = listed.image; is_image = listed.is_image; written = kept old mid new _ listed.written flushed }
+
+reported_kept : (line : Line) (settings : Settings) (image script : Read) (old mid new : Option (List ℕ)) (status : ℕ)
+    → Keeps mid new → IsReportedBy line settings image script old mid status
+    → IsReportedBy line settings image script old new status
+reported_kept (lines.Step a b c records show) settings image script old mid new status flushed told = record {
+  core = told.core;
+  is_image = told.is_image;
+  setup = told.setup;
+  limit = told.limit;
+  shown = told.shown;
+  harts = told.harts;
+  printed = (told.printed.0, told.printed.1, kept old mid new told.printed.0 told.printed.2 flushed);
+}
+reported_kept (lines.List a c) settings image script old mid new status flushed told = tt
+
+pub ended_kept : (line : Line) (settings : Settings) (image script : Read) (old mid new : Option (List ℕ)) (status : ℕ)
+    → Keeps mid new
+    → HasEnded line settings image script old mid status → HasEnded line settings image script old new status
+ended_kept line settings image script old mid new status flushed ended = record {
+  passed = ended.passed;
+  accepted = ended.accepted;
+  asks = ended.asks;
+  zero = ended.zero;
+  listed = λ is. listing_kept image settings.ram old mid new flushed (ended.listed is);
+  reported = reported_kept line settings image script old mid new status flushed ended.reported;
+}

@@ -1,11 +1,9 @@
 -- One more line of a listing, and that there is a word at each of its addresses.
-use Rattle.std.proofs.Common.{◌≡◌, ℕ, ◌+◌, ◌*◌, ◌/◌, ◌%◌, ◌<◌, ◌&&◌, ◌==◌, true, List, [], ◌++◌, flat_map, Some, refl, sym, ◌∙◌, ap, subst, arith}
-use Rattle.std.specs.Prelude.{nat_le}
-use Rattle.std.specs.Io.KnownBytes.{Appends}
-use Rattle.std.specs.declared.option.Option.{Option}
-use Rattle.std.proofs.lemmas.List.{flat_map_more}
-use Rattle.std.proofs.lemmas.List.FromFn.{map-range_with_len_more}
-use Rattle.std.proofs.lemmas.Bool.Decides.{nat_tests}
+use Rattle.std.proofs.Common.{◌≡◌, ℕ, ◌+◌, ◌*◌, ◌/◌, ◌%◌, ◌<◌, ◌&&◌, ◌==◌, true, List, [], ◌++◌, flat_map, Some, refl}
+use Rattle.std.proofs.Common.{sym, ◌∙◌, ap, subst, arith}
+use Rattle.std.specs.{Prelude.nat_le, Io.KnownBytes.Appends, declared.option.Option.Option}
+use Rattle.std.proofs.{lemmas.List.flat_map_more, lemmas.List.FromFn.map-range_with_len_more}
+use Rattle.std.proofs.{lemmas.Bool.Decides.nat_tests}
 use Rattle.elf_image.specs.Image.{ProgramImage, code_start, code_size, code_word, word_in}
 use Rattle.simulator.specs.Listing.{word_addresses}
 use Rattle.simulator.proofs.Appending.{appends_more}
@@ -18,7 +16,8 @@ lines_more line start n =
     ∙ sym (flat_map_more line [] (word_addresses start n) (start + 4 * n))
 
 -- a turn of the loop over the words
-pub lines_step : (old mid new : Option (List ℕ)) (line : ℕ → List ℕ) (start n : ℕ) → Appends old mid (flat_map line (word_addresses start n))
+pub lines_step : (old mid new : Option (List ℕ)) (line : ℕ → List ℕ) (start n : ℕ)
+    → Appends old mid (flat_map line (word_addresses start n))
     → Appends mid new (line (start + 4 * n)) → Appends old new (flat_map line (word_addresses start (n + 1)))
 lines_step old mid new line start n first next =
     subst (λ t. Appends old new t) (sym (lines_more line start n)) (appends_more old mid new _ _ first next)
@@ -28,10 +27,12 @@ tests : (start size i : ℕ) → start % 4 ≡ 0 → size % 4 ≡ 0 → i < size
 tests start size i aligned whole below = grind (arith, nat_tests)
 
 -- each address of the listing has a word
-pub has_word : (image : ProgramImage) (start size i : ℕ) → start ≡ code_start image → size ≡ code_size image → (start % 4 ≡ 0) × (size % 4 ≡ 0)
+pub has_word : (image : ProgramImage) (start size i : ℕ) → start ≡ code_start image → size ≡ code_size image
+    → (start % 4 ≡ 0) × (size % 4 ≡ 0)
     → i < size / 4 → code_word image (start + 4 * i) ≡ Some (word_in image (start + 4 * i))
 unfolding code_word
-has_word image start size i is_start is_size aligned below = rw (sym is_start, sym is_size, tests start size i aligned.0 aligned.1 below) refl
+has_word image start size i is_start is_size aligned below =
+    rw (sym is_start, sym is_size, tests start size i aligned.0 aligned.1 below) refl
 
 same_value : (x y : ℕ) → Some x ≡ Some y → x ≡ y
 same_value x y e = cc

@@ -1,10 +1,10 @@
 -- The listing of an image's code. (This project's own choice.)
-use Rattle.std.specs.Prelude.{ℕ, ◌+◌, ◌*◌, ◌/◌, List, [], ◌∷◌, ◌++◌, Option, Some, None, codes, map, flat_map}
+use Rattle.std.specs.Prelude.{ℕ, ◌+◌, ◌*◌, ◌/◌, List, [], ◌∷◌, ◌++◌, Option, Some, None, codes, map}
+use Rattle.std.specs.Prelude.{flat_map}
 use Rattle.std.specs.List.{range_with_len}
 use Rattle.text_fields.specs.Spelling.{hex}
 use Rattle.elf_image.specs.Image.{ProgramImage, code_start, code_size, word_in}
-use Rattle.rv_decode.specs.declared.instr.Instr.{Instr}
-use Rattle.rv_decode.specs.Decode.{decoded}
+use Rattle.rv_decode.specs.{declared.instr.Instr.Instr, Decode.decoded}
 use Rattle.rv_text.specs.Spelling.{spelling_of}
 
 -- What a word says at an address: its instruction's spelling there, and `.word` where it is none.
@@ -27,4 +27,5 @@ word_addresses start count = map (λ i. start + 4 * i) (range_with_len 0 count)
 -- The whole listing: a line for each word of the code, by rising address, to the end of its zeros.
 abbrev pub listing_text : ProgramImage → List ℕ
 listing_text image =
-    flat_map (λ pc. listing_line pc (word_in image pc)) (word_addresses (code_start image) (code_size image / 4))
+    flat_map (λ pc. listing_line pc (word_in image pc))
+    (word_addresses (code_start image) (code_size image / 4))

@@ -1,27 +1,25 @@
 -- What the report says of a core. (This project's own choice.)
-use Rattle.std.specs.Prelude.{ℕ, ◌+◌, Bool, true, false, ◌==◌, if◌then◌else◌, List, [], ◌∷◌, ◌++◌, codes, flat_map}
-use Rattle.std.specs.List.{list_any, list_all}
-use Rattle.std.specs.Fmt.{decimal}
+use Rattle.std.specs.Prelude.{ℕ, ◌+◌, Bool, false, ◌==◌, if◌then◌else◌, List, [], ◌∷◌, ◌++◌}
+use Rattle.std.specs.Prelude.{codes, flat_map}
+use Rattle.std.specs.{List.list_any, List.list_all, Fmt.decimal}
 use Rattle.text_fields.specs.Spelling.{hex}
-use Rattle.events.specs.declared.effect.Record.{Record}
-use Rattle.events.specs.Line.{record_text_of}
-use Rattle.smt_model.specs.declared.config.Status.{Status}
-use Rattle.smt_model.specs.declared.config.Status.TheVariants.{Going, Ended, Stopped}
+use Rattle.events.specs.{declared.effect.Record.Record, Line.record_text_of}
+use Rattle.smt_model.specs.{declared.config.Status.Status, declared.config.Status.TheVariants.Going}
+use Rattle.smt_model.specs.{declared.config.Status.TheVariants.Ended}
+use Rattle.smt_model.specs.{declared.config.Status.TheVariants.Stopped, Plain.is_going_status}
 
--- The hart goes on; it has ended with 0.
-abbrev pub is_going : Status → Bool
-is_going Going = true
-is_going (Ended number) = false
-is_going (Stopped cause) = false
-
+-- The hart has ended with 0.
 abbrev pub has_ended_well : Status → Bool
 has_ended_well Going = false
 has_ended_well (Ended number) = number == 0
 has_ended_well (Stopped cause) = false
 
--- The exit status of a simulation: 3 where some hart is going; else 0 where each has ended with 0; else 1.
+-- The exit status of a simulation: 3 where some hart is going; else 0 where each has ended with 0;
+-- else 1.
 abbrev pub status_number : List Status → ℕ
-status_number statuses = if list_any is_going statuses then 3 else (if list_all has_ended_well statuses then 0 else 1)
+status_number statuses =
+    if list_any is_going_status statuses then 3
+    else (if list_all has_ended_well statuses then 0 else 1)
 
 -- A name, a number and a newline.
 abbrev pub count_line : List ℕ → ℕ → List ℕ
@@ -56,9 +54,10 @@ record_line r = record_text_of r ++ 10 ∷ []
 abbrev pub records_text : Bool → List Record → List ℕ
 records_text wanted records = if wanted then flat_map record_line records else []
 
--- The whole report: how many events there are, how many instructions have retired and how many jobs are with units, how
--- each hart stands, and the bytes that were put out.
+-- The whole report: how many events there are, how many instructions have retired and how many jobs
+-- are with units, how each hart stands, and the bytes that were put out.
 abbrev pub report_text : ℕ → ℕ → ℕ → List Status → List ℕ → List ℕ
 report_text events retired lent statuses output =
-    count_line (codes "events") events ++ (count_line (codes "retired") retired ++ (count_line (codes "lent") lent
+    count_line (codes "events") events
+    ++ (count_line (codes "retired") retired ++ (count_line (codes "lent") lent
     ++ (hart_lines 0 statuses ++ output_line output)))

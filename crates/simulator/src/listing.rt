@@ -14,10 +14,12 @@ use text_fields::{push_ascii, push_hex};
 /// Room for an address, a word and the spelling of an instruction.
 type Line = ArrayString<64>;
 
-/// Writes a line for each word of the code, by rising address: the address and the word as eight hexadecimal digits, and
-/// the spelling of its instruction there, or `.word` where it is none. The code ends behind its zeros.
+/// Writes a line for each word of the code, by rising address: the address and the word as eight
+/// hexadecimal digits, and the spelling of its instruction there, or `.word` where it is none. The
+/// code ends behind its zeros. Where it answers Ok, it has written exactly these lines.
 pub fn list<W: Write>(image: &Image, out: &mut W) -> io::Result<()>
-    ensures { OnOk result (Appends (W.contents out.old) (W.contents out.new) (listing_text image.now)) }
+    ensures { OnOk result
+        (Appends (W.contents out.old) (W.contents out.new) (listing_text image.now)) }
 {
     let (start, size) = image.code();
     for index in 0..size / 4 {
@@ -30,7 +32,8 @@ pub fn list<W: Write>(image: &Image, out: &mut W) -> io::Result<()>
 }
 
 fn write_line<W: Write>(pc: u32, word: u32, out: &mut W) -> io::Result<()>
-    ensures { OnOk result (Appends (W.contents out.old) (W.contents out.new) (listing_line pc word)) }
+    ensures { OnOk result
+        (Appends (W.contents out.old) (W.contents out.new) (listing_line pc word)) }
 {
     let mut line = Line::new();
     push_field(&mut line, pc);

@@ -1,32 +1,37 @@
-ghost use Rattle.std.specs.Prelude.{◌≡◌, [], IsTrue, IsSome, IfSome, IfNone, OnOk, IfOk, IfErr, IsErr, Err, ◌⊎◌, List, option_map};
-ghost use Rattle.std.specs.Option.{option_map_or};
+ghost use Rattle.std.specs.Prelude.{◌≡◌, IsTrue, OnOk, IfOk, IfErr, Err, ◌⊎◌, List, false};
 ghost use Rattle.sim_script.specs.declared.actions.Word.{Word as AnyWord};
 ghost use Rattle.sim_script.specs.Script.{IsScript};
+ghost use Rattle.std.specs.Io.KnownBytes.{Keeps};
 ghost use Rattle.simulator.specs.declared.refused.Refused.{Refused as AnyRefused};
-ghost use Rattle.simulator.specs.declared.refused.Refused.TheVariants.{Output};
-ghost use Rattle.simulator.specs.Refusals.{PassesAll, AreAccepted, IsImageRefusal, IsRefusedFor, exit_status_of, says_harts};
+ghost use Rattle.simulator.specs.declared.refused.Refused.TheVariants.{Memory, Output};
+ghost use Rattle.simulator.specs.Refusals.{as_read, OfFile, PassesAll, AreAccepted};
+ghost use Rattle.simulator.specs.Refusals.{AreInputsRefusedFor, exit_status_of, refusal_of};
+ghost use Rattle.simulator.specs.Refusals.{says_harts};
 ghost use Rattle.sim_inputs.specs.declared.settings.Settings.{Settings as AnySettings};
 ghost use Rattle.sim_inputs.specs.Configuration.{IsConfiguration};
-ghost use Rattle.simulator.specs.Lines.{IsStep, IsList, IsListed, IsListRefusal, IsLineRefusal, IsRefusal, IsSettingsRefusal, HasEnded};
+ghost use Rattle.simulator.specs.Lines.{IsStepLine, IsList, IsListed, IsListRefusal, IsLineRefusal};
+ghost use Rattle.simulator.specs.Lines.{IsRefusal, IsSettingsRefusal, OfSettings, HasEnded};
+ghost use Rattle.simulator.specs.Lines.{IsReportedBy};
+ghost use Rattle.simulator.specs.Told.{AreTables, HasTold, IsReported};
 
 use crate::listing::list;
-use crate::refused::Refused;
+use crate::refused::{Refused, Unread, refuse};
 use crate::reporting::{report, status_of};
-use crate::stepping::{read_image, step_bytes};
+use crate::stepping::{read_image, step_files};
 use sim_inputs::{ConfigRefused, Line, Settings, read_config};
 use smt_core::{Core, Predict};
 use std::alloc::Global;
 use std::io::Write;
 use std::sync::Wait;
 
-/// The files that a line names, as they were read; none for one that couldn't be.
+/// The files that a line names, as they were read.
 #[derive(Clone, Copy, Drop)]
 pub struct Inputs<'a> {
     /// The configuration; empty where the line names none.
-    pub config: Option<&'a [u8]>,
-    pub image: Option<&'a [u8]>,
+    pub config: Result<&'a [u8], Unread>,
+    pub image: Result<&'a [u8], Unread>,
     /// The script; empty where the line names none.
-    pub second: Option<&'a [u8]>,
+    pub second: Result<&'a [u8], Unread>,
 }
 
 /// What is printed beside the asks and the report.
@@ -36,9 +41,10 @@ struct Printing {
     tables: bool,
 }
 
-/// Does all that the program does once its files are read, and answers its exit status: how the harts stand, 0 for a
-/// listing, 2 for a refused input, 5 where memory or a file failed. A refusal is one line on `err`. The configuration is read
-/// first, then the image, then the script.
+/// Does all that the program does once its files are read, and answers its exit status: how the
+/// harts stand, 0 for a listing, 2 for a refused input, 5 where memory or a file failed. A refusal
+/// is one line on `err`. The configuration is looked at first, then the image, then the script; a
+/// file that couldn't be read is refused where it is looked at. All that is printed is flushed.
 pub fn perform<P: Predict, W: Write, E: Write, R: Wait>(
     rt: &R,
     line: &Line<'_>,
@@ -49,24 +55,22 @@ pub fn perform<P: Predict, W: Write, E: Write, R: Wait>(
     alloc: Global,
 ) -> u8
     ensures known { IsTrue (says_harts result) ⊎ (result ≡ 2) ⊎ (result ≡ 5) }
-    ensures unset { IfNone inputs.now.config (result ≡ 5) }
-    ensures refused { result ≡ 2 → IfSome inputs.now.config (λ config. (reason : AnyRefused) × (exit_status_of reason ≡ 2)
-        × IsRefusal line.now config.now (option_map (λ image. image.now) inputs.now.image)
-        (option_map_or (λ script. script.now) inputs.now.second []) reason) }
-    ensures ended { IsTrue (says_harts result) → IfSome inputs.now.config (λ config. (settings : AnySettings) × IsConfiguration config.now settings
-        × HasEnded line.now settings (option_map (λ image. image.now) inputs.now.image) (option_map (λ script. script.now) inputs.now.second)
-        (W.contents out.old) (W.contents out.new) result) }
+    ensures unset { IfErr inputs.now.config (λ why. result ≡ 5) }
+    ensures refused { says_harts result ≡ false → (reason : AnyRefused)
+        × (exit_status_of reason ≡ result) × IsRefusal line.now
+        (as_read inputs.now.config) (as_read inputs.now.image) (as_read inputs.now.second) reason }
+    ensures ended { IsTrue (says_harts result)
+        → OfSettings (as_read inputs.now.config) (λ settings. HasEnded line.now settings
+        (as_read inputs.now.image) (as_read inputs.now.second) (W.contents out.old)
+        (W.contents out.new) result) }
 {
     match configure_and_answer(rt, line, inputs, predict, out, alloc) {
         Ok(status) => status,
-        Err(refused) => {
-            let _ = writeln!(err, "smtsim: {refused}");
-            refused.exit_status()
-        }
+        Err(refused) => refuse(refused, err),
     }
 }
 
-/// The exit status of a line whose inputs are accepted.
+/// The exit status of a line whose inputs are accepted, with all flushed that it prints.
 fn configure_and_answer<P: Predict, W: Write, R: Wait>(
     rt: &R,
     line: &Line<'_>,
@@ -75,29 +79,40 @@ fn configure_and_answer<P: Predict, W: Write, R: Wait>(
     out: &mut W,
     alloc: Global,
 ) -> Result<u8, Refused>
-    ensures unset { IfNone inputs.now.config (result ≡ Err Output) }
-    ensures refused { IfSome inputs.now.config (λ config. IfErr result (IsRefusal line.now config.now
-        (option_map (λ image. image.now) inputs.now.image) (option_map_or (λ script. script.now) inputs.now.second []))) }
-    ensures ended { IfOk result (λ status. IfSome inputs.now.config (λ config. (settings : AnySettings) × IsConfiguration config.now settings
-        × HasEnded line.now settings (option_map (λ image. image.now) inputs.now.image) (option_map (λ script. script.now) inputs.now.second)
-        (W.contents out.old) (W.contents out.new) status)) }
+    ensures unset { IfErr inputs.now.config (λ why. result ≡ Err (refusal_of why)) }
+    ensures refused { IfErr result (IsRefusal line.now (as_read inputs.now.config)
+        (as_read inputs.now.image) (as_read inputs.now.second)) }
+    ensures ended { IfOk result
+        (λ status. OfSettings (as_read inputs.now.config) (λ settings. HasEnded line.now settings
+        (as_read inputs.now.image) (as_read inputs.now.second) (W.contents out.old)
+        (W.contents out.new) status)) }
     ensures status { IfOk result (λ status. IsTrue (says_harts status)) }
 {
-    let Some(config) = inputs.config else {
-        return Err(Refused::Output);
-    };
-    let settings = match read_settings(config, alloc) {
+    let settings = match read_settings(inputs.config, alloc) {
         Ok(settings) => settings,
         Err(refused) => return Err(refused),
     };
-    answer(rt, line, inputs, &settings, predict, out, alloc)
+    let status = match answer(rt, line, inputs, &settings, predict, out, alloc) {
+        Ok(answered) => answered,
+        Err(refused) => return Err(refused),
+    };
+    match out.flush() {
+        Ok(()) => Ok(status),
+        Err(_) => Err(Refused::Output),
+    }
 }
 
-fn read_settings(config: &[u8], alloc: Global) -> Result<Settings, Refused>
-    ensures ok { IfOk result (IsConfiguration config.now) }
-    ensures refused { IfErr result (IsSettingsRefusal config.now) }
+fn read_settings(config: Result<&[u8], Unread>, alloc: Global) -> Result<Settings, Refused>
+    ensures unread { IfErr config.entry (λ why. result ≡ Err (refusal_of why)) }
+    ensures ok { IfOk result
+        (λ settings. OfFile (as_read config.entry) (λ text. IsConfiguration text settings)) }
+    ensures refused { IfErr result (IsSettingsRefusal (as_read config.entry)) }
 {
-    match read_config(config, alloc) {
+    let text = match config {
+        Ok(text) => text,
+        Err(unread) => return Err(unread.refused()),
+    };
+    match read_config(text, alloc) {
         Ok(settings) => Ok(settings),
         Err(ConfigRefused::Refused) => Err(Refused::Config),
         Err(ConfigRefused::Memory) => Err(Refused::Memory),
@@ -114,17 +129,22 @@ fn answer<P: Predict, W: Write, R: Wait>(
     out: &mut W,
     alloc: Global,
 ) -> Result<u8, Refused>
-    ensures unread { IfNone inputs.now.image (result ≡ Err Output) }
-    ensures refused { IfErr result (λ reason. IfSome inputs.now.image (λ image.
-        IsLineRefusal line.now image.now settings.now (option_map_or (λ script. script.now) inputs.now.second []) reason)) }
-    ensures passed { OnOk result (IfSome inputs.now.image (λ image. PassesAll image.now settings.now.ram)) }
-    ensures accepted { IsStep line.now → OnOk result (AreAccepted settings.now) }
-    ensures script_read { IsStep line.now → OnOk result (IsSome inputs.now.second) }
-    ensures script { IsStep line.now
-        → OnOk result (IfSome inputs.now.second (λ script. (words : List AnyWord) × IsScript script.now words)) }
+    ensures unread { IfErr inputs.now.image (λ why. result ≡ Err (refusal_of why)) }
+    ensures refused { IfErr result (IsLineRefusal line.now (as_read inputs.now.image) settings.now
+        (as_read inputs.now.second)) }
+    ensures passed { OnOk result
+        (OfFile (as_read inputs.now.image) (λ file. PassesAll file settings.now.ram)) }
+    ensures accepted { IsStepLine line.now → OnOk result (AreAccepted settings.now) }
+    ensures script { IsStepLine line.now
+        → OnOk result
+        (OfFile (as_read inputs.now.second)
+        (λ text. (words : List AnyWord) × IsScript text words)) }
     ensures zero { IsList line.now → IfOk result (λ status. status ≡ 0) }
-    ensures listed { IsList line.now → OnOk result (IfSome inputs.now.image (λ image.
-        IsListed image.now settings.now.ram (W.contents out.old) (W.contents out.new))) }
+    ensures listed { IsList line.now → OnOk result (OfFile (as_read inputs.now.image) (λ file.
+        IsListed file settings.now.ram (W.contents out.old) (W.contents out.new))) }
+    ensures reported { IfOk result (λ status. IsReportedBy line.now settings.now
+        (as_read inputs.now.image) (as_read inputs.now.second) (W.contents out.old)
+        (W.contents out.new) status) }
     ensures status { IfOk result (λ status. IsTrue (says_harts status)) }
 {
     match line {
@@ -135,27 +155,24 @@ fn answer<P: Predict, W: Write, R: Wait>(
             };
             step_and_report(rt, inputs, settings, printing, predict, out, alloc)
         }
-        Line::List { .. } => read_and_list(inputs, settings, out, alloc),
+        Line::List { .. } => read_and_list(inputs.image, settings, out, alloc),
     }
 }
 
 /// Writes the listing of the image's code; its exit status is 0.
 fn read_and_list<W: Write>(
-    inputs: &Inputs<'_>,
+    file: Result<&[u8], Unread>,
     settings: &Settings,
     out: &mut W,
     alloc: Global,
 ) -> Result<u8, Refused>
-    ensures unread { IfNone inputs.now.image (result ≡ Err Output) }
-    ensures refused { IfErr result (λ reason. IfSome inputs.now.image (λ image. IsListRefusal image.now settings.now.ram reason)) }
-    ensures passed { OnOk result (IfSome inputs.now.image (λ image. PassesAll image.now settings.now.ram)) }
-    ensures listed { OnOk result (IfSome inputs.now.image (λ image.
-        IsListed image.now settings.now.ram (W.contents out.old) (W.contents out.new))) }
+    ensures unread { IfErr file.entry (λ why. result ≡ Err (refusal_of why)) }
+    ensures refused { IfErr result (IsListRefusal (as_read file.entry) settings.now.ram) }
+    ensures passed { OnOk result (OfFile (as_read file.entry) (λ f. PassesAll f settings.now.ram)) }
+    ensures listed { OnOk result (OfFile (as_read file.entry) (λ f.
+        IsListed f settings.now.ram (W.contents out.old) (W.contents out.new))) }
     ensures zero { IfOk result (λ status. status ≡ 0) }
 {
-    let Some(file) = inputs.image else {
-        return Err(Refused::Output);
-    };
     let image = match read_image(file, settings, alloc) {
         Ok(image) => image,
         Err(refused) => return Err(refused),
@@ -175,31 +192,52 @@ fn step_and_report<P: Predict, W: Write, R: Wait>(
     out: &mut W,
     alloc: Global,
 ) -> Result<u8, Refused>
-    ensures unread { IfNone inputs.now.image (result ≡ Err Output) }
-    ensures refused { IfErr result (λ reason. IfSome inputs.now.image (λ image.
-        IsRefusedFor image.now settings.now (option_map_or (λ script. script.now) inputs.now.second []) reason)) }
-    ensures passed { OnOk result (IfSome inputs.now.image (λ image. PassesAll image.now settings.now.ram)) }
+    ensures unread { IfErr inputs.now.image (λ why. result ≡ Err (refusal_of why)) }
+    ensures refused { IfErr result (AreInputsRefusedFor (as_read inputs.now.image) settings.now
+        (as_read inputs.now.second)) }
+    ensures passed { OnOk result
+        (OfFile (as_read inputs.now.image) (λ file. PassesAll file settings.now.ram)) }
     ensures accepted { OnOk result (AreAccepted settings.now) }
-    ensures script_read { OnOk result (IsSome inputs.now.second) }
-    ensures script { OnOk result (IfSome inputs.now.second (λ script. (words : List AnyWord) × IsScript script.now words)) }
+    ensures script { OnOk result
+        (OfFile (as_read inputs.now.second)
+        (λ text. (words : List AnyWord) × IsScript text words)) }
+    ensures reported { IfOk result (IsReported settings.now (as_read inputs.now.image)
+        (as_read inputs.now.second) printing.records printing.tables (W.contents out.old)
+        (W.contents out.new)) }
     ensures status { IfOk result (λ status. IsTrue (says_harts status)) }
 {
-    let Some(image) = inputs.image else {
-        return Err(Refused::Output);
+    let finished = match step_files(
+        rt,
+        inputs.image,
+        settings,
+        inputs.second,
+        predict,
+        out,
+        alloc,
+    ) {
+        Ok(finished) => finished,
+        Err(refused) => return Err(refused),
     };
-    let Some(script) = inputs.second else {
-        return refuse_image(image, settings, alloc);
-    };
-    let finished = step_bytes(rt, image, settings, script, predict, out, alloc)?;
-    tell(&finished.core, printing, out)
+    tell(&finished.core, printing, out, alloc)
 }
 
-/// Writes the tables where they are wanted, and the report.
-fn tell<W: Write>(core: &Core, printing: Printing, out: &mut W) -> Result<u8, Refused>
-    ensures refused { IfErr result (λ reason. reason ≡ Output) }
+/// Writes the tables where they are wanted, and the report. Answers how the harts stand.
+fn tell<W: Write>(
+    core: &Core,
+    printing: Printing,
+    out: &mut W,
+    alloc: Global,
+) -> Result<u8, Refused>
+    ensures refused { IfErr result (λ reason. (reason ≡ Memory) ⊎ (reason ≡ Output)) }
+    ensures told { IfOk result (HasTold core.now printing.records printing.tables
+        (W.contents out.old) (W.contents out.new)) }
     ensures status { IfOk result (λ status. IsTrue (says_harts status)) }
 {
-    if printing.tables && core.tables(out).is_err() {
+    let tables = match table_text(core, printing.tables, alloc) {
+        Ok(tables) => tables,
+        Err(refused) => return Err(refused),
+    };
+    if out.write_all(tables.as_slice()).is_err() {
         return Err(Refused::Output);
     }
     let account = core.account();
@@ -209,11 +247,17 @@ fn tell<W: Write>(core: &Core, printing: Printing, out: &mut W) -> Result<u8, Re
     }
 }
 
-/// Where the script couldn't be read: a refused image comes first.
-fn refuse_image(image: &[u8], settings: &Settings, alloc: Global) -> Result<u8, Refused>
-    ensures refused { IfErr result (λ reason. (reason ≡ Output) ⊎ IsImageRefusal image.now settings.now.ram reason) }
-    ensures never { IsErr result }
+/// The text of the tables where they are wanted, else none.
+fn table_text(core: &Core, wanted: bool, alloc: Global) -> Result<Vec<u8>, Refused>
+    ensures refused { IfErr result (λ reason. reason ≡ Memory) }
+    ensures tables { IfOk result (λ text. AreTables wanted text.items) }
 {
-    read_image(image, settings, alloc)?;
-    Err(Refused::Output)
+    let mut text = Vec::new(alloc);
+    if !wanted {
+        return Ok(text);
+    }
+    match core.tables(&mut text) {
+        Ok(()) => Ok(text),
+        Err(_) => Err(Refused::Memory),
+    }
 }

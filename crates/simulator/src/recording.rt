@@ -9,11 +9,12 @@ use std::io;
 use std::io::Write;
 use text_fields::push_ascii;
 
-/// Writes a line for each record where they are wanted: hart, pc, word, value, next, the address and number written, and the
-/// byte put out.
+/// Writes a line for each record where they are wanted: hart, pc, word, value, next, the address
+/// and number written, and the byte put out.
 pub fn report_records<W: Write>(wanted: bool, records: &[Record], out: &mut W) -> io::Result<()>
     requires { All WritesAWord records.now }
-    ensures { OnOk result (Appends (W.contents out.old) (W.contents out.new) (records_text wanted records.now)) }
+    ensures { OnOk result
+        (Appends (W.contents out.old) (W.contents out.new) (records_text wanted records.now)) }
 {
     if !wanted {
         return out.write_all(b"");
@@ -23,7 +24,8 @@ pub fn report_records<W: Write>(wanted: bool, records: &[Record], out: &mut W) -
 
 fn write_records<W: Write>(records: &[Record], out: &mut W) -> io::Result<()>
     requires { All WritesAWord records.now }
-    ensures { OnOk result (Appends (W.contents out.old) (W.contents out.new) (flat_map record_line records.now)) }
+    ensures { OnOk result
+        (Appends (W.contents out.old) (W.contents out.new) (flat_map record_line records.now)) }
 {
     for record in records {
         write_record(record, out)?;
@@ -35,7 +37,8 @@ fn write_records<W: Write>(records: &[Record], out: &mut W) -> io::Result<()>
 #[tactic(auto, using(crate::proofs::RecordLines::short_write))]
 fn write_record<W: Write>(record: &Record, out: &mut W) -> io::Result<()>
     requires { WritesAWord record.now }
-    ensures { OnOk result (Appends (W.contents out.old) (W.contents out.new) (record_line record.now)) }
+    ensures { OnOk result
+        (Appends (W.contents out.old) (W.contents out.new) (record_line record.now)) }
 {
     let mut line = ArrayString::<80>::new();
     line.push_str(print_record(record).as_str());

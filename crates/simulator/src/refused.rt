@@ -1,6 +1,7 @@
 ghost use Rattle.std.specs.Prelude.{◌≡◌, false};
-ghost use Rattle.simulator.specs.Refusals.{exit_status_of, says_harts};
+ghost use Rattle.simulator.specs.Refusals.{exit_status_of, refusal_of, says_harts};
 
+use std::io::Write;
 use thiserror::Error;
 
 /// Why a simulation was not made, or not told whole.
@@ -18,20 +19,52 @@ pub enum Refused {
     /// There isn't enough memory.
     #[error("memory")]
     Memory,
+    /// A file can't be read.
+    #[error("file")]
+    File,
     /// The output took no more.
     #[error("file")]
     Output,
 }
 
 impl Refused {
-    /// The exit status of the program: 2 for an input, 5 for memory and files.
+    /// The exit status of the program: 2 for an input, 5 for memory, files and the output.
     pub fn exit_status(self) -> u8
         ensures status { result ≡ exit_status_of self }
         ensures apart { says_harts result ≡ false }
     {
         match self {
             Refused::Image(_) | Refused::Config | Refused::Script(_) => 2,
-            Refused::Memory | Refused::Output => 5,
+            Refused::Memory | Refused::File | Refused::Output => 5,
         }
     }
+}
+
+/// Why there are no bytes of a file.
+#[derive(Clone, Copy, Debug, PartialEq, Eq, Drop)]
+pub enum Unread {
+    /// It can't be read, or it is too long.
+    File,
+    /// There isn't enough memory for them.
+    Memory,
+}
+
+impl Unread {
+    /// What a line is refused for where it needs the file.
+    pub fn refused(self) -> Refused
+        ensures { result ≡ refusal_of self }
+    {
+        match self {
+            Unread::File => Refused::File,
+            Unread::Memory => Refused::Memory,
+        }
+    }
+}
+
+/// Says on one line of `err` why there is no report, and answers the exit status.
+pub(crate) fn refuse<E: Write>(refused: Refused, err: &mut E) -> u8
+    ensures { result ≡ exit_status_of refused }
+{
+    let _ = writeln!(err, "smtsim: {refused}");
+    refused.exit_status()
 }

@@ -4,7 +4,10 @@ ghost use Rattle.std.specs.Io.KnownBytes.{Appends};
 ghost use Rattle.arrayvec.specs.ArrayString.{array_string_len};
 ghost use Rattle.text_fields.specs.Spelling.{hex};
 ghost use Rattle.simulator.specs.Refusals.{says_harts};
-ghost use Rattle.simulator.specs.Report.{is_going, has_ended_well, status_number, count_line, status_text, hart_line, hart_lines, output_line, records_text, report_text};
+ghost use Rattle.smt_model.specs.Plain.{is_going_status};
+ghost use Rattle.simulator.specs.Report.{has_ended_well, status_number, count_line};
+ghost use Rattle.simulator.specs.Report.{status_text, hart_line, hart_lines, output_line};
+ghost use Rattle.simulator.specs.Report.{records_text, report_text};
 
 use crate::recording::report_records;
 use arrayvec::ArrayString;
@@ -16,11 +19,16 @@ use text_fields::{push_ascii, push_decimal, push_hex};
 /// Room for the name of a line with its number, or for the line of a hart.
 type Line = ArrayString<64>;
 
-/// Writes the report of an account: with `records` a line for each retired instruction, then how many events and retired instructions there are, how many jobs are with units, how
-/// each hart stands, and the output's bytes in hexadecimal.
+/// Writes the report of an account: with `records` a line for each retired instruction, then how
+/// many events and retired instructions there are, how many jobs are with units, how each hart
+/// stands, and the output's bytes in hexadecimal. Where it answers Ok, it has written exactly these
+/// lines.
 pub fn report<W: Write>(account: &Account<'_>, records: bool, out: &mut W) -> io::Result<()>
-    ensures { OnOk result (Appends (W.contents out.old) (W.contents out.new) (records_text records account.now.records.now
-        ++ report_text account.now.events (length account.now.records.now) account.now.lent account.now.statuses.items account.now.output.now)) }
+    ensures { OnOk result
+        (Appends (W.contents out.old) (W.contents out.new)
+        (records_text records account.now.records.now
+        ++ report_text account.now.events (length account.now.records.now) account.now.lent
+        account.now.statuses.items account.now.output.now)) }
 {
     report_records(records, account.records, out)?;
     report_count("events", u64::from(account.events), out)?;
@@ -32,7 +40,8 @@ pub fn report<W: Write>(account: &Account<'_>, records: bool, out: &mut W) -> io
 
 fn report_count<W: Write>(name: &str, count: u64, out: &mut W) -> io::Result<()>
     requires { length name.now ≤ 16 }
-    ensures { OnOk result (Appends (W.contents out.old) (W.contents out.new) (count_line name.now count)) }
+    ensures { OnOk result
+        (Appends (W.contents out.old) (W.contents out.new) (count_line name.now count)) }
 {
     let mut line = Line::new();
     line.push_str(name);
@@ -43,7 +52,8 @@ fn report_count<W: Write>(name: &str, count: u64, out: &mut W) -> io::Result<()>
 }
 
 fn report_harts<W: Write>(statuses: &[Status], out: &mut W) -> io::Result<()>
-    ensures { OnOk result (Appends (W.contents out.old) (W.contents out.new) (hart_lines 0 statuses.now)) }
+    ensures { OnOk result
+        (Appends (W.contents out.old) (W.contents out.new) (hart_lines 0 statuses.now)) }
 {
     for (hart, status) in statuses.iter().enumerate() {
         report_hart(hart, *status, out)?;
@@ -52,7 +62,8 @@ fn report_harts<W: Write>(statuses: &[Status], out: &mut W) -> io::Result<()>
 }
 
 fn report_hart<W: Write>(hart: usize, status: Status, out: &mut W) -> io::Result<()>
-    ensures { OnOk result (Appends (W.contents out.old) (W.contents out.new) (hart_line hart status)) }
+    ensures { OnOk result
+        (Appends (W.contents out.old) (W.contents out.new) (hart_line hart status)) }
 {
     let mut line = Line::new();
     line.push_str("hart ");
@@ -81,7 +92,8 @@ fn push_status(line: &mut Line, status: Status)
 }
 
 fn report_output<W: Write>(output: &[u8], out: &mut W) -> io::Result<()>
-    ensures { OnOk result (Appends (W.contents out.old) (W.contents out.new) (output_line output.now)) }
+    ensures { OnOk result
+        (Appends (W.contents out.old) (W.contents out.new) (output_line output.now)) }
 {
     if output.is_empty() {
         return out.write_all(b"output -\n");
@@ -92,7 +104,8 @@ fn report_output<W: Write>(output: &[u8], out: &mut W) -> io::Result<()>
 }
 
 fn write_bytes<W: Write>(bytes: &[u8], out: &mut W) -> io::Result<()>
-    ensures { OnOk result (Appends (W.contents out.old) (W.contents out.new) (flat_map (hex 2) bytes.now)) }
+    ensures { OnOk result
+        (Appends (W.contents out.old) (W.contents out.new) (flat_map (hex 2) bytes.now)) }
 {
     for byte in bytes {
         write_byte(*byte, out)?;
@@ -108,7 +121,8 @@ fn write_byte<W: Write>(byte: u8, out: &mut W) -> io::Result<()>
     out.write_all(digits.as_bytes())
 }
 
-/// The exit status that says how the harts stand: 0 every one has ended with 0, 1 none is going, 3 one is going.
+/// The exit status that says how the harts stand: 3 where one is going, 0 where every one has ended
+/// with 0, else 1.
 pub fn status_of(statuses: &[Status]) -> u8
     ensures status { result ≡ status_number statuses.now }
     ensures harts { IsTrue (says_harts result) }
@@ -123,7 +137,7 @@ pub fn status_of(statuses: &[Status]) -> u8
 }
 
 fn is_one_going(statuses: &[Status]) -> bool
-    ensures { result ≡ list_any is_going statuses.now }
+    ensures { result ≡ list_any is_going_status statuses.now }
 {
     statuses.iter().any(|status| is_going(*status))
 }
@@ -135,7 +149,7 @@ fn have_all_ended_well(statuses: &[Status]) -> bool
 }
 
 fn is_going(status: Status) -> bool
-    ensures { result ≡ is_going status }
+    ensures { result ≡ is_going_status status }
 {
     match status {
         Status::Going => true,

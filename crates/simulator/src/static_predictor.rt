@@ -7,8 +7,8 @@ use rv_decode::{Instr, decode};
 use rv_word::add;
 use smt_core::Predict;
 
-/// The predictor of the program: a jump whose target stands in its word goes there, and so does a branch backwards; after all
-/// else the instruction behind is expected (Smith 1981).
+/// The predictor of the program: a jump whose target stands in its word goes there, and so does a
+/// branch backwards; after all else the instruction behind is expected (Smith 1981).
 #[derive(Clone, Copy, Debug, PartialEq, Eq, Drop)]
 pub struct StaticPredictor;
 

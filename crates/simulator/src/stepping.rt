@@ -1,23 +1,28 @@
-ghost use Rattle.std.specs.Prelude.{◌≡◌, ◌+◌, ◌≤◌, List, All, IsTrue, IfOk, IfErr, OnOk, length, sum};
-ghost use Rattle.arrayvec.specs.ArrayString.{array_string_len};
+ghost use Rattle.std.specs.Prelude.{◌≡◌, ◌≤◌, List, All, Bool, true, IfSome, map, IsTrue, Ok, Err};
+ghost use Rattle.std.specs.Prelude.{IfOk, IfErr, OnOk, length, sum};
 ghost use Rattle.elf_image.specs.Loaded.{IsImageOf};
 ghost use Rattle.events.specs.Range.{HasShortWrite};
 ghost use Rattle.core_state.specs.Setup.{setup_of};
+ghost use Rattle.core_lock.specs.Asks.{asked_of, event_in, is_reply};
+ghost use Rattle.core_lock.specs.Passes.{places};
 ghost use Rattle.core_lock.specs.Shown.{Shown};
 ghost use Rattle.sim_script.specs.declared.actions.Word.{Word as AnyWord};
 ghost use Rattle.sim_script.specs.Script.{IsScript, IsInRange};
+ghost use Rattle.simulator.specs.Session.{Holding, IsAsked, HandsBack, IsUnit, IsMade, AreMade};
+ghost use Rattle.simulator.specs.Session.{AreAsked, Prints, repeated, actions_of, nobody};
 ghost use Rattle.simulator.specs.declared.refused.Refused.TheVariants.{Output};
-ghost use Rattle.simulator.specs.Refusals.{PassesAll, AreAccepted, IsRefusedFor, IsImageRefusal, IsConfigRefusal, IsScriptRefusal};
+ghost use Rattle.simulator.specs.Refusals.{as_read, OfFile, PassesAll, AreAccepted};
+ghost use Rattle.simulator.specs.Refusals.{AreInputsRefusedFor, IsImageRefusal, IsConfigRefusal};
+ghost use Rattle.simulator.specs.Refusals.{IsScriptRefusal, refusal_of};
 
+use crate::answers::said_line;
 use crate::hands::Hands;
-use crate::refused::Refused;
-use arrayvec::ArrayString;
+use crate::refused::{Refused, Unread};
 use core_lock::{Ask, Finished, LockedCore, Origin, Pass, Said};
 use elf_image::{Image, LoadRefused, load};
-use events::{Event, print_event};
 use sim_inputs::Settings;
 use sim_script::{Action, ScriptRefused, Word, read_script};
-use smt_core::{Config, Core, CoreRefused, Predict, work};
+use smt_core::{Config, Core, CoreRefused, Predict};
 use std::alloc::Global;
 use std::io;
 use std::io::Write;
@@ -25,12 +30,13 @@ use std::marker::Brand;
 use std::sync::Wait;
 use std::sync::ledger::{Blank, Ledger};
 
-/// Makes the asks of a script in order, each of them of one core behind one lock, and prints a line for each. The whole script is
-/// read before the first ask.
+/// Makes the asks of a script in order, each of them of one core behind one lock, and prints a line
+/// for each. The whole script is read before the first ask.
 ///
-/// Refused are, in this order, the image, the configuration, and the first word of the script that says nothing; then
-/// nothing is printed. `Output` is answered where `out` failed. What is finished is the core of this image and these settings,
-/// and its `counts` add up to the events of its history.
+/// Refused are, in this order, the image, the configuration, and the first word of the script that
+/// says nothing; then nothing is printed. `Output` is answered where `out` failed. What is finished
+/// is the core of this image and these settings, and its `counts` add up to the events of its
+/// history.
 pub fn step_bytes<P: Predict, W: Write, R: Wait>(
     rt: &R,
     image: &[u8],
@@ -40,16 +46,55 @@ pub fn step_bytes<P: Predict, W: Write, R: Wait>(
     out: &mut W,
     alloc: Global,
 ) -> Result<Finished, Refused>
-    ensures refused { IfErr result (IsRefusedFor image.now settings.now script.now) }
+    ensures refused { IfErr result
+        (AreInputsRefusedFor (Ok image.now) settings.now (Ok script.now)) }
     ensures passed { OnOk result (PassesAll image.now settings.now.ram) }
     ensures accepted { OnOk result (AreAccepted settings.now) }
     ensures script { OnOk result ((words : List AnyWord) × IsScript script.now words) }
-    ensures image { IfOk result (λ finished. IsImageOf image.now settings.now.ram finished.core.setup.image) }
-    ensures setup { IfOk result (λ finished. finished.core.setup ≡ setup_of finished.core.setup.image settings.now.config) }
+    ensures image { IfOk result
+        (λ finished. IsImageOf image.now settings.now.ram finished.core.setup.image) }
+    ensures setup { IfOk result
+        (λ finished. finished.core.setup ≡ setup_of finished.core.setup.image settings.now.config) }
     ensures limit { IfOk result (λ finished. finished.core.limit ≡ settings.now.limit) }
     ensures own { IfOk result (λ finished. IsTrue finished.own) }
     ensures counted { IfOk result (λ finished. sum finished.counts ≡ length finished.core.past) }
     ensures shown { IfOk result (λ finished. Shown finished.core) }
+    ensures asked { OnOk result
+        (Prints (W.contents out.old) (W.contents out.new) (AreAsked script.now)) }
+{
+    step_files(rt, Ok(image), settings, Ok(script), predict, out, alloc)
+}
+
+/// The same, of files as they were read: one that couldn't be is refused where it is needed.
+pub(crate) fn step_files<P: Predict, W: Write, R: Wait>(
+    rt: &R,
+    image: Result<&[u8], Unread>,
+    settings: &Settings,
+    script: Result<&[u8], Unread>,
+    predict: &mut P,
+    out: &mut W,
+    alloc: Global,
+) -> Result<Finished, Refused>
+    ensures unread { IfErr image.entry (λ why. result ≡ Err (refusal_of why)) }
+    ensures refused { IfErr result
+        (AreInputsRefusedFor (as_read image.entry) settings.now (as_read script.entry)) }
+    ensures passed { OnOk result
+        (OfFile (as_read image.entry) (λ file. PassesAll file settings.now.ram)) }
+    ensures accepted { OnOk result (AreAccepted settings.now) }
+    ensures script { OnOk result
+        (OfFile (as_read script.entry) (λ text. (words : List AnyWord) × IsScript text words)) }
+    ensures image { IfOk result
+        (λ finished. OfFile (as_read image.entry)
+        (λ file. IsImageOf file settings.now.ram finished.core.setup.image)) }
+    ensures setup { IfOk result
+        (λ finished. finished.core.setup ≡ setup_of finished.core.setup.image settings.now.config) }
+    ensures limit { IfOk result (λ finished. finished.core.limit ≡ settings.now.limit) }
+    ensures own { IfOk result (λ finished. IsTrue finished.own) }
+    ensures counted { IfOk result (λ finished. sum finished.counts ≡ length finished.core.past) }
+    ensures shown { IfOk result (λ finished. Shown finished.core) }
+    ensures asked { OnOk result
+        (Prints (W.contents out.old) (W.contents out.new)
+        (λ text. OfFile (as_read script.entry) (λ script. AreAsked script text))) }
 {
     // Each refusal is handed on as it is: a `?` would leave the prover to find what it becomes.
     let image = match read_image(image, settings, alloc) {
@@ -98,6 +143,9 @@ fn step_core<L: Origin, P: Predict, W: Write, R: Wait>(
     ensures own { IfOk result (λ finished. IsTrue finished.own) }
     ensures counted { IfOk result (λ finished. sum finished.counts ≡ length finished.core.past) }
     ensures shown { IfOk result (λ finished. Shown finished.core) }
+    ensures asked { OnOk result
+        (Prints (W.contents out.old) (W.contents out.new)
+        (λ text. (held : Holding) × AreMade (actions_of words.now) nobody held text)) }
 {
     let (core, passes) = LockedCore::<L>::new(core, blank);
     let mut actors = Actors {
@@ -113,12 +161,23 @@ fn step_core<L: Origin, P: Predict, W: Write, R: Wait>(
     }
 }
 
-pub(crate) fn read_image(image: &[u8], settings: &Settings, alloc: Global) -> Result<Image, Refused>
-    ensures refused { IfErr result (IsImageRefusal image.now settings.now.ram) }
-    ensures passed { OnOk result (PassesAll image.now settings.now.ram) }
-    ensures image { IfOk result (λ made. IsImageOf image.now settings.now.ram made) }
+/// The image that a file holds.
+pub(crate) fn read_image(
+    file: Result<&[u8], Unread>,
+    settings: &Settings,
+    alloc: Global,
+) -> Result<Image, Refused>
+    ensures unread { IfErr file.entry (λ why. result ≡ Err (refusal_of why)) }
+    ensures refused { IfErr result (IsImageRefusal (as_read file.entry) settings.now.ram) }
+    ensures passed { OnOk result (OfFile (as_read file.entry) (λ f. PassesAll f settings.now.ram)) }
+    ensures image { IfOk result
+        (λ made. OfFile (as_read file.entry) (λ f. IsImageOf f settings.now.ram made)) }
 {
-    match load(alloc, image, settings.ram) {
+    let bytes = match file {
+        Ok(bytes) => bytes,
+        Err(unread) => return Err(unread.refused()),
+    };
+    match load(alloc, bytes, settings.ram) {
         Ok(image) => Ok(image),
         Err(LoadRefused::OutOfMemory) => Err(Refused::Memory),
         Err(refused) => Err(Refused::Image(refused.number())),
@@ -138,11 +197,17 @@ fn make_core(image: &Image, settings: &Settings, alloc: Global) -> Result<Core, 
     }
 }
 
-fn read_words(script: &[u8], alloc: Global) -> Result<Vec<Word>, Refused>
-    ensures script { IfOk result (λ words. IsScript script.now words.items) }
+/// The words that a script's file holds.
+fn read_words(file: Result<&[u8], Unread>, alloc: Global) -> Result<Vec<Word>, Refused>
+    ensures script { IfOk result
+        (λ words. OfFile (as_read file.entry) (λ text. IsScript text words.items)) }
     ensures in_range { IfOk result (λ words. All (λ word. IsInRange word.action) words.items) }
-    ensures refused { IfErr result (IsScriptRefusal script.now) }
+    ensures refused { IfErr result (IsScriptRefusal (as_read file.entry)) }
 {
+    let script = match file {
+        Ok(script) => script,
+        Err(unread) => return Err(unread.refused()),
+    };
     match read_script(script, alloc) {
         Ok(words) => Ok(words),
         Err(ScriptRefused::Word(number)) => Err(Refused::Script(number)),
@@ -156,6 +221,7 @@ struct Actors<L: Ledger> {
     hands: Hands,
 }
 
+/// Makes the asks of all words, in order.
 fn make_asks<L: Origin, P: Predict, W: Write, R: Wait>(
     rt: &R,
     core: &LockedCore<L>,
@@ -164,12 +230,36 @@ fn make_asks<L: Origin, P: Predict, W: Write, R: Wait>(
     predict: &mut P,
     out: &mut W,
 ) -> io::Result<()>
-    requires { All (λ word. IsInRange word.action) words.now }
+    requires in_range { All (λ word. IsInRange word.action) words.now }
+    requires places { map (λ pass. pass.actor) actors.old.passes ≡ places }
+    ensures { OnOk result
+        (Prints (W.contents out.old) (W.contents out.new)
+        (AreMade (actions_of words.now) actors.old.hands.held actors.new.hands.held)) }
 {
     for word in words {
-        for _ in 0..word.repeat {
-            make_action(rt, core, actors, word.action, predict, out)?;
-        }
+        repeat_action(rt, core, actors, *word, predict, out)?;
+    }
+    Ok(())
+}
+
+/// Makes the asks of one word as often as it says.
+fn repeat_action<L: Origin, P: Predict, W: Write, R: Wait>(
+    rt: &R,
+    core: &LockedCore<L>,
+    actors: &mut Actors<L>,
+    word: Word,
+    predict: &mut P,
+    out: &mut W,
+) -> io::Result<()>
+    requires in_range { IsInRange word.action }
+    requires places { map (λ pass. pass.actor) actors.old.passes ≡ places }
+    ensures places { map (λ pass. pass.actor) actors.new.passes ≡ places }
+    ensures made { OnOk result
+        (Prints (W.contents out.old) (W.contents out.new)
+        (AreMade (repeated word) actors.old.hands.held actors.new.hands.held)) }
+{
+    for turn in 0..word.repeat {
+        make_action(rt, core, actors, word.action, predict, out)?;
     }
     Ok(())
 }
@@ -182,25 +272,72 @@ fn make_action<L: Origin, P: Predict, W: Write, R: Wait>(
     predict: &mut P,
     out: &mut W,
 ) -> io::Result<()>
-    requires { IsInRange action }
+    requires in_range { IsInRange action }
+    requires places { map (λ pass. pass.actor) actors.old.passes ≡ places }
+    ensures places { map (λ pass. pass.actor) actors.new.passes ≡ places }
+    ensures made { OnOk result
+        (Prints (W.contents out.old) (W.contents out.new)
+        (IsMade action actors.old.hands.held actors.new.hands.held)) }
 {
-    let (actor, ask) = match action {
-        Action::Fetch { actor } => (actor, Ask::Fetch),
-        Action::Decode { actor, hart } => (actor, Ask::Decode(hart)),
-        Action::Rename { actor, hart } => (actor, Ask::Rename(hart)),
-        Action::Retire { actor, hart } => (actor, Ask::Retire(hart)),
-        Action::Issue { actor } => (actor, Ask::Issue),
-        Action::Complete { actor } => {
-            return hand_back(rt, core, actors, actor, predict, out);
+    match action {
+        Action::Fetch { actor } => make_plain(rt, core, actors, actor, Ask::Fetch, predict, out),
+        Action::Decode { actor, hart } => {
+            make_plain(rt, core, actors, actor, Ask::Decode(hart), predict, out)
         }
-        Action::Unit { actor } => {
-            if make_ask(rt, core, actors, actor, Ask::Issue, predict, out)? {
-                hand_back(rt, core, actors, actor, predict, out)?;
-            }
-            return Ok(());
+        Action::Rename { actor, hart } => {
+            make_plain(rt, core, actors, actor, Ask::Rename(hart), predict, out)
         }
-    };
-    make_ask(rt, core, actors, actor, ask, predict, out)?;
+        Action::Retire { actor, hart } => {
+            make_plain(rt, core, actors, actor, Ask::Retire(hart), predict, out)
+        }
+        Action::Issue { actor } => make_plain(rt, core, actors, actor, Ask::Issue, predict, out),
+        Action::Complete { actor } => hand_back(rt, core, actors, actor, predict, out),
+        Action::Unit { actor } => issue_and_hand_back(rt, core, actors, actor, predict, out),
+    }
+}
+
+/// Makes one ask, whether a job comes or not.
+fn make_plain<L: Origin, P: Predict, W: Write, R: Wait>(
+    rt: &R,
+    core: &LockedCore<L>,
+    actors: &mut Actors<L>,
+    actor: u8,
+    ask: Ask,
+    predict: &mut P,
+    out: &mut W,
+) -> io::Result<()>
+    requires actor { actor ≤ 15 }
+    requires places { map (λ pass. pass.actor) actors.old.passes ≡ places }
+    ensures places { map (λ pass. pass.actor) actors.new.passes ≡ places }
+    ensures made { OnOk result (Prints (W.contents out.old) (W.contents out.new) (λ text.
+        (came : Bool)
+        × IsAsked actor (asked_of ask) came actors.old.hands.held actors.new.hands.held text)) }
+{
+    match make_ask(rt, core, actors, actor, ask, predict, out) {
+        Ok(_) => Ok(()),
+        Err(error) => Err(error),
+    }
+}
+
+/// Issues and, where a job came, hands it back.
+fn issue_and_hand_back<L: Origin, P: Predict, W: Write, R: Wait>(
+    rt: &R,
+    core: &LockedCore<L>,
+    actors: &mut Actors<L>,
+    actor: u8,
+    predict: &mut P,
+    out: &mut W,
+) -> io::Result<()>
+    requires actor { actor ≤ 15 }
+    requires places { map (λ pass. pass.actor) actors.old.passes ≡ places }
+    ensures places { map (λ pass. pass.actor) actors.new.passes ≡ places }
+    ensures made { OnOk result
+        (Prints (W.contents out.old) (W.contents out.new)
+        (IsUnit actor actors.old.hands.held actors.new.hands.held)) }
+{
+    if make_ask(rt, core, actors, actor, Ask::Issue, predict, out)? {
+        return hand_back(rt, core, actors, actor, predict, out);
+    }
     Ok(())
 }
 
@@ -213,19 +350,21 @@ fn hand_back<L: Origin, P: Predict, W: Write, R: Wait>(
     predict: &mut P,
     out: &mut W,
 ) -> io::Result<()>
-    requires { actor ≤ 15 }
+    requires actor { actor ≤ 15 }
+    requires places { map (λ pass. pass.actor) actors.old.passes ≡ places }
+    ensures places { map (λ pass. pass.actor) actors.new.passes ≡ places }
+    ensures made { OnOk result
+        (Prints (W.contents out.old) (W.contents out.new)
+        (HandsBack actor actors.old.hands.held actors.new.hands.held)) }
 {
     let Some(done) = actors.hands.take(actor) else {
         return out.write_all(b"none\n");
     };
-    make_ask(rt, core, actors, actor, Ask::Complete(done), predict, out)?;
-    Ok(())
+    make_plain(rt, core, actors, actor, Ask::Complete(done), predict, out)
 }
 
-/// Room for what is printed of an ask.
-type Line = ArrayString<80>;
-
-/// Makes one ask, and prints its line. A job that comes is worked at once, and what was done is held. Tells whether one came.
+/// Makes one ask, and prints its line. A job that comes is worked at once, and what was done is
+/// held. Tells whether one came.
 fn make_ask<L: Origin, P: Predict, W: Write, R: Wait>(
     rt: &R,
     core: &LockedCore<L>,
@@ -235,43 +374,35 @@ fn make_ask<L: Origin, P: Predict, W: Write, R: Wait>(
     predict: &mut P,
     out: &mut W,
 ) -> io::Result<bool>
-    requires { actor ≤ 15 }
+    requires actor { actor ≤ 15 }
+    requires places { map (λ pass. pass.actor) actors.old.passes ≡ places }
+    ensures places { map (λ pass. pass.actor) actors.new.passes ≡ places }
+    ensures made { IfOk result (λ came. Prints (W.contents out.old) (W.contents out.new)
+        (IsAsked actor (asked_of ask) came actors.old.hands.held actors.new.hands.held)) }
 {
     let Actors { passes, hands } = actors;
-    let reply = core.step(rt, &mut passes[usize::from(actor)], ask, predict);
-    let mut line = Line::new();
-    let has_come = match reply.said() {
-        Said::Event(event) => {
-            push_done(&mut line, print_event(&event).as_str());
-            false
-        }
-        Said::Job(job, event) => {
-            hands.put(actor, work(job));
-            push_done(&mut line, print_event(&event).as_str());
-            true
-        }
-        Said::Idle => {
-            line.push_str("idle\n");
-            false
-        }
-        Said::Stranger => {
-            line.push_str("stranger\n");
-            false
-        }
-        Said::Full => {
-            line.push_str("full\n");
-            false
-        }
-    };
+    let said = ask_by(rt, core, passes, actor, ask, predict);
+    let line = said_line(&said);
+    let has_come = hands.keep(actor, said);
     out.write_all(line.as_bytes())?;
     Ok(has_come)
 }
 
-/// Appends the line of what was done.
-fn push_done(line: &mut Line, what: &str)
-    requires { array_string_len line.old + length what.now + 6 ≤ 80 }
+/// Makes one ask by the actor's pass, for what is said.
+fn ask_by<L: Origin, P: Predict, R: Wait>(
+    rt: &R,
+    core: &LockedCore<L>,
+    passes: &mut [Pass<L>; 16],
+    actor: u8,
+    ask: Ask,
+    predict: &mut P,
+) -> Said
+    requires actor { actor ≤ 15 }
+    requires places { map (λ pass. pass.actor) passes.old ≡ places }
+    ensures places { map (λ pass. pass.actor) passes.new ≡ places }
+    ensures reply { is_reply actor (asked_of ask) result ≡ true }
+    ensures printable { IfSome (event_in result) HasShortWrite }
 {
-    line.push_str("done ");
-    line.push_str(what);
-    line.push_str("\n");
+    core.step(rt, &mut passes[usize::from(actor)], ask, predict)
+        .said()
 }

@@ -1,20 +1,14 @@
 -- From the headline over legal histories to what a core's account and registers say.
-use Rattle.std.specs.Prelude.{◌≡◌, ℕ, zero, suc, ◌+◌, ◌<◌, ◌≤◌, ◌==◌, ◌&&◌, true, nat_lt, if◌then◌else◌, List, [], ◌∷◌, ◌++◌, length, map, reverse, Option, Some, None, IfSome}
+use Rattle.std.specs.Prelude.{◌≡◌, ℕ, zero, suc, ◌+◌, ◌<◌, ◌≤◌, ◌==◌, ◌&&◌, true, nat_lt, if◌then◌else◌, List, [], ◌∷◌}
+use Rattle.std.specs.Prelude.{◌++◌, length, map, reverse, Option, Some, None, IfSome}
 use native.Mathlib.Numerals.{unary_clauses}
 use Rattle.std.proofs.Common.{◌∙◌, refl, sym, ap, subst, inl, inr, arith}
-use Rattle.std.proofs.lemmas.Bool.{cases_Bool}
-use Rattle.std.proofs.lemmas.Bool.Decides.{nat_tests}
+use Rattle.std.proofs.{lemmas.Bool.cases_Bool, lemmas.Bool.Decides.nat_tests}
 use Rattle.std.proofs.lemmas.List.{length-map, length_push, map-append, reverse-reverse}
-use Rattle.events.specs.declared.effect.Record.{Record}
-use Rattle.events.specs.declared.event.Event.{Event}
-use Rattle.smt_model.specs.declared.config.Status.{Status}
-use Rattle.smt_model.specs.Account.{records, committed_value}
-use Rattle.smt_model.specs.Basics.{below}
-use Rattle.smt_model.specs.Memory.{status, output}
-use Rattle.smt_model.specs.Plain.{run, read_register}
-use Rattle.smt_model.specs.Registers.{value, committed}
-use Rattle.smt_model.specs.Rules.{is_legal}
-use Rattle.smt_model.specs.Setup.{Setup}
+use Rattle.events.specs.{declared.effect.Record.Record, declared.event.Event.Event}
+use Rattle.smt_model.specs.{declared.config.Status.Status, Account.records, Account.committed_value, Basics.below}
+use Rattle.smt_model.specs.{Memory.status, Memory.output, Plain.run, Plain.read_register, Registers.value}
+use Rattle.smt_model.specs.{Registers.committed, Rules.is_legal, Setup.Setup}
 use Rattle.smt_laws.specs.Sequential.{IsSequential, EachIsSequential}
 use Rattle.core_state.specs.View.{CoreView}
 use Rattle.smt_core.specs.Headline.{IsPlainRun, IsPlainRegister}
@@ -35,7 +29,8 @@ length_below (suc n) =
 pub statuses_next : (past : List Event) (n : ℕ) (xs : List Status) → xs ≡ map (status past) (below n)
     → xs ++ status past n ∷ [] ≡ map (status past) (below (n + 1))
 statuses_next past n xs is =
-    ap (λ ys. ys ++ status past n ∷ []) is ∙ sym (map-append (status past) (below n) (n ∷ [])) ∙ ap (map (status past)) (sym (below_next n))
+    ap (λ ys. ys ++ status past n ∷ []) is ∙ sym (map-append (status past) (below n) (n ∷ []))
+    ∙ ap (map (status past)) (sym (below_next n))
 
 same_status : (a b : Status) → Some a ≡ Some b → b ≡ a
 same_status a b same = grind arith
@@ -57,32 +52,13 @@ status_in a b h s o same there said is =
 pub statuses_fit : (past : List Event) (n : ℕ) (xs : List Status) → xs ≡ map (status past) (below n) → length xs ≡ n
 statuses_fit past n xs is = ap length is ∙ length-map (below n) (status past) ∙ length_below n
 
-same_on : {Y : Type 0} (f g : ℕ → Y) → ((x : ℕ) → f x ≡ g x) → (xs : List ℕ) → map f xs ≡ map g xs
-same_on f g same [] = refl
-same_on f g same (x ∷ xs) = rw (same x, same_on f g same xs) refl
-
-plain_run : (setup : Setup) (past : List Event) → IsSequential setup past
-    → IsPlainRun setup (reverse (records past)) (output past) (map (status past) (below setup.harts))
-plain_run setup past is = record {
-  ran = is.ran;
-  runs = ap (λ xs. run setup (map (λ r. r.hart) xs)) (reverse-reverse (records past)) ∙ is.runs;
-  records = ap reverse is.records;
-  output = is.output;
-  stands = same_on is.ran.state.statuses (status past) is.statuses (below setup.harts);
-}
-
-pub account_runs : EachIsSequential → (core : CoreView) → is_legal core.setup core.past → (said : List Record) (bytes : List ℕ) (statuses : List Status)
-    → said ≡ reverse (records core.past) → bytes ≡ output core.past → statuses ≡ map (status core.past) (below core.setup.harts)
-    → IsPlainRun core.setup said bytes statuses
-account_runs headline core legal said bytes statuses is_said is_put is_status =
-    rw (is_said, is_put, is_status) (plain_run core.setup core.past (headline core.setup core.past legal))
-
 -- ---- The registers
 
 same_inside : (a b : ℕ) → Some a ≡ Some b → a ≡ b
 same_inside a b same = grind arith
 
-number_is : (core : CoreView) (h r : ℕ) (number : ℕ) (is : IsSequential core.setup core.past) → h < core.setup.harts → r < 32
+number_is : (core : CoreView) (h r : ℕ) (number : ℕ) (is : IsSequential core.setup core.past)
+    → h < core.setup.harts → r < 32
     → committed_value core.setup core.past h r ≡ Some number → read_register is.ran.state h r ≡ number
 number_is core h r number is hart inside said =
     elim (cases_Bool (r == 0)) [
@@ -95,7 +71,8 @@ number_is core h r number is hart inside said =
           rw other (same_inside (is.ran.state.registers h r) number (sym (is.registers h r hart low inside) ∙ there))
     ]
 
-pub register_runs : (core : CoreView) (h r : ℕ) (number : ℕ) → IsSequential core.setup core.past → h < core.setup.harts → r < 32
+pub register_runs : (core : CoreView) (h r : ℕ) (number : ℕ) → IsSequential core.setup core.past
+    → h < core.setup.harts → r < 32
     → committed_value core.setup core.past h r ≡ Some number → IsPlainRegister core h r number
 register_runs core h r number is hart inside said = record {
   hart = hart;
@@ -107,13 +84,15 @@ register_runs core h r number is hart inside said = record {
 
 -- The register that a core answers, where it answers one.
 pub some_register : (core : CoreView) (h r : ℕ) (number : ℕ) → EachIsSequential → is_legal core.setup core.past
-    → (if nat_lt h core.setup.harts && nat_lt r 32 then committed_value core.setup core.past h r else None) ≡ Some number
+    → (if nat_lt h core.setup.harts && nat_lt r 32 then committed_value core.setup core.past h r else None)
+    ≡ Some number
     → IsPlainRegister core h r number
 some_register core h r number headline legal said =
     elim (cases_Bool (nat_lt h core.setup.harts && nat_lt r 32)) [
       | inl there ↦
           let at : committed_value core.setup core.past h r ≡ Some number = rw there at said in
-          register_runs core h r number (headline core.setup core.past legal) (grind (arith, nat_tests)) (grind (arith, nat_tests)) at
+          register_runs core h r number (headline core.setup core.past legal) (grind (arith, nat_tests))
+          (grind (arith, nat_tests)) at
       | inr gone ↦ let none : None ≡ Some number = rw gone at said in absurd (grind arith)
     ]
 
@@ -128,4 +107,6 @@ pub register_in : (a b : CoreView) (h r : ℕ) (o : Option ℕ) → a ≡ b
     → o ≡ (if nat_lt h a.setup.harts && nat_lt r 32 then committed_value a.setup a.past h r else None)
     → o ≡ (if nat_lt h b.setup.harts && nat_lt r 32 then committed_value b.setup b.past h r else None)
 register_in a b h r o same is =
-    subst (λ (v : CoreView). o ≡ (if nat_lt h v.setup.harts && nat_lt r 32 then committed_value v.setup v.past h r else None)) same is
+    subst
+    (λ (v : CoreView). o
+    ≡ (if nat_lt h v.setup.harts && nat_lt r 32 then committed_value v.setup v.past h r else None)) same is

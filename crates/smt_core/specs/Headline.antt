@@ -1,16 +1,15 @@
--- What the account and the registers of a core amount to: a run of the plain machine, one instruction at a time.
+-- What the account and the registers of a core amount to: a run of the plain machine, one
+-- instruction at a time.
 use Rattle.std.specs.Prelude.{◌≡◌, ℕ, ◌<◌, List, map, reverse, Some}
 use Rattle.events.specs.declared.effect.Record.{Record}
-use Rattle.smt_model.specs.declared.config.Status.{Status}
-use Rattle.smt_model.specs.Account.{order}
-use Rattle.smt_model.specs.Basics.{below}
-use Rattle.smt_model.specs.Plain.{Run, run, read_register}
-use Rattle.smt_model.specs.Setup.{Setup}
+use Rattle.smt_model.specs.{declared.config.Status.Status, Account.order, Basics.below, Plain.Run}
+use Rattle.smt_model.specs.{Plain.run, Plain.read_register, Setup.Setup}
 use Rattle.core_state.specs.View.{CoreView}
 
--- The plain machine can run the harts of these records in their order, oldest first; it leaves these records, puts out these
--- bytes, and leaves each hart with its status.
-pub record IsPlainRun (setup : Setup) (said : List Record) (bytes : List ℕ) (statuses : List Status) : Type 0 where
+-- The plain machine can run the harts of these records in their order, oldest first; it leaves
+-- these records, puts out these bytes, and leaves each hart with its status.
+pub record IsPlainRun (setup : Setup) (said : List Record) (bytes : List ℕ)
+    (statuses : List Status) : Type 0 where
   pub ran : Run
   pub runs : run setup (map (λ r. r.hart) (reverse said)) ≡ Some ran
   pub records : reverse ran.records ≡ said

@@ -24,7 +24,8 @@ pub enum IssueAnswer {
 pub enum CompleteAnswer {
     /// The event is a completion, or a drop where the instruction was squashed meanwhile.
     Done(Event),
-    /// There is room in the history, and the actor has no open job of this number, instruction, pc and operands.
+    /// There is room in the history, and the actor has no open job of this number, instruction, pc
+    /// and operands.
     Stranger,
     /// The history has as many events as it may have.
     Full,

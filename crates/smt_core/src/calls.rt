@@ -1,8 +1,12 @@
-ghost use Rattle.std.specs.Prelude.{◌≡◌, ◌∷◌, [], ◌<◌, ◌≤◌, ◌↔◌, ◌⊎◌, length, reverse, map, IsTrue, IfSome, IfOk, Err, None, Some, true, false, ℕ, ◌+◌, ◌==◌, ◌&&◌, nat_lt, if◌then◌else◌};
+ghost use Rattle.std.specs.Prelude.{◌≡◌, ◌∷◌, [], ◌<◌, ◌≤◌, ◌↔◌, ◌⊎◌, length, reverse, map, IsTrue};
+ghost use Rattle.std.specs.Prelude.{IfSome, IfOk, Err, None, Some, true, false, ℕ, ◌+◌, ◌==◌, ◌&&◌};
+ghost use Rattle.std.specs.Prelude.{nat_lt, if◌then◌else◌};
+ghost use Rattle.numbers.specs.Sizes.{most_actors, most_events};
 ghost use Rattle.core_state.specs.Setup.{setup_of};
 ghost use Rattle.core_state.specs.View.{CoreView};
-ghost use Rattle.smt_model.specs.Asks.{AskFetch, AskDecode, AskRename, AskIssue, AskComplete, AskRetire};
-ghost use Rattle.smt_model.specs.Account.{records, lent, committed_value};
+ghost use Rattle.smt_model.specs.Asks.{AskFetch, AskDecode, AskRename, AskIssue, AskComplete};
+ghost use Rattle.smt_model.specs.Asks.{AskRetire};
+ghost use Rattle.smt_model.specs.Account.{records, open_job_count, committed_value};
 ghost use Rattle.core_state.specs.Listed.{listed};
 ghost use Rattle.smt_model.specs.Basics.{below, how_many};
 ghost use Rattle.smt_model.specs.Flights.{icount};
@@ -22,6 +26,8 @@ use core_state::{CoreRefused, State};
 use elf_image::Image;
 use events::Event;
 use exec_units::Done;
+use numbers::Phys;
+use numbers::sizes::MOST_REGISTERS;
 use smt_laws::laws::{refines_the_plain_machine, writes_at_most_a_word};
 use smt_model::{Config, Status};
 use std::alloc::Global;
@@ -29,7 +35,8 @@ use std::io;
 use std::io::Write;
 use std::marker::Model;
 
-/// A core: each of its calls makes one step of its pipeline, writes the step's event into its history, and answers it.
+/// A core: each of its calls makes one step of its pipeline, writes the step's event into its
+/// history, and answers it.
 #[derive(Drop)]
 pub struct Core {
     state: State,
@@ -44,7 +51,8 @@ impl Model for Core {
 }
 
 impl Core {
-    /// The core of an image and a configuration, with room for `limit` events. No later call takes memory.
+    /// The core of an image and a configuration, with room for `limit` events. No later call takes
+    /// memory.
     ///
     /// Refused are a configuration or limit that isn't a core's, before any memory is taken.
     pub fn new(
@@ -53,9 +61,12 @@ impl Core {
         limit: u32,
         alloc: Global,
     ) -> Result<Core, CoreRefused>
-        ensures made { IfOk result (λ core. core ≡ record { setup = setup_of image.now config; limit = limit; past = [] }) }
+        ensures made { IfOk result
+            (λ core. core
+            ≡ record { setup = setup_of image.now config; limit = limit; past = [] }) }
         ensures accepted { IfOk result (λ core. is_accepted core.setup limit ≡ true) }
-        ensures refused { (result ≡ Err CoreRefused.Config) ↔ (is_accepted (setup_of image.now config) limit ≡ false) }
+        ensures refused { (result ≡ Err CoreRefused.Config)
+            ↔ (is_accepted (setup_of image.now config) limit ≡ false) }
     {
         match State::new(image, config, limit, alloc) {
             Ok(state) => Ok(Core { state }),
@@ -64,8 +75,8 @@ impl Core {
         }
     }
 
-    /// Fetches the next word of the hart to choose, and goes on where the predictor guesses. Where the code has no word there,
-    /// the predictor isn't asked, and the pc behind is predicted.
+    /// Fetches the next word of the hart to choose, and goes on where the predictor guesses. Where
+    /// the code has no word there, the predictor isn't asked, and the pc behind is predicted.
     pub fn fetch<P: Predict>(&mut self, actor: u8, predict: &mut P) -> Answer
         ensures answered { Answered (AskFetch actor) self.old result self.new }
         ensures predicted { IsPredicted P.predicts predict.old result predict.new }
@@ -160,10 +171,12 @@ impl Core {
     pub fn account(&self) -> Account<'_>
         ensures records { result.records.now ≡ reverse (records self.now.past) }
         ensures output { result.output.now ≡ output self.now.past }
-        ensures statuses { result.statuses.items ≡ map (status self.now.past) (below self.now.setup.harts) }
-        ensures lent { result.lent ≡ lent self.now.setup self.now.past }
+        ensures statuses { result.statuses.items ≡ map (status self.now.past)
+            (below self.now.setup.harts) }
+        ensures lent { result.lent ≡ open_job_count self.now.setup self.now.past }
         ensures events { result.events ≡ length self.now.past }
-        ensures sequential { IsPlainRun self.now.setup result.records.now result.output.now result.statuses.items }
+        ensures sequential { IsPlainRun self.now.setup result.records.now result.output.now
+            result.statuses.items }
     {
         // Their contracts speak of every legal history, so of this one; the first is the headline.
         refines_the_plain_machine();
@@ -177,10 +190,12 @@ impl Core {
         }
     }
 
-    /// What hart `hart`'s register `register` holds as its retired instructions leave it; none where there is no such hart or
-    /// register.
+    /// What hart `hart`'s register `register` holds as its retired instructions leave it; none
+    /// where there is no such hart or register.
     pub fn register(&self, hart: u8, register: u8) -> Option<u32>
-        ensures value { result ≡ (if nat_lt hart self.now.setup.harts && nat_lt register 32 then committed_value self.now.setup self.now.past hart register else None) }
+        ensures value { result
+            ≡ (if nat_lt hart self.now.setup.harts && nat_lt register 32
+            then committed_value self.now.setup self.now.past hart register else None) }
         ensures sequential { IfSome result (IsPlainRegister self.now hart register) }
     {
         refines_the_plain_machine();
@@ -199,7 +214,9 @@ impl Core {
 
     /// How hart `hart` stands; none where there is no such hart.
     pub fn status(&self, hart: u8) -> Option<Status>
-        ensures { result ≡ (if nat_lt hart self.now.setup.harts then Some (status self.now.past hart) else None) }
+        ensures { result
+            ≡ (if nat_lt hart self.now.setup.harts then Some (status self.now.past hart)
+            else None) }
     {
         self.state.status(hart)
     }
@@ -224,18 +241,22 @@ impl Core {
         matches!(self.status(hart), Some(Status::Going))
     }
 
-    /// How many instructions of hart `hart` are in decode, rename and the issue queue (ICOUNT); none where there is no such hart.
+    /// How many instructions of hart `hart` are in decode, rename and the issue queue (ICOUNT);
+    /// none where there is no such hart.
     pub fn icount(&self, hart: u8) -> Option<u32>
-        ensures { result ≡ (if nat_lt hart self.now.setup.harts then Some (icount self.now.past hart) else None) }
+        ensures { result
+            ≡ (if nat_lt hart self.now.setup.harts then Some (icount self.now.past hart)
+            else None) }
     {
         self.state.icount(hart)
     }
 
-    /// The free physical registers, rising. Each register of the core is here once, or claimed once: by an instruction in flight or
-    /// by a register of a hart.
-    pub fn free_registers(&self) -> ArrayVec<u16, 512>
+    /// The free physical registers, rising. Each register of the core is here once, or claimed
+    /// once: by an instruction in flight or by a register of a hart.
+    pub fn free_registers(&self) -> ArrayVec<Phys, MOST_REGISTERS>
         ensures free { result.items ≡ listed (is_free self.now.setup self.now.past) }
-        ensures once { (p : ℕ) → p < registers_of self.now.setup → claims self.now.setup self.now.past p + how_many (λ x. x == p) result.items ≡ 1 }
+        ensures once { (p : ℕ) → p < registers_of self.now.setup
+            → claims self.now.setup self.now.past p + how_many (λ x. x == p) result.items ≡ 1 }
     {
         self.state.free_registers()
     }
@@ -256,13 +277,14 @@ impl Core {
         ensures events { reverse result.now ≡ self.now.past }
         ensures legal { is_legal self.now.setup self.now.past }
         ensures within { length result.now ≤ self.now.limit }
-        ensures small { self.now.limit ≤ 16777216 }
-        ensures actors { length self.now.setup.roles ≤ 16 }
+        ensures small { self.now.limit ≤ most_events }
+        ensures actors { length self.now.setup.roles ≤ most_actors }
     {
         self.state.history()
     }
 
-    /// Writes what the core holds, in lines for people to read (docs/FORMATS.md). An error is the one that `out` answered.
+    /// Writes what the core holds, in lines for people to read (docs/FORMATS.md). An error is the
+    /// one that `out` answered.
     pub fn tables<W: Write>(&self, out: &mut W) -> io::Result<()> {
         self.state.tables(out)
     }

@@ -1,7 +1,7 @@
 //! The core: eight calls that each make one step of the pipeline or say why there is none.
 //!
-//! Read in this order: `predict` (what a branch predictor is), `answer` (what the calls answer), `account` (what a history
-//! comes to), `calls`.
+//! Read in this order: `predict` (what a branch predictor is), `answer` (what the calls answer),
+//! `account` (what a history comes to), `calls`.
 #![tactic(auto)]
 
 pub mod account;

@@ -1,45 +1,35 @@
--- What a retiring instruction finds, where the history so far is a run of the plain machine: the plain machine's pc, word,
--- operands, memory and reservation. So it does what the plain machine does.
+-- What a retiring instruction finds, where the history so far is a run of the plain machine: the plain machine's pc,
+-- word, operands, memory and reservation. So it does what the plain machine does.
 use Rattle.std.specs.Prelude.{◌≡◌, ℕ, zero, suc, ◌+◌, ◌<◌, ◌≤◌, true, ◌==◌, List, [], ◌∷◌, Option, Some, None}
 use Rattle.std.proofs.Common.{◌∙◌, refl, sym, ap, subst, inl, inr, arith}
-use Rattle.std.proofs.lemmas.Bool.{cases_Bool}
-use Rattle.std.proofs.lemmas.Bool.Decides.{nat_tests}
+use Rattle.std.proofs.{lemmas.Bool.cases_Bool, lemmas.Bool.Decides.nat_tests}
 use Rattle.elf_image.specs.Image.{code_word}
-use Rattle.rv_decode.specs.Decode.{op_of_word}
-use Rattle.rv_decode.specs.declared.op.Op.{Op}
-use Rattle.events.specs.declared.effect.Effect.{Effect}
-use Rattle.events.specs.declared.event.Event.{Event}
+use Rattle.rv_decode.specs.{Decode.op_of_word, declared.op.Op.Op}
+use Rattle.events.specs.{declared.effect.Effect.Effect, declared.event.Event.Event}
 use Rattle.events.specs.declared.event.Event.TheVariants.{Fetch, Decode, Rename, Issue, Complete, Drop, Retire}
-use Rattle.smt_model.specs.Basics.{first, or_zero}
-use Rattle.smt_model.specs.Setup.{Setup}
-use Rattle.smt_model.specs.Kinds.{first_source, second_source, access_size}
-use Rattle.smt_model.specs.Exec.{exec}
-use Rattle.smt_model.specs.Fields.{checked, effect_of, read, read_value, number_at, holds_word}
+use Rattle.smt_model.specs.{Basics.first, Basics.or_zero, Setup.Setup, Kinds.first_source, Kinds.second_source}
+use Rattle.smt_model.specs.{Kinds.access_size, Faults.computed_on, Effects.effect_of, Bytes.read, Bytes.read_value}
+use Rattle.smt_model.specs.{Bytes.number_at, Reservations.holds_word, Flights.live, Memory.byte_at, Memory.is_going}
+use Rattle.smt_model.specs.{Rules.refused, Rules.is_legal, Rules.computed_at}
 use Rattle.smt_model.specs.Plain.{Plain, is_going_status, read_register, word_at_pc, op_at_pc, computes, effect_at}
 use Rattle.smt_model.specs.Fates.{Fetched, fetching, is_of, is_live, is_in_flight, op_of_fetched}
-use Rattle.smt_model.specs.Flights.{live}
-use Rattle.smt_model.specs.Registers.{source, committer, committed, seen, register_by, first_register, value, reading, operand}
-use Rattle.smt_model.specs.Memory.{byte_at, is_going}
-use Rattle.smt_model.specs.Rules.{refused, is_legal, computed_at}
-use Rattle.smt_model.proofs.Allowed.{fetch_allowed}
-use Rattle.smt_model.proofs.Moves.{same_number-is, retire_was}
-use Rattle.smt_model.proofs.Order.{retire_front}
-use Rattle.smt_model.proofs.Sources.{source-is, source-committed, source-none}
-use Rattle.smt_model.proofs.Choosing.{hart_there, left}
-use Rattle.smt_model.proofs.Below.{first_source-below, second_source-below}
-use Rattle.smt_model.proofs.Operands.{IsSourceName, IsReady, reading_by-is, first_ready, second_ready}
-use Rattle.smt_model.proofs.Freeing.{true_false}
-use Rattle.smt_model.proofs.Retiring.{was-Retire}
+use Rattle.smt_model.specs.Registers.{source, committer, committed, source_register, register_by, first_register, value}
+use Rattle.smt_model.specs.Registers.{reading, operand}
+use Rattle.smt_model.proofs.{Allowed.fetch_allowed, Fates.Moves.same_number-is, Fates.Moves.retire_was}
+use Rattle.smt_model.proofs.{Fates.Order.retire_front, Registers.Sources.source-is, Registers.Sources.source-committed}
+use Rattle.smt_model.proofs.{Registers.Sources.source-none, Fates.Choosing.hart_there, Fates.Choosing.left}
+use Rattle.smt_model.proofs.{Registers.Below.first_source-below, Registers.Below.second_source-below}
+use Rattle.smt_model.proofs.{Events.Freeing.true_false, Steps.RetireCommits.was-Retire}
+use Rattle.smt_model.proofs.Registers.Operands.{IsSourceName, IsReady, reading_by-is, first_ready, second_ready}
 use Rattle.smt_laws.specs.Sequential.{IsSequential, retired_pc}
-use Rattle.smt_laws.specs.Chain.{Hop, hop, IsChain, next_of}
-use Rattle.smt_laws.proofs.Paths.{chain-first}
-use Rattle.smt_laws.proofs.Done.{IsDone, some_one}
-use Rattle.smt_laws.proofs.Live.{live-front}
-use Rattle.smt_laws.proofs.Chains.{chained, hop-done}
+use Rattle.smt_laws.specs.Chain.{Hop, hop, IsChain, following_pc}
+use Rattle.smt_laws.proofs.{Paths.chain-first, Done.IsDone, Done.some_one, Live.live-front, Chains.chained}
+use Rattle.smt_laws.proofs.{Chains.hop-done}
 
 -- ---- The word is the one that stands at the pc
 
-pub fetched-word : (setup : Setup) (past : List Event) → is_legal setup past → (s : ℕ) (f : Fetched) → fetching past s ≡ Some f
+pub fetched-word : (setup : Setup) (past : List Event) → is_legal setup past → (s : ℕ) (f : Fetched)
+    → fetching past s ≡ Some f
     → f.word ≡ code_word setup.image f.pc
 fetched-word setup [] legal s f at = absurd (grind arith)
 fetched-word setup (Fetch actor hart n pc word predicted ∷ past) legal s f at =
@@ -47,7 +37,8 @@ fetched-word setup (Fetch actor hart n pc word predicted ∷ past) legal s f at 
       | inl here ↦
           let mine : Fetched = record { hart = hart; pc = pc; word = word; predicted = predicted } in
           subst (λ z. z.word ≡ code_word setup.image z.pc) (some_one mine f (rw here at at))
-          (same_number-is word (code_word setup.image pc) (fetch_allowed setup past actor hart n pc word predicted legal.0).word_is)
+          (same_number-is word (code_word setup.image pc)
+          (fetch_allowed setup past actor hart n pc word predicted legal.0).word_is)
       | inr other ↦ fetched-word setup past legal.1 s f (rw other at at)
     ]
 fetched-word setup (Decode actor n ∷ past) legal s f at = fetched-word setup past legal.1 s f at
@@ -60,21 +51,27 @@ fetched-word setup (Retire actor n x ∷ past) legal s f at = fetched-word setup
 -- ---- Its sources are the committed registers
 
 source_first_by : (setup : Setup) (past : List Event) → is_legal setup past → (actor n : ℕ) (x : Effect)
-    → refused setup past (Retire actor n x) ≡ None → (h r : ℕ) → is_of past h n ≡ true → (o : Option ℕ) → source past h r n ≡ o
+    → refused setup past (Retire actor n x) ≡ None → (h r : ℕ) → is_of past h n ≡ true → (o : Option ℕ)
+    → source past h r n ≡ o
     → source past h r n ≡ committer past h r
 source_first_by setup past legal actor n x ok h r of_n None found =
     found ∙ sym (source-none setup past legal h r n of_n (ap is_in_flight (was-Retire setup past actor n x ok)) found)
 source_first_by setup past legal actor n x ok h r of_n (Some w) found =
     let at = source-is past h r n w found in
     let landed = retire_front setup past legal actor n x ok h w at.of_hart of_n at.older in
-    found ∙ sym (source-committed setup past legal h r n w of_n (ap is_in_flight (was-Retire setup past actor n x ok)) found landed)
+    found
+    ∙ sym (source-committed setup past legal h r n w of_n (ap is_in_flight (was-Retire setup past actor n x ok))
+    found landed)
 
 pub source-first : (setup : Setup) (past : List Event) → is_legal setup past → (actor n : ℕ) (x : Effect)
-    → refused setup past (Retire actor n x) ≡ None → (h r : ℕ) → is_of past h n ≡ true → source past h r n ≡ committer past h r
-source-first setup past legal actor n x ok h r of_n = source_first_by setup past legal actor n x ok h r of_n (source past h r n) refl
+    → refused setup past (Retire actor n x) ≡ None → (h r : ℕ) → is_of past h n ≡ true
+    → source past h r n ≡ committer past h r
+source-first setup past legal actor n x ok h r of_n =
+    source_first_by setup past legal actor n x ok h r of_n (source past h r n) refl
 
 -- So it reads the plain registers.
-plain-reading : (setup : Setup) (past : List Event) → is_legal setup past → (k : IsSequential setup past) → (actor n : ℕ) (x : Effect)
+plain-reading : (setup : Setup) (past : List Event) → is_legal setup past → (k : IsSequential setup past)
+    → (actor n : ℕ) (x : Effect)
     → refused setup past (Retire actor n x) ≡ None → (h r : ℕ) → is_of past h n ≡ true → r < 32
     → reading setup past h r n ≡ Some (read_register k.ran.state h r)
 plain-reading setup past legal k actor n x ok h r of_n high =
@@ -83,16 +80,19 @@ plain-reading setup past legal k actor n x ok h r of_n high =
       | inr some ↦
           let low : 1 ≤ r = grind (arith, nat_tests) in
           let there = hart_there setup past legal h n of_n in
-          let same : seen past h r n ≡ committed past h r =
+          let same : source_register past h r n ≡ committed past h r =
           ap (register_by past (first_register h r)) (source-first setup past legal actor n x ok h r of_n) in
-          let holds : value setup past (seen past h r n) ≡ Some (k.ran.state.registers h r) =
+          let holds : value setup past (source_register past h r n) ≡ Some (k.ran.state.registers h r) =
           ap (value setup past) same ∙ k.registers h r there low high in
           rw some holds
     ]
 
-plain-operand : (setup : Setup) (past : List Event) → is_legal setup past → (k : IsSequential setup past) → (actor n : ℕ) (x : Effect)
-    → refused setup past (Retire actor n x) ≡ None → (done : IsDone setup past n x) → (which : Op → ℕ) → IsSourceName which → IsReady setup which past n
-    → or_zero (operand setup which past n) ≡ read_register k.ran.state done.fetch.hart (which (op_of_fetched (Some done.fetch)))
+plain-operand : (setup : Setup) (past : List Event) → is_legal setup past → (k : IsSequential setup past)
+    → (actor n : ℕ) (x : Effect)
+    → refused setup past (Retire actor n x) ≡ None → (done : IsDone setup past n x) → (which : Op → ℕ)
+    → IsSourceName which → IsReady setup which past n
+    → or_zero (operand setup which past n) ≡ read_register k.ran.state done.fetch.hart
+    (which (op_of_fetched (Some done.fetch)))
 plain-operand setup past legal k actor n x ok done which names is_ready =
     let f = done.fetch in
     let r = which (op_of_fetched (Some f)) in
@@ -112,7 +112,8 @@ read-same f g same op addr = ap (read_value op) (number-same f g same addr (acce
 
 -- ---- The plain machine's step
 
-chain-front : (hops : ℕ → Option Hop) (xs : List ℕ) (n : ℕ) (one : Hop) → first xs ≡ Some n → hops n ≡ Some one → (from end : ℕ)
+chain-front : (hops : ℕ → Option Hop) (xs : List ℕ) (n : ℕ) (one : Hop) → first xs ≡ Some n → hops n ≡ Some one
+    → (from end : ℕ)
     → IsChain hops xs from end → one.pc ≡ from
 chain-front hops [] n one front at from end chain = absurd (grind arith)
 chain-front hops (y ∷ ys) n one front at from end chain =
@@ -124,7 +125,9 @@ pub goes-yet : (setup : Setup) (past : List Event) → is_legal setup past → (
 goes-yet setup past legal actor n x ok h of_n =
     elim (cases_Bool (is_going past h)) [
       | inl going ↦ going
-      | inr gone ↦ absurd (true_false (sym (ap is_live (was-Retire setup past actor n x ok)) ∙ left setup past legal h gone n of_n))
+      | inr gone ↦
+          absurd
+          (true_false (sym (ap is_live (was-Retire setup past actor n x ok)) ∙ left setup past legal h gone n of_n))
     ]
 
 pub record IsStep (setup : Setup) (past : List Event) (n : ℕ) (x : Effect) (s : Plain) (f : Fetched) : Type 0 where
@@ -136,20 +139,25 @@ pub record IsStep (setup : Setup) (past : List Event) (n : ℕ) (x : Effect) (s 
   pub computed : computes setup s f.hart ≡ computed_at setup past n f
   pub effect : effect_at setup s f.hart ≡ x
 
-step-pc : (setup : Setup) (past : List Event) → is_legal setup past → (k : IsSequential setup past) → (actor n : ℕ) (x : Effect)
-    → refused setup past (Retire actor n x) ≡ None → (done : IsDone setup past n x) → k.ran.state.pcs done.fetch.hart ≡ done.fetch.pc
+step-pc : (setup : Setup) (past : List Event) → is_legal setup past → (k : IsSequential setup past)
+    → (actor n : ℕ) (x : Effect)
+    → refused setup past (Retire actor n x) ≡ None → (done : IsDone setup past n x)
+    → k.ran.state.pcs done.fetch.hart ≡ done.fetch.pc
 step-pc setup past legal k actor n x ok done =
     let h = done.fetch.hart in
     let going = goes-yet setup past legal actor n x ok h done.of_hart in
-    let one : Hop = record { pc = done.fetch.pc; next = next_of (Some done.outcome) done.fetch.predicted } in
+    let one : Hop = record { pc = done.fetch.pc; next = following_pc (Some done.outcome) done.fetch.predicted } in
     let front : one.pc ≡ retired_pc setup past h =
-    chain-front (hop past) (live past h) n one (live-front setup past legal actor n x ok h done.of_hart) (hop-done setup past n x done)
+    chain-front (hop past) (live past h) n one (live-front setup past legal actor n x ok h done.of_hart)
+    (hop-done setup past n x done)
     (retired_pc setup past h) _ (chained setup past legal h going) in
     k.pcs h ∙ sym front
 
-step-computed : (setup : Setup) (past : List Event) → is_legal setup past → (k : IsSequential setup past) → (actor n : ℕ) (x : Effect)
+step-computed : (setup : Setup) (past : List Event) → is_legal setup past → (k : IsSequential setup past)
+    → (actor n : ℕ) (x : Effect)
     → refused setup past (Retire actor n x) ≡ None → (done : IsDone setup past n x)
-    → k.ran.state.pcs done.fetch.hart ≡ done.fetch.pc → op_at_pc setup k.ran.state done.fetch.hart ≡ op_of_fetched (Some done.fetch)
+    → k.ran.state.pcs done.fetch.hart ≡ done.fetch.pc
+    → op_at_pc setup k.ran.state done.fetch.hart ≡ op_of_fetched (Some done.fetch)
     → computes setup k.ran.state done.fetch.hart ≡ computed_at setup past n done.fetch
 step-computed setup past legal k actor n x ok done pc same_op =
     let s = k.ran.state in
@@ -161,14 +169,17 @@ step-computed setup past legal k actor n x ok done pc same_op =
     (first_ready setup past legal n (omega arith) (omega arith)) in
     let two = plain-operand setup past legal k actor n x ok done second_source second_source-below
     (second_ready setup past legal n (omega arith) (omega arith)) in
-    ap (λ o. checked setup.image o (exec setup.covers o (s.pcs h) (read_register s h (first_source o)) (read_register s h (second_source o)))) same_op
-    ∙ (ap (λ p. checked setup.image op (exec setup.covers op p (read_register s h (first_source op)) (read_register s h (second_source op)))) pc
-    ∙ (ap (λ a. checked setup.image op (exec setup.covers op f.pc a (read_register s h (second_source op)))) (sym one)
-    ∙ ap (λ b. checked setup.image op (exec setup.covers op f.pc (or_zero (operand setup first_source past n)) b)) (sym two)))
+    ap (λ o. computed_on setup o (s.pcs h) (read_register s h (first_source o)) (read_register s h (second_source o)))
+    same_op
+    ∙ (ap (λ p. computed_on setup op p (read_register s h (first_source op)) (read_register s h (second_source op))) pc
+    ∙ (ap (λ a. computed_on setup op f.pc a (read_register s h (second_source op))) (sym one)
+    ∙ ap (λ b. computed_on setup op f.pc (or_zero (operand setup first_source past n)) b) (sym two)))
 
-step-effect : (setup : Setup) (past : List Event) → (k : IsSequential setup past) → (n : ℕ) (x : Effect) → (done : IsDone setup past n x)
+step-effect : (setup : Setup) (past : List Event) → (k : IsSequential setup past) → (n : ℕ) (x : Effect)
+    → (done : IsDone setup past n x)
     → op_at_pc setup k.ran.state done.fetch.hart ≡ op_of_fetched (Some done.fetch)
-    → computes setup k.ran.state done.fetch.hart ≡ computed_at setup past n done.fetch → effect_at setup k.ran.state done.fetch.hart ≡ x
+    → computes setup k.ran.state done.fetch.hart ≡ computed_at setup past n done.fetch
+    → effect_at setup k.ran.state done.fetch.hart ≡ x
 step-effect setup past k n x done same_op same =
     let s = k.ran.state in
     let f = done.fetch in
@@ -178,12 +189,15 @@ step-effect setup past k n x done same_op same =
     let before = computes setup s h in
     ap (λ o. effect_of o before (read o s.bytes before.addr) (holds_word (s.reserved h) before.addr)) same_op
     ∙ (ap (λ d. effect_of op d (read op s.bytes d.addr) (holds_word (s.reserved h) d.addr)) same
-    ∙ (ap (λ now. effect_of op c now (holds_word (s.reserved h) c.addr)) (read-same s.bytes (byte_at setup past) k.bytes op c.addr)
+    ∙ (ap (λ now. effect_of op c now (holds_word (s.reserved h) c.addr))
+    (read-same s.bytes (byte_at setup past) k.bytes op c.addr)
     ∙ (ap (λ held. effect_of op c (read op (byte_at setup past) c.addr) (holds_word held c.addr)) (k.reserved h)
     ∙ sym done.effect_is)))
 
-pub step-is : (setup : Setup) (past : List Event) → is_legal setup past → (k : IsSequential setup past) → (actor n : ℕ) (x : Effect)
-    → refused setup past (Retire actor n x) ≡ None → (done : IsDone setup past n x) → IsStep setup past n x k.ran.state done.fetch
+pub step-is : (setup : Setup) (past : List Event) → is_legal setup past → (k : IsSequential setup past)
+    → (actor n : ℕ) (x : Effect)
+    → refused setup past (Retire actor n x) ≡ None → (done : IsDone setup past n x)
+    → IsStep setup past n x k.ran.state done.fetch
 step-is setup past legal k actor n x ok done =
     let f = done.fetch in
     let pc_same = step-pc setup past legal k actor n x ok done in

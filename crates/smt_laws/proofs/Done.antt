@@ -1,27 +1,22 @@
 -- What is known of an instruction as it retires: what it said as it completed and says now is computed of its operands.
 use Rattle.std.specs.Prelude.{◌≡◌, ℕ, Bool, true, false, ◌==◌, if◌then◌else◌, List, Option, Some, None}
 use Rattle.std.proofs.Common.{◌∙◌, refl, sym, ap, subst, inl, inr, arith}
-use Rattle.std.proofs.lemmas.Bool.{cases_Bool}
-use Rattle.std.proofs.lemmas.Bool.Decides.{nat_tests}
-use Rattle.rv_decode.specs.declared.op.Op.{Op}
-use Rattle.rv_decode.specs.declared.op.Op.TheVariants.{Known, Illegal, NoWord}
-use Rattle.rv_decode.specs.declared.instr.Instr.{Instr}
+use Rattle.std.proofs.{lemmas.Bool.cases_Bool, lemmas.Bool.Decides.nat_tests}
+use Rattle.rv_decode.specs.{declared.op.Op.Op, declared.op.Op.TheVariants.Known, declared.op.Op.TheVariants.Illegal}
+use Rattle.rv_decode.specs.{declared.op.Op.TheVariants.NoWord, declared.instr.Instr.Instr, Registers.op_rd}
+use Rattle.rv_decode.specs.{Registers.rd_of}
 use Rattle.rv_decode.specs.declared.instr.Instr.TheVariants as instr
-use Rattle.rv_decode.specs.Registers.{op_rd, rd_of}
-use Rattle.events.specs.declared.effect.Outcome.{Outcome}
-use Rattle.events.specs.declared.effect.Effect.{Effect}
-use Rattle.events.specs.declared.event.Event.{Event}
-use Rattle.events.specs.declared.event.Event.TheVariants.{Retire}
-use Rattle.smt_model.specs.Setup.{Setup}
-use Rattle.smt_model.specs.Kinds.{Kind, Computing, Loading, Storing, Reserving, Conditional, Atomic, kind_of, kind_of_instr, is_storing, destination, writes_register}
-use Rattle.smt_model.specs.Exec.{Computed}
-use Rattle.smt_model.specs.Fields.{is_last, outcome_of, outcome_by, effect_of, effect_by, last_effect, own_reservation, read, holds_word}
+use Rattle.events.specs.{declared.effect.Outcome.Outcome, declared.effect.Effect.Effect, declared.event.Event.Event}
+use Rattle.events.specs.{declared.event.Event.TheVariants.Retire}
+use Rattle.smt_model.specs.{Setup.Setup, Exec.Computed, Nexts.is_last, Outcomes.outcome_of, Outcomes.outcome_by}
+use Rattle.smt_model.specs.{Effects.effect_of, Effects.effect_by, Effects.last_effect, Reservations.own_reservation}
+use Rattle.smt_model.specs.{Reservations.holds_word, Bytes.read, Memory.byte_at, Memory.reserved, Memory.address_of}
+use Rattle.smt_model.specs.Kinds.{Kind, Computing, Loading, Storing, Reserving, Conditional, Atomic, kind_of}
+use Rattle.smt_model.specs.Kinds.{kind_of_instr, is_storing, destination, writes_register}
 use Rattle.smt_model.specs.Fates.{Fetched, fetching, completion, is_of, op_of_fetched}
-use Rattle.smt_model.specs.Memory.{byte_at, reserved, address_of}
 use Rattle.smt_model.specs.Rules.{refused, is_legal, computed_at, effect_now}
-use Rattle.smt_model.proofs.Moves.{retire_was}
-use Rattle.smt_model.proofs.Values.{completed-is, retire_says}
-use Rattle.smt_model.proofs.Reading.{effect-next}
+use Rattle.smt_model.proofs.{Fates.Moves.retire_was, Registers.Values.completed-is, Registers.Values.retire_says}
+use Rattle.smt_model.proofs.{Registers.Reading.effect-next}
 
 -- Two that are there and the same.
 pub some_one : {A : Type 0} → (a b : A) → Some a ≡ Some b → a ≡ b
@@ -30,7 +25,8 @@ some_one a b same = cc
 -- ---- Tables of fields
 
 -- The next of an outcome is the one computed.
-outcome_next_by : (kind : Kind) (writes : Bool) (c : Computed) (look : Option ℕ) → (outcome_by kind writes c look).next ≡ c.next
+outcome_next_by : (kind : Kind) (writes : Bool) (c : Computed) (look : Option ℕ)
+    → (outcome_by kind writes c look).next ≡ c.next
 outcome_next_by Computing writes c look = refl
 outcome_next_by Loading writes c look = refl
 outcome_next_by Storing writes c look = refl
@@ -56,7 +52,8 @@ own_by Conditional writes c look held = refl
 own_by Atomic writes c look held = refl
 
 pub own-said : (op : Op) (c : Computed) (look held : Option ℕ) → is_last c.next ≡ false
-    → own_reservation (kind_of op) (address_of (Some (outcome_of op c look))) held ≡ own_reservation (kind_of op) c.addr held
+    → own_reservation (kind_of op) (address_of (Some (outcome_of op c look))) held
+    ≡ own_reservation (kind_of op) c.addr held
 own-said op c look held going = rw going (own_by (kind_of op) (writes_register op) c look held)
 
 -- A store writes no register.
@@ -91,7 +88,8 @@ pub record IsGiven (o : Option ℕ) : Type 0 where
   pub number : ℕ
   pub is_so : o ≡ Some number
 
-given_by : (kind : Kind) (op : Op) (c : Computed) (now : ℕ) (held : Bool) → is_storing kind ≡ false → IsGiven (effect_by kind op true c now held).value
+given_by : (kind : Kind) (op : Op) (c : Computed) (now : ℕ) (held : Bool) → is_storing kind ≡ false
+    → IsGiven (effect_by kind op true c now held).value
 given_by Computing op c now held loads = record { number = c.value; is_so = refl }
 given_by Loading op c now held loads = record { number = now; is_so = refl }
 given_by Storing op c now held loads = absurd (grind arith)
@@ -99,7 +97,8 @@ given_by Reserving op c now held loads = record { number = now; is_so = refl }
 given_by Conditional op c now held loads = record { number = if held then 0 else 1; is_so = refl }
 given_by Atomic op c now held loads = record { number = now; is_so = refl }
 
-none_by : (kind : Kind) (op : Op) (c : Computed) (now : ℕ) (held : Bool) → (effect_by kind op false c now held).value ≡ None
+none_by : (kind : Kind) (op : Op) (c : Computed) (now : ℕ) (held : Bool)
+    → (effect_by kind op false c now held).value ≡ None
 none_by Computing op c now held = refl
 none_by Loading op c now held = refl
 none_by Storing op c now held = refl
@@ -116,18 +115,24 @@ value-given op c now held going writes =
     elim (cases_Bool (is_storing (kind_of op))) [
       | inl stores ↦ absurd (true_not_false (writes_register op) writes (stores_nothing op stores))
       | inr other ↦
-          subst (λ b. IsGiven (if b then last_effect c.next else effect_by (kind_of op) op (writes_register op) c now held).value) (sym going)
-          (subst (λ b. IsGiven (effect_by (kind_of op) op b c now held).value) (sym writes) (given_by (kind_of op) op c now held other))
+          subst
+          (λ b. IsGiven
+          (if b then last_effect c.next else effect_by (kind_of op) op (writes_register op) c now held).value)
+          (sym going)
+          (subst (λ b. IsGiven (effect_by (kind_of op) op b c now held).value) (sym writes)
+          (given_by (kind_of op) op c now held other))
     ]
 
-pub value-none : (op : Op) (c : Computed) (now : ℕ) (held : Bool) → writes_register op ≡ false → (effect_of op c now held).value ≡ None
+pub value-none : (op : Op) (c : Computed) (now : ℕ) (held : Bool) → writes_register op ≡ false
+    → (effect_of op c now held).value ≡ None
 value-none op c now held none =
     elim (cases_Bool (is_last c.next)) [
       | inl last ↦ rw last refl
       | inr going ↦ rw (going, none) (none_by (kind_of op) op c now held)
     ]
 
-pub value-last : (op : Op) (c : Computed) (now : ℕ) (held : Bool) → is_last c.next ≡ true → (effect_of op c now held).value ≡ None
+pub value-last : (op : Op) (c : Computed) (now : ℕ) (held : Bool) → is_last c.next ≡ true
+    → (effect_of op c now held).value ≡ None
 value-last op c now held last = rw last refl
 
 -- ---- The retiring instruction
@@ -157,7 +162,8 @@ done-at setup past legal actor n x ok =
     let c = computed_at setup past n f in
     let says = retire_says setup past actor n x ok f done.fetched in
     let to : x.next ≡ c.next =
-    ap (λ z. z.next) says ∙ effect-next op c (read op (byte_at setup past) c.addr) (holds_word (reserved past f.hart) c.addr) in
+    ap (λ z. z.next) says
+    ∙ effect-next op c (read op (byte_at setup past) c.addr) (holds_word (reserved past f.hart) c.addr) in
     record {
       fetch = f;
       outcome = done.outcome;

@@ -1,44 +1,38 @@
 -- What a hart has on its way after each event: the list of its live instructions.
-use Rattle.std.specs.Prelude.{◌≡◌, ◌≢◌, ℕ, ◌<◌, ◌≤◌, Bool, true, false, ◌==◌, ◌&&◌, nat_lt, nat_le, List, [], ◌∷◌, ◌++◌, Option, Some, None}
+use Rattle.std.specs.Prelude.{◌≡◌, ◌≢◌, ℕ, ◌<◌, ◌≤◌, Bool, true, false, ◌==◌, ◌&&◌, nat_lt, nat_le, List, [], ◌∷◌, ◌++◌}
+use Rattle.std.specs.Prelude.{Option, Some, None}
 use Rattle.std.specs.List.{filter}
 use Rattle.std.proofs.Common.{◌∙◌, refl, sym, ap, subst, inl, inr, arith}
-use Rattle.std.proofs.lemmas.Bool.{cases_eq, cases_lt}
-use Rattle.std.proofs.lemmas.Bool.Decides.{nat_tests}
-use Rattle.std.proofs.lemmas.List.{append-nil}
-use Rattle.events.specs.declared.effect.Outcome.{Outcome}
-use Rattle.events.specs.declared.effect.Effect.{Effect}
-use Rattle.events.specs.declared.event.Event.{Event}
+use Rattle.std.proofs.{lemmas.Bool.cases_eq, lemmas.Bool.cases_lt, lemmas.Bool.Decides.nat_tests}
+use Rattle.std.proofs.{lemmas.List.append-nil}
+use Rattle.events.specs.{declared.effect.Outcome.Outcome, declared.effect.Effect.Effect, declared.event.Event.Event}
+use Rattle.events.specs.{Event.seq_of}
 use Rattle.events.specs.declared.event.Event.TheVariants.{Decode, Rename, Issue, Complete, Drop, Retire}
-use Rattle.smt_model.specs.Basics.{first}
-use Rattle.smt_model.specs.Setup.{Setup}
-use Rattle.smt_model.specs.Fields.{is_last}
-use Rattle.smt_model.specs.Fates.{Fate, stage, fate, is_live, is_of, squashes, strays, corrects, same_hart}
-use Rattle.smt_model.specs.Flights.{numbers, added, live}
-use Rattle.smt_model.specs.Rules.{refused, is_legal}
-use Rattle.smt_model.specs.Laws.{instruction_of}
+use Rattle.smt_model.specs.{Basics.first, Setup.Setup, Nexts.is_last, Flights.numbers, Flights.added, Flights.live}
+use Rattle.smt_model.specs.{Rules.refused, Rules.is_legal}
+use Rattle.smt_model.specs.Fates.{Fate, stage, fate, is_live, is_of, squashes, mispredicts, squashes_at_retirement}
+use Rattle.smt_model.specs.Fates.{same_hart}
 use Rattle.smt_model.proofs.Lists.{member, filter-same, filter-none, filter-both, filter-loses-first}
-use Rattle.smt_model.proofs.Moves.{decode_was, rename_was, issue_was}
-use Rattle.smt_model.proofs.Numbers.{is_of-is, same_hart-at, numbers-of, numbers-member, numbers-rise}
-use Rattle.smt_model.proofs.Order.{in_order, retire_front}
-use Rattle.smt_model.proofs.Calm.{IsCalm, fate-other}
-use Rattle.smt_model.proofs.Harts.{place-kept}
-use Rattle.smt_model.proofs.Freeing.{true_false}
-use Rattle.smt_model.proofs.Retiring.{was-Retire}
-use Rattle.smt_model.proofs.Cutting.{IsCutting, cut_young, cut_older}
-use Rattle.smt_model.proofs.OnComplete.{own-Complete, calm-Complete}
-use Rattle.smt_model.proofs.OnRetire.{now-Retire, calm-Retire}
-use Rattle.smt_model.proofs.Ending.{cutting-Retire, retired_six}
+use Rattle.smt_model.proofs.{Fates.Moves.decode_was, Fates.Moves.rename_was, Fates.Moves.issue_was}
+use Rattle.smt_model.proofs.{Fates.Order.in_order, Fates.Order.retire_front, Events.Calm.IsCalm, Events.Calm.fate-other}
+use Rattle.smt_model.proofs.{Events.Harts.place-kept, Events.Freeing.true_false, Steps.RetireCommits.was-Retire}
+use Rattle.smt_model.proofs.{Events.Squash.IsSquashing, Events.Squash.squash_young, Events.Squash.squash_older}
+use Rattle.smt_model.proofs.{Steps.Complete.own-Complete, Steps.Complete.calm-Complete, Steps.Retire.now-Retire}
+use Rattle.smt_model.proofs.{Steps.Retire.calm-Retire, Steps.EndHalts.squashing-Retire, Steps.EndHalts.retired_six}
+use Rattle.smt_model.proofs.Fates.Numbers.{is_of-is, same_hart-at, numbers-of, numbers-member, numbers-rise}
 use Rattle.smt_laws.proofs.Paths.{least_first}
 
 -- ---- Events that squash nothing, and leave their instruction live, or not
 
-pub live-Decode : (setup : Setup) (past : List Event) (actor n : ℕ) → refused setup past (Decode actor n) ≡ None → (h : ℕ)
+pub live-Decode : (setup : Setup) (past : List Event) (actor n : ℕ)
+    → refused setup past (Decode actor n) ≡ None → (h : ℕ)
     → live (Decode actor n ∷ past) h ≡ live past h
 live-Decode setup past actor n ok h =
     let was = decode_was setup past actor n ok in
     place-kept (Decode actor n) past (λ s. refl) is_live h refl (grind (arith, nat_tests))
 
-pub live-Rename : (setup : Setup) (past : List Event) (actor n : ℕ) (register : Option ℕ) → refused setup past (Rename actor n register) ≡ None
+pub live-Rename : (setup : Setup) (past : List Event) (actor n : ℕ) (register : Option ℕ)
+    → refused setup past (Rename actor n register) ≡ None
     → (h : ℕ) → live (Rename actor n register ∷ past) h ≡ live past h
 live-Rename setup past actor n register ok h =
     let was = rename_was setup past actor n register ok in
@@ -54,7 +48,8 @@ pub live-Drop : (past : List Event) (actor n h : ℕ) → live (Drop actor n ∷
 live-Drop past actor n h = place-kept (Drop actor n) past (λ s. refl) is_live h refl refl
 
 pub live-Complete : (setup : Setup) (past : List Event) → is_legal setup past → (actor n : ℕ) (o : Outcome)
-    → refused setup past (Complete actor n o) ≡ None → strays past n o.next ≡ false → (h : ℕ) → live (Complete actor n o ∷ past) h ≡ live past h
+    → refused setup past (Complete actor n o) ≡ None → mispredicts past n o.next ≡ false → (h : ℕ)
+    → live (Complete actor n o ∷ past) h ≡ live past h
 live-Complete setup past legal actor n o ok straight h =
     place-kept (Complete actor n o) past (calm-Complete past actor n o straight) is_live h refl
     (own-Complete setup past legal actor n o ok is_live refl)
@@ -63,21 +58,22 @@ live-Complete setup past legal actor n o ok straight h =
 
 -- It is of another hart, and squashes none of this one.
 pub live-elsewhere : (setup : Setup) (past : List Event) → is_legal setup past → (e : Event) (g : ℕ) → added e g ≡ []
-    → is_of past g (instruction_of e) ≡ false → ((s : ℕ) → is_of past g s ≡ true → squashes e past s ≡ false)
+    → is_of past g (seq_of e) ≡ false → ((s : ℕ) → is_of past g s ≡ true → squashes e past s ≡ false)
     → live (e ∷ past) g ≡ live past g
 live-elsewhere setup past legal e g none away spares =
     ap (λ xs. filter (λ s. is_live (fate (e ∷ past) s)) (numbers past g ++ xs)) none
     ∙ (ap (filter (λ s. is_live (fate (e ∷ past) s))) (append-nil (numbers past g))
     ∙ filter-same (λ s. is_live (fate (e ∷ past) s)) (λ s. is_live (fate past s)) (numbers past g) (λ s m.
     let of_s = numbers-of setup past legal g s m in
-    let other : instruction_of e ≢ s =
+    let other : seq_of e ≢ s =
     (λ same. absurd (true_false (sym of_s ∙ subst (λ z. is_of past g z ≡ false) same away))) in
     ap is_live (fate-other e past s other (spares s of_s))))
 
 -- What an instruction of another hart squashes is of that hart.
-pub spares_others : (past : List Event) (h g n : ℕ) (cuts : Bool) → is_of past h n ≡ true → is_of past g n ≡ false → (s : ℕ)
-    → is_of past g s ≡ true → (cuts && (nat_lt n s && same_hart past n s)) ≡ false
-spares_others past h g n cuts of_n away s of_s =
+pub spares_others : (past : List Event) (h g n : ℕ) (squashes_it : Bool) → is_of past h n ≡ true
+    → is_of past g n ≡ false → (s : ℕ)
+    → is_of past g s ≡ true → (squashes_it && (nat_lt n s && same_hart past n s)) ≡ false
+spares_others past h g n squashes_it of_n away s of_s =
     let apart : (h == g) ≡ false = sym (is_of-is past h g n of_n) ∙ away in
     let same : same_hart past n s ≡ is_of past h s = same_hart-at past h n s of_n in
     let not_of : is_of past h s ≡ (g == h) = is_of-is past g h s of_s in
@@ -85,46 +81,50 @@ spares_others past h g n cuts of_n away s of_s =
 
 -- ---- Squashes
 
-list-cut : (past : List Event) (e : Event) (h : ℕ) → IsCutting past e h → (test : ℕ → Bool)
+list-squash : (past : List Event) (e : Event) (h : ℕ) → IsSquashing past e h → (test : ℕ → Bool)
     → filter test (numbers (e ∷ past) h) ≡ filter test (numbers past h)
-list-cut past e h cutting test =
-    ap (λ xs. filter test (numbers past h ++ xs)) (cutting.adds_none h) ∙ ap (filter test) (append-nil (numbers past h))
+list-squash past e h squashing test =
+    ap (λ xs. filter test (numbers past h ++ xs)) (squashing.adds_none h)
+    ∙ ap (filter test) (append-nil (numbers past h))
 
-above-cut : (f : Fate) (s n : ℕ) (was : Bool) → n < s → is_live f ≡ false → is_live f ≡ (nat_le s n && was)
-above-cut f s n was above dead = grind (arith, nat_tests)
+above-squash : (f : Fate) (s n : ℕ) (was : Bool) → n < s → is_live f ≡ false → is_live f ≡ (nat_le s n && was)
+above-squash f s n was above dead = grind (arith, nat_tests)
 
-below-cut : (s n : ℕ) (was : Bool) → s ≤ n → was ≡ (nat_le s n && was)
-below-cut s n was under = grind (arith, nat_tests)
+below-squash : (s n : ℕ) (was : Bool) → s ≤ n → was ≡ (nat_le s n && was)
+below-squash s n was under = grind (arith, nat_tests)
 
--- A straying completion leaves its hart all up to its own instruction.
-stray-test : (setup : Setup) (past : List Event) → is_legal setup past → (actor n : ℕ) (o : Outcome)
-    → refused setup past (Complete actor n o) ≡ None → (h : ℕ) → IsCutting past (Complete actor n o) h → (s : ℕ)
+-- A mispredicted completion leaves its hart all up to its own instruction.
+misprediction-test : (setup : Setup) (past : List Event) → is_legal setup past → (actor n : ℕ) (o : Outcome)
+    → refused setup past (Complete actor n o) ≡ None → (h : ℕ) → IsSquashing past (Complete actor n o) h → (s : ℕ)
     → member s (numbers past h) ≡ true
     → is_live (fate (Complete actor n o ∷ past) s) ≡ (nat_le s n && is_live (fate past s))
-stray-test setup past legal actor n o ok h cutting s m =
+misprediction-test setup past legal actor n o ok h squashing s m =
     let e = Complete actor n o in
     let of_s = numbers-of setup past legal h s m in
     elim (cases_lt n s) [
       | inl above ↦
-          above-cut (fate (e ∷ past) s) s n (is_live (fate past s)) above (cut_young setup past legal e ok h cutting s of_s above)
+          above-squash (fate (e ∷ past) s) s n (is_live (fate past s)) above
+          (squash_young setup past legal e ok h squashing s of_s above)
       | inr upto ↦
           elim (cases_eq s n) [
             | inl here ↦
-                subst (λ z. is_live (fate (e ∷ past) z) ≡ is_live (fate past z)) (sym here) (own-Complete setup past legal actor n o ok is_live refl)
-                ∙ below-cut s n (is_live (fate past s)) upto
+                subst (λ z. is_live (fate (e ∷ past) z) ≡ is_live (fate past z)) (sym here)
+                (own-Complete setup past legal actor n o ok is_live refl)
+                ∙ below-squash s n (is_live (fate past s)) upto
             | inr other ↦
-                ap is_live (cut_older past e h cutting s (omega arith)) ∙ below-cut s n (is_live (fate past s)) upto
+                ap is_live (squash_older past e h squashing s (omega arith))
+                ∙ below-squash s n (is_live (fate past s)) upto
           ]
     ]
 
-pub live-stray : (setup : Setup) (past : List Event) → is_legal setup past → (actor n : ℕ) (o : Outcome)
-    → refused setup past (Complete actor n o) ≡ None → (h : ℕ) → IsCutting past (Complete actor n o) h
+pub live-misprediction : (setup : Setup) (past : List Event) → is_legal setup past → (actor n : ℕ) (o : Outcome)
+    → refused setup past (Complete actor n o) ≡ None → (h : ℕ) → IsSquashing past (Complete actor n o) h
     → live (Complete actor n o ∷ past) h ≡ filter (λ s. nat_le s n) (live past h)
-live-stray setup past legal actor n o ok h cutting =
+live-misprediction setup past legal actor n o ok h squashing =
     let e = Complete actor n o in
-    list-cut past e h cutting (λ s. is_live (fate (e ∷ past) s))
+    list-squash past e h squashing (λ s. is_live (fate (e ∷ past) s))
     ∙ (filter-same (λ s. is_live (fate (e ∷ past) s)) (λ s. nat_le s n && is_live (fate past s)) (numbers past h)
-    (stray-test setup past legal actor n o ok h cutting)
+    (misprediction-test setup past legal actor n o ok h squashing)
     ∙ sym (filter-both (λ s. nat_le s n) (λ s. is_live (fate past s)) (numbers past h)))
 
 -- ---- A retirement
@@ -140,26 +140,28 @@ none_older setup past legal actor n x ok h s of_n of_s under =
     let passed = retire_front setup past legal actor n x ok h s of_s of_n under in
     grind (arith, nat_tests)
 
--- One that corrects leaves its hart nothing.
+-- One that squashes leaves its hart nothing.
 late-dead : (f : Fate) → 6 ≤ stage f → is_live f ≡ false
 late-dead f late = grind (arith, nat_tests)
 
-pub live-corrected : (setup : Setup) (past : List Event) → is_legal setup past → (actor n : ℕ) (x : Effect)
-    → (ok : refused setup past (Retire actor n x) ≡ None) → corrects past n x ≡ true → (h : ℕ) → is_of past h n ≡ true
+pub live-squashes_now : (setup : Setup) (past : List Event) → is_legal setup past → (actor n : ℕ) (x : Effect)
+    → (ok : refused setup past (Retire actor n x) ≡ None) → squashes_at_retirement past n x ≡ true → (h : ℕ)
+    → is_of past h n ≡ true
     → live (Retire actor n x ∷ past) h ≡ []
-live-corrected setup past legal actor n x ok corrected h of_n =
+live-squashes_now setup past legal actor n x ok squashes_now h of_n =
     let e = Retire actor n x in
-    let cutting = cutting-Retire setup past legal actor n x ok corrected h of_n in
-    list-cut past e h cutting (λ s. is_live (fate (e ∷ past) s))
+    let squashing = squashing-Retire setup past legal actor n x ok squashes_now h of_n in
+    list-squash past e h squashing (λ s. is_live (fate (e ∷ past) s))
     ∙ filter-none (λ s. is_live (fate (e ∷ past) s)) (numbers past h) (λ s m.
     let of_s = numbers-of setup past legal h s m in
     elim (cases_lt n s) [
-      | inl above ↦ cut_young setup past legal e ok h cutting s of_s above
+      | inl above ↦ squash_young setup past legal e ok h squashing s of_s above
       | inr upto ↦
           elim (cases_eq s n) [
-            | inl here ↦ late-dead (fate (e ∷ past) s) (subst (λ z. 6 ≤ stage (fate (e ∷ past) z)) (sym here) (retired_six setup past actor n x ok))
+            | inl here ↦ late-dead (fate (e ∷ past) s)
+                (subst (λ z. 6 ≤ stage (fate (e ∷ past) z)) (sym here) (retired_six setup past actor n x ok))
             | inr other ↦
-                ap is_live (cut_older past e h cutting s (omega arith))
+                ap is_live (squash_older past e h squashing s (omega arith))
                 ∙ none_older setup past legal actor n x ok h s of_n of_s (omega arith)
           ]
     ])
@@ -168,17 +170,20 @@ live-corrected setup past legal actor n x ok corrected h of_n =
 pub live-front : (setup : Setup) (past : List Event) → is_legal setup past → (actor n : ℕ) (x : Effect)
     → refused setup past (Retire actor n x) ≡ None → (h : ℕ) → is_of past h n ≡ true → first (live past h) ≡ Some n
 live-front setup past legal actor n x ok h of_n =
-    least_first (λ s. is_live (fate past s)) n (numbers past h) (numbers-rise setup past legal h) (numbers-member setup past legal h n of_n)
+    least_first (λ s. is_live (fate past s)) n (numbers past h) (numbers-rise setup past legal h)
+    (numbers-member setup past legal h n of_n)
     (ap is_live (was-Retire setup past actor n x ok))
     (λ s m under. none_older setup past legal actor n x ok h s of_n (numbers-of setup past legal h s m) under)
 
 pub live-retired : (setup : Setup) (past : List Event) → is_legal setup past → (actor n : ℕ) (x : Effect)
-    → (ok : refused setup past (Retire actor n x) ≡ None) → corrects past n x ≡ false → is_last x.next ≡ false → (h : ℕ) → is_of past h n ≡ true
+    → (ok : refused setup past (Retire actor n x) ≡ None) → squashes_at_retirement past n x ≡ false
+    → is_last x.next ≡ false → (h : ℕ) → is_of past h n ≡ true
     → live past h ≡ n ∷ live (Retire actor n x ∷ past) h
 live-retired setup past legal actor n x ok straight going h of_n =
     let e = Retire actor n x in
     let calm : IsCalm past e = calm-Retire past actor n x straight in
-    filter-loses-first (λ s. is_live (fate past s)) (λ s. is_live (fate (e ∷ past) s)) n (numbers past h) (numbers-rise setup past legal h)
+    filter-loses-first (λ s. is_live (fate past s)) (λ s. is_live (fate (e ∷ past) s)) n (numbers past h)
+    (numbers-rise setup past legal h)
     (live-front setup past legal actor n x ok h of_n)
     (ap is_live (now-Retire setup past actor n x ok going))
     (λ s m other. ap is_live (fate-other e past s (λ same. other (sym same)) (calm s)))

@@ -1,16 +1,17 @@
--- Chains of hops over plain lists: the same hops make the same chain; a chain grows at its end, loses its first, and is cut.
+-- Chains of hops over plain lists: the same hops make the same chain; a chain grows at its end, loses its first, and is
+-- cut.
 use Rattle.std.specs.Prelude.{◌≡◌, ℕ, ◌<◌, Bool, true, false, nat_le, List, [], ◌∷◌, ◌++◌, Option, Some, None}
 use Rattle.std.specs.List.{filter}
 use Rattle.std.proofs.Common.{◌∙◌, refl, sym, ap, subst, inl, inr, arith}
-use Rattle.std.proofs.lemmas.Bool.{cases_eq}
-use Rattle.std.proofs.lemmas.Bool.Decides.{nat_tests}
+use Rattle.std.proofs.{lemmas.Bool.cases_eq, lemmas.Bool.Decides.nat_tests}
 use Rattle.smt_model.specs.Basics.{first}
 use Rattle.smt_model.proofs.Lists.{member, member-behind, Each-at, Rises, filter-none}
 use Rattle.smt_laws.specs.Chain.{Hop, Leads, IsChain}
 
 -- ---- One hop
 
-leads-on : (o : Option Hop) (from : ℕ) (P Q : ℕ → Type 0) → ((next : ℕ) → P next → Q next) → Leads o from P → Leads o from Q
+leads-on : (o : Option Hop) (from : ℕ) (P Q : ℕ → Type 0) → ((next : ℕ) → P next → Q next) → Leads o from P
+    → Leads o from Q
 leads-on None from P Q on leads = leads
 leads-on (Some one) from P Q on leads = (leads.0, on one.next leads.1)
 
@@ -42,25 +43,27 @@ chain-push hops (x ∷ xs) n one at from chain =
     (λ next rest. chain-push hops xs n one at next rest) chain
 
 -- All behind n go, and n leads elsewhere.
-cut_at : (n : ℕ) (xs : List ℕ) → Rises (n ∷ xs) → filter (λ s. nat_le s n) (n ∷ xs) ≡ n ∷ []
-cut_at n xs rises =
+squash_at : (n : ℕ) (xs : List ℕ) → Rises (n ∷ xs) → filter (λ s. nat_le s n) (n ∷ xs) ≡ n ∷ []
+squash_at n xs rises =
     let here : nat_le n n ≡ true = grind (arith, nat_tests) in
     let none : filter (λ s. nat_le s n) xs ≡ [] =
-    filter-none (λ s. nat_le s n) xs (λ s m. let above : n < s = Each-at (λ z. n < z) xs rises.0 s m in grind (arith, nat_tests)) in
+    filter-none (λ s. nat_le s n) xs (λ s m. let above : n < s = Each-at (λ z. n < z) xs rises.0 s m in
+    grind (arith, nat_tests)) in
     rw (here, none) refl
 
-cut_below : (x n : ℕ) (xs : List ℕ) → x < n → filter (λ s. nat_le s n) (x ∷ xs) ≡ x ∷ filter (λ s. nat_le s n) xs
-cut_below x n xs under = let kept : nat_le x n ≡ true = grind (arith, nat_tests) in rw kept refl
+squash_below : (x n : ℕ) (xs : List ℕ) → x < n → filter (λ s. nat_le s n) (x ∷ xs) ≡ x ∷ filter (λ s. nat_le s n) xs
+squash_below x n xs under = let kept : nat_le x n ≡ true = grind (arith, nat_tests) in rw kept refl
 
-pub chain-cut : (f g : ℕ → Option Hop) (n : ℕ) (old new : Hop) → f n ≡ Some old → g n ≡ Some new → new.pc ≡ old.pc
-    → ((s : ℕ) → s < n → g s ≡ f s) → (xs : List ℕ) (from end : ℕ) → Rises xs → member n xs ≡ true → IsChain f xs from end
+pub chain-squash : (f g : ℕ → Option Hop) (n : ℕ) (old new : Hop) → f n ≡ Some old → g n ≡ Some new → new.pc ≡ old.pc
+    → ((s : ℕ) → s < n → g s ≡ f s) → (xs : List ℕ) (from end : ℕ) → Rises xs → member n xs ≡ true
+    → IsChain f xs from end
     → IsChain g (filter (λ s. nat_le s n) xs) from new.next
-chain-cut f g n old new was now pc same [] from end rises m chain = absurd (grind arith)
-chain-cut f g n old new was now pc same (x ∷ xs) from end rises m chain =
+chain-squash f g n old new was now pc same [] from end rises m chain = absurd (grind arith)
+chain-squash f g n old new was now pc same (x ∷ xs) from end rises m chain =
     elim (cases_eq x n) [
       | inl here ↦
           let split : filter (λ s. nat_le s n) (x ∷ xs) ≡ n ∷ [] =
-          subst (λ z. Rises (z ∷ xs) → filter (λ s. nat_le s n) (z ∷ xs) ≡ n ∷ []) (sym here) (cut_at n xs) rises in
+          subst (λ z. Rises (z ∷ xs) → filter (λ s. nat_le s n) (z ∷ xs) ≡ n ∷ []) (sym here) (squash_at n xs) rises in
           let at : f x ≡ Some old = ap f here ∙ was in
           let front = chain-first f x xs old at from end chain in
           let last : Leads (Some new) from (λ next. next ≡ new.next) = (pc ∙ front.0, refl) in
@@ -69,10 +72,12 @@ chain-cut f g n old new was now pc same (x ∷ xs) from end rises m chain =
       | inr other ↦
           let there : member n xs ≡ true = grind (arith, nat_tests) in
           let under : x < n = Each-at (λ z. x < z) xs rises.0 n there in
-          subst (λ ys. IsChain g ys from new.next) (sym (cut_below x n xs under))
-          (subst (λ o. Leads o from (λ next. IsChain g (filter (λ s. nat_le s n) xs) next new.next)) (sym (same x under))
-          (leads-on (f x) from (λ next. IsChain f xs next end) (λ next. IsChain g (filter (λ s. nat_le s n) xs) next new.next)
-          (λ next rest. chain-cut f g n old new was now pc same xs next end rises.1 there rest) chain))
+          subst (λ ys. IsChain g ys from new.next) (sym (squash_below x n xs under))
+          (subst (λ o. Leads o from (λ next. IsChain g (filter (λ s. nat_le s n) xs) next new.next))
+          (sym (same x under))
+          (leads-on (f x) from (λ next. IsChain f xs next end)
+          (λ next. IsChain g (filter (λ s. nat_le s n) xs) next new.next)
+          (λ next rest. chain-squash f g n old new was now pc same xs next end rises.1 there rest) chain))
     ]
 
 -- ---- What stands first

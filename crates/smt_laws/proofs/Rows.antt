@@ -1,15 +1,12 @@
--- Worked rows, computed: what the definitions of the statements say of histories and records whose numbers were found by hand.
+-- Worked rows, computed: what the definitions of the statements say of histories and records whose numbers were found
+-- by hand.
 use Rattle.std.specs.Prelude.{◌≡◌, ℕ, true, false, List, [], ◌∷◌, map, take, drop, Option, Some, None, refl}
-use Rattle.events.specs.declared.effect.Next.TheVariants.{Pc, Ended}
-use Rattle.events.specs.declared.effect.Record.{Record}
-use Rattle.events.specs.declared.event.Event.{Event}
+use Rattle.events.specs.{declared.effect.Next.TheVariants.Pc, declared.effect.Next.TheVariants.Ended}
+use Rattle.events.specs.{declared.effect.Record.Record, declared.event.Event.Event}
 use Rattle.events.specs.declared.event.Event.TheVariants.{Fetch, Decode, Rename, Issue, Complete, Retire}
-use Rattle.smt_model.specs.Setup.{Setup}
-use Rattle.smt_model.specs.Flights.{live}
-use Rattle.smt_model.specs.Fetching.{fetch_pc}
-use Rattle.smt_model.proofs.Histories.{core, outcome, effect, write, retired, past_of, refusal, rules_of_events}
-use Rattle.smt_laws.specs.Sequential.{retired_pc}
-use Rattle.smt_laws.specs.Chain.{Hop, hop}
+use Rattle.smt_model.specs.{Setup.Setup, Flights.live, Fetching.fetch_pc}
+use Rattle.smt_model.proofs.Rows.Histories.{core, outcome, effect, write, retired, past_of, refusal, rules_of_events}
+use Rattle.smt_laws.specs.{Sequential.retired_pc, Chain.Hop, Chain.hop}
 use Rattle.smt_laws.specs.Execution.{goes_by, pc_by, number_by, byte_by, done_by}
 
 -- ---- A wrong prediction. Two harts run addi x10,x0,5; addi x17,x0,93; ecall. Hart 0's first is predicted to jump over
@@ -49,9 +46,9 @@ unfolding rules_of_events
 predicted_path = refl
 
 -- It squashes number 2, and number 0 leads to the second word: there the hart is fetched next.
-corrected_path : path 9 0 ≡ leads 0x80000000 0x80000004 ∷ []
+replayed_path : path 9 0 ≡ leads 0x80000000 0x80000004 ∷ []
 unfolding rules_of_events
-corrected_path = refl
+replayed_path = refl
 
 -- Then to the third.
 longer_path : path 10 0 ≡ leads 0x80000000 0x80000004 ∷ leads 0x80000004 0x80000008 ∷ []

@@ -1,24 +1,19 @@
 -- No instruction writes more than a word: by what it may be, and then along the records.
 use Rattle.std.specs.Prelude.{◌≡◌, ℕ, ◌≤◌, Bool, true, false, List, [], ◌∷◌, reverse, All}
 use Rattle.std.proofs.Common.{refl, sym, subst, inl, inr, arith}
-use Rattle.std.proofs.lemmas.Bool.{cases_Bool}
-use Rattle.std.proofs.lemmas.List.{reverse-append}
-use Rattle.std.proofs.lemmas.List.Elements.{All-nil, All-push}
-use Rattle.rv_decode.specs.declared.op.Op.{Op}
-use Rattle.rv_decode.specs.declared.op.Op.TheVariants.{Known, Illegal, NoWord}
-use Rattle.rv_decode.specs.declared.instr.Instr.{Instr}
+use Rattle.std.proofs.{lemmas.Bool.cases_Bool, lemmas.List.reverse-append, lemmas.List.Elements.All-nil}
+use Rattle.std.proofs.{lemmas.List.Elements.All-push}
+use Rattle.rv_decode.specs.{declared.op.Op.Op, declared.op.Op.TheVariants.Known, declared.op.Op.TheVariants.Illegal}
+use Rattle.rv_decode.specs.{declared.op.Op.TheVariants.NoWord, declared.instr.Instr.Instr, declared.instr.LoadOp.LoadOp}
+use Rattle.rv_decode.specs.{declared.instr.StoreOp.StoreOp, declared.instr.StoreOp.TheVariants.Sb}
+use Rattle.rv_decode.specs.{declared.instr.StoreOp.TheVariants.Sh, declared.instr.StoreOp.TheVariants.Sw}
 use Rattle.rv_decode.specs.declared.instr.Instr.TheVariants as instr
-use Rattle.rv_decode.specs.declared.instr.LoadOp.{LoadOp}
 use Rattle.rv_decode.specs.declared.instr.LoadOp.TheVariants.{Lb, Lh, Lw, Lbu, Lhu}
-use Rattle.rv_decode.specs.declared.instr.StoreOp.{StoreOp}
-use Rattle.rv_decode.specs.declared.instr.StoreOp.TheVariants.{Sb, Sh, Sw}
-use Rattle.events.specs.declared.effect.Effect.{Effect}
-use Rattle.events.specs.declared.effect.Record.{Record}
-use Rattle.smt_model.specs.Setup.{Setup}
-use Rattle.smt_model.specs.Exec.{Computed}
-use Rattle.smt_model.specs.Kinds.{Kind, Computing, Loading, Storing, Reserving, Conditional, Atomic, kind_of, writes_register, access_size, size_of_instr, load_size, store_size}
-use Rattle.smt_model.specs.Fields.{is_last, effect_by, effect_of, read, holds_word}
-use Rattle.smt_model.specs.Account.{records}
+use Rattle.events.specs.{declared.effect.Effect.Effect, declared.effect.Record.Record}
+use Rattle.smt_model.specs.{Setup.Setup, Exec.Computed, Nexts.is_last, Effects.effect_by, Effects.effect_of, Bytes.read}
+use Rattle.smt_model.specs.{Reservations.holds_word, Account.records}
+use Rattle.smt_model.specs.Kinds.{Kind, Computing, Loading, Storing, Reserving, Conditional, Atomic, kind_of}
+use Rattle.smt_model.specs.Kinds.{writes_register, access_size, load_size, store_size}
 use Rattle.smt_laws.specs.Execution.{op_of_record, byte_by, computed_by, reserved_by, IsExecution}
 use Rattle.smt_laws.specs.Writes.{bytes_of, WritesAWord, WritesAtMostAWord}
 use Rattle.smt_laws.proofs.Executions.{retires_an_execution}
@@ -60,7 +55,8 @@ touches_a_word NoWord = omega arith
 abbrev IsShort : Effect → Type 0
 IsShort x = bytes_of x.write ≤ 4
 
-kind_short : (kind : Kind) (op : Op) (writes : Bool) (c : Computed) (now : ℕ) (held : Bool) → IsShort (effect_by kind op writes c now held)
+kind_short : (kind : Kind) (op : Op) (writes : Bool) (c : Computed) (now : ℕ) (held : Bool)
+    → IsShort (effect_by kind op writes c now held)
 kind_short Computing op writes c now held = omega arith
 kind_short Loading op writes c now held = omega arith
 kind_short Storing op writes c now held = touches_a_word op
@@ -81,8 +77,11 @@ executions_short setup (r ∷ older) is =
     let op = op_of_record r in
     let c = computed_by setup older r in
     let one : WritesAWord r =
-    subst IsShort (sym is.0.effect) (effect_short op c (read op (byte_by setup older) c.addr) (holds_word (reserved_by setup older r.hart) c.addr)) in
-    subst (All WritesAWord) (sym (reverse-append (r ∷ []) older)) (All-push WritesAWord (reverse older) r (executions_short setup older is.1) one)
+    subst IsShort (sym is.0.effect)
+    (effect_short op c (read op (byte_by setup older) c.addr)
+    (holds_word (reserved_by setup older r.hart) c.addr)) in
+    subst (All WritesAWord) (sym (reverse-append (r ∷ []) older))
+    (All-push WritesAWord (reverse older) r (executions_short setup older is.1) one)
 
 pub writes_at_most_a_word : WritesAtMostAWord
 writes_at_most_a_word setup past legal = executions_short setup (records past) (retires_an_execution setup past legal)

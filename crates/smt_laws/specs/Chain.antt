@@ -1,14 +1,10 @@
--- What a hart has on its way is a path through its program: from where it has retired to, each instruction leads to the next.
+-- What a hart has on its way is a path through its program: from where it has retired to, each
+-- instruction leads to the next.
 use Rattle.std.specs.Prelude.{◌≡◌, ℕ, true, List, [], ◌∷◌, Option, Some, None}
-use Rattle.events.specs.declared.effect.Outcome.{Outcome}
-use Rattle.events.specs.declared.event.Event.{Event}
-use Rattle.smt_model.specs.Setup.{Setup}
-use Rattle.smt_model.specs.Plain.{pc_after}
-use Rattle.smt_model.specs.Fates.{Fetched, fetching, completion}
-use Rattle.smt_model.specs.Flights.{live}
-use Rattle.smt_model.specs.Memory.{is_going}
-use Rattle.smt_model.specs.Fetching.{fetch_pc}
-use Rattle.smt_model.specs.Rules.{is_legal}
+use Rattle.events.specs.{declared.effect.Outcome.Outcome, declared.event.Event.Event}
+use Rattle.smt_model.specs.{Setup.Setup, Nexts.pc_after, Fates.Fetched, Fates.fetching}
+use Rattle.smt_model.specs.{Fates.completion, Flights.live, Memory.is_going, Fetching.fetch_pc}
+use Rattle.smt_model.specs.{Rules.is_legal}
 use Rattle.smt_laws.specs.Sequential.{retired_pc}
 
 -- An instruction's pc, and where it leads.
@@ -16,14 +12,15 @@ pub record Hop : Type 0 where
   pub pc : ℕ
   pub next : ℕ
 
--- It leads where its completion says; to where it was predicted, as long as it hasn't completed or where it ends or stops.
-abbrev pub next_of : Option Outcome → ℕ → ℕ
-next_of None predicted = predicted
-next_of (Some o) predicted = pc_after o.next predicted
+-- It leads where its completion says; to where it was predicted, as long as it hasn't completed or
+-- where it ends or stops.
+abbrev pub following_pc : Option Outcome → ℕ → ℕ
+following_pc None predicted = predicted
+following_pc (Some o) predicted = pc_after o.next predicted
 
 abbrev pub hop_of : Option Fetched → Option Outcome → Option Hop
 hop_of None said = None
-hop_of (Some f) said = Some (record { pc = f.pc; next = next_of said f.predicted })
+hop_of (Some f) said = Some (record { pc = f.pc; next = following_pc said f.predicted })
 
 abbrev pub hop : List Event → ℕ → Option Hop
 hop past s = hop_of (fetching past s) (completion past s)
@@ -38,7 +35,9 @@ abbrev pub IsChain : (ℕ → Option Hop) → List ℕ → ℕ → ℕ → Type 
 IsChain hops [] from end = from ≡ end
 IsChain hops (s ∷ rest) from end = Leads (hops s) from (λ next. IsChain hops rest next end)
 
--- In every legal history, what a hart that goes has on its way leads from where it has retired to, to where it fetches next.
+-- In every legal history, what a hart that goes has on its way leads from where it has retired to,
+-- to where it fetches next.
 abbrev pub FollowsTheProgram : Type 0
-FollowsTheProgram = (setup : Setup) (past : List Event) → is_legal setup past → (h : ℕ) → is_going past h ≡ true
+FollowsTheProgram = (setup : Setup) (past : List Event) → is_legal setup past → (h : ℕ)
+    → is_going past h ≡ true
     → IsChain (hop past) (live past h) (retired_pc setup past h) (fetch_pc setup past h)

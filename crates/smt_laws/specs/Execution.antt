@@ -1,20 +1,18 @@
--- An execution by its records alone, with no machine: each record, the newest first, is what its instruction does to what
--- the older ones left. A load gives the bytes that were written last before it in this one order of all harts' instructions;
--- the records of one hart follow its program. [Lamport 1979, sequential consistency]
-use Rattle.std.specs.Prelude.{◌≡◌, ℕ, ◌<◌, Bool, true, not, ◌==◌, ◌&&◌, if◌then◌else◌, List, [], ◌∷◌, map, Option, Some, None}
+-- An execution by its records alone, with no machine: each record, the newest first, is what its
+-- instruction does to what the older ones left. A load gives the bytes that were written last
+-- before it in this one order of all harts' instructions; the records of one hart follow its
+-- program. [Lamport 1979, sequential consistency]
+use Rattle.std.specs.Prelude.{◌≡◌, ℕ, ◌<◌, Bool, true, not, ◌==◌, ◌&&◌, if◌then◌else◌, List, []}
+use Rattle.std.specs.Prelude.{◌∷◌, map, Option, Some, None}
 use Rattle.elf_image.specs.Image.{byte_in, code_word}
-use Rattle.rv_decode.specs.Decode.{op_of_word}
-use Rattle.rv_decode.specs.declared.op.Op.{Op}
-use Rattle.events.specs.declared.effect.Effect.{Effect}
-use Rattle.events.specs.declared.effect.Record.{Record}
-use Rattle.events.specs.declared.event.Event.{Event}
-use Rattle.smt_model.specs.Setup.{Setup, first_number}
-use Rattle.smt_model.specs.Kinds.{destination, first_source, second_source}
-use Rattle.smt_model.specs.Exec.{Computed, exec}
-use Rattle.smt_model.specs.Fields.{is_last, checked, effect_of, read, holds_word, byte_after, reservation_after}
-use Rattle.smt_model.specs.Plain.{Run, run, register_after, pc_after}
-use Rattle.smt_model.specs.Rules.{is_legal}
-use Rattle.smt_model.specs.Account.{records}
+use Rattle.rv_decode.specs.{Decode.op_of_word, declared.op.Op.Op}
+use Rattle.events.specs.{declared.effect.Effect.Effect, declared.effect.Record.Record}
+use Rattle.events.specs.{declared.event.Event.Event}
+use Rattle.smt_model.specs.{Setup.Setup, Setup.first_number, Kinds.destination, Kinds.first_source}
+use Rattle.smt_model.specs.{Kinds.second_source, Exec.Computed, Nexts.is_last, Nexts.pc_after}
+use Rattle.smt_model.specs.{Faults.computed_on, Effects.effect_of, Bytes.read, Bytes.byte_after}
+use Rattle.smt_model.specs.{Reservations.holds_word, Reservations.reservation_after, Plain.Run}
+use Rattle.smt_model.specs.{Plain.run, Plain.register_after, Rules.is_legal, Account.records}
 
 -- ---- What some records leave
 
@@ -29,13 +27,16 @@ goes_by (r ∷ older) h = not ((h == r.hart) && is_last r.effect.next) && goes_b
 -- Where hart h stands: where its last record goes on, or at the entry.
 abbrev pub pc_by : Setup → List Record → ℕ → ℕ
 pc_by setup [] h = setup.image.entry
-pc_by setup (r ∷ older) h = if h == r.hart then pc_after r.effect.next (pc_by setup older h) else pc_by setup older h
+pc_by setup (r ∷ older) h =
+    if h == r.hart then pc_after r.effect.next (pc_by setup older h) else pc_by setup older h
 
--- The number in hart h's register q: that of its last record that gave q one, or the number of the start.
+-- The number in hart h's register q: that of its last record that gave q one, or the number of the
+-- start.
 abbrev pub number_by : Setup → List Record → ℕ → ℕ → ℕ
 number_by setup [] h q = first_number setup.harts h q
 number_by setup (r ∷ older) h q =
-    if (h == r.hart) && (q == destination (op_of_record r)) then register_after r.effect.value (number_by setup older h q)
+    if (h == r.hart) && (q == destination (op_of_record r))
+    then register_after r.effect.value (number_by setup older h q)
     else number_by setup older h q
 
 -- x0 reads as 0.
@@ -51,25 +52,28 @@ byte_by setup (r ∷ older) a = byte_after r.effect.write a (byte_by setup older
 abbrev pub computed_by : Setup → List Record → Record → Computed
 computed_by setup older r =
     let op = op_of_record r in
-    checked setup.image op (exec setup.covers op r.pc (operand_by setup older r.hart (first_source op)) (operand_by setup older r.hart (second_source op)))
+    computed_on setup op r.pc (operand_by setup older r.hart (first_source op))
+    (operand_by setup older r.hart (second_source op))
 
 -- The word that hart h holds a reservation on, if any.
 abbrev pub reserved_by : Setup → List Record → ℕ → Option ℕ
 reserved_by setup [] h = None
 reserved_by setup (r ∷ older) h =
-    reservation_after (op_of_record r) (computed_by setup older r).addr r.effect (h == r.hart) (reserved_by setup older h)
+    reservation_after (op_of_record r) (computed_by setup older r).addr r.effect (h == r.hart)
+    (reserved_by setup older h)
 
 -- Its effect on what the older ones left.
 abbrev pub done_by : Setup → List Record → Record → Effect
 done_by setup older r =
     let op = op_of_record r in
     let c = computed_by setup older r in
-    effect_of op c (read op (byte_by setup older) c.addr) (holds_word (reserved_by setup older r.hart) c.addr)
+    effect_of op c (read op (byte_by setup older) c.addr)
+    (holds_word (reserved_by setup older r.hart) c.addr)
 
 -- ---- Executions
 
--- A record goes on from the older ones: its hart is there and goes, its pc is where that hart stands, its word stands at
--- this pc, and its effect is that of the word.
+-- A record goes on from the older ones: its hart is there and goes, its pc is where that hart
+-- stands, its word stands at this pc, and its effect is that of the word.
 pub record GoesOn (setup : Setup) (older : List Record) (r : Record) : Type 0 where
   pub there : r.hart < setup.harts
   pub going : goes_by older r.hart ≡ true
@@ -85,7 +89,8 @@ IsExecution setup (r ∷ older) = GoesOn setup older r × IsExecution setup olde
 
 -- What every legal history retires is an execution.
 abbrev pub RetiresAnExecution : Type 0
-RetiresAnExecution = (setup : Setup) (past : List Event) → is_legal setup past → IsExecution setup (records past)
+RetiresAnExecution = (setup : Setup) (past : List Event) → is_legal setup past
+    → IsExecution setup (records past)
 
 -- The plain machine has a run with these records.
 pub record IsRun (setup : Setup) (all : List Record) : Type 0 where

@@ -1,13 +1,13 @@
 -- What the plain machine is, in words of its own: laws of its steps and of its runs.
-use Rattle.std.specs.Prelude.{◌≡◌, ◌≢◌, ◌⊎◌, ℕ, ◌+◌, ◌*◌, ◌/◌, ◌%◌, ◌^◌, ◌<◌, ◌≤◌, Bool, true, false, List, ◌∷◌, Some, None}
-use Rattle.events.specs.declared.effect.Effect.{Effect}
-use Rattle.events.specs.declared.effect.Record.{Record}
-use Rattle.events.specs.declared.effect.Written.{Written}
-use Rattle.smt_model.specs.Setup.{Setup}
-use Rattle.smt_model.specs.Kinds.{Conditional, kind_of}
-use Rattle.smt_model.specs.Exec.{Computed}
-use Rattle.smt_model.specs.Fields.{is_last, holds_word, word_of_address, write_of}
-use Rattle.smt_model.specs.Plain.{Plain, Run, run, step, read_register, op_at_pc, computes, effect_at}
+use Rattle.std.specs.Prelude.{◌≡◌, ◌≢◌, ◌⊎◌, ℕ, ◌+◌, ◌*◌, ◌/◌, ◌%◌, ◌^◌, ◌<◌, ◌≤◌, Bool, true}
+use Rattle.std.specs.Prelude.{false, List, ◌∷◌, Some, None}
+use Rattle.events.specs.{declared.effect.Effect.Effect, declared.effect.Record.Record}
+use Rattle.events.specs.{declared.effect.Written.Written}
+use Rattle.smt_model.specs.{Setup.Setup, Kinds.Conditional, Kinds.kind_of, Exec.Computed}
+use Rattle.smt_model.specs.{Nexts.is_last, Reservations.holds_word, Reservations.word_of_address}
+use Rattle.smt_model.specs.{Bytes.write_of}
+use Rattle.smt_model.specs.Plain.{Plain, Run, run, step, read_register, op_at_pc, computes}
+use Rattle.smt_model.specs.Plain.{effect_at}
 
 -- ---- x0
 
@@ -18,7 +18,8 @@ pub record IsZero (ran : Run) (h : ℕ) : Type 0 where
 
 -- It is so after every run, in each hart.
 abbrev pub ReadsZero : Type 0
-ReadsZero = (setup : Setup) (order : List ℕ) (ran : Run) → run setup order ≡ Some ran → (h : ℕ) → IsZero ran h
+ReadsZero = (setup : Setup) (order : List ℕ) (ran : Run) → run setup order ≡ Some ran → (h : ℕ)
+    → IsZero ran h
 
 -- ---- A step is of one hart
 
@@ -31,7 +32,8 @@ pub record IsUntouched (before after : Plain) (g : ℕ) : Type 0 where
 
 -- A step of hart h leaves all other harts so.
 abbrev pub StepsAlone : Type 0
-StepsAlone = (setup : Setup) (h : ℕ) (before after : Run) → step setup h (Some before) ≡ Some after → (g : ℕ) → g ≢ h
+StepsAlone = (setup : Setup) (h : ℕ) (before after : Run)
+    → step setup h (Some before) ≡ Some after → (g : ℕ) → g ≢ h
     → IsUntouched before.state after.state g
 
 -- ---- Memory
@@ -54,30 +56,40 @@ pub record IsRecorded (h : ℕ) (before after : Run) : Type 0 where
   pub changes : ChangesAsSaid said before.state.bytes after.state.bytes
 
 abbrev pub WritesAsSaid : Type 0
-WritesAsSaid = (setup : Setup) (h : ℕ) (before after : Run) → step setup h (Some before) ≡ Some after → IsRecorded h before after
+WritesAsSaid = (setup : Setup) (h : ℕ) (before after : Run)
+    → step setup h (Some before) ≡ Some after → IsRecorded h before after
 
 -- ---- Reservations
 
--- What a store-conditional that goes on does, by what it computed and whether its hart holds a reservation on its word: it
--- writes the word where the hart does, and else writes nothing, so that memory stays.
-pub record IsConditional (c : Computed) (held : Bool) (x : Effect) (before after : ℕ → ℕ) : Type 0 where
+-- What a store-conditional that goes on does, by what it computed and whether its hart holds a
+-- reservation on its word: it writes the word where the hart does, and else writes nothing, so that
+-- memory stays.
+pub record IsConditional (c : Computed) (held : Bool) (x : Effect)
+    (before after : ℕ → ℕ) : Type 0 where
   pub stores : held ≡ true → x.write ≡ Some (write_of c.addr 4 c.datum)
   pub fails : held ≡ false → (x.write ≡ None) × ((a : ℕ) → after a ≡ before a)
 
 abbrev pub StoresWhereHeld : Type 0
-StoresWhereHeld = (setup : Setup) (h : ℕ) (before after : Run) → step setup h (Some before) ≡ Some after
-    → kind_of (op_at_pc setup before.state h) ≡ Conditional → is_last (effect_at setup before.state h).next ≡ false
-    → IsConditional (computes setup before.state h) (holds_word (before.state.reserved h) (computes setup before.state h).addr)
+StoresWhereHeld = (setup : Setup) (h : ℕ) (before after : Run)
+    → step setup h (Some before) ≡ Some after
+    → kind_of (op_at_pc setup before.state h) ≡ Conditional
+    → is_last (effect_at setup before.state h).next ≡ false
+    → IsConditional (computes setup before.state h)
+    (holds_word (before.state.reserved h) (computes setup before.state h).addr)
     (effect_at setup before.state h) before.state.bytes after.state.bytes
 
 -- What ends or stops its hart writes nothing, whatever it is.
 abbrev pub StopsWithoutWriting : Type 0
-StopsWithoutWriting = (setup : Setup) (h : ℕ) (before after : Run) → step setup h (Some before) ≡ Some after
+StopsWithoutWriting = (setup : Setup) (h : ℕ) (before after : Run)
+    → step setup h (Some before) ≡ Some after
     → is_last (effect_at setup before.state h).next ≡ true
-    → ((effect_at setup before.state h).write ≡ None) × ((a : ℕ) → after.state.bytes a ≡ before.state.bytes a)
+    → ((effect_at setup before.state h).write ≡ None)
+    × ((a : ℕ) → after.state.bytes a ≡ before.state.bytes a)
 
 -- After a write no hart holds a reservation on its word.
 abbrev pub EndsReservations : Type 0
-EndsReservations = (setup : Setup) (h : ℕ) (before after : Run) → step setup h (Some before) ≡ Some after → (w : Written)
-    → (effect_at setup before.state h).write ≡ Some w → (g addr : ℕ) → after.state.reserved g ≡ Some addr
+EndsReservations = (setup : Setup) (h : ℕ) (before after : Run)
+    → step setup h (Some before) ≡ Some after → (w : Written)
+    → (effect_at setup before.state h).write ≡ Some w → (g addr : ℕ)
+    → after.state.reserved g ≡ Some addr
     → word_of_address addr ≢ word_of_address w.addr

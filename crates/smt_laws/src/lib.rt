@@ -1,7 +1,8 @@
-//! What a legal history of the core amounts to: an execution of the plain machine, one instruction at a time.
+//! What a legal history of the core amounts to: an execution of the plain machine, one instruction
+//! at a time.
 //!
-//! There is no code here. The statements stand in `specs`, to be read in this order: `Sequential`, `Chain`, `Execution`,
-//! `PlainLaws`.
+//! There is no code here. The statements stand in `specs`, to be read in this order: `Sequential`,
+//! `Chain`, `Execution`, `PlainLaws`.
 #![tactic(auto)]
 
 pub mod laws;

@@ -1,19 +1,19 @@
 -- What an allowed event says: one named fact for each rule of each kind of event, and back.
-use Rattle.std.specs.Prelude.{◌≡◌, ℕ, Bool, true, not, ◌==◌, ◌&&◌, ◌||◌, nat_lt, List, [], ◌∷◌, length, Option, Some, None, is_some, is_none}
+use Rattle.std.specs.Prelude.{◌≡◌, ℕ, Bool, true, not, ◌==◌, ◌&&◌, ◌||◌, nat_lt, List, [], ◌∷◌, length, Option, Some}
+use Rattle.std.specs.Prelude.{None, is_some, is_none}
 use Rattle.std.proofs.Common.{refl, arith}
 use Rattle.elf_image.specs.Image.{code_word}
-use Rattle.events.specs.declared.effect.Outcome.{Outcome}
-use Rattle.events.specs.declared.effect.Effect.{Effect}
-use Rattle.events.specs.declared.event.Event.{Event}
+use Rattle.events.specs.{declared.effect.Outcome.Outcome, declared.effect.Effect.Effect, declared.event.Event.Event}
 use Rattle.events.specs.declared.event.Event.TheVariants.{Fetch, Decode, Rename, Issue, Complete, Drop, Retire}
 use Rattle.smt_model.specs.Basics.{holds_of, same_number, same_truth, how_many}
-use Rattle.smt_model.specs.Setup.{Setup, registers_of}
+use Rattle.smt_model.specs.{Setup.Setup, Setup.registers_of, Registers.is_unclaimed, Registers.is_ready}
+use Rattle.smt_model.specs.{Fetching.choice, Fetching.fetch_pc, Jobs.is_actor, Jobs.unit_of_actor, Jobs.job}
+use Rattle.smt_model.specs.{Comparisons.same_outcome, Comparisons.same_effect}
 use Rattle.smt_model.specs.Kinds.{kind_of, is_loading, is_storing, writes_register}
 use Rattle.smt_model.specs.Fates.{fetches, op_at, fate, is, InDecode, InRename, Renamed, Completed, Squashed}
 use Rattle.smt_model.specs.Flights.{in_decode, in_rename, flight, queue}
-use Rattle.smt_model.specs.Registers.{is_unclaimed, is_ready}
-use Rattle.smt_model.specs.Fetching.{choice, fetch_pc}
-use Rattle.smt_model.specs.Rules.{is_actor, unit_of_actor, job, same_outcome, same_effect, outcome_now, effect_now, of_fetched, is_first, is_for, is_oldest_ready, rules, first_failing, refused}
+use Rattle.smt_model.specs.Rules.{outcome_now, effect_now, of_fetched, is_first, is_for, is_oldest_ready, rules}
+use Rattle.smt_model.specs.Rules.{first_failing, refused}
 
 -- ---- A list of rules
 
@@ -30,11 +30,13 @@ pub none_fails : (rules : List (ℕ × Bool)) → AllHold rules → first_failin
 none_fails [] all = refl
 none_fails (rule ∷ rest) all = rw all.0 (none_fails rest all.1)
 
-pub allowed : (setup : Setup) (past : List Event) (e : Event) → refused setup past e ≡ None → AllHold (rules setup past e)
+pub allowed : (setup : Setup) (past : List Event) (e : Event) → refused setup past e ≡ None
+    → AllHold (rules setup past e)
 unfolding refused
 allowed setup past e ok = all_hold (rules setup past e) ok
 
-pub allows : (setup : Setup) (past : List Event) (e : Event) → AllHold (rules setup past e) → refused setup past e ≡ None
+pub allows : (setup : Setup) (past : List Event) (e : Event) → AllHold (rules setup past e)
+    → refused setup past e ≡ None
 unfolding refused
 allows setup past e all = none_fails (rules setup past e) all
 
@@ -70,7 +72,8 @@ pub record RenameAllowed (setup : Setup) (past : List Event) (actor seq : ℕ) (
       || of_fetched past seq (λ f. nat_lt (how_many (λ s. is_storing (kind_of (op_at past s))) (flight past f.hart)) 16)
       ) ≡ true
   pub named : same_truth (is_some phys) (writes_register (op_at past seq)) ≡ true
-  pub unclaimed : (not (is_some phys) || holds_of (λ p. nat_lt p (registers_of setup) && is_unclaimed setup past p) phys) ≡ true
+  pub unclaimed : (not (is_some phys)
+      || holds_of (λ p. nat_lt p (registers_of setup) && is_unclaimed setup past p) phys) ≡ true
 
 pub record IssueAllowed (setup : Setup) (past : List Event) (actor seq : ℕ) : Type 0 where
   pub actor_is : is_actor setup actor ≡ true
@@ -100,7 +103,8 @@ pub record RetireAllowed (setup : Setup) (past : List Event) (actor seq : ℕ) (
 -- ---- From the refusal that doesn't come
 
 pub fetch_allowed : (setup : Setup) (past : List Event) (actor hart seq pc : ℕ) (word : Option ℕ) (predicted : ℕ)
-    → refused setup past (Fetch actor hart seq pc word predicted) ≡ None → FetchAllowed setup past actor hart seq pc word
+    → refused setup past (Fetch actor hart seq pc word predicted) ≡ None
+    → FetchAllowed setup past actor hart seq pc word
 fetch_allowed setup past actor hart seq pc word predicted ok =
     let all = allowed setup past (Fetch actor hart seq pc word predicted) ok in
     record { actor_is = all.0; chosen = all.1.0; next_number = all.1.1.0; pc_is = all.1.1.1.0; word_is = all.1.1.1.1.0 }
@@ -111,7 +115,8 @@ decode_allowed setup past actor seq ok =
     let all = allowed setup past (Decode actor seq) ok in
     record { actor_is = all.0; fated = all.1.0; oldest = all.1.1.0; room = all.1.1.1.0 }
 
-pub rename_allowed : (setup : Setup) (past : List Event) (actor seq : ℕ) (phys : Option ℕ) → refused setup past (Rename actor seq phys) ≡ None
+pub rename_allowed : (setup : Setup) (past : List Event) (actor seq : ℕ) (phys : Option ℕ)
+    → refused setup past (Rename actor seq phys) ≡ None
     → RenameAllowed setup past actor seq phys
 rename_allowed setup past actor seq phys ok =
     let all = allowed setup past (Rename actor seq phys) ok in
@@ -161,7 +166,8 @@ retire_allowed setup past actor seq effect ok =
 -- ---- And back
 
 pub fetch_allows : (setup : Setup) (past : List Event) (actor hart seq pc : ℕ) (word : Option ℕ) (predicted : ℕ)
-    → FetchAllowed setup past actor hart seq pc word → refused setup past (Fetch actor hart seq pc word predicted) ≡ None
+    → FetchAllowed setup past actor hart seq pc word
+    → refused setup past (Fetch actor hart seq pc word predicted) ≡ None
 fetch_allows setup past actor hart seq pc word predicted is =
     allows setup past (Fetch actor hart seq pc word predicted)
     (is.actor_is, (is.chosen, (is.next_number, (is.pc_is, (is.word_is, tt)))))
@@ -171,11 +177,20 @@ pub decode_allows : (setup : Setup) (past : List Event) (actor seq : ℕ) → De
 decode_allows setup past actor seq is =
     allows setup past (Decode actor seq) (is.actor_is, (is.fated, (is.oldest, (is.room, tt))))
 
-pub rename_allows : (setup : Setup) (past : List Event) (actor seq : ℕ) (phys : Option ℕ) → RenameAllowed setup past actor seq phys
+pub rename_allows : (setup : Setup) (past : List Event) (actor seq : ℕ) (phys : Option ℕ)
+    → RenameAllowed setup past actor seq phys
     → refused setup past (Rename actor seq phys) ≡ None
 rename_allows setup past actor seq phys is =
-    allows setup past (Rename actor seq phys)
-    (is.actor_is, (is.fated, (is.oldest, (is.queue_room, (is.flight_room, (is.load_room, (is.store_room, (is.named, (is.unclaimed, tt)))))))))
+    allows setup past (Rename actor seq phys) (
+      is.actor_is,
+      (
+        is.fated,
+        (
+          is.oldest,
+          (is.queue_room, (is.flight_room, (is.load_room, (is.store_room, (is.named, (is.unclaimed, tt)))))),
+        ),
+      ),
+    )
 
 pub issue_allows : (setup : Setup) (past : List Event) (actor seq : ℕ) → IssueAllowed setup past actor seq
     → refused setup past (Issue actor seq) ≡ None

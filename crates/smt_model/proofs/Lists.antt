@@ -1,9 +1,9 @@
 -- Lists of numbers: which members a filter keeps, and what it finds first. All by recursion on the list.
-use Rattle.std.specs.Prelude.{◌≡◌, ◌≢◌, ◌⊎◌, ℕ, ◌+◌, ◌<◌, ◌≤◌, Bool, true, false, not, ◌==◌, ◌&&◌, ◌||◌, List, [], ◌∷◌, ◌++◌, Some, None}
+use Rattle.std.specs.Prelude.{◌≡◌, ◌≢◌, ◌⊎◌, ℕ, ◌+◌, ◌<◌, ◌≤◌, Bool, true, false, not, ◌==◌, ◌&&◌, ◌||◌, List, [], ◌∷◌}
+use Rattle.std.specs.Prelude.{◌++◌, Some, None}
 use Rattle.std.specs.List.{filter}
 use Rattle.std.proofs.Common.{◌∙◌, refl, sym, subst, inl, inr, arith}
-use Rattle.std.proofs.lemmas.Bool.{cases_Bool, cases_eq}
-use Rattle.std.proofs.lemmas.Bool.Decides.{nat_tests}
+use Rattle.std.proofs.{lemmas.Bool.cases_Bool, lemmas.Bool.cases_eq, lemmas.Bool.Decides.nat_tests}
 use Rattle.smt_model.specs.Basics.{first, how_many}
 
 -- ---- Words
@@ -22,10 +22,6 @@ Each P (x ∷ xs) = P x × Each P xs
 abbrev pub Rises : List ℕ → Type 0
 Rises [] = Unit {0}
 Rises (x ∷ xs) = Each (λ y. x < y) xs × Rises xs
-
-abbrev pub Falls : List ℕ → Type 0
-Falls [] = Unit {0}
-Falls (x ∷ xs) = Each (λ y. y < x) xs × Falls xs
 
 -- Each of those that pass a test is above those that pass it behind it.
 abbrev pub FallsOf : (ℕ → Bool) → List ℕ → Type 0
@@ -59,16 +55,14 @@ pub Each-append : (P : ℕ → Type 0) (xs ys : List ℕ) → Each P xs → Each
 Each-append P [] ys e g = g
 Each-append P (x ∷ xs) ys e g = (e.0, Each-append P xs ys e.1 g)
 
-pub Each-weaker : (P Q : ℕ → Type 0) → ((x : ℕ) → P x → Q x) → (xs : List ℕ) → Each P xs → Each Q xs
-Each-weaker P Q f [] e = tt
-Each-weaker P Q f (x ∷ xs) e = (f x e.0, Each-weaker P Q f xs e.1)
-
 -- A member of what a filter keeps is a member, and passes.
-pub member-filter : (p : ℕ → Bool) (n : ℕ) (xs : List ℕ) → member n (filter p xs) ≡ true → (member n xs ≡ true) × (p n ≡ true)
+pub member-filter : (p : ℕ → Bool) (n : ℕ) (xs : List ℕ) → member n (filter p xs) ≡ true
+    → (member n xs ≡ true) × (p n ≡ true)
 member-filter p n [] m = grind arith
 member-filter p n (x ∷ xs) m = grind (arith, nat_tests, member-filter p n xs)
 
-pub filter-member : (p : ℕ → Bool) (n : ℕ) (xs : List ℕ) → member n xs ≡ true → p n ≡ true → member n (filter p xs) ≡ true
+pub filter-member : (p : ℕ → Bool) (n : ℕ) (xs : List ℕ) → member n xs ≡ true → p n ≡ true
+    → member n (filter p xs) ≡ true
 filter-member p n [] m k = grind arith
 filter-member p n (x ∷ xs) m k = grind (arith, nat_tests, filter-member p n xs)
 
@@ -115,7 +109,8 @@ first-member (x ∷ xs) n f = grind (arith, nat_tests)
 
 -- ---- Filters of one list by two tests
 
-pub filter-same : (p q : ℕ → Bool) (xs : List ℕ) → ((x : ℕ) → member x xs ≡ true → p x ≡ q x) → filter p xs ≡ filter q xs
+pub filter-same : (p q : ℕ → Bool) (xs : List ℕ) → ((x : ℕ) → member x xs ≡ true → p x ≡ q x)
+    → filter p xs ≡ filter q xs
 filter-same p q [] all = refl
 filter-same p q (x ∷ xs) all =
     let same : p x ≡ q x = all x (grind (arith, nat_tests)) in
@@ -171,7 +166,8 @@ filter-loses-first p q n (x ∷ xs) r f lost same =
     ]
 
 -- One more passes, behind all that pass.
-pub filter-gains-last : (p q : ℕ → Bool) (n : ℕ) (xs : List ℕ) → Rises xs → member n xs ≡ true → p n ≡ false → q n ≡ true
+pub filter-gains-last : (p q : ℕ → Bool) (n : ℕ) (xs : List ℕ) → Rises xs → member n xs ≡ true → p n ≡ false
+    → q n ≡ true
     → ((x : ℕ) → member x xs ≡ true → x ≢ n → q x ≡ p x) → ((x : ℕ) → member x xs ≡ true → p x ≡ true → x < n)
     → filter q xs ≡ filter p xs ++ n ∷ []
 filter-gains-last p q n [] r m pn qn same old = grind arith
@@ -214,7 +210,8 @@ takes t n xs k = rw k
 pub skips : (t : ℕ → Bool) (n : ℕ) (xs : List ℕ) → t n ≡ false → first (filter t (n ∷ xs)) ≡ first (filter t xs)
 skips t n xs k = rw k
 
-pub first-passes : (t : ℕ → Bool) (xs : List ℕ) (w : ℕ) → first (filter t xs) ≡ Some w → (t w ≡ true) × (member w xs ≡ true)
+pub first-passes : (t : ℕ → Bool) (xs : List ℕ) (w : ℕ) → first (filter t xs) ≡ Some w
+    → (t w ≡ true) × (member w xs ≡ true)
 first-passes t xs w f = let both = member-filter t w xs (first-member (filter t xs) w f) in (both.1, both.0)
 
 pub first-none : (t : ℕ → Bool) (xs : List ℕ) → first (filter t xs) ≡ None → (x : ℕ) → member x xs ≡ true → t x ≡ false
@@ -224,16 +221,6 @@ first-none t (y ∷ xs) f x m =
     elim cases [
       | inl kept ↦ grind arith
       | inr gone ↦ grind (arith, nat_tests, first-none t xs)
-    ]
-
-pub first-some : (t : ℕ → Bool) (x : ℕ) (xs : List ℕ) → member x xs ≡ true → t x ≡ true
-    → (w : ℕ) × (first (filter t xs) ≡ Some w)
-first-some t x [] m k = grind arith
-first-some t x (y ∷ xs) m k =
-    let cases : (t y ≡ true) ⊎ (t y ≡ false) = cases_Bool (t y) in
-    elim cases [
-      | inl kept ↦ (y, rw kept)
-      | inr gone ↦ let rest = first-some t x xs (grind (arith, nat_tests)) k in (rest.0, rw gone rest.1)
     ]
 
 -- A wider test that finds one which passes the narrower finds the same.
@@ -262,7 +249,8 @@ first-none_narrow p q (x ∷ xs) wider f =
     ]
 
 -- In a list that falls where a test passes, the greatest that passes is found first.
-pub first-greatest : (p t : ℕ → Bool) (n : ℕ) (xs : List ℕ) → FallsOf p xs → ((y : ℕ) → t y ≡ true → (p y ≡ true) × (y ≤ n))
+pub first-greatest : (p t : ℕ → Bool) (n : ℕ) (xs : List ℕ) → FallsOf p xs
+    → ((y : ℕ) → t y ≡ true → (p y ≡ true) × (y ≤ n))
     → t n ≡ true → member n xs ≡ true → first (filter t xs) ≡ Some n
 first-greatest p t n [] falls below k m = grind arith
 first-greatest p t n (x ∷ xs) falls below k m =
@@ -313,7 +301,8 @@ how_many-loses p q n (x ∷ xs) r m pn qn same =
     ]
 
 -- All but one pass.
-pub filter-loses : (p q : ℕ → Bool) (n : ℕ) (xs : List ℕ) → q n ≡ false → ((x : ℕ) → member x xs ≡ true → x ≢ n → q x ≡ p x)
+pub filter-loses : (p q : ℕ → Bool) (n : ℕ) (xs : List ℕ) → q n ≡ false
+    → ((x : ℕ) → member x xs ≡ true → x ≢ n → q x ≡ p x)
     → filter q xs ≡ filter (λ x. not (x == n)) (filter p xs)
 filter-loses p q n xs qn same =
     filter-same q (λ x. not (x == n) && p x) xs (λ x m.

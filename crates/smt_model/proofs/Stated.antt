@@ -1,29 +1,23 @@
 -- The laws as `specs/Laws` states them, from the lemmas that prove them.
 use Rattle.std.specs.Prelude.{◌≡◌, ◌⊎◌, ℕ, ◌≤◌, true, ◌&&◌, List, ◌∷◌, Option, Some, None, is_some}
 use Rattle.std.proofs.Common.{◌∙◌, refl, sym, ap, inl, inr, arith}
-use Rattle.std.proofs.lemmas.Bool.{cases_Bool}
-use Rattle.std.proofs.lemmas.Bool.Decides.{nat_tests}
+use Rattle.std.proofs.{lemmas.Bool.cases_Bool, lemmas.Bool.Decides.nat_tests}
 use Rattle.events.specs.declared.event.Event.{Event}
-use Rattle.smt_model.specs.Basics.{or_zero}
-use Rattle.smt_model.specs.Setup.{Setup}
-use Rattle.smt_model.specs.Kinds.{first_source, second_source}
-use Rattle.smt_model.specs.Exec.{exec}
-use Rattle.smt_model.specs.Fields.{checked, outcome_of}
-use Rattle.smt_model.specs.Fates.{Fate, Unknown, InDecode, InRename, Renamed, Issued, Completed, Retired, Halted, Squashed, Fetched, stage, fate, is_in_flight, is_of, op_of_fetched}
+use Rattle.smt_model.specs.{Basics.or_zero, Setup.Setup, Kinds.first_source, Kinds.second_source, Faults.computed_on}
+use Rattle.smt_model.specs.{Outcomes.outcome_of, Rules.is_legal, Rules.computed_at}
+use Rattle.smt_model.specs.Fates.{Fate, Unknown, InDecode, InRename, Renamed, Issued, Completed, Retired, Halted}
+use Rattle.smt_model.specs.Fates.{Squashed, Fetched, stage, fate, is_in_flight, is_of, op_of_fetched}
 use Rattle.smt_model.specs.Registers.{phys, source, committed, first_register, register_by, operand, reads}
-use Rattle.smt_model.specs.Rules.{is_legal, computed_at}
-use Rattle.smt_model.specs.Laws.{may_become, place, MovesByStep, OneOfAKind, GoesInOrder, LeavesNothing, SourcesStay, SourcesAreClaimed, IsOlderInFlight, ValuesStay, ClaimedOnce, FlightsHold, CommittedHold, ResultsAreRules}
-use Rattle.smt_model.proofs.Moves.{moves, stage_of}
-use Rattle.smt_model.proofs.Sound.{moved}
-use Rattle.smt_model.proofs.Order.{rank, in_order}
-use Rattle.smt_model.proofs.Sources.{source-stays, source-committed, source-none, source-is}
-use Rattle.smt_model.proofs.Held.{is_held, writer_named, some_is}
-use Rattle.smt_model.proofs.Counts.{claims-once}
-use Rattle.smt_model.proofs.Choosing.{hart_there, left}
-use Rattle.smt_model.proofs.Values.{completed-is}
-use Rattle.smt_model.proofs.Reading.{seen-stays, value-stays}
-use Rattle.smt_model.proofs.Operands.{first_ready, second_ready}
-use Rattle.smt_model.proofs.Once.{one_of_a_kind}
+use Rattle.smt_model.specs.Laws.{may_become, place, MovesByStep, OneOfAKind, GoesInOrder, LeavesNothing, SourcesStay}
+use Rattle.smt_model.specs.Laws.{SourcesAreClaimed, IsOlderInFlight, ValuesStay, ClaimedOnce, FlightsHold}
+use Rattle.smt_model.specs.Laws.{CommittedHold, ResultsAreRules}
+use Rattle.smt_model.proofs.{Fates.Moves.moves, Fates.Moves.stage_of, Fates.Sound.moved, Fates.Order.rank}
+use Rattle.smt_model.proofs.{Fates.Order.in_order, Registers.Held.is_held, Registers.Held.writer_named}
+use Rattle.smt_model.proofs.{Registers.Held.some_is, Registers.Counts.claims-once, Fates.Choosing.hart_there}
+use Rattle.smt_model.proofs.{Fates.Choosing.left, Registers.Values.completed-is}
+use Rattle.smt_model.proofs.{Registers.Reading.source_register-stays, Registers.Reading.value-stays}
+use Rattle.smt_model.proofs.{Registers.Operands.first_ready, Registers.Operands.second_ready, Fates.Once.one_of_a_kind}
+use Rattle.smt_model.proofs.Registers.Sources.{source-stays, source-committed, source-none, source-is}
 
 -- ---- Steps
 
@@ -70,30 +64,38 @@ leaves_nothing setup past legal h s gone of_s = left setup past legal h gone s o
 -- ---- Sources
 
 pub sources_same : SourcesStay
-sources_same setup past legal e ok h r s of_s was still =
-    (source-stays setup past legal e ok h r s of_s was still, seen-stays setup past legal e ok h r s of_s was still)
+sources_same setup past legal e ok h r s of_s was still = (
+  source-stays setup past legal e ok h r s of_s was still,
+  source_register-stays setup past legal e ok h r s of_s was still,
+)
 
 claimed_by : (setup : Setup) (past : List Event) → is_legal setup past → (h r s : ℕ) → 1 ≤ r → is_of past h s ≡ true
     → is_in_flight (fate past s) ≡ true → (o : Option ℕ) → source past h r s ≡ o
-    → (register_by past (first_register h r) o ≡ committed past h r) ⊎ IsOlderInFlight past s (register_by past (first_register h r) o)
+    → (register_by past (first_register h r) o ≡ committed past h r)
+    ⊎ IsOlderInFlight past s (register_by past (first_register h r) o)
 claimed_by setup past legal h r s low of_s flies None found =
     inl (sym (ap (register_by past (first_register h r)) (source-none setup past legal h r s of_s flies found)))
 claimed_by setup past legal h r s low of_s flies (Some w) found =
     let at = source-is past h r s w found in
     elim (cases_Bool (is_in_flight (fate past w))) [
       | inl flies_too ↦
-          let some = writer_named setup past legal h r w low at.writes_it (grind (arith, nat_tests)) (grind (arith, nat_tests)) in
+          let some = writer_named setup past legal h r w low at.writes_it (grind (arith, nat_tests))
+          (grind (arith, nat_tests)) in
           inr (record { one = w; older = at.older; flies = flies_too; names = some_is (phys past w) some })
       | inr landed ↦
-          inl (sym (ap (register_by past (first_register h r)) (source-committed setup past legal h r s w of_s flies found landed)))
+          inl
+          (sym (ap (register_by past (first_register h r))
+          (source-committed setup past legal h r s w of_s flies found landed)))
     ]
 
 pub sources_claimed : SourcesAreClaimed
-sources_claimed setup past legal h r s low high of_s flies = claimed_by setup past legal h r s low of_s flies (source past h r s) refl
+sources_claimed setup past legal h r s low high of_s flies =
+    claimed_by setup past legal h r s low of_s flies (source past h r s) refl
 
 pub values_same : ValuesStay
 values_same setup past legal e ok h r s v low high of_s was still holds =
-    value-stays setup past legal e ok h r s (record { hart = hart_there setup past legal h s of_s; low = low; high = high }) of_s was still v holds
+    value-stays setup past legal e ok h r s
+    (record { hart = hart_there setup past legal h s of_s; low = low; high = high }) of_s was still v holds
 
 -- ---- Claims
 
@@ -104,22 +106,24 @@ pub flights_hold : FlightsHold
 flights_hold setup past legal s p flies names = (is_held setup past legal).flying s p flies names
 
 pub committed_hold : CommittedHold
-committed_hold setup past legal h r there low high = (is_held setup past legal).committing h r (record { hart = there; low = low; high = high })
+committed_hold setup past legal h r there low high =
+    (is_held setup past legal).committing h r (record { hart = there; low = low; high = high })
 
 -- ---- Results
 
 both_some : (a b : Option ℕ) (m n : ℕ) → a ≡ Some m → b ≡ Some n → (is_some a && is_some b) ≡ true
 both_some a b m n one two = rw (one, two) refl
 
-same_computed : (setup : Setup) (past : List Event) (s : ℕ) (f : Fetched) → operand setup first_source past s ≡ reads setup first_source past s
+same_computed : (setup : Setup) (past : List Event) (s : ℕ) (f : Fetched)
+    → operand setup first_source past s ≡ reads setup first_source past s
     → operand setup second_source past s ≡ reads setup second_source past s
     → computed_at setup past s f
-    ≡ checked setup.image (op_of_fetched (Some f))
-    (exec setup.covers (op_of_fetched (Some f)) f.pc (or_zero (reads setup first_source past s)) (or_zero (reads setup second_source past s)))
+    ≡ computed_on setup (op_of_fetched (Some f)) f.pc (or_zero (reads setup first_source past s))
+    (or_zero (reads setup second_source past s))
 same_computed setup past s f one two =
     let op = op_of_fetched (Some f) in
-    ap (λ a. checked setup.image op (exec setup.covers op f.pc (or_zero a) (or_zero (operand setup second_source past s)))) one
-    ∙ ap (λ b. checked setup.image op (exec setup.covers op f.pc (or_zero (reads setup first_source past s)) (or_zero b))) two
+    ap (λ a. computed_on setup op f.pc (or_zero a) (or_zero (operand setup second_source past s))) one
+    ∙ ap (λ b. computed_on setup op f.pc (or_zero (reads setup first_source past s)) (or_zero b)) two
 
 some-one : {A : Type 0} → (a b : A) → Some a ≡ Some b → a ≡ b
 some-one a b same = cc
@@ -131,9 +135,11 @@ results_are setup past legal s f completed found =
     let one = first_ready setup past legal s (omega arith) (omega arith) in
     let two = second_ready setup past legal s (omega arith) (omega arith) in
     let same_f : done.fetch ≡ f = some-one done.fetch f (sym done.fetched ∙ found) in
-    let same = same_computed setup past s f (one.operand_is ∙ sym one.reading_is) (two.operand_is ∙ sym two.reading_is) in
+    let same =
+    same_computed setup past s f (one.operand_is ∙ sym one.reading_is) (two.operand_is ∙ sym two.reading_is) in
     record {
-      ready = both_some (reads setup first_source past s) (reads setup second_source past s) one.number two.number one.reading_is two.reading_is;
+      ready = both_some (reads setup first_source past s) (reads setup second_source past s) one.number two.number
+          one.reading_is two.reading_is;
       look = done.look;
       outcome = done.outcome;
       said = done.completed;

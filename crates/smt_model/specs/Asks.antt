@@ -1,7 +1,6 @@
 -- What may be asked of a core, and which events answer it.
 use Rattle.std.specs.Prelude.{ℕ, Bool, false, ◌==◌, ◌&&◌, List}
-use Rattle.events.specs.declared.event.Event.{Event}
-use Rattle.events.specs.declared.event.Event.TheVariants.{Fetch, Decode, Rename, Issue, Complete, Drop, Retire}
+use Rattle.smt_model.specs.Words.{Event, Fetch, Decode, Rename, Issue, Complete, Drop, Retire}
 use Rattle.smt_model.specs.Fates.{is_of}
 
 -- One step, by an actor, and of a hart where the step is of one.
@@ -13,8 +12,8 @@ pub data Ask : Type 0 where
   AskComplete : (actor : ℕ) → Ask
   AskRetire : (actor hart : ℕ) → Ask
 
--- The event is of the kind that was asked for, by this actor, and its instruction is one of this hart. What answers a
--- completion is a completion or a drop.
+-- The event is of the kind that was asked for, by this actor, and its instruction is one of this
+-- hart. What answers a completion is a completion or a drop.
 abbrev pub answers : Ask → List Event → Event → Bool
 answers (AskFetch k) past (Fetch actor hart seq pc word predicted) = actor == k
 answers (AskDecode k h) past (Decode actor seq) = (actor == k) && is_of past h seq

@@ -1,5 +1,8 @@
 -- Words on options, lists and tests that the definitions share.
-use Rattle.std.specs.Prelude.{ℕ, zero, suc, ◌+◌, Bool, true, false, not, ◌==◌, nat_lt, if◌then◌else◌, List, [], ◌∷◌, ◌++◌, length, filter, Option, Some, None}
+use Rattle.std.specs.Prelude.{ℕ, zero, suc, ◌+◌, Bool, true, false, not, ◌==◌, nat_lt}
+use Rattle.std.specs.Prelude.{if◌then◌else◌, List, [], ◌∷◌, ◌++◌, length, filter, Option, Some}
+use Rattle.std.specs.Prelude.{None}
+pub use Rattle.rv_decode.specs.Kinds.{or_zero}
 
 -- The value is there and passes the test.
 abbrev pub holds_of : {A : Type 0} → (A → Bool) → Option A → Bool
@@ -11,17 +14,11 @@ abbrev pub or_else : {A : Type 0} → Option A → Option A → Option A
 or_else None later = later
 or_else (Some x) later = Some x
 
--- The number, or 0 where there is none.
-abbrev pub or_zero : Option ℕ → ℕ
-or_zero None = 0
-or_zero (Some n) = n
-
 -- Both are none, or both are there and the same.
 abbrev pub same_number : Option ℕ → Option ℕ → Bool
 same_number None None = true
-same_number None (Some n) = false
-same_number (Some m) None = false
 same_number (Some m) (Some n) = m == n
+same_number _ _ = false
 
 abbrev pub same_truth : Bool → Bool → Bool
 same_truth a b = if a then b else not b
@@ -48,7 +45,8 @@ below (suc n) = below n ++ n ∷ []
 -- The first member at which f is least.
 abbrev pub least_from : (ℕ → ℕ) → ℕ → List ℕ → ℕ
 least_from f best [] = best
-least_from f best (x ∷ xs) = if nat_lt (f x) (f best) then least_from f x xs else least_from f best xs
+least_from f best (x ∷ xs) =
+    if nat_lt (f x) (f best) then least_from f x xs else least_from f best xs
 
 abbrev pub first_least : (ℕ → ℕ) → List ℕ → Option ℕ
 first_least f [] = None

@@ -1,28 +1,34 @@
--- What each instruction computes from its operands, before memory is asked (RISC-V Unprivileged ISA, chapters "RV32I",
--- "M" and "A", in the manual's order). A word is a number below 2 ^ 32. Ends and stops are this project's own choice.
-use Rattle.std.specs.Prelude.{ℕ, ◌+◌, ◌-◌, ◌*◌, ◌%◌, ◌^◌, Bool, true, false, not, ◌==◌, nat_lt, if◌then◌else◌, ℤ, Option, Some, None, int_lt}
+-- What each instruction computes from its operands, before memory is asked (RISC-V Unprivileged
+-- ISA, chapters "RV32I", "M" and "A", in the manual's order). A word is a number below 2 ^ 32. Ends
+-- and stops are this project's own choice.
+use Rattle.std.specs.Prelude.{ℕ, ◌+◌, ◌-◌, ◌*◌, ◌%◌, ◌^◌, Bool, true, false, not, ◌==◌, nat_lt}
+use Rattle.std.specs.Prelude.{if◌then◌else◌, ℤ, Option, Some, None, int_lt}
 use Rattle.std.specs.Int.{cast_unsigned, w32}
-use Rattle.rv_word.specs.Word.{signed, sum_of, difference_of, left_shift_of, right_shift_of, signed_right_shift_of, signed_less_of, less_of, exclusive_or_of, or_of, and_of, product_of, signed_high_product_of, mixed_high_product_of, high_product_of, signed_quotient_of, quotient_of, signed_remainder_of, remainder_of}
-use Rattle.rv_decode.specs.declared.op.Op.{Op}
-use Rattle.rv_decode.specs.declared.op.Op.TheVariants.{Known, Illegal, NoWord}
-use Rattle.rv_decode.specs.declared.instr.Instr.{Instr}
+use Rattle.rv_word.specs.Word.{signed, sum_of, difference_of, left_shift_of, right_shift_of}
+use Rattle.rv_word.specs.Word.{signed_right_shift_of, signed_less_of, less_of, exclusive_or_of}
+use Rattle.rv_word.specs.Word.{or_of, and_of, product_of, signed_high_product_of}
+use Rattle.rv_word.specs.Word.{mixed_high_product_of, high_product_of, signed_quotient_of}
+use Rattle.rv_word.specs.Word.{quotient_of, signed_remainder_of, remainder_of}
+use Rattle.rv_decode.specs.{declared.op.Op.TheVariants.Illegal, declared.instr.BranchOp.BranchOp}
+use Rattle.rv_decode.specs.{declared.instr.ImmediateOp.ImmediateOp, declared.instr.ShiftOp.ShiftOp}
+use Rattle.rv_decode.specs.{declared.instr.ShiftOp.TheVariants.Slli}
+use Rattle.rv_decode.specs.{declared.instr.ShiftOp.TheVariants.Srli}
+use Rattle.rv_decode.specs.{declared.instr.ShiftOp.TheVariants.Srai}
+use Rattle.rv_decode.specs.{declared.instr.RegisterOp.RegisterOp, declared.instr.MulDivOp.MulDivOp}
 use Rattle.rv_decode.specs.declared.instr.Instr.TheVariants as instr
-use Rattle.rv_decode.specs.declared.instr.BranchOp.{BranchOp}
 use Rattle.rv_decode.specs.declared.instr.BranchOp.TheVariants.{Beq, Bne, Blt, Bge, Bltu, Bgeu}
-use Rattle.rv_decode.specs.declared.instr.ImmediateOp.{ImmediateOp}
-use Rattle.rv_decode.specs.declared.instr.ImmediateOp.TheVariants.{Addi, Slti, Sltiu, Xori, Ori, Andi}
-use Rattle.rv_decode.specs.declared.instr.ShiftOp.{ShiftOp}
-use Rattle.rv_decode.specs.declared.instr.ShiftOp.TheVariants.{Slli, Srli, Srai}
-use Rattle.rv_decode.specs.declared.instr.RegisterOp.{RegisterOp}
-use Rattle.rv_decode.specs.declared.instr.RegisterOp.TheVariants.{Add, Sub, Sll, Slt, Sltu, Xor, Srl, Sra, Or, And}
-use Rattle.rv_decode.specs.declared.instr.MulDivOp.{MulDivOp}
-use Rattle.rv_decode.specs.declared.instr.MulDivOp.TheVariants.{Mul, Mulh, Mulhsu, Mulhu, Div, Divu, Rem, Remu}
-use Rattle.events.specs.declared.effect.Next.{Next}
-use Rattle.events.specs.declared.effect.Next.TheVariants.{Pc, Ended, Stopped}
+use Rattle.rv_decode.specs.declared.instr.ImmediateOp.TheVariants.{Addi, Slti, Sltiu, Xori, Ori}
+use Rattle.rv_decode.specs.declared.instr.ImmediateOp.TheVariants.{Andi}
+use Rattle.rv_decode.specs.declared.instr.RegisterOp.TheVariants.{Add, Sub, Sll, Slt, Sltu, Xor}
+use Rattle.rv_decode.specs.declared.instr.RegisterOp.TheVariants.{Srl, Sra, Or, And}
+use Rattle.rv_decode.specs.declared.instr.MulDivOp.TheVariants.{Mul, Mulh, Mulhsu, Mulhu, Div, Divu}
+use Rattle.rv_decode.specs.declared.instr.MulDivOp.TheVariants.{Rem, Remu}
+use Rattle.smt_model.specs.Words.{Op, Known, NoWord, Instr, Next, Pc, Ended, Stopped}
 use Rattle.smt_model.specs.Kinds.{store_size}
 
--- What an instruction computes: a number for its register, what comes next, the address that it touches, the number
--- that it hands to memory, and the byte that it puts out. Its kind says which of these count; the others are 0.
+-- What an instruction computes: a number for its register, what comes next, the address that it
+-- touches, the number that it hands to memory, and the byte that it puts out. Its kind says which
+-- of these count; the others are 0.
 pub record Computed : Type 0 where
   pub value : ℕ
   pub next : Next
@@ -44,17 +50,17 @@ abbrev pub just_next : Next → Computed
 just_next next = record { value = 0; next = next; addr = 0; datum = 0; out = None }
 
 abbrev pub gives : ℕ → ℕ → Computed
-gives pc value = record { value = value; next = Pc (next_pc pc); addr = 0; datum = 0; out = None }
+gives pc value = record (just_next (Pc (next_pc pc))) { value = value }
 
 abbrev pub touches : ℕ → ℕ → ℕ → Computed
-touches pc addr datum = record { value = 0; next = Pc (next_pc pc); addr = addr; datum = datum; out = None }
+touches pc addr datum = record (just_next (Pc (next_pc pc))) { addr = addr; datum = datum }
 
 -- Cause 0: a jump to an address that isn't a multiple of 4 stops at the jump.
 abbrev pub jump_to : ℕ → Next
 jump_to target = if target % 4 == 0 then Pc target else Stopped 0
 
 abbrev pub jump : ℕ → ℕ → Computed
-jump pc target = record { value = next_pc pc; next = jump_to target; addr = 0; datum = 0; out = None }
+jump pc target = record (just_next (jump_to target)) { value = next_pc pc }
 
 -- BEQ, BNE, BLT, BGE, BLTU, BGEU
 abbrev pub is_taken : BranchOp → ℕ → ℕ → Bool
@@ -104,12 +110,13 @@ muldiv_value Divu a b = quotient_of a b
 muldiv_value Rem a b = signed_remainder_of a b
 muldiv_value Remu a b = remainder_of a b
 
--- ECALL, with the number of the call and its argument: 93 ends the hart with the argument, 1 puts its low byte out,
--- and any other stops the hart. [this project's own choice]
+-- ECALL, with the number of the call and its argument: 93 ends the hart with the argument, 1 puts
+-- its low byte out, and any other stops the hart. [this project's own choice]
 abbrev pub call : ℕ → ℕ → ℕ → Computed
 call pc number argument =
     if number == 93 then just_next (Ended argument)
-    else (if number == 1 then record { value = 0; next = Pc (next_pc pc); addr = 0; datum = 0; out = Some (argument % 2 ^ 8) }
+    else (if number == 1
+    then record (just_next (Pc (next_pc pc))) { out = Some (argument % 2 ^ 8) }
     else just_next (Stopped 8))
 
 -- An instruction at a pc, with the numbers of its first and its second source; 0 where it has none.
@@ -117,11 +124,13 @@ unfoldable pub computed_of : Instr → ℕ → ℕ → ℕ → Computed
 computed_of (instr.Lui rd imm) pc a b = gives pc imm
 computed_of (instr.Auipc rd imm) pc a b = gives pc (sum_of pc imm)
 computed_of (instr.Jal rd offset) pc a b = jump pc (sum_of pc (extended offset))
-computed_of (instr.Jalr rd rs1 offset) pc a b = let target = sum_of a (extended offset) in jump pc (target - target % 2)
+computed_of (instr.Jalr rd rs1 offset) pc a b =
+    let target = sum_of a (extended offset) in jump pc (target - target % 2)
 computed_of (instr.Branch op rs1 rs2 offset) pc a b =
     just_next (if is_taken op a b then jump_to (sum_of pc (extended offset)) else Pc (next_pc pc))
 computed_of (instr.Load op rd rs1 offset) pc a b = touches pc (sum_of a (extended offset)) 0
-computed_of (instr.Store op rs2 rs1 offset) pc a b = touches pc (sum_of a (extended offset)) (b % 2 ^ (8 * store_size op))
+computed_of (instr.Store op rs2 rs1 offset) pc a b =
+    touches pc (sum_of a (extended offset)) (b % 2 ^ (8 * store_size op))
 computed_of (instr.Immediate op rd rs1 imm) pc a b = gives pc (immediate_value op a (extended imm))
 computed_of (instr.Shift op rd rs1 amount) pc a b = gives pc (shift_value op a amount)
 computed_of (instr.Register op rd rs1 rs2) pc a b = gives pc (register_value op a b)
@@ -152,8 +161,10 @@ is_executed AllButMemory (instr.StoreConditional _ _ _ _) = false
 is_executed AllButMemory (instr.Amo _ _ _ _ _) = false
 is_executed AllButMemory _ = true
 
--- The same of what was found at the pc. Cause 1: there is no word there. Cause 2: the word is no instruction.
+-- The same of what was found at the pc. Cause 1: there is no word there. Cause 2: the word is no
+-- instruction.
 unfoldable pub exec : Coverage → Op → ℕ → ℕ → ℕ → Computed
-exec covers (Known i) pc a b = if is_executed covers i then computed_of i pc a b else just_next (Stopped 2)
+exec covers (Known i) pc a b =
+    if is_executed covers i then computed_of i pc a b else just_next (Stopped 2)
 exec covers Illegal pc a b = just_next (Stopped 2)
 exec covers NoWord pc a b = just_next (Stopped 1)

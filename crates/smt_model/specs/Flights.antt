@@ -1,19 +1,13 @@
 -- The places of the pipeline, as lists of the instructions in them, rising.
 use Rattle.std.specs.Prelude.{ℕ, ◌==◌, if◌then◌else◌, List, [], ◌∷◌, ◌++◌, filter}
-use Rattle.events.specs.declared.event.Event.{Event}
-use Rattle.events.specs.declared.event.Event.TheVariants.{Fetch, Decode, Rename, Issue, Complete, Drop, Retire}
-use Rattle.smt_model.specs.Basics.{how_many}
-use Rattle.smt_model.specs.Fates.{fate, is, is_in_flight, is_live, is_counted, InDecode, InRename, Renamed}
+use Rattle.smt_model.specs.{Words.Event, Words.Fetch, Basics.how_many}
+use Rattle.smt_model.specs.Fates.{fate, is, is_in_flight, is_live, is_counted, InDecode, InRename}
+use Rattle.smt_model.specs.Fates.{Renamed}
 
 -- The instructions of hart h.
 abbrev pub added : Event → ℕ → List ℕ
 added (Fetch actor hart seq pc word predicted) h = if hart == h then seq ∷ [] else []
-added (Decode actor seq) h = []
-added (Rename actor seq phys) h = []
-added (Issue actor seq) h = []
-added (Complete actor seq outcome) h = []
-added (Drop actor seq) h = []
-added (Retire actor seq effect) h = []
+added _ h = []
 
 abbrev pub numbers : List Event → ℕ → List ℕ
 numbers [] h = []
@@ -22,12 +16,7 @@ numbers (e ∷ past) h = numbers past h ++ added e h
 -- The instructions of all harts.
 abbrev pub added_by_any : Event → List ℕ
 added_by_any (Fetch actor hart seq pc word predicted) = seq ∷ []
-added_by_any (Decode actor seq) = []
-added_by_any (Rename actor seq phys) = []
-added_by_any (Issue actor seq) = []
-added_by_any (Complete actor seq outcome) = []
-added_by_any (Drop actor seq) = []
-added_by_any (Retire actor seq effect) = []
+added_by_any _ = []
 
 abbrev pub all_numbers : List Event → List ℕ
 all_numbers [] = []

@@ -1,22 +1,21 @@
--- The plain machine: harts that execute one whole instruction at a time on one memory. A run of it in some order of harts
--- is a sequentially consistent execution. [Lamport 1979, "How to Make a Multiprocessor Computer That Correctly Executes
--- Multiprocess Programs": one order of all operations, those of each processor in its program's order]
-use Rattle.std.specs.Prelude.{ℕ, Bool, true, false, ◌==◌, ◌&&◌, nat_lt, if◌then◌else◌, List, [], ◌∷◌, ◌++◌, Option, Some, None}
-use Rattle.elf_image.specs.Image.{byte_in, code_word}
-use Rattle.rv_decode.specs.Decode.{op_of_word}
-use Rattle.rv_decode.specs.declared.op.Op.{Op}
-use Rattle.events.specs.declared.effect.Next.{Next}
+-- The plain machine: harts that execute one whole instruction at a time on one memory. A run of it
+-- in some order of harts is a sequentially consistent execution. [Lamport 1979, "How to Make a
+-- Multiprocessor Computer That Correctly Executes Multiprocess Programs": one order of all
+-- operations, those of each processor in its program's order]
+use Rattle.std.specs.Prelude.{ℕ, Bool, true, false, ◌==◌, ◌&&◌, nat_lt, if◌then◌else◌, List, []}
+use Rattle.std.specs.Prelude.{◌∷◌, ◌++◌, Option, Some, None}
 use Rattle.events.specs.declared.effect.Next.TheVariants as next
-use Rattle.events.specs.declared.effect.Effect.{Effect}
-use Rattle.events.specs.declared.effect.Record.{Record}
-use Rattle.smt_model.specs.declared.config.Status.{Status}
-use Rattle.smt_model.specs.declared.config.Status.TheVariants.{Going, Ended, Stopped}
-use Rattle.smt_model.specs.Setup.{Setup, first_number}
-use Rattle.smt_model.specs.Kinds.{destination, first_source, second_source}
-use Rattle.smt_model.specs.Exec.{Computed, exec}
-use Rattle.smt_model.specs.Fields.{checked, effect_of, read, holds_word, byte_after, reservation_after}
+use Rattle.smt_model.specs.Words.{byte_in, code_word, op_of_word, Op, Next, Effect, Record}
+use Rattle.smt_model.specs.{declared.config.Status.Status, declared.config.Status.TheVariants.Going}
+use Rattle.smt_model.specs.{declared.config.Status.TheVariants.Ended}
+use Rattle.smt_model.specs.{declared.config.Status.TheVariants.Stopped, Setup.Setup}
+use Rattle.smt_model.specs.{Setup.first_number, Kinds.destination, Kinds.first_source}
+use Rattle.smt_model.specs.{Kinds.second_source, Exec.Computed, Nexts.pc_after, Faults.computed_on}
+use Rattle.smt_model.specs.{Bytes.read, Bytes.byte_after, Reservations.holds_word}
+use Rattle.smt_model.specs.{Reservations.reservation_after, Effects.effect_of}
 
--- Of each hart its registers, pc, status and reservation; one memory, a byte for each address; one output.
+-- Of each hart its registers, pc, status and reservation; one memory, a byte for each address; one
+-- output.
 pub record Plain : Type 0 where
   pub registers : ℕ → ℕ → ℕ
   pub pcs : ℕ → ℕ
@@ -38,8 +37,7 @@ start setup = record {
 
 abbrev pub is_going_status : Status → Bool
 is_going_status Going = true
-is_going_status (Ended _) = false
-is_going_status (Stopped _) = false
+is_going_status _ = false
 
 -- x0 reads as 0.
 abbrev pub read_register : Plain → ℕ → ℕ → ℕ
@@ -55,7 +53,8 @@ op_at_pc setup s h = op_of_word (word_at_pc setup s h)
 abbrev pub computes : Setup → Plain → ℕ → Computed
 computes setup s h =
     let op = op_at_pc setup s h in
-    checked setup.image op (exec setup.covers op (s.pcs h) (read_register s h (first_source op)) (read_register s h (second_source op)))
+    computed_on setup op (s.pcs h) (read_register s h (first_source op))
+    (read_register s h (second_source op))
 
 -- Its effect on the machine as it stands.
 abbrev pub effect_at : Setup → Plain → ℕ → Effect
@@ -65,18 +64,14 @@ effect_at setup s h =
     effect_of op c (read op s.bytes c.addr) (holds_word (s.reserved h) c.addr)
 
 abbrev pub record_at : Setup → Plain → ℕ → Record
-record_at setup s h = record { hart = h; pc = s.pcs h; word = word_at_pc setup s h; effect = effect_at setup s h }
+record_at setup s h =
+    record { hart = h; pc = s.pcs h; word = word_at_pc setup s h; effect = effect_at setup s h }
 
 -- What an effect changes.
 
 abbrev pub register_after : Option ℕ → ℕ → ℕ
 register_after None before = before
 register_after (Some n) before = n
-
-abbrev pub pc_after : Next → ℕ → ℕ
-pc_after (next.Pc pc) before = pc
-pc_after (next.Ended _) before = before
-pc_after (next.Stopped _) before = before
 
 abbrev pub status_after : Next → Status → Status
 status_after (next.Pc _) before = before
@@ -90,7 +85,9 @@ output_after (Some byte) before = before ++ byte ∷ []
 -- The machine after hart h's instruction `op`, which touched `addr` and had effect x.
 abbrev pub after : Plain → ℕ → Op → ℕ → Effect → Plain
 after s h op addr x = record {
-  registers = λ g r. if (g == h) && (r == destination op) then register_after x.value (s.registers g r) else s.registers g r;
+  registers = λ g r.
+      if (g == h) && (r == destination op) then register_after x.value (s.registers g r)
+      else s.registers g r;
   pcs = λ g. if g == h then pc_after x.next (s.pcs g) else s.pcs g;
   statuses = λ g. if g == h then status_after x.next (s.statuses g) else s.statuses g;
   reserved = λ g. reservation_after op addr x (g == h) (s.reserved g);
@@ -116,7 +113,9 @@ advance setup h before =
 abbrev pub step : Setup → ℕ → Option Run → Option Run
 step setup h None = None
 step setup h (Some before) =
-    if nat_lt h setup.harts && is_going_status (before.state.statuses h) then Some (advance setup h before) else None
+    if nat_lt h setup.harts && is_going_status (before.state.statuses h)
+    then Some (advance setup h before)
+    else None
 
 -- The run in an order of harts, the newest first.
 abbrev pub run : Setup → List ℕ → Option Run

@@ -1,14 +1,18 @@
 -- What a core is made from, and the numbers that everything starts with.
-use Rattle.std.specs.Prelude.{ℕ, ◌+◌, ◌*◌, Bool, ◌==◌, ◌&&◌, nat_le, if◌then◌else◌, List, length, Option, Some, None}
+use Rattle.std.specs.Prelude.{ℕ, ◌+◌, ◌*◌, Bool, ◌==◌, ◌&&◌, nat_le, if◌then◌else◌, List, length}
+use Rattle.std.specs.Prelude.{Option, Some, None}
+use Rattle.numbers.specs.Sizes.{most_harts, most_extra, fewest_queued, most_queued, most_actors}
+use Rattle.numbers.specs.Sizes.{most_events}
+use Rattle.numbers.specs.Layout.{first_extra}
 use Rattle.elf_image.specs.Image.{ProgramImage}
 use Rattle.rv_decode.specs.declared.op.UnitKind.{UnitKind}
 use Rattle.rv_decode.specs.declared.op.UnitKind.TheVariants as unit
-use Rattle.smt_model.specs.declared.config.Role.{Role}
+use Rattle.smt_model.specs.{Words.ProgramImage, Words.UnitKind, declared.config.Role.Role}
+use Rattle.smt_model.specs.{Exec.Coverage}
 use Rattle.smt_model.specs.declared.config.Role.TheVariants as role
-use Rattle.smt_model.specs.Exec.{Coverage}
 
--- A program image and the sizes of a core: its harts, the physical registers beyond 31 a hart, the entries of the issue
--- queue, the role of each actor, and which instructions it executes.
+-- A program image and the sizes of a core: its harts, the physical registers beyond 31 a hart, the
+-- entries of the issue queue, the role of each actor, and which instructions it executes.
 pub record Setup : Type 0 where
   pub image : ProgramImage
   pub harts : ℕ
@@ -19,27 +23,29 @@ pub record Setup : Type 0 where
 
 -- How many physical registers there are.
 abbrev pub registers_of : Setup → ℕ
-registers_of setup = 31 * setup.harts + setup.extra
+registers_of setup = first_extra setup.harts + setup.extra
 
--- The sizes of a core: 1 to 8 harts, 1 to 256 extra registers, 4 to 64 entries in the queue, 1 to 16 actors.
+-- The sizes of a core: 1 to 8 harts, 1 to 256 extra registers, a queue of 4 to 64, 1 to 16 actors.
 abbrev pub are_core_sizes : ℕ → ℕ → ℕ → ℕ → Bool
 are_core_sizes harts extra queue actors =
-    (nat_le 1 harts && nat_le harts 8) && ((nat_le 1 extra && nat_le extra 256)
-    && ((nat_le 4 queue && nat_le queue 64) && (nat_le 1 actors && nat_le actors 16)))
+    (nat_le 1 harts && nat_le harts most_harts) && ((nat_le 1 extra && nat_le extra most_extra)
+    && ((nat_le fewest_queued queue && nat_le queue most_queued)
+    && (nat_le 1 actors && nat_le actors most_actors)))
 
 -- A core is made of these sizes and this limit on its history: 16,777,216 events at most.
 abbrev pub is_accepted : Setup → ℕ → Bool
-is_accepted setup limit = are_core_sizes setup.harts setup.extra setup.queue (length setup.roles) && nat_le limit 16777216
+is_accepted setup limit =
+    are_core_sizes setup.harts setup.extra setup.queue (length setup.roles)
+    && nat_le limit most_events
 
--- What register r, 1 to 31, of hart h holds at the start: x10 the hart's number, x11 how many harts there are, all others 0.
+-- What register r, 1 to 31, of hart h holds at the start: x10 the hart's number, x11 how many harts
+-- there are, all others 0.
 abbrev pub first_number : ℕ → ℕ → ℕ → ℕ
 first_number harts h r = if r == 10 then h else (if r == 11 then harts else 0)
 
 -- The kind of unit that an actor of this role is, where it is one.
 abbrev pub unit_of_role : Role → Option UnitKind
-unit_of_role role.Fetch = None
-unit_of_role role.Front = None
-unit_of_role role.Retire = None
 unit_of_role role.Alu = Some unit.Alu
 unit_of_role role.Mul = Some unit.Mul
 unit_of_role role.Mem = Some unit.Mem
+unit_of_role _ = None

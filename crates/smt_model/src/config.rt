@@ -1,10 +1,12 @@
 ghost use Rattle.std.specs.Prelude.{◌≡◌, ◌≤◌, length};
+ghost use Rattle.numbers.specs.Sizes.{most_actors};
 
 use arrayvec::ArrayVec;
 use events::Cause;
+use numbers::sizes::MOST_ACTORS;
 
-/// What an actor does in its turns. Only `Alu`, `Mul` and `Mem` issue instructions, each for its own kind of unit;
-/// every other step may be made by any actor.
+/// What an actor does in its turns. Only `Alu`, `Mul` and `Mem` issue instructions, each for its
+/// own kind of unit; every other step may be made by any actor.
 #[derive(Clone, Copy, Debug, PartialEq, Eq, Default, Drop)]
 pub enum Role {
     #[default]
@@ -16,20 +18,21 @@ pub enum Role {
     Mem,
 }
 
-/// The sizes of a core: 1 to 8 harts, 1 to 256 extra physical registers beside the 31 of each hart, 4 to 64 entries
-/// in the issue queue, and the roles of its 1 to 16 actors.
+/// The sizes of a core: 1 to 8 harts, 1 to 256 extra physical registers beside the 31 of each hart,
+/// 4 to 64 entries in the issue queue, and the roles of its 1 to 16 actors.
 #[derive(Debug, Drop)]
 pub struct Config {
     pub harts: u8,
     pub extra: u16,
     pub queue: u8,
-    pub roles: ArrayVec<Role, 16>,
+    pub roles: ArrayVec<Role, MOST_ACTORS>,
 }
 
 impl Config {
     /// The same configuration again.
     pub fn copied(&self) -> Config
-        ensures sizes { (result.harts ≡ self.now.harts) × (result.extra ≡ self.now.extra) × (result.queue ≡ self.now.queue) }
+        ensures sizes { (result.harts ≡ self.now.harts) × (result.extra ≡ self.now.extra)
+            × (result.queue ≡ self.now.queue) }
         ensures roles { result.roles.items ≡ self.now.roles.items }
     {
         Config {
@@ -41,8 +44,8 @@ impl Config {
     }
 }
 
-fn copy_of(roles: &[Role]) -> ArrayVec<Role, 16>
-    requires { length roles.now ≤ 16 }
+fn copy_of(roles: &[Role]) -> ArrayVec<Role, MOST_ACTORS>
+    requires { length roles.now ≤ most_actors }
     ensures { result.items ≡ roles.now }
 {
     let mut copy = ArrayVec::new();

@@ -1,8 +1,11 @@
-//! What the simulator is held against: the definitions of the machine, of its histories and of what a history says.
+//! What the simulator is held against: the definitions of the machine, of its histories and of what
+//! a history says.
 //!
-//! There is hardly any code here. The definitions stand in `specs`, to be read in this order: `Setup`, `Kinds`, `Exec`,
-//! `Fields`, `Plain`; then, over lists of events, `Fates`, `Flights`, `Registers`, `Memory`, `Looks`, `Fetching`,
-//! `Rules`, `Account`, `Picture`, `Steps`, `Asks`, `Laws`.
+//! There is hardly any code here. The definitions stand in `specs`, to be read in this order:
+//! `Setup`, `Kinds`, `Exec`, `Nexts`, `Faults`, `Bytes`, `Reservations`, `Outcomes`, `Effects`,
+//! `Plain`; then, over lists of events, `Folds`, `Fates`, `Flights`, `Registers`, `Memory`, `Looks`,
+//! `Fetching`, `Jobs`, `Comparisons`, `Rules`, `Account`, `Picture`, `Frames`, `Steps`, `Asks`,
+//! `Laws`.
 #![tactic(auto)]
 
 pub mod config;

@@ -1,15 +1,15 @@
 -- A decimal field is read back as the number that was spelled, and no other text is read as it.
 
-use Rattle.std.proofs.Common.{◌≡◌, ℕ, suc, zero, ◌^◌, ◌<◌, ◌≤◌, Bool, true, false, cond, nat_le, List, length, get_or, Result, Ok, Err, refl, sym, ◌∙◌, ap, arith, rules, lit<}
-use Rattle.std.proofs.lemmas.Bool.Decides.{nat_tests}
-use Rattle.std.proofs.lemmas.Fmt.{decimal_nonempty, first_decimal, decimal_digit, digits_decimal, digits_value-decimal, decimal-digits_value}
-use Rattle.std.proofs.lemmas.Str.Parse.{IsNumeralModel, numerals_by_fold}
-use Rattle.std.specs.Char.{is_ascii_digit}
-use Rattle.std.specs.Fmt.{decimal}
-use Rattle.std.specs.List.{list_all}
-use Rattle.text_fields.specs.declared.read.FieldError.{FieldError}
-use Rattle.text_fields.specs.declared.read.FieldError.TheVariants.{Misspelled, OutOfRange}
-use Rattle.text_fields.specs.Reading.{decimal_after, decimal_field, is_number}
+use Rattle.std.proofs.Common.{◌≡◌, ℕ, suc, zero, ◌^◌, ◌<◌, ◌≤◌, Bool, true, false, cond, nat_le, List, length, get_or}
+use Rattle.std.proofs.Common.{Result, Ok, Err, refl, sym, ◌∙◌, ap, arith, rules, lit<}
+use Rattle.std.proofs.{lemmas.Bool.Decides.nat_tests, lemmas.Str.Parse.IsNumeralModel}
+use Rattle.std.proofs.{lemmas.Str.Parse.numerals_by_fold}
+use Rattle.std.proofs.lemmas.Fmt.{decimal_nonempty, first_decimal, decimal_digit, digits_decimal, digits_value-decimal}
+use Rattle.std.proofs.lemmas.Fmt.{decimal-digits_value}
+use Rattle.std.specs.{Char.is_ascii_digit, Fmt.decimal, List.list_all}
+use Rattle.text_fields.specs.{declared.read.FieldError.FieldError, declared.read.FieldError.TheVariants.Misspelled}
+use Rattle.text_fields.specs.{declared.read.FieldError.TheVariants.OutOfRange, Reading.decimal_after}
+use Rattle.text_fields.specs.{Reading.decimal_field, Reading.is_number}
 
 -- the standard library's lemmas on numerals hold of these digits and their number
 pub numerals : IsNumeralModel (λ text. list_all is_ascii_digit text ≡ true) (decimal_after 0)
@@ -30,7 +30,8 @@ pub is_number-decimal : (n : ℕ) → n < 2 ^ 64 → is_number (decimal n) ≡ t
 is_number-decimal zero small = rw (decimal_digit 0 (lit< tt)) refl
 is_number-decimal (suc n) small =
     let first : 48 < get_or (decimal (suc n)) 0 0 = first_decimal (suc n) (omega arith) small in
-    number_from _ (decimal_nonempty (suc n) small) (λ zero_first. absurd (omega (arith, first, zero_first))) (decimal_digits (suc n) small)
+    number_from _ (decimal_nonempty (suc n) small) (λ zero_first. absurd (omega (arith, first, zero_first)))
+    (decimal_digits (suc n) small)
 
 pub decimal_field-decimal : (max n : ℕ) → n ≤ max → max < 2 ^ 64 → decimal_field max (decimal n) ≡ Ok n
 unfolding decimal_field
@@ -42,7 +43,8 @@ decimal_field-decimal max n within small =
     rw (number, value, low) refl
 
 -- what a test that lets a number through was, and what it let through
-when_ok : (b : Bool) (r : Result ℕ FieldError) (e : FieldError) (n : ℕ) → cond b r (Err e) ≡ Ok n → (b ≡ true) × (r ≡ Ok n)
+when_ok : (b : Bool) (r : Result ℕ FieldError) (e : FieldError) (n : ℕ) → cond b r (Err e) ≡ Ok n
+    → (b ≡ true) × (r ≡ Ok n)
 when_ok true r e n h = (refl, h)
 when_ok false r e n h = cc
 
@@ -51,7 +53,8 @@ number_parts : (text : List ℕ) → is_number text ≡ true →
     (0 < length text) × (get_or text 0 0 ≡ 48 → length text ≡ 1) × (list_all is_ascii_digit text ≡ true)
 number_parts text number = (grind (arith, nat_tests), grind (arith, nat_tests), grind (arith, nat_tests))
 
-pub decimal_field_only : (max n : ℕ) (text : List ℕ) → max < 2 ^ 64 → decimal_field max text ≡ Ok n → (n ≤ max) × (text ≡ decimal n)
+pub decimal_field_only : (max n : ℕ) (text : List ℕ) → max < 2 ^ 64 → decimal_field max text ≡ Ok n
+    → (n ≤ max) × (text ≡ decimal n)
 unfolding decimal_field
 decimal_field_only max n text small read =
     let value = decimal_after 0 text in

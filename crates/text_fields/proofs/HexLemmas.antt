@@ -1,8 +1,8 @@
 -- Lemmas on hexadecimal digits.
 
-use Rattle.std.proofs.Common.{◌≡◌, ℕ, zero, suc, ◌+◌, ◌-◌, ◌*◌, ◌^◌, ◌<◌, ◌≤◌, ◌∷◌, ◌++◌, [], List, refl, sym, ◌∙◌, ap, arith, lit<, append_assoc}
-use Rattle.std.proofs.Math.Nat.{pow-suc, pow-le-pow_right}
-use Rattle.std.proofs.lemmas.Nat.{pow-add}
+use Rattle.std.proofs.Common.{◌≡◌, ℕ, zero, suc, ◌+◌, ◌-◌, ◌*◌, ◌^◌, ◌<◌, ◌≤◌, ◌∷◌, ◌++◌, [], List, refl, sym, ◌∙◌, ap}
+use Rattle.std.proofs.Common.{arith, lit<, append_assoc}
+use Rattle.std.proofs.{Math.Nat.pow-suc, Math.Nat.pow-le-pow_right, lemmas.Nat.pow-add}
 use Rattle.text_fields.specs.Spelling.{hex, hex_digit}
 
 -- four bits are a hexadecimal digit

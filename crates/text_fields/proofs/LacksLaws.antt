@@ -1,18 +1,12 @@
 -- Fields lack each byte that stands between fields: the space, the comma, the newline and more.
 
-use Rattle.std.proofs.Common.{◌≡◌, ℕ, suc, ◌^◌, ◌<◌, Bool, true, false, not, ◌==◌, List, [], ◌∷◌, ◌++◌, Option, None, Some, ℤ, pos, negsuc, refl, ◌∙◌, arith}
-use Rattle.std.proofs.lemmas.Bool.Decides.{nat_tests}
-use Rattle.std.proofs.lemmas.List.Folds.{list_all-append}
-use Rattle.std.specs.Char.{is_ascii_digit}
-use Rattle.std.specs.Fmt.{decimal, signed_decimal}
-use Rattle.std.specs.List.{list_all}
-use Rattle.std.specs.Prelude.{IfSome}
-use Rattle.std.specs.Int.Signed.{mag}
-use Rattle.text_fields.specs.Reading.{is_hex_digit}
-use Rattle.text_fields.specs.Spelling.{dash, hex, optional}
-use Rattle.text_fields.specs.Splitting.{Lacks}
-use Rattle.text_fields.proofs.DecimalLaws.{decimal_digits}
-use Rattle.text_fields.proofs.HexLaws.{hex_digits}
+use Rattle.std.proofs.Common.{◌≡◌, ℕ, suc, ◌^◌, ◌<◌, Bool, true, false, not, ◌==◌, List, [], ◌∷◌, ◌++◌, Option, None}
+use Rattle.std.proofs.Common.{Some, ℤ, pos, negsuc, refl, ◌∙◌, arith}
+use Rattle.std.proofs.{lemmas.Bool.Decides.nat_tests, lemmas.List.Folds.list_all-append}
+use Rattle.std.specs.{Char.is_ascii_digit, Fmt.decimal, Fmt.signed_decimal, List.list_all, Prelude.IfSome}
+use Rattle.std.specs.{Int.Signed.mag}
+use Rattle.text_fields.specs.{Reading.is_hex_digit, Spelling.dash, Spelling.hex, Spelling.optional, Splitting.Lacks}
+use Rattle.text_fields.proofs.{DecimalLaws.decimal_digits, HexLaws.hex_digits}
 
 -- bytes that all pass a test lack one that does not
 pub Lacks-from_all : (p : ℕ → Bool) (s : ℕ) (text : List ℕ) → p s ≡ false → list_all p text ≡ true → Lacks s text
@@ -40,6 +34,8 @@ Lacks-optional s spelling None other given = Lacks-dash s other
 Lacks-optional s spelling (Some value) other given = given
 
 -- the size of a signed number fits 63 bits
-pub Lacks-signed_decimal : (s : ℕ) (z : ℤ) → (45 == s) ≡ false → is_ascii_digit s ≡ false → mag z < 2 ^ 63 → Lacks s (signed_decimal z)
+pub Lacks-signed_decimal : (s : ℕ) (z : ℤ) → (45 == s) ≡ false → is_ascii_digit s ≡ false → mag z < 2 ^ 63
+    → Lacks s (signed_decimal z)
 Lacks-signed_decimal s (pos n) dash_other other small = Lacks-decimal s n other (omega arith)
-Lacks-signed_decimal s (negsuc n) dash_other other small = Lacks-append s dash (decimal (suc n)) (Lacks-dash s dash_other) (Lacks-decimal s (suc n) other (omega arith))
+Lacks-signed_decimal s (negsuc n) dash_other other small =
+    Lacks-append s dash (decimal (suc n)) (Lacks-dash s dash_other) (Lacks-decimal s (suc n) other (omega arith))

@@ -1,8 +1,8 @@
 -- A field without separators is cut off again, and the cut parts make the whole.
 
-use Rattle.std.proofs.Common.{◌≡◌, ℕ, suc, ◌+◌, ◌≤◌, Bool, true, false, ◌==◌, List, [], ◌∷◌, ◌++◌, refl, sym, ◌∙◌, ap, arith}
-use Rattle.std.proofs.lemmas.Bool.Decides.{nat_tests}
-use Rattle.std.proofs.lemmas.List.Sums.{sum_by-cons}
+use Rattle.std.proofs.Common.{◌≡◌, ℕ, suc, ◌+◌, ◌≤◌, Bool, true, false, ◌==◌, List, [], ◌∷◌, ◌++◌, refl, sym, ◌∙◌, ap}
+use Rattle.std.proofs.Common.{arith}
+use Rattle.std.proofs.{lemmas.Bool.Decides.nat_tests, lemmas.List.Sums.sum_by-cons}
 use Rattle.std.specs.List.{position_or_len}
 use Rattle.text_fields.specs.Splitting.{field, field_count, Lacks, rest}
 
@@ -68,7 +68,8 @@ rest-cut s (c ∷ cs) others lacks =
     let parts = lacks_parts s c cs lacks in
     rest-other s c (cs ++ s ∷ others) parts.0 ∙ rest-cut s cs others parts.1
 
-pub count-cut : (s : ℕ) (first others : List ℕ) → Lacks s first → field_count s (first ++ s ∷ others) ≡ suc (field_count s others)
+pub count-cut : (s : ℕ) (first others : List ℕ) → Lacks s first
+    → field_count s (first ++ s ∷ others) ≡ suc (field_count s others)
 count-cut s [] others lacks = count-separator s s others (same_byte s)
 count-cut s (c ∷ cs) others lacks =
     let parts = lacks_parts s c cs lacks in
@@ -97,7 +98,8 @@ pub record Parts (s : ℕ) (text : List ℕ) : Type 0 where
   pub lacks : Lacks s (field s text)
   pub count : 1 ≤ field_count s text
   pub alone : field_count s text ≡ 1 → text ≡ field s text
-  pub cut : 2 ≤ field_count s text → (text ≡ field s text ++ s ∷ rest s text) × (field_count s text ≡ suc (field_count s (rest s text)))
+  pub cut : 2 ≤ field_count s text → (text ≡ field s text ++ s ∷ rest s text)
+      × (field_count s text ≡ suc (field_count s (rest s text)))
 
 by_first : (b : Bool) (s c : ℕ) (cs : List ℕ) → (c == s) ≡ b → Parts s cs → Parts s (c ∷ cs)
 by_first true s c cs is others =

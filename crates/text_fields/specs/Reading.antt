@@ -1,10 +1,12 @@
 -- How the fields of a text are read: for each kind of field, what its reader answers on every text.
 
-use Rattle.std.specs.Prelude.{ℕ, ◌+◌, ◌-◌, ◌*◌, Bool, ◌&&◌, ◌||◌, not, if◌then◌else◌, nat_lt, nat_le, ◌==◌, zero, suc, List, [], ◌∷◌, length, drop, slice_index, Option, None, Some, Result, Ok, Err, ℤ, pos, negsuc}
-use Rattle.std.specs.Char.{is_ascii_digit}
-use Rattle.std.specs.List.{list_all}
-use Rattle.text_fields.specs.declared.read.FieldError.{FieldError}
-use Rattle.text_fields.specs.declared.read.FieldError.TheVariants.{Misspelled, OutOfRange}
+use Rattle.std.specs.Prelude.{ℕ, ◌+◌, ◌-◌, ◌*◌, Bool, ◌&&◌, ◌||◌, not, if◌then◌else◌, nat_lt}
+use Rattle.std.specs.Prelude.{nat_le, ◌==◌, zero, suc, List, [], ◌∷◌, length, drop, slice_index}
+use Rattle.std.specs.Prelude.{Option, None, Some, Result, Ok, Err, ℤ, pos, negsuc}
+use Rattle.std.specs.{Char.is_ascii_digit, List.list_all}
+use Rattle.text_fields.specs.{declared.read.FieldError.FieldError}
+use Rattle.text_fields.specs.{declared.read.FieldError.TheVariants.Misspelled}
+use Rattle.text_fields.specs.{declared.read.FieldError.TheVariants.OutOfRange}
 
 -- the number that decimal digits write, after those of n
 abbrev pub decimal_after : ℕ → List ℕ → ℕ
@@ -13,12 +15,15 @@ decimal_after n (c ∷ cs) = decimal_after (n * 10 + (c - 48)) cs
 
 -- digits alone, one or more, and no zero before others
 abbrev pub is_number : List ℕ → Bool
-is_number text = nat_lt 0 (length text) && (length text == 1 || not (slice_index text 0 == 48)) && list_all is_ascii_digit text
+is_number text = nat_lt 0 (length text) && (length text == 1 || not (slice_index text 0 == 48))
+    && list_all is_ascii_digit text
 
 -- a decimal number of at most `max`
 unfoldable pub decimal_field : ℕ → List ℕ → Result ℕ FieldError
 decimal_field max text =
-    if is_number text then (if nat_le (decimal_after 0 text) max then Ok (decimal_after 0 text) else Err OutOfRange)
+    if is_number text
+    then (if nat_le (decimal_after 0 text) max then Ok (decimal_after 0 text)
+    else Err OutOfRange)
     else Err Misspelled
 
 -- the number below 0 whose digits were read; there is no `-0`
@@ -53,7 +58,8 @@ hex_after n (c ∷ cs) = hex_after (n * 16 + hex_digit_value c) cs
 
 -- a number of exactly `count` hexadecimal digits
 unfoldable pub hex_field : ℕ → List ℕ → Result ℕ FieldError
-hex_field count text = if length text == count && list_all is_hex_digit text then Ok (hex_after 0 text) else Err Misspelled
+hex_field count text = if length text == count && list_all is_hex_digit text
+    then Ok (hex_after 0 text) else Err Misspelled
 
 -- `-`
 abbrev pub is_dash : List ℕ → Bool
@@ -64,5 +70,6 @@ some_read (Ok value) = Ok (Some value)
 some_read (Err error) = Err error
 
 -- a field as `field` reads it, or no value where there is a dash
-unfoldable pub optional_field : {A : Type 0} → (List ℕ → Result A FieldError) → List ℕ → Result (Option A) FieldError
+unfoldable pub optional_field : {A : Type 0} → (List ℕ → Result A FieldError) → List ℕ
+    → Result (Option A) FieldError
 optional_field field text = if is_dash text then Ok None else some_read (field text)

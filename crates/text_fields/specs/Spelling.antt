@@ -1,10 +1,11 @@
--- How the fields of a text are spelled: each function gives the bytes of one. A decimal number is spelled `decimal n`
--- and a signed one `signed_decimal z`, as the standard library prints them.
+-- How the fields of a text are spelled: each function gives the bytes of one. A decimal number is
+-- spelled `decimal n` and a signed one `signed_decimal z`, as the standard library prints them.
 
 use Rattle.std.specs.Prelude.{ℕ, ◌/◌, ◌%◌, ◌^◌, zero, suc, false, List, [], ◌∷◌, Option, None, Some}
 use Rattle.std.specs.Fmt.{digit_glyph}
 
--- the lower-case hexadecimal digit that stands for the sixteens, the 256s or the like of n: place 0 is that of the ones
+-- the lower-case hexadecimal digit that stands for the sixteens, the 256s or the like of n: place 0
+-- is that of the ones
 abbrev pub hex_digit : ℕ → ℕ → ℕ
 hex_digit place n = digit_glyph false (n / 16 ^ place % 16)
 

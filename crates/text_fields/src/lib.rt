@@ -1,4 +1,5 @@
-//! Fields of text: decimal and hexadecimal numbers, printed and read, and a text split into its fields.
+//! Fields of text: decimal and hexadecimal numbers, printed and read, and a text split into its
+//! fields.
 //!
 //! Read in this order: `print`, `split`, `read`, `laws` (the one is the other's inverse).
 #![tactic(auto)]

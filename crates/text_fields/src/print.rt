@@ -86,8 +86,8 @@ pub fn push_optional_decimal<const N: usize, I: Integer>(
     }
 }
 
-/// Appends the lowest `count` hexadecimal digits of a number, 1 to 8 of them, in lower case, or a dash where there is no
-/// number.
+/// Appends the lowest `count` hexadecimal digits of a number, 1 to 8 of them, in lower case, or a
+/// dash where there is no number.
 pub fn push_optional_hex<const N: usize>(
     text: &mut ArrayString<N>,
     value: Option<u32>,

@@ -3,7 +3,9 @@
 ghost use Rattle.std.specs.Prelude.{◌≡◌, ◌^◌, ◌≤◌, ◌<◌, length, true, Some, None, IfOk, IfSome};
 ghost use Rattle.std.specs.List.{list_all};
 ghost use Rattle.std.specs.Char.{is_ascii_digit};
-ghost use Rattle.text_fields.specs.Reading.{is_number, is_dash, is_hex_digit, hex_digit_value, hex_after, decimal_after, decimal_field, signed_field, hex_field, optional_field};
+ghost use Rattle.text_fields.specs.Reading.{is_number, is_dash, is_hex_digit, hex_digit_value};
+ghost use Rattle.text_fields.specs.Reading.{hex_after, decimal_after, decimal_field, signed_field};
+ghost use Rattle.text_fields.specs.Reading.{hex_field, optional_field};
 
 use thiserror::Error;
 
@@ -49,7 +51,8 @@ fn number_up_to(digits: &[u8], max: u32) -> Option<u32>
 
 /// A decimal number of at most `max`.
 ///
-/// It is misspelled if it isn't digits alone or has leading zeros, and out of range if it is above `max`.
+/// It is misspelled if it isn't digits alone or has leading zeros, and out of range if it is above
+/// `max`.
 #[tactic(auto, unfolding(crate::specs::Reading::decimal_field))]
 pub fn read_decimal(text: &[u8], max: u32) -> Result<u32, FieldError>
     ensures field { result ≡ decimal_field max text.now }
@@ -63,8 +66,8 @@ pub fn read_decimal(text: &[u8], max: u32) -> Result<u32, FieldError>
 
 /// A decimal number from `-bound` to `bound - 1`, where `bound` is 1 to 2^31.
 ///
-/// It is misspelled if it isn't digits alone after a minus sign or none, has leading zeros or is `-0`, and out of range
-/// if it is below or above these limits.
+/// It is misspelled if it isn't digits alone after a minus sign or none, has leading zeros or is
+/// `-0`, and out of range if it is below or above these limits.
 #[tactic(auto, unfolding(crate::specs::Reading::signed_field))]
 pub fn read_signed_decimal(text: &[u8], bound: u32) -> Result<i32, FieldError>
     requires { (1 ≤ bound) × (bound ≤ 2 ^ 31) }
@@ -111,7 +114,8 @@ fn hex_value(digits: &[u8]) -> u32
     value
 }
 
-/// A number of exactly `count` lower-case hexadecimal digits, 0 to 8. What is anything else is misspelled.
+/// A number of exactly `count` lower-case hexadecimal digits, 0 to 8. What is anything else is
+/// misspelled.
 #[tactic(auto, unfolding(crate::specs::Reading::hex_field))]
 pub fn read_hex(text: &[u8], count: usize) -> Result<u32, FieldError>
     requires { count ≤ 8 }

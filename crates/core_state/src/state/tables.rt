@@ -7,6 +7,8 @@ use crate::parts::{registers_in, value_of};
 use crate::slot::{OpenJob, Slot};
 use free_list::FreeList;
 use issue_queue::Entry;
+use numbers::sizes::MOST_REGISTERS;
+use numbers::{Phys, first_extra};
 use rename_map::HartMaps;
 use retire_squash::{Active, Stage};
 use smt_model::Status;
@@ -14,8 +16,9 @@ use std::io;
 use std::io::Write;
 
 impl State {
-    /// Writes what the core holds: six lines for each hart, then the issue queue, the open jobs, the free registers, and a line
-    /// for each register that isn't free. A list of nothing is a dash.
+    /// Writes what the core holds: six lines for each hart, then the issue queue, the open jobs,
+    /// the free registers, and a line for each register that isn't free. A list of nothing is a
+    /// dash.
     ///
     /// An error is the one that `out` answered; what was written before it has gone out.
     pub fn tables<W: Write>(&self, out: &mut W) -> io::Result<()> {
@@ -23,7 +26,7 @@ impl State {
         write_queue(self.parts.queue.entries(), out)?;
         write_jobs(&self.parts.jobs, out)?;
         write_free(&self.parts.free, out)?;
-        let registers = 31 * u32::from(self.config.harts) + u32::from(self.config.extra);
+        let registers = u32::from(first_extra(self.config.harts)) + u32::from(self.config.extra);
         write_registers(registers, &self.parts.free, &self.parts.values, out)
     }
 }
@@ -40,7 +43,8 @@ fn write_harts<W: Write>(harts: &[HartState], out: &mut W) -> io::Result<()> {
     Ok(())
 }
 
-/// How a hart stands, where it is fetched next, and its ICOUNT. No address is reserved as long as no instruction reserves one.
+/// How a hart stands, where it is fetched next, and its ICOUNT. No address is reserved as long as
+/// no instruction reserves one.
 fn write_standing<W: Write>(hart: usize, state: &HartState, out: &mut W) -> io::Result<()> {
     write!(out, "hart {hart} ")?;
     write_status(state.status, out)?;
@@ -76,14 +80,14 @@ fn write_flight<W: Write>(flight: &[Active], out: &mut W) -> io::Result<()> {
 
 /// An instruction in flight: its number, its stage's letter and its register.
 fn write_active<W: Write>(active: &Active, out: &mut W) -> io::Result<()> {
-    write!(out, " {}:{}:", active.seq, letter_of(active.stage))?;
+    write!(out, " {}:{}:", active.seq, stage_letter(active.stage))?;
     match active.phys {
         Some(phys) => write!(out, "{phys}"),
         None => write!(out, "-"),
     }
 }
 
-fn letter_of(stage: Stage) -> char {
+fn stage_letter(stage: Stage) -> char {
     match stage {
         Stage::Renamed => 'r',
         Stage::Issued => 'i',
@@ -142,10 +146,10 @@ fn write_free<W: Write>(free: &FreeList, out: &mut W) -> io::Result<()> {
 fn write_registers<W: Write>(
     registers: u32,
     free: &FreeList,
-    values: &[Option<u32>; 512],
+    values: &[Option<u32>; MOST_REGISTERS],
     out: &mut W,
 ) -> io::Result<()> {
-    for register in 0..512 {
+    for register in 0..MOST_REGISTERS as Phys {
         if u32::from(register) < registers && !free.holds(register) {
             write_register(register, value_of(values, register), out)?;
         }
@@ -153,7 +157,7 @@ fn write_registers<W: Write>(
     Ok(())
 }
 
-fn write_register<W: Write>(register: u16, value: Option<u32>, out: &mut W) -> io::Result<()> {
+fn write_register<W: Write>(register: Phys, value: Option<u32>, out: &mut W) -> io::Result<()> {
     match value {
         Some(value) => writeln!(out, "reg {register} {value:08x}"),
         None => writeln!(out, "reg {register} -"),

@@ -1,6 +1,5 @@
-//! What the tests share: images, cores, and the asks of a run with the events that they should make.
-
-ghost use Rattle.std.specs.Prelude.{◌≡◌, ◌+◌, ◌%◌, ◌^◌};
+//! What the tests share: images, cores, and the asks of a run with the events that they should
+//! make.
 
 use crate::files::{FIRST, file_of};
 use arrayvec::ArrayVec;
@@ -27,8 +26,8 @@ pub fn config(harts: u8, extra: u16, queue: u8, actors: usize) -> Config {
     }
 }
 
-/// Sizes with actors 0, 1 and 2 for fetching, the front and retiring, and the units 3, 4 and 5 for arithmetic, products and
-/// memory.
+/// Sizes with actors 0, 1 and 2 for fetching, the front and retiring, and the units 3, 4 and 5 for
+/// arithmetic, products and memory.
 pub fn one_of_each(harts: u8) -> Config {
     let mut roles = ArrayVec::new();
     for role in [
@@ -64,30 +63,6 @@ pub fn core_of(words: &[u32], harts: u8, alloc: Global) -> Option<Core> {
     Core::new(&image, one_of_each(harts), 1000, alloc).ok()
 }
 
-/// A predictor that guesses one address.
-#[derive(Drop)]
-pub struct Always(pub u32);
-
-impl Predict for Always {
-    ghost predicts = { λ before hart pc word guess after. (guess ≡ before.0) × (after ≡ before) };
-
-    fn predict(&mut self, _hart: u8, _pc: u32, _word: u32) -> u32 {
-        self.0
-    }
-}
-
-/// A predictor that guesses the pc behind.
-#[derive(Drop)]
-pub struct Behind;
-
-impl Predict for Behind {
-    ghost predicts = { λ before hart pc word guess after. guess ≡ (pc + 4) % 2 ^ 32 };
-
-    fn predict(&mut self, _hart: u8, pc: u32, _word: u32) -> u32 {
-        pc.wrapping_add(4)
-    }
-}
-
 /// An ask, by its actor. `Execute` issues and completes.
 #[derive(Clone, Copy, Drop)]
 pub enum Step {
@@ -117,7 +92,8 @@ fn is_line(event: Option<Event>, line: &str) -> bool {
     }
 }
 
-/// Makes asks in order. Answers the place of the first that doesn't write the event of the line beside it, as its last.
+/// Makes asks in order. Answers the place of the first that doesn't write the event of the line
+/// beside it, as its last.
 pub fn first_other<P: Predict>(
     core: &mut Core,
     predictor: &mut P,

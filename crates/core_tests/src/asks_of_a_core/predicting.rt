@@ -1,8 +1,11 @@
-//! Predictions: each is written into the fetch and followed, a wrong one squashes, and none changes what retires.
+//! Predictions: each is written into the fetch and followed, a wrong one squashes, and none changes
+//! what retires.
 
 ghost use Rattle.std.specs.Prelude.{◌≡◌, ◌+◌, ◌%◌, ◌^◌};
 
-use super::asking::{Always, Behind, Step, config, core_of, first_core, first_other, issue, make};
+use super::asking::{Step, config, core_of, first_core, first_other, issue, make};
+use crate::predictors::{Always, Behind};
+use crate::rows::is_none;
 use events::Event;
 use smt_core::{Answer, CompleteAnswer, Core, Done, Predict, Status};
 use std::alloc::Global;
@@ -14,7 +17,8 @@ struct ByTurns {
 }
 
 impl Predict for ByTurns {
-    ghost predicts = { λ before hart pc word guess after. after.asked ≡ (before.asked + 1) % 2 ^ 32 };
+    ghost predicts = { λ before hart pc word guess after. after.asked
+        ≡ (before.asked + 1) % 2 ^ 32 };
 
     fn predict(&mut self, _hart: u8, pc: u32, _word: u32) -> u32 {
         self.asked = self.asked.wrapping_add(1);
@@ -35,30 +39,42 @@ static ASTRAY: [(Step, &str); 5] = [
     (Step::Retire(2, 0), "T 2 0 - s0 - - -"),
 ];
 
-/// What is first otherwise in that run, and after it the number of events, how the hart stands, x5, and the first free register.
-type Astray = (
-    Option<usize>,
-    usize,
-    (Option<Status>, Option<u32>, Option<u16>),
-);
-
-fn jump_astray(core: &mut Core) -> Astray {
-    let other = first_other(core, &mut Always(0x8000_0002), &ASTRAY);
-    let free = core.free_registers().first().copied();
-    let hart = (core.status(0), core.register(0, 5), free);
-    (other, core.history().len(), hart)
+/// What is first otherwise in that run, and after it the number of events, how the hart stands, x5,
+/// and the first free register.
+#[derive(Clone, Copy, Drop)]
+struct Astray {
+    other: Option<usize>,
+    events: usize,
+    status: Option<Status>,
+    link: Option<u32>,
+    free: Option<u16>,
 }
 
-fn of_a_jump_astray(alloc: Global) -> Option<Astray> {
+fn jump_mispredicted(core: &mut Core) -> Astray {
+    let other = first_other(core, &mut Always(0x8000_0002), &ASTRAY);
+    Astray {
+        other,
+        events: core.history().len(),
+        status: core.status(0),
+        link: core.register(0, 5),
+        free: core.free_registers().first().copied(),
+    }
+}
+
+fn of_a_mispredicted_jump(alloc: Global) -> Option<Astray> {
     let mut core = core_of(&[0x002002ef], 1, alloc)?;
-    Some(jump_astray(&mut core))
+    Some(jump_mispredicted(&mut core))
 }
 
 #[test]
 fn a_jump_to_a_half_word_stops_at_the_jump(rt: HostRuntime) {
+    let astray = of_a_mispredicted_jump(rt.alloc()).expect(&rt, "a core");
+    is_none(&rt, "the jump", astray.other);
+    assert!(rt; astray.events == 6);
+    assert!(rt; astray.status == Some(Status::Stopped(0)));
     // The link is not written, and the register for it is free again.
-    let end = (Some(Status::Stopped(0)), Some(0), Some(31));
-    assert!(rt; of_a_jump_astray(rt.alloc()) == Some((None, 6, end)));
+    assert!(rt; astray.link == Some(0));
+    assert!(rt; astray.free == Some(31));
 }
 
 /// Number 1 is fetched where no word is, and squashed as number 0 completes.
@@ -86,20 +102,29 @@ static RIGHT_PATH: [(Step, &str); 11] = [
     (Step::Retire(0, 0), "T 0 3 - e00000005 - - -"),
 ];
 
-/// What is first otherwise on the wrong path, and the count of instructions before the issue after it; what is first otherwise behind it,
-/// and after that the number of events and how the hart stands.
-type Wrong = (
-    Option<usize>,
-    Option<u32>,
-    (Option<usize>, usize, Option<Status>),
-);
+/// What is first otherwise on the wrong path, and the count of instructions before the issue after
+/// it; what is first otherwise behind it, and after that the number of events and how the hart
+/// stands.
+#[derive(Clone, Copy, Drop)]
+struct Wrong {
+    other: Option<usize>,
+    icount: Option<u32>,
+    other_behind: Option<usize>,
+    events: usize,
+    status: Option<Status>,
+}
 
 fn always_wrong(core: &mut Core) -> Wrong {
-    let wrong = first_other(core, &mut Always(0), &WRONG_PATH);
-    let count = core.icount(0);
-    let right = first_other(core, &mut Always(0), &RIGHT_PATH);
-    let end = (right, core.history().len(), core.status(0));
-    (wrong, count, end)
+    let other = first_other(core, &mut Always(0), &WRONG_PATH);
+    let icount = core.icount(0);
+    let other_behind = first_other(core, &mut Always(0), &RIGHT_PATH);
+    Wrong {
+        other,
+        icount,
+        other_behind,
+        events: core.history().len(),
+        status: core.status(0),
+    }
 }
 
 fn of_wrong_guesses(alloc: Global) -> Option<Wrong> {
@@ -109,12 +134,16 @@ fn of_wrong_guesses(alloc: Global) -> Option<Wrong> {
 
 #[test]
 fn a_predictor_that_is_always_wrong_changes_nothing_that_retires(rt: HostRuntime) {
-    let end = (None, 21, Some(Status::Ended(5)));
-    assert!(rt; of_wrong_guesses(rt.alloc()) == Some((None, Some(0), end)));
+    let wrong = of_wrong_guesses(rt.alloc()).expect(&rt, "a core");
+    is_none(&rt, "the wrong path", wrong.other);
+    assert!(rt; wrong.icount == Some(0));
+    is_none(&rt, "the right path", wrong.other_behind);
+    assert!(rt; wrong.events == 21);
+    assert!(rt; wrong.status == Some(Status::Ended(5)));
 }
 
-/// Two harts run `addi x5,x0,3`, `beq x0,x0,0x8000000c`, `mul x7,x5,x5`, `addi x8,x0,9`, `ebreak`. The branch of hart 0 is
-/// predicted to go on behind, and the product, number 4, is handed out.
+/// Two harts run `addi x5,x0,3`, `beq x0,x0,0x8000000c`, `mul x7,x5,x5`, `addi x8,x0,9`, `ebreak`.
+/// The branch of hart 0 is predicted to go on behind, and the product, number 4, is handed out.
 fn late_product(core: &mut Core) -> Option<Done> {
     for step in [Step::Fetch(0), Step::Decode(1, 0), Step::Rename(1, 0)] {
         let times = if matches!(step, Step::Fetch(_)) { 6 } else { 3 };
@@ -126,7 +155,8 @@ fn late_product(core: &mut Core) -> Option<Done> {
     issue(core, 4)
 }
 
-/// The branch is taken, and the product behind it squashed: its register is free, and given to hart 1.
+/// The branch is taken, and the product behind it squashed: its register is free, and given to hart
+/// 1.
 static SQUASHED: [(Step, &str); 4] = [
     (Step::Execute(3), "C 3 2 - p8000000c - - -"),
     (Step::Decode(1, 1), "D 1 1"),
@@ -134,30 +164,40 @@ static SQUASHED: [(Step, &str); 4] = [
     (Step::Execute(3), "C 3 1 00000003 p80000004 - - -"),
 ];
 
-/// The number in the register is hart 1's 3, and not the product 9. Hart 0 goes on where the branch leads.
+/// The number in the register is hart 1's 3, and not the product 9. Hart 0 goes on where the branch
+/// leads.
 static AFTER: [(Step, &str); 2] = [
     (Step::Retire(2, 1), "T 2 1 00000003 p80000004 - - -"),
     (Step::Fetch(0), "F 0 0 6 8000000c 00900413 80000010"),
 ];
 
-/// The twelfth event, what is first otherwise before the product comes and after it, what is answered to it, the number of events
-/// then, and x5 of hart 1 at the end.
-type Late = (
-    Option<Event>,
-    [Option<usize>; 2],
-    (CompleteAnswer, usize),
-    Option<u32>,
-);
+/// The twelfth event, what is first otherwise before the product comes and after it, what is
+/// answered to it, the number of events then, and x5 of hart 1 at the end.
+#[derive(Clone, Copy, Drop)]
+struct Late {
+    twelfth: Option<Event>,
+    other_before: Option<usize>,
+    answer: CompleteAnswer,
+    events: usize,
+    other_after: Option<usize>,
+    register: Option<u32>,
+}
 
 fn late_and_dropped(core: &mut Core) -> Option<Late> {
     let late = late_product(core)?;
     let twelfth = core.history().get(11).copied();
-    let before = first_other(core, &mut Behind, &SQUASHED);
+    let other_before = first_other(core, &mut Behind, &SQUASHED);
     let answer = core.complete(4, late);
     let events = core.history().len();
-    let after = first_other(core, &mut Behind, &AFTER);
-    let register = core.register(1, 5);
-    Some((twelfth, [before, after], (answer, events), register))
+    let other_after = first_other(core, &mut Behind, &AFTER);
+    Some(Late {
+        twelfth,
+        other_before,
+        answer,
+        events,
+        other_after,
+        register: core.register(1, 5),
+    })
 }
 
 fn of_a_late_job(alloc: Global) -> Option<Late> {
@@ -174,8 +214,13 @@ fn a_late_job_of_a_squashed_instruction_is_dropped(rt: HostRuntime) {
         phys: Some(63),
     };
     let dropped = CompleteAnswer::Done(Event::Drop { actor: 4, seq: 4 });
-    let told = (Some(renamed), [None, None], (dropped, 22), Some(3));
-    assert!(rt; of_a_late_job(rt.alloc()) == Some(told));
+    let late = of_a_late_job(rt.alloc()).expect(&rt, "a product");
+    assert!(rt; late.twelfth == Some(renamed));
+    is_none(&rt, "the squash", late.other_before);
+    assert!(rt; late.answer == dropped);
+    assert!(rt; late.events == 22);
+    is_none(&rt, "after the squash", late.other_after);
+    assert!(rt; late.register == Some(3));
 }
 
 static ASKED: [(Step, &str); 5] = [
@@ -186,28 +231,45 @@ static ASKED: [(Step, &str); 5] = [
     (Step::Decode(0, 0), "D 0 0"),
 ];
 
-/// The answers to a stranger's fetch and to one without room, how often the predictor was asked after each, and what is first otherwise
-/// in between.
-type Asked = ([Answer; 2], [u32; 2], Option<usize>);
+/// The answers to a stranger's fetch and to one without room, how often the predictor was asked
+/// after each, and what is first otherwise in between.
+#[derive(Clone, Copy, Drop)]
+struct Asked {
+    stranger: Answer,
+    asked_by_stranger: u32,
+    other: Option<usize>,
+    last: Answer,
+    asked: u32,
+}
 
-fn asked(core: &mut Core) -> Asked {
+fn asks_counted(core: &mut Core) -> Asked {
     let mut predictor = ByTurns { asked: 0 };
     let stranger = core.fetch(1, &mut predictor);
-    let before = predictor.asked;
+    let asked_by_stranger = predictor.asked;
     let other = first_other(core, &mut predictor, &ASKED);
     let last = core.fetch(0, &mut predictor);
-    ([stranger, last], [before, predictor.asked], other)
+    Asked {
+        stranger,
+        asked_by_stranger,
+        other,
+        last,
+        asked: predictor.asked,
+    }
 }
 
 fn asked_of_five(alloc: Global) -> Option<Asked> {
     let mut core = first_core(config(1, 64, 16, 1), 5, alloc)?;
-    Some(asked(&mut core))
+    Some(asks_counted(&mut core))
 }
 
 #[test]
 fn a_predictor_is_asked_at_each_word_and_only_there(rt: HostRuntime) {
-    let told = ([Answer::Idle, Answer::Full], [0, 2], None);
-    assert!(rt; asked_of_five(rt.alloc()) == Some(told));
+    let told = asked_of_five(rt.alloc()).expect(&rt, "a core");
+    assert!(rt; told.stranger == Answer::Idle);
+    assert!(rt; told.asked_by_stranger == 0);
+    is_none(&rt, "five asks", told.other);
+    assert!(rt; told.last == Answer::Full);
+    assert!(rt; told.asked == 2);
 }
 
 /// The first program under the predictor that guesses by turns, up to the end of its call.
@@ -223,7 +285,8 @@ static BY_TURNS: [Step; 9] = [
     Step::Execute(0),
 ];
 
-/// The second guess was wrong: number 2, fetched at 0, is squashed, and the hart goes on behind number 1.
+/// The second guess was wrong: number 2, fetched at 0, is squashed, and the hart goes on behind
+/// number 1.
 static CHANGED: [(Step, &str); 7] = [
     (Step::Fetch(0), "F 0 0 3 80000008 00000073 8000000c"),
     (Step::Decode(0, 0), "D 0 3"),
@@ -235,7 +298,12 @@ static CHANGED: [(Step, &str); 7] = [
 ];
 
 /// What is first otherwise after that, how often the predictor was asked, and how the hart stands.
-type Guessed = (Option<usize>, u32, Option<Status>);
+#[derive(Clone, Copy, Drop)]
+struct Guessed {
+    other: Option<usize>,
+    asked: u32,
+    status: Option<Status>,
+}
 
 fn guesses_changed(core: &mut Core) -> Guessed {
     let mut predictor = ByTurns { asked: 0 };
@@ -243,7 +311,11 @@ fn guesses_changed(core: &mut Core) -> Guessed {
         make(core, &mut predictor, *step);
     }
     let other = first_other(core, &mut predictor, &CHANGED);
-    (other, predictor.asked, core.status(0))
+    Guessed {
+        other,
+        asked: predictor.asked,
+        status: core.status(0),
+    }
 }
 
 fn of_changed_guesses(alloc: Global) -> Option<Guessed> {
@@ -253,6 +325,8 @@ fn of_changed_guesses(alloc: Global) -> Option<Guessed> {
 
 #[test]
 fn a_predictor_may_change_its_guesses(rt: HostRuntime) {
-    let told = (None, 3, Some(Status::Ended(5)));
-    assert!(rt; of_changed_guesses(rt.alloc()) == Some(told));
+    let guessed = of_changed_guesses(rt.alloc()).expect(&rt, "a core");
+    is_none(&rt, "after the guesses", guessed.other);
+    assert!(rt; guessed.asked == 3);
+    assert!(rt; guessed.status == Some(Status::Ended(5)));
 }

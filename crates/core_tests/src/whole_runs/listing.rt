@@ -1,10 +1,13 @@
-//! Listings, against spellings from outside: those of a worked program, of GNU's disassembler and of an ELF file's layout.
+//! Listings, against spellings from outside: those of a worked program, of GNU's disassembler and
+//! of an ELF file's layout.
 
-use super::{performed, text};
+use super::{Told, performed, text};
 use crate::files::file_of;
+use crate::rows::{ends, shows};
 use sim_inputs::Line;
 use simulator::{Inputs, StaticPredictor};
 use std::alloc::Global;
+use std::process::Abort;
 use std::sync::Wait;
 
 pub(super) const LIST: Line<'static> = Line::List {
@@ -12,19 +15,20 @@ pub(super) const LIST: Line<'static> = Line::List {
     config: None,
 };
 
-/// Whether words with so many zeros behind them are listed as this text.
-fn is_listed<R: Wait>(rt: &R, words: &[u32], zeros: u8, lines: &str, alloc: Global) -> bool {
+/// Asserts that words with so many zeros behind them are listed as this text.
+fn lists<R: Wait + Abort>(rt: &R, words: &[u32], zeros: u8, lines: &str, alloc: Global) {
     let Ok(file) = file_of(words, zeros, alloc) else {
-        return false;
+        return shows(rt, "a list", "no memory", false);
     };
     let inputs = Inputs {
-        config: Some(b""),
-        image: Some(&file),
-        second: Some(b""),
+        config: Ok(b""),
+        image: Ok(&file),
+        second: Ok(b""),
     };
     let mut out = Vec::new(alloc);
-    let (status, err) = performed(rt, &LIST, &inputs, &mut StaticPredictor, &mut out, alloc);
-    status == 0 && err.is_empty() && text(&out) == lines
+    let Told { status, err } = performed(rt, &LIST, &inputs, &mut StaticPredictor, &mut out, alloc);
+    let is = status == 0 && err.is_empty() && text(&out) == lines;
+    ends(rt, "a list", status, text(&out), is);
 }
 
 /// One hart stores, another may load from the same word in between.
@@ -46,7 +50,7 @@ const LINES: &str = "80000000 80001337 lui x6,0x80001
 
 #[test]
 fn each_word_of_the_code_has_a_line(rt: HostRuntime) {
-    assert!(rt; is_listed(&rt, &WORDS, 0, LINES, rt.alloc()));
+    lists(&rt, &WORDS, 0, LINES, rt.alloc());
 }
 
 /// The second word is no instruction.
@@ -62,5 +66,5 @@ const STRANGE_LINES: &str = "80000000 00500513 addi x10,x0,5
 
 #[test]
 fn illegal_words_and_zeros_behind_the_file_are_listed(rt: HostRuntime) {
-    assert!(rt; is_listed(&rt, &STRANGE, 2, STRANGE_LINES, rt.alloc()));
+    lists(&rt, &STRANGE, 2, STRANGE_LINES, rt.alloc());
 }

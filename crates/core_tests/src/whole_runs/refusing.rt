@@ -1,24 +1,37 @@
 //! Inputs that are refused or unread, and an output that fails.
 
 use super::listing::LIST;
-use super::{performed, step_line, text};
+use super::{Told, performed, step_line, text};
 use crate::files::FIRST;
-use crate::rows::holds;
+use crate::rows::ends;
 use sim_inputs::Line;
-use simulator::{Inputs, StaticPredictor};
+use simulator::{Inputs, StaticPredictor, Unread};
 use std::alloc::Global;
 use std::io;
 use std::io::Write;
+use std::process::Abort;
 use std::sync::Wait;
 
-/// Inputs, the line that is written to standard error, and the exit status. Of the image the number of its program headers, and how many
-/// of its bytes there are.
+/// A file as it was read.
+type File = Result<&'static [u8], Unread>;
+
+/// Of the first image the number of its program headers, and how many of its bytes there are.
+#[derive(Clone, Copy, Drop)]
+struct Part {
+    headers: u8,
+    length: usize,
+}
+
+/// A part of the first image as it was read.
+type PartFile = Result<Part, Unread>;
+
+/// Inputs, the line that is written to standard error, and the exit status.
 #[derive(Clone, Copy, Drop)]
 struct Refusal {
     list: bool,
-    config: Option<&'static [u8]>,
-    image: Option<(u8, usize)>,
-    second: Option<&'static [u8]>,
+    config: File,
+    image: PartFile,
+    second: File,
     told: &'static str,
     status: u8,
 }
@@ -36,41 +49,83 @@ macro_rules! refusal {
     };
 }
 
-const SINGLE: Option<&[u8]> = Some(b"actors = [\"alu\"]\n");
+const SINGLE: File = Ok(b"actors = [\"alu\"]\n");
 
-const FETCH: Option<&[u8]> = Some(b"F0");
+const NINE_HARTS: File = Ok(b"harts = 9");
 
-const NOTHING: Option<&[u8]> = Some(b"");
+const FETCH: File = Ok(b"F0");
 
-const WHOLE: Option<(u8, usize)> = Some((1, 96));
+const NOTHING: File = Ok(b"");
 
-const CUT: Option<(u8, usize)> = Some((1, 51));
+const MISSING: File = Err(Unread::File);
 
-const EMPTY: Option<(u8, usize)> = Some((0, 96));
+const TOO_LARGE: File = Err(Unread::Memory);
 
-static REFUSED: [Refusal; 11] = [
+const WHOLE: PartFile = Ok(Part {
+    headers: 1,
+    length: 96,
+});
+
+const CUT: PartFile = Ok(Part {
+    headers: 1,
+    length: 51,
+});
+
+const EMPTY: PartFile = Ok(Part {
+    headers: 0,
+    length: 96,
+});
+
+const NO_IMAGE: PartFile = Err(Unread::File);
+
+const LARGE_IMAGE: PartFile = Err(Unread::Memory);
+
+static REFUSED: [Refusal; 22] = [
     refusal!(false, SINGLE, CUT, FETCH, "smtsim: image refused 1\n", 2),
     refusal!(false, SINGLE, EMPTY, FETCH, "smtsim: image refused 10\n", 2),
     refusal!(
         false,
         SINGLE,
         WHOLE,
-        Some(b"F0*3 D0"),
+        Ok(b"F0*3 D0"),
         "smtsim: script word 2 refused\n",
         2
     ),
-    refusal!(false, SINGLE, None, FETCH, "smtsim: file\n", 5),
-    refusal!(false, SINGLE, WHOLE, None, "smtsim: file\n", 5),
-    refusal!(false, SINGLE, CUT, None, "smtsim: image refused 1\n", 2),
+    refusal!(false, SINGLE, NO_IMAGE, FETCH, "smtsim: file\n", 5),
+    refusal!(false, SINGLE, LARGE_IMAGE, FETCH, "smtsim: memory\n", 5),
+    refusal!(false, SINGLE, NO_IMAGE, TOO_LARGE, "smtsim: file\n", 5),
+    refusal!(false, SINGLE, LARGE_IMAGE, MISSING, "smtsim: memory\n", 5),
+    refusal!(false, SINGLE, WHOLE, MISSING, "smtsim: file\n", 5),
+    refusal!(false, SINGLE, WHOLE, TOO_LARGE, "smtsim: memory\n", 5),
+    refusal!(false, SINGLE, CUT, MISSING, "smtsim: image refused 1\n", 2),
     refusal!(
         false,
-        Some(b"harts = 9"),
+        SINGLE,
         CUT,
+        TOO_LARGE,
+        "smtsim: image refused 1\n",
+        2
+    ),
+    refusal!(false, NINE_HARTS, CUT, FETCH, "smtsim: config refused\n", 2),
+    refusal!(
+        false,
+        NINE_HARTS,
+        NO_IMAGE,
         FETCH,
         "smtsim: config refused\n",
         2
     ),
-    refusal!(false, None, CUT, FETCH, "smtsim: file\n", 5),
+    refusal!(
+        false,
+        NINE_HARTS,
+        LARGE_IMAGE,
+        TOO_LARGE,
+        "smtsim: config refused\n",
+        2
+    ),
+    refusal!(false, MISSING, CUT, FETCH, "smtsim: file\n", 5),
+    refusal!(false, TOO_LARGE, CUT, FETCH, "smtsim: memory\n", 5),
+    refusal!(false, TOO_LARGE, NO_IMAGE, MISSING, "smtsim: memory\n", 5),
     refusal!(true, NOTHING, CUT, NOTHING, "smtsim: image refused 1\n", 2),
     refusal!(
         true,
@@ -80,7 +135,16 @@ static REFUSED: [Refusal; 11] = [
         "smtsim: image refused 10\n",
         2
     ),
-    refusal!(true, NOTHING, None, NOTHING, "smtsim: file\n", 5),
+    refusal!(true, NOTHING, NO_IMAGE, NOTHING, "smtsim: file\n", 5),
+    refusal!(true, NOTHING, LARGE_IMAGE, NOTHING, "smtsim: memory\n", 5),
+    refusal!(
+        true,
+        NINE_HARTS,
+        NO_IMAGE,
+        NOTHING,
+        "smtsim: config refused\n",
+        2
+    ),
 ];
 
 fn file_with(headers: u8) -> [u8; 96] {
@@ -93,8 +157,8 @@ fn line_of(list: bool) -> Line<'static> {
     if list { LIST } else { step_line(false, false) }
 }
 
-/// Whether inputs with this image are refused so, with nothing printed.
-fn is_told<R: Wait>(rt: &R, refusal: &Refusal, image: Option<&[u8]>, alloc: Global) -> bool {
+/// Asserts that inputs with this image are refused so, with nothing printed.
+fn tells<R: Wait + Abort>(rt: &R, refusal: &Refusal, image: Result<&[u8], Unread>, alloc: Global) {
     let inputs = Inputs {
         config: refusal.config,
         image,
@@ -102,24 +166,25 @@ fn is_told<R: Wait>(rt: &R, refusal: &Refusal, image: Option<&[u8]>, alloc: Glob
     };
     let line = line_of(refusal.list);
     let mut out = Vec::new(alloc);
-    let (status, err) = performed(rt, &line, &inputs, &mut StaticPredictor, &mut out, alloc);
-    status == refusal.status && out.is_empty() && text(&err) == refusal.told
+    let Told { status, err } = performed(rt, &line, &inputs, &mut StaticPredictor, &mut out, alloc);
+    let is = status == refusal.status && out.is_empty() && text(&err) == refusal.told;
+    ends(rt, refusal.told, status, text(&err), is);
 }
 
-fn is_refused<R: Wait>(rt: &R, refusal: &Refusal, alloc: Global) -> bool {
+fn refuses<R: Wait + Abort>(rt: &R, refusal: &Refusal, alloc: Global) {
     match refusal.image {
-        Some((headers, length)) => {
+        Ok(Part { headers, length }) => {
             let file = file_with(headers);
-            is_told(rt, refusal, file.get(..length), alloc)
+            tells(rt, refusal, Ok(&file[..length.min(96)]), alloc)
         }
-        None => is_told(rt, refusal, None, alloc),
+        Err(why) => tells(rt, refusal, Err(why), alloc),
     }
 }
 
 #[test]
 fn inputs_are_refused_by_name_and_number(rt: HostRuntime) {
     for refusal in &REFUSED {
-        holds(&rt, refusal.told, is_refused(&rt, refusal, rt.alloc()));
+        refuses(&rt, refusal, rt.alloc());
     }
 }
 
@@ -137,20 +202,28 @@ impl Write for Broken {
     }
 }
 
-/// Whether it is told that the output failed.
-fn is_failed<R: Wait>(rt: &R, list: bool, alloc: Global) -> bool {
+/// Asserts that it is told that the output failed.
+fn fails<R: Wait + Abort>(rt: &R, list: bool, alloc: Global) {
     let inputs = Inputs {
         config: SINGLE,
-        image: Some(&FIRST),
+        image: Ok(&FIRST),
         second: FETCH,
     };
     let line = line_of(list);
-    let (status, err) = performed(rt, &line, &inputs, &mut StaticPredictor, &mut Broken, alloc);
-    status == 5 && text(&err) == "smtsim: file\n"
+    let Told { status, err } = performed(
+        rt,
+        &line,
+        &inputs,
+        &mut StaticPredictor,
+        &mut Broken,
+        alloc,
+    );
+    let is = status == 5 && text(&err) == "smtsim: file\n";
+    ends(rt, "a broken output", status, text(&err), is);
 }
 
 #[test]
 fn an_output_that_fails_is_told(rt: HostRuntime) {
-    assert!(rt; is_failed(&rt, false, rt.alloc()));
-    assert!(rt; is_failed(&rt, true, rt.alloc()));
+    fails(&rt, false, rt.alloc());
+    fails(&rt, true, rt.alloc());
 }

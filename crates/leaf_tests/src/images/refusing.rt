@@ -1,7 +1,7 @@
 //! Files that are refused, each for the first check that fails.
 
 use super::{EXIT_WITH_5, Placed, file_of};
-use crate::rows::holds_at;
+use crate::rows::refuses;
 use elf_image::{LoadRefused, RamSize, load};
 use std::alloc::Global;
 
@@ -10,7 +10,8 @@ fn refused(alloc: Global, file: &[u8], ram: u32) -> Option<LoadRefused> {
     load(alloc, file, RamSize::new(ram)?).err()
 }
 
-/// The number of the refusal, None where the file is accepted; 0 where there is no such size of RAM.
+/// The number of the refusal, None where the file is accepted; 0 where there is no such size of
+/// RAM.
 fn refusal(alloc: Global, file: &[u8], ram: u32) -> Option<u8> {
     let Some(ram) = RamSize::new(ram) else {
         return Some(0);
@@ -77,9 +78,10 @@ fn changed(one: Change, other: Change) -> [u8; 96] {
 
 #[test]
 fn each_changed_byte_fails_its_own_check(rt: HostRuntime) {
-    for (one, other, number) in &CHANGED {
-        let file = changed(*one, *other);
-        holds_at(&rt, one.0, refusal(rt.alloc(), &file, 8192) == *number);
+    for (row, changes) in CHANGED.iter().enumerate() {
+        let (one, other, number) = *changes;
+        let file = changed(one, other);
+        refuses(&rt, row, refusal(rt.alloc(), &file, 8192), number);
     }
 }
 
@@ -92,17 +94,15 @@ fn a_file_that_was_cut_is_refused_where_it_ends(rt: HostRuntime) {
             84..=95 => Some(11),
             _ => None,
         };
-        holds_at(
-            &rt,
-            length as u32,
-            refusal(rt.alloc(), &EXIT_WITH_5[..length], 8192) == number,
-        );
+        let found = refusal(rt.alloc(), &EXIT_WITH_5[..length], 8192);
+        refuses(&rt, length, found, number);
     }
 }
 
 const AT_START: Placed = (100, 0x8000_0000, 4, 4, 5);
 
-/// A size of RAM, an entry and segments, and the number of the refusal, None where the file is accepted.
+/// A size of RAM, an entry and segments, and the number of the refusal, None where the file is
+/// accepted.
 static PLACED: [(u32, u32, &[Placed], Option<u8>); 15] = [
     // The last word of RAM, and a byte past it.
     (4096, 0x8000_0ffc, &[(84, 0x8000_0ffc, 4, 4, 5)], None),
@@ -193,7 +193,8 @@ static PLACED: [(u32, u32, &[Placed], Option<u8>); 15] = [
     ),
 ];
 
-/// The number of the refusal of a file of these segments; that of want of memory where there is none for the file.
+/// The number of the refusal of a file of these segments; that of want of memory where there is
+/// none for the file.
 fn refusal_of(alloc: Global, entry: u32, segments: &[Placed], ram: u32) -> Option<u8> {
     match file_of(alloc, entry, segments) {
         Ok(file) => refusal(alloc, &file, ram),
@@ -203,12 +204,10 @@ fn refusal_of(alloc: Global, entry: u32, segments: &[Placed], ram: u32) -> Optio
 
 #[test]
 fn segments_are_checked_against_ram_and_each_other(rt: HostRuntime) {
-    for (ram, entry, segments, number) in &PLACED {
-        holds_at(
-            &rt,
-            *entry,
-            refusal_of(rt.alloc(), *entry, segments, *ram) == *number,
-        );
+    for (row, placed) in PLACED.iter().enumerate() {
+        let (ram, entry, segments, number) = *placed;
+        let found = refusal_of(rt.alloc(), entry, segments, ram);
+        refuses(&rt, row, found, number);
     }
 }
 

@@ -13,23 +13,40 @@ static EVERY_ROLE: [Role; 6] = [
     Role::Mem,
 ];
 
-/// The harts, the extra registers, the queue, the bytes of RAM, the limit and the turns.
-type Sizes = (u8, u16, u8, u32, u32, u64);
+/// The numbers of settings; RAM is in bytes.
+#[derive(Clone, Copy, PartialEq, Drop)]
+struct Sizes {
+    harts: u8,
+    extra: u16,
+    queue: u8,
+    ram: u32,
+    limit: u32,
+    turns: u64,
+}
 
-const DEFAULTS: Sizes = (1, 64, 16, 65_536, 1_000_000, 1_000_000_000);
+const DEFAULTS: Sizes = Sizes {
+    harts: 1,
+    extra: 64,
+    queue: 16,
+    ram: 65_536,
+    limit: 1_000_000,
+    turns: 1_000_000_000,
+};
+
+fn sizes_of(settings: &Settings) -> Sizes {
+    let config = &settings.config;
+    Sizes {
+        harts: config.harts,
+        extra: config.extra,
+        queue: config.queue,
+        ram: settings.ram.bytes(),
+        limit: settings.limit,
+        turns: settings.turns,
+    }
+}
 
 fn has(settings: &Settings, sizes: Sizes, roles: &[Role]) -> bool {
-    let config = &settings.config;
-    let ram = settings.ram.bytes();
-    (
-        config.harts,
-        config.extra,
-        config.queue,
-        ram,
-        settings.limit,
-        settings.turns,
-    ) == sizes
-        && config.roles.as_slice() == roles
+    sizes_of(settings) == sizes && settings.config.roles.as_slice() == roles
 }
 
 /// Whether a configuration is read as these sizes and roles.
@@ -46,7 +63,10 @@ pub(super) fn is_default(text: &[u8], alloc: Global) -> bool {
 
 #[test]
 fn a_key_that_is_absent_has_its_default(rt: HostRuntime) {
-    let sizes = (2, 64, 16, 65_536, 1_000_000, 1_000_000_000);
+    let sizes = Sizes {
+        harts: 2,
+        ..DEFAULTS
+    };
     assert!(rt; says(b"harts = 2", sizes, &EVERY_ROLE, rt.alloc()));
 }
 
@@ -59,8 +79,16 @@ fn settings_can_be_had_without_a_configuration(rt: HostRuntime) {
 fn each_key_is_read(rt: HostRuntime) {
     let text =
         b"# sizes\nharts = 8\nextra = 256\nqueue = 64\nram = 8192\nlimit = 1000\nturns = 5\nactors = [\"mem\", \"alu\", \"alu\"]\n";
+    let sizes = Sizes {
+        harts: 8,
+        extra: 256,
+        queue: 64,
+        ram: 8192,
+        limit: 1000,
+        turns: 5,
+    };
     let roles = [Role::Mem, Role::Alu, Role::Alu];
-    assert!(rt; says(text, (8, 256, 64, 8192, 1000, 5), &roles, rt.alloc()));
+    assert!(rt; says(text, sizes, &roles, rt.alloc()));
 }
 
 fn refusal(text: &[u8], alloc: Global) -> Option<ConfigRefused> {
@@ -92,7 +120,10 @@ fn a_number_may_be_the_first_or_the_last_of_its_range(rt: HostRuntime) {
         "harts = 1|harts = 8|extra = 1|extra = 256|queue = 4|queue = 64|ram = 4096|ram = 16777216|\
 limit = 0|limit = 16777216|turns = 0|turns = 1000000000000000000|actors = [\"alu\"]";
     each_is(&rt, None, texts, 13, rt.alloc());
-    let turns = (1, 64, 16, 65_536, 1_000_000, 1_000_000_000_000_000_000);
+    let turns = Sizes {
+        turns: 1_000_000_000_000_000_000,
+        ..DEFAULTS
+    };
     assert!(rt;
         says(
             b"turns = 1000000000000000000",

@@ -1,10 +1,11 @@
 //! Words of every row of the instruction table, and what another disassembler makes of them.
 //!
-//! The words were chosen by hand and at random, with the least and greatest immediates, for each of the 59 rows. The texts
-//! were made once with GNU objdump 2.40 (Debian 12, binutils-riscv64-unknown-elf), as
-//! `objdump -D -b binary -m riscv:rv32 -M numeric,no-aliases --adjust-vma=0x80000000`. Three of its habits were changed:
-//! the upper part of LUI and AUIPC to five digits and the target of a jump to eight, the amount of a shift to decimal, and
-//! the operands of FENCE are left out.
+//! The words were chosen by hand and at random, with the least and greatest immediates, for each of
+//! the 59 rows. The texts were made once with GNU objdump 2.40 (Debian 12,
+//! binutils-riscv64-unknown-elf), as `objdump -D -b binary -m riscv:rv32 -M numeric,no-aliases
+//! --adjust-vma=0x80000000`. Three of its habits were changed:
+//! the upper part of LUI and AUIPC to five digits and the target of a jump to eight, the amount of
+//! a shift to decimal, and the operands of FENCE are left out.
 
 /// Where the first word stands. Each other one stands four bytes above the one before it.
 pub(super) const BASE: u32 = 0x8000_0000;

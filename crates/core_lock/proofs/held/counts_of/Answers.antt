@@ -5,8 +5,10 @@ use Rattle.core_lock.proofs.held.counts_of.Goals as goal
 
 pub loop-place-preserved : goal.loop-place-preserved
 loop-place-preserved g c = record {
-  written = column_more (λ p. p.count) c.args.passes.now c.loop-place.counts c.loop-place.place c.index-passes-place.result
-      (omega (arith, c.type_inv.passes, c.loop-place-test.true)) (omega (arith, c.loop-place.invariant.row, c.loop-place-test.true)) c.loop-place.invariant.written;
+  written =
+      column_more (λ p. p.count) c.args.passes.now c.loop-place.counts c.loop-place.place c.index-passes-place.result
+      (omega (arith, c.type_inv.passes, c.loop-place-test.true))
+      (omega (arith, c.loop-place.invariant.row, c.loop-place-test.true)) c.loop-place.invariant.written;
   row = length-set _ _ _ ∙ c.loop-place.invariant.row;
 }
 

@@ -1,8 +1,8 @@
 -- The best after a hart more.
 use Rattle.std.proofs.Common.{sym, arith}
-use Rattle.core_state.proofs.Choice.{better-start, better-step}
+use Rattle.core_state.proofs.{Steps.Fetch.Choice.better-start, Steps.Fetch.Choice.better-step}
+use Rattle.core_state.proofs.{fetch.better.Goals.then-is_better, fetch.better.Goals.else-is_better}
 use Rattle.core_state.proofs.fetch.better.Goals as goal
-use Rattle.core_state.proofs.fetch.better.Goals.{then-is_better, else-is_better}
 
 pub loop-hart-init : goal.loop-hart-init
 loop-hart-init c = (sym (better-start c.args.harts.now c.args.best c.args.from), c.requires.inside)
@@ -11,7 +11,8 @@ pub loop-hart-preserved : goal.loop-hart-preserved
 loop-hart-preserved c =
     let best = c.loop-hart.best in
     let i = c.loop-hart.hart in
-    let step = better-step c.args.harts.now c.args.best c.args.from i best c.if-is_better.best c.is_better.result c.loop-hart.auto.hart
+    let step = better-step c.args.harts.now c.args.best c.args.from i best c.if-is_better.best c.is_better.result
+    c.loop-hart.auto.hart
     c.loop-hart.invariant.0 c.is_better.ensures in
     elim c.if-is_better.branch [
       | then-is_better w ↦ (

@@ -1,9 +1,9 @@
 -- Both passes together find the hart that is next in turn.
 use Rattle.std.proofs.Common.{◌≡◌, ◌∙◌, None, length, subst, ap, arith}
 use Rattle.core_state.specs.Fetch.{better_of, from_to}
-use Rattle.core_state.proofs.Choice.{IsNext, chosen_none, chosen_some}
+use Rattle.core_state.proofs.{Steps.Fetch.Choice.IsNext, Steps.Fetch.Choice.chosen_none, Steps.Fetch.Choice.chosen_some}
+use Rattle.core_state.proofs.{fetch.choose.Goals.in-Some, fetch.choose.Goals.in-None}
 use Rattle.core_state.proofs.fetch.choose.Goals as goal
-use Rattle.core_state.proofs.fetch.choose.Goals.{in-Some, in-None}
 
 pub returns-clause-value : goal.returns-clause-value
 returns-clause-value c =
@@ -15,10 +15,13 @@ returns-clause-value c =
           let smaller = w.min-next.ensures in
           let last = w.from.ensures in
           let end = w.next-is in
-          let is : IsNext (length harts) w.in-Some.last next = record { inside = omega arith; upto = omega arith; least = λ under. omega arith } in
+          let is : IsNext (length harts) w.in-Some.last next =
+          record { inside = omega arith; upto = omega arith; least = λ under. omega arith } in
           rw w.in-Some.is (passes ∙ chosen_some harts w.in-Some.last next is)
       | in-None w ↦
           rw w.in-None.is
-          (subst (λ n. c.better.result ≡ better_of harts (better_of harts None (from_to n (length harts))) (from_to 0 n)) w.next-is passes
+          (subst
+          (λ n. c.better.result ≡ better_of harts (better_of harts None (from_to n (length harts))) (from_to 0 n))
+          w.next-is passes
           ∙ chosen_none harts)
     ]

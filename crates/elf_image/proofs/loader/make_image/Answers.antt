@@ -4,11 +4,13 @@ use Rattle.elf_image.proofs.loader.make_image.Goals as goal
 
 pub read_segments-requires-clause-in_file : goal.read_segments-requires-clause-in_file
 read_segments-requires-clause-in_file c k d below =
-    (good c.args.file.now c.args.ram c.args.order.now c.requires.passed c.requires.all c.requires.rising k d below).in_file
+    (good c.args.file.now c.args.ram c.args.order.now c.requires.passed c.requires.all c.requires.rising k d
+    below).in_file
 
 pub read_segments-requires-clause-in_memory : goal.read_segments-requires-clause-in_memory
 read_segments-requires-clause-in_memory c k d below =
-    (good c.args.file.now c.args.ram c.args.order.now c.requires.passed c.requires.all c.requires.rising k d below).sized
+    (good c.args.file.now c.args.ram c.args.order.now c.requires.passed c.requires.all c.requires.rising k d
+    below).sized
 
 pub new-requires : goal.new-requires
 new-requires c =

@@ -4,4 +4,5 @@ use Rattle.elf_image.proofs.program_header.read_loadable.Given as goal
 
 -- the headers so far and those of the rest of the table are those of the table
 abbrev pub invariant-loop-i : goal.invariant-loop-i
-invariant-loop-i l = l.headers.items ++ loadable_from l.file (l.place + 32 * l.i) (l.count - l.i) ≡ loadable_from l.file l.place l.count
+invariant-loop-i l =
+    l.headers.items ++ loadable_from l.file (l.place + 32 * l.i) (l.count - l.i) ≡ loadable_from l.file l.place l.count

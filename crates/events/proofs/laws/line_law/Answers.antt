@@ -1,6 +1,4 @@
-use Rattle.events.proofs.LineOnly.{event_of_only}
-use Rattle.events.proofs.RangeLaws.{HasShortWrite-in_range}
-use Rattle.events.proofs.ReadBack.{event_of-line_of}
+use Rattle.events.proofs.{LineOnly.event_of_only, RangeLaws.HasShortWrite-in_range, ReadBack.event_of-line_of}
 use Rattle.events.proofs.laws.line_law.Goals as goal
 
 pub returns-clause-printed : goal.returns-clause-printed

@@ -1,12 +1,12 @@
 use Rattle.std.proofs.Common.{sym, ◌∙◌, ap}
-use Rattle.rv_text.specs.Spelling.{mnemonic_of}
-use Rattle.rv_text.specs.Reading.{instr_at}
+use Rattle.rv_text.specs.{Spelling.mnemonic_of, Reading.instr_at}
 use Rattle.rv_text.proofs.TextLaws.{row_named, said_is_read, result_is_said}
 use Rattle.rv_text.proofs.parser.parse.Goals as goal
 
 pub returns-in_default-clause-only : goal.returns-in_default-clause-only
 returns-in_default-clause-only c = λ i says.
-    let found = c.mnemonic_named.ensures.only (mnemonic_of i) (c.split_name.ensures.name ∙ row_named c.args.pc c.args.text.now i says) in
+    let found = c.mnemonic_named.ensures.only (mnemonic_of i)
+    (c.split_name.ensures.name ∙ row_named c.args.pc c.args.text.now i says) in
     absurd (cc (found, c.in_default.is))
 
 pub returns-clause-read : goal.returns-clause-read
@@ -15,5 +15,7 @@ returns-clause-read c = result_is_said c.args.pc c.ranges.pc.fits c.args.text.no
     (c.instr_of.ensures ∙ ap (instr_at c.args.pc c.in-Some.row) c.split_name.ensures.operands)
 
 pub returns-clause-only : goal.returns-clause-only
-returns-clause-only c = λ i says. c.instr_of.ensures ∙ ap (instr_at c.args.pc c.in-Some.row) c.split_name.ensures.operands
-    ∙ said_is_read c.args.pc c.ranges.pc.fits c.args.text.now c.in-Some.row (sym c.split_name.ensures.name ∙ c.in-Some.ensures.found) i says
+returns-clause-only c =
+    λ i says. c.instr_of.ensures ∙ ap (instr_at c.args.pc c.in-Some.row) c.split_name.ensures.operands
+    ∙ said_is_read c.args.pc c.ranges.pc.fits c.args.text.now c.in-Some.row
+    (sym c.split_name.ensures.name ∙ c.in-Some.ensures.found) i says

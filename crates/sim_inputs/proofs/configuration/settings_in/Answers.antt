@@ -1,5 +1,4 @@
-use Rattle.std.proofs.Common.{refl, arith}
-use Rattle.std.proofs.lemmas.Bool.Decides.{nat_tests}
+use Rattle.std.proofs.{Common.refl, Common.arith, lemmas.Bool.Decides.nat_tests}
 use Rattle.sim_inputs.proofs.configuration.settings_in.Goals as goal
 
 pub returns-clause-found : goal.returns-clause-found

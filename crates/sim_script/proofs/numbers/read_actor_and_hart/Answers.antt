@@ -1,6 +1,5 @@
 use Rattle.std.proofs.Common.{refl}
-use Rattle.sim_script.proofs.Parts.{apart, same_value, has_byte}
-use Rattle.sim_script.proofs.Spellings.{actor_and_hart}
+use Rattle.sim_script.proofs.{Parts.apart, Parts.same_value, Parts.has_byte, Spellings.actor_and_hart}
 use Rattle.sim_script.proofs.numbers.read_actor_and_hart.Goals as goal
 
 pub returns-in_err-actor-clause-only : goal.returns-in_err-actor-clause-only

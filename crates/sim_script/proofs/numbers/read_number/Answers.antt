@@ -1,6 +1,5 @@
 use Rattle.std.proofs.Common.{◌≡◌, arith, ◌∙◌}
-use Rattle.std.proofs.lemmas.Fmt.{parse-decimal, IsAscii-decimal}
-use Rattle.std.proofs.lemmas.Str.{IsUtf8-from_ascii}
+use Rattle.std.proofs.{lemmas.Fmt.parse-decimal, lemmas.Fmt.IsAscii-decimal, lemmas.Str.IsUtf8-from_ascii}
 use Rattle.sim_script.proofs.Decimals.{plain_decimal, spelled}
 use Rattle.sim_script.proofs.numbers.read_number.Goals as goal
 
@@ -19,14 +18,17 @@ returns-in-Ok-parse-clause-found c =
 
 pub returns-in-Ok-parse-clause-only : goal.returns-in-Ok-parse-clause-only
 returns-in-Ok-parse-clause-only c = λ n small e.
-    let read = parse-decimal 32 n _ _ (omega arith) (omega arith) (c.in-Ok.ensures.cases.0 ∙ e) c.parse.ensures.value.0 in cc
+    let read =
+    parse-decimal 32 n _ _ (omega arith) (omega arith) (c.in-Ok.ensures.cases.0 ∙ e) c.parse.ensures.value.0 in cc
 
 pub returns-in_default-parse-clause-only : goal.returns-in_default-parse-clause-only
 returns-in_default-parse-clause-only c = λ n small e.
-    let read = parse-decimal 32 n _ _ (omega arith) (omega arith) (c.in-Ok.ensures.cases.0 ∙ e) c.parse.ensures.value.0 in
+    let read =
+    parse-decimal 32 n _ _ (omega arith) (omega arith) (c.in-Ok.ensures.cases.0 ∙ e) c.parse.ensures.value.0 in
     let same : c.in-Ok-parse.number ≡ n = cc in
     absurd (omega arith)
 
 pub returns-in_default-parse-2-clause-only : goal.returns-in_default-parse-2-clause-only
 returns-in_default-parse-2-clause-only c = λ n small e.
-    let read = parse-decimal 32 n _ _ (omega arith) (omega arith) (c.in-Ok.ensures.cases.0 ∙ e) c.parse.ensures.value.0 in cc
+    let read =
+    parse-decimal 32 n _ _ (omega arith) (omega arith) (c.in-Ok.ensures.cases.0 ∙ e) c.parse.ensures.value.0 in cc

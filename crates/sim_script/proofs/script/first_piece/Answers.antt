@@ -8,4 +8,5 @@ returns-in_default-clause-none c = pieces_none _ (sym c.piece_start.ensures ∙ 
 
 pub returns-clause-found : goal.returns-clause-found
 returns-clause-found c =
-    pieces_some _ _ _ c.in-Some.start _ (sym c.in-Some.ensures) (grind (arith, common_steps)) (rw (← c.piece_end.ensures) c.unwrap_or-end.ensures) (grind (arith, common_steps))
+    pieces_some _ _ _ c.in-Some.start _ (sym c.in-Some.ensures) (grind (arith, common_steps))
+    (rw (← c.piece_end.ensures) c.unwrap_or-end.ensures) (grind (arith, common_steps))

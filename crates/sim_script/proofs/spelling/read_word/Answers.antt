@@ -1,6 +1,5 @@
 use Rattle.std.proofs.Common.{arith, refl}
-use Rattle.sim_script.proofs.Parts.{apart, same_value}
-use Rattle.sim_script.proofs.Spellings.{with_asterisk, without_asterisk}
+use Rattle.sim_script.proofs.{Parts.apart, Parts.same_value, Spellings.with_asterisk, Spellings.without_asterisk}
 use Rattle.sim_script.proofs.spelling.read_word.Goals as goal
 
 pub returns-in_err-action-in-Some-clause-only : goal.returns-in_err-action-in-Some-clause-only

@@ -5,4 +5,5 @@ use Rattle.simulator.proofs.recording.write_records.Given as goal
 
 -- the lines of the records so far are written
 abbrev pub invariant-loop-record : goal.invariant-loop-record
-invariant-loop-record g l = Appends (g.W.Write.contents l.fn.out) (g.W.Write.contents l.out) (flat_map record_line (take l.record-index l.records))
+invariant-loop-record g l = Appends (g.W.Write.contents l.fn.out) (g.W.Write.contents l.out)
+    (flat_map record_line (take l.record-index l.records))

@@ -9,5 +9,6 @@ returns g c =
     let harts = rw c.as_slice.ensures.value at c.in_ok-report_harts.ensures in
     on_ok_weaker c.report_output.result
     (λ output. appends_more _ _ _ _ _ c.in_ok-report_records.ensures (appends_more _ _ _ _ _ events
-    (appends_more _ _ _ _ _ c.in_ok-report_count-2.ensures (appends_more _ _ _ _ _ lent (appends_more _ _ _ _ _ harts output)))))
+    (appends_more _ _ _ _ _ c.in_ok-report_count-2.ensures
+    (appends_more _ _ _ _ _ lent (appends_more _ _ _ _ _ harts output)))))
     c.report_output.ensures

@@ -5,4 +5,5 @@ use Rattle.simulator.proofs.reporting.report_harts.Given as goal
 
 -- the lines of the harts so far are written
 abbrev pub invariant-loop-hart : goal.invariant-loop-hart
-invariant-loop-hart g l = Appends (g.W.Write.contents l.fn.out) (g.W.Write.contents l.out) (hart_lines 0 (take l.hart l.statuses))
+invariant-loop-hart g l =
+    Appends (g.W.Write.contents l.fn.out) (g.W.Write.contents l.out) (hart_lines 0 (take l.hart l.statuses))

@@ -5,4 +5,5 @@ use Rattle.simulator.proofs.reporting.write_bytes.Given as goal
 
 -- the digits of the bytes so far are written
 abbrev pub invariant-loop-byte : goal.invariant-loop-byte
-invariant-loop-byte g l = Appends (g.W.Write.contents l.fn.out) (g.W.Write.contents l.out) (flat_map (hex 2) (take l.byte-index l.bytes))
+invariant-loop-byte g l =
+    Appends (g.W.Write.contents l.fn.out) (g.W.Write.contents l.out) (flat_map (hex 2) (take l.byte-index l.bytes))

@@ -1,6 +1,5 @@
 use Rattle.std.proofs.Common.{◌≡◌, ◌≤◌, drop, true}
-use Rattle.std.specs.List.{list_all}
-use Rattle.std.specs.Char.{is_ascii_digit}
+use Rattle.std.specs.{List.list_all, Char.is_ascii_digit}
 use Rattle.text_fields.specs.Reading.{decimal_after}
 use Rattle.text_fields.proofs.read.number_up_to.Given as goal
 

@@ -1,6 +1,5 @@
 use Rattle.std.proofs.Common.{◌≡◌, ◌∙◌, true, ap, subst, sym}
-use Rattle.core_lock.specs.Asks.{is_reply}
-use Rattle.core_lock.specs.Passes.{more, later, IsTold}
+use Rattle.core_lock.specs.{Asks.is_reply, Passes.more, Passes.later, Passes.IsTold}
 use Rattle.core_lock.proofs.Replies.{own_reply, told_still, counted_still, setup_still, limit_still}
 use Rattle.core_lock.proofs.held.Held.step.Goals as goal
 
@@ -17,12 +16,14 @@ invariant_of-self-clause-limit g c = limit_still _ _ _ _ _ c.make-said.ensures.a
 
 pub invariant_of-result : goal.invariant_of-result
 invariant_of-result g c = record {
-  own = subst (λ a. is_reply c.args.pass.now.actor a c.make-said.result ≡ true) (sym c.asked-asked.ensures) (own_reply _ _ _ _ _ c.make-said.ensures.answer);
+  own = subst (λ a. is_reply c.args.pass.now.actor a c.make-said.result ≡ true) (sym c.asked-asked.ensures)
+      (own_reply _ _ _ _ _ c.make-said.ensures.answer);
 }
 
 pub returns-clause-told : goal.returns-clause-told
 returns-clause-told g c = λ told.
-    subst (λ k. IsTold c.make-said.new.core.past k c.note.new.pass.count c.note.new.pass.last) (sym c.note.ensures.actor)
+    subst (λ k. IsTold c.make-said.new.core.past k c.note.new.pass.count c.note.new.pass.last)
+    (sym c.note.ensures.actor)
     (told_still _ _ _ _ _ _ _ _ _ c.make-said.ensures.answer
     (c.note.ensures.count ∙ ap (more c.args.pass.now.count) c.event.ensures)
     (c.note.ensures.last ∙ ap (later c.args.pass.now.last) c.event.ensures) told)

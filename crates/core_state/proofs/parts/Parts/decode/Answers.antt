@@ -1,9 +1,8 @@
 -- The hart that decodes agrees with the picture after it, and so does all that it leaves.
 use Rattle.std.proofs.Common.{◌<◌, length, refl, subst, sym}
 use Rattle.smt_model.specs.Steps.{IsDecode}
-use Rattle.core_state.proofs.Agreeing.{each_set}
-use Rattle.core_state.proofs.Keeping.{rest_kept}
-use Rattle.core_state.proofs.DecodedParts.{keeps_rest, own_decode, other_decode}
+use Rattle.core_state.proofs.{Agreement.Harts.each_set, Agreement.Rest.rest_kept, Steps.Decode.Parts.keeps_rest}
+use Rattle.core_state.proofs.{Steps.Decode.Parts.own_decode, Steps.Decode.Parts.other_decode}
 use Rattle.core_state.proofs.parts.Parts.decode.Goals as goal
 
 pub returns-clause-agrees : goal.returns-clause-agrees

@@ -1,8 +1,7 @@
 -- The hart that fetches agrees with the picture after it, and so does all that it leaves.
 use Rattle.std.proofs.Common.{refl}
-use Rattle.core_state.proofs.Agreeing.{each_set}
-use Rattle.core_state.proofs.Keeping.{rest_kept}
-use Rattle.core_state.proofs.FetchedParts.{keeps_rest, own_fetch, other_fetch}
+use Rattle.core_state.proofs.{Agreement.Harts.each_set, Agreement.Rest.rest_kept, Steps.Fetch.Parts.keeps_rest}
+use Rattle.core_state.proofs.{Steps.Fetch.Parts.own_fetch, Steps.Fetch.Parts.other_fetch}
 use Rattle.core_state.proofs.parts.Parts.fetch.Goals as goal
 
 pub returns-clause-agrees : goal.returns-clause-agrees
@@ -13,5 +12,6 @@ returns-clause-agrees c = λ p q agrees step.
     let y = c.fetch.new.self in
     rest_kept p q c.args.self.now _ (keeps_rest p q h slot step) agrees
     (each_set p q c.args.self.now.harts.items h x y c.requires.step.inside c.index_mut.ensures.value
-    (own_fetch p q h slot x y c.requires.op step c.fetch.ensures) (λ g other z. other_fetch p q h slot g z other step) agrees.harts)
+    (own_fetch p q h slot x y c.requires.op step c.fetch.ensures)
+    (λ g other z. other_fetch p q h slot g z other step) agrees.harts)
     refl refl refl refl

@@ -1,4 +1,4 @@
-use Rattle.core_state.proofs.Filling.{is_filled_none, is_filled_empty}
+use Rattle.core_state.proofs.Agreement.Fill.{is_filled_none, is_filled_empty}
 use Rattle.core_state.proofs.parts.Parts.fill.Goals as goal
 
 pub returns-in_default : goal.returns-in_default

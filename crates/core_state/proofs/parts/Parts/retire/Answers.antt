@@ -1,4 +1,4 @@
-use Rattle.core_state.proofs.Halting.{ends_ended, ends_stopped}
+use Rattle.core_state.proofs.Steps.Retire.Halt.{ends_ended, ends_stopped}
 use Rattle.core_state.proofs.parts.Parts.retire.Goals as goal
 
 pub halt-requires : goal.halt-requires
@@ -10,7 +10,8 @@ halt-requires c =
         after = from.after;
         inside = from.inside;
         agrees = from.agrees;
-        step = ends_ended from.before from.after c.args.hart c.args.active c.args.effect c.in-Ended.status c.in-Ended.is from.step;
+        step = ends_ended from.before from.after c.args.hart c.args.active c.args.effect c.in-Ended.status
+            c.in-Ended.is from.step;
       };
     }
 
@@ -23,7 +24,8 @@ halt-requires-in-Stopped c =
         after = from.after;
         inside = from.inside;
         agrees = from.agrees;
-        step = ends_stopped from.before from.after c.args.hart c.args.active c.args.effect c.in-Stopped.cause c.in-Stopped.is from.step;
+        step = ends_stopped from.before from.after c.args.hart c.args.active c.args.effect c.in-Stopped.cause
+            c.in-Stopped.is from.step;
       };
     }
 

@@ -1,5 +1,5 @@
 use Rattle.std.proofs.Common.{◌∙◌, refl, ap, subst, ◌≡◌, get_or, slice_set, None}
-use Rattle.core_state.proofs.Completing.{parts_completed}
+use Rattle.core_state.proofs.Steps.Complete.Parts.{parts_completed}
 use Rattle.core_state.proofs.parts.Parts.write_outcome.Goals as goal
 
 pub returns-clause-agrees : goal.returns-clause-agrees
@@ -8,7 +8,8 @@ returns-clause-agrees c = λ p q agrees step phys.
     let x = c.index_mut.result.now in
     let at : x ≡ get_or c.fill.new.self.harts.items c.args.hart x =
     subst (λ i. x ≡ get_or c.fill.new.self.harts.items i x) c.from-2.ensures c.index_mut.ensures.value in
-    parts_completed p q c.args.hart c.args.active.now.seq c.args.actor c.args.outcome c.args.goes_on c.args.active.now.phys old c.fill.new.self _
+    parts_completed p q c.args.hart c.args.active.now.seq c.args.actor c.args.outcome c.args.goes_on
+    c.args.active.now.phys old c.fill.new.self _
     c.requires.inside agrees step phys (record {
       was = x;
       at = subst (λ v. x ≡ get_or v.items c.args.hart x) c.fill.ensures.harts at;
@@ -20,5 +21,6 @@ returns-clause-agrees c = λ p q agrees step phys.
       queue = refl;
       free = refl;
       values = refl;
-      jobs = c.set_job.ensures ∙ ap (λ js. slice_set js c.from.result None) c.fill.ensures.jobs ∙ ap (λ k. slice_set old.jobs k None) c.from.ensures;
+      jobs = c.set_job.ensures ∙ ap (λ js. slice_set js c.from.result None) c.fill.ensures.jobs
+          ∙ ap (λ k. slice_set old.jobs k None) c.from.ensures;
     })

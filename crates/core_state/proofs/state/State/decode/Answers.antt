@@ -1,14 +1,11 @@
 -- What the parts decode is what the history allows to be decoded.
 use Rattle.std.proofs.Common.{◌≡◌, true, None, subst, arith}
 use Rattle.events.specs.declared.event.Event.TheVariants.{Decode}
-use Rattle.smt_model.specs.Asks.{AskDecode, answers}
-use Rattle.smt_model.specs.Rules.{refused, is_actor}
-use Rattle.core_state.specs.Answers.{AllowsNone}
-use Rattle.core_state.specs.State.{past_of, setup_in}
-use Rattle.core_state.specs.View.{CoreView}
-use Rattle.core_state.proofs.Cores.{core_grown, quiet_decode}
-use Rattle.core_state.proofs.DecodeRules.{decode_idle}
-use Rattle.core_state.proofs.DecodedState.{decode_in, decode_ok, decode_answers, decode_starts, decode_grows, none_decodes}
+use Rattle.smt_model.specs.{Asks.AskDecode, Asks.answers, Rules.refused, Jobs.is_actor}
+use Rattle.core_state.specs.{Answers.AllowsNone, State.past_of, State.setup_in, View.CoreView}
+use Rattle.core_state.proofs.{Steps.Invariant.core_grown, Steps.Invariant.quiet_decode, Steps.Decode.Rules.decode_idle}
+use Rattle.core_state.proofs.Steps.Decode.State.{decode_in, decode_ok, decode_answers, decode_starts, decode_grows}
+use Rattle.core_state.proofs.Steps.Decode.State.{none_decodes}
 use Rattle.core_state.proofs.state.State.decode.Goals as goal
 
 pub returns-then-not-has_actor-clause-idle : goal.returns-then-not-has_actor-clause-idle
@@ -33,7 +30,8 @@ pub decode-requires : goal.decode-requires
 decode-requires c =
     let i = c.self.inside in
     let found = c.in_ok-seq.ensures in
-    let is = decode_in i c.args.self.now c.self.view_is c.args.actor c.args.hart c.in_ok-seq.seq c.has_actor.result c.has_actor.ensures
+    let is = decode_in i c.args.self.now c.self.view_is c.args.actor c.args.hart c.in_ok-seq.seq c.has_actor.result
+    c.has_actor.ensures
     c.if-not-has_actor.false found.inside found.some in
     record { step = decode_starts i c.self.invariant c.args.actor c.args.hart c.in_ok-seq.seq is }
 
@@ -41,17 +39,20 @@ pub invariant_of-self : goal.invariant_of-self
 invariant_of-self c =
     let i = c.self.inside in
     let found = c.in_ok-seq.ensures in
-    let is = decode_in i c.args.self.now c.self.view_is c.args.actor c.args.hart c.in_ok-seq.seq c.has_actor.result c.has_actor.ensures
+    let is = decode_in i c.args.self.now c.self.view_is c.args.actor c.args.hart c.in_ok-seq.seq c.has_actor.result
+    c.has_actor.ensures
     c.if-not-has_actor.false found.inside found.some in
     core_grown i c.decode.new.self c.append.new.history (Decode c.args.actor c.in_ok-seq.seq) c.self.invariant
-    (decode_grows i c.self.invariant c.args.actor c.args.hart c.in_ok-seq.seq c.decode.new.self is c.decode.ensures.agrees c.decode.ensures.sizes)
+    (decode_grows i c.self.invariant c.args.actor c.args.hart c.in_ok-seq.seq c.decode.new.self is
+    c.decode.ensures.agrees c.decode.ensures.sizes)
     (quiet_decode c.args.actor c.in_ok-seq.seq) c.append.ensures
 
 pub returns-clause-allowed : goal.returns-clause-allowed
 returns-clause-allowed c =
     let i = c.self.inside in
     let found = c.in_ok-seq.ensures in
-    let is = decode_in i c.args.self.now c.self.view_is c.args.actor c.args.hart c.in_ok-seq.seq c.has_actor.result c.has_actor.ensures
+    let is = decode_in i c.args.self.now c.self.view_is c.args.actor c.args.hart c.in_ok-seq.seq c.has_actor.result
+    c.has_actor.ensures
     c.if-not-has_actor.false found.inside found.some in
     subst (λ (v : CoreView). refused v.setup v.past (Decode c.args.actor c.in_ok-seq.seq) ≡ None) c.self.view_is
     (decode_ok i c.self.invariant c.args.actor c.args.hart c.in_ok-seq.seq is)
@@ -60,7 +61,10 @@ pub returns-clause-answer : goal.returns-clause-answer
 returns-clause-answer c =
     let i = c.self.inside in
     let found = c.in_ok-seq.ensures in
-    let is = decode_in i c.args.self.now c.self.view_is c.args.actor c.args.hart c.in_ok-seq.seq c.has_actor.result c.has_actor.ensures
+    let is = decode_in i c.args.self.now c.self.view_is c.args.actor c.args.hart c.in_ok-seq.seq c.has_actor.result
+    c.has_actor.ensures
     c.if-not-has_actor.false found.inside found.some in
-    subst (λ (v : CoreView). answers (AskDecode c.args.actor c.args.hart) v.past (Decode c.args.actor c.in_ok-seq.seq) ≡ true) c.self.view_is
+    subst
+    (λ (v : CoreView). answers (AskDecode c.args.actor c.args.hart) v.past (Decode c.args.actor c.in_ok-seq.seq)
+    ≡ true) c.self.view_is
     (decode_answers i c.self.invariant c.args.actor c.args.hart c.in_ok-seq.seq is)

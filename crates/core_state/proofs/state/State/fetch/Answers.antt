@@ -2,24 +2,27 @@
 use Rattle.std.proofs.Common.{◌∙◌, ap, arith}
 use Rattle.events.specs.declared.event.Event.TheVariants.{Fetch}
 use Rattle.core_state.specs.declared.slot.Slot.{Slot}
-use Rattle.core_state.proofs.FetchedState.{fetched_is, fetch_starts, fetch_core, fetched_few}
-use Rattle.core_state.proofs.Viewed.{short_in}
+use Rattle.core_state.proofs.Steps.Fetch.State.{fetched_is, fetch_starts, fetch_core, fetched_few}
+use Rattle.core_state.proofs.Views.Viewed.{short_in}
 use Rattle.core_state.proofs.state.State.fetch.Goals as goal
 
 pub fetch-requires-clause-step : goal.fetch-requires-clause-step
 fetch-requires-clause-step c =
-    fetch_starts c.self.inside c.self.invariant c.args.self.now c.self.view_is c.args.actor c.args.point c.args.predicted c.from.result
+    fetch_starts c.self.inside c.self.invariant c.args.self.now c.self.view_is c.args.actor c.args.point
+    c.args.predicted c.from.result
     c.slot-slot.result c.from.ensures c.slot-slot.ensures c.requires.room c.requires.allowed
 
 pub overflow_add-self : goal.overflow_add-self
 overflow_add-self c =
     let i = c.self.inside in
-    let few = fetched_few i c.self.invariant (short_in i c.args.self.now c.self.view_is c.self.invariant c.requires.room) in
+    let few =
+    fetched_few i c.self.invariant (short_in i c.args.self.now c.self.view_is c.self.invariant c.requires.room) in
     omega arith
 
 pub invariant_of-self : goal.invariant_of-self
 invariant_of-self c =
-    fetch_core c.self.inside c.self.invariant c.args.self.now c.self.view_is c.args.actor c.args.point c.args.predicted c.from.result
+    fetch_core c.self.inside c.self.invariant c.args.self.now c.self.view_is c.args.actor c.args.point c.args.predicted
+    c.from.result
     c.slot-slot.result c.event-event.result c.from.ensures c.slot-slot.ensures c.event-event.ensures c.requires.allowed
     c.fetch.new.self c.append.new.history c.fetch.ensures.agrees c.fetch.ensures.sizes c.append.ensures
 

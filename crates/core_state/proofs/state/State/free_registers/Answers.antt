@@ -1,5 +1,5 @@
 use Rattle.std.proofs.Common.{◌∙◌}
-use Rattle.core_state.proofs.Free.{free_of, once_of}
+use Rattle.core_state.proofs.Views.FreeRegisters.{free_of, once_of}
 use Rattle.core_state.proofs.state.State.free_registers.Goals as goal
 
 pub returns-clause-free : goal.returns-clause-free

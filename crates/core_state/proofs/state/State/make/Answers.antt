@@ -1,6 +1,5 @@
 -- The first state is a core's: its history is empty, and its parts agree with that.
-use Rattle.std.proofs.Common.{refl, sym, arith}
-use Rattle.std.proofs.lemmas.Grind.{common_steps}
+use Rattle.std.proofs.{Common.refl, Common.sym, Common.arith, lemmas.Grind.common_steps}
 use Rattle.core_state.proofs.state.State.make.Goals as goal
 
 pub invariant_of-result : goal.invariant_of-result

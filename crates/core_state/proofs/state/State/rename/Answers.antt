@@ -1,21 +1,21 @@
 use Rattle.std.specs.Prelude.{◌≡◌, true, false, None}
 use Rattle.std.proofs.Common.{◌∙◌, sym, ap, subst}
 use Rattle.events.specs.declared.event.Event.TheVariants.{Rename}
-use Rattle.smt_model.specs.Asks.{AskRename}
-use Rattle.smt_model.specs.Fates.{is_of}
-use Rattle.smt_model.specs.Rules.{refused, is_actor}
-use Rattle.core_state.specs.Answers.{AllowsNone, IsLeastFree}
-use Rattle.core_state.specs.State.{setup_in}
-use Rattle.core_state.specs.View.{CoreView}
-use Rattle.core_state.proofs.Cores.{core_grown, quiet_rename}
-use Rattle.core_state.proofs.StateRename.{rename_of, rename_allowed_now, rename_from, rename_grows, rename_answers, least_now, no_actor, nothing_to_rename}
+use Rattle.smt_model.specs.{Asks.AskRename, Fates.is_of, Rules.refused, Jobs.is_actor}
+use Rattle.core_state.specs.{Answers.AllowsNone, Answers.IsLeastFree, State.setup_in, View.CoreView}
+use Rattle.core_state.proofs.Steps.Invariant.{core_grown, quiet_rename}
+use Rattle.core_state.proofs.Steps.Rename.State.{rename_of, rename_allowed_now, rename_from, rename_grows}
+use Rattle.core_state.proofs.Steps.Rename.State.{rename_answers, least_now, no_actor, nothing_to_rename}
 use Rattle.core_state.proofs.state.State.rename.Goals as goal
 
 pub returns-then-not-has_actor-clause-idle : goal.returns-then-not-has_actor-clause-idle
 returns-then-not-has_actor-clause-idle c =
     let i = c.self.inside in
-    let none : is_actor (setup_in i) c.args.actor ≡ false = ap (λ (v : CoreView). is_actor v.setup c.args.actor) c.self.view_is ∙ (sym c.has_actor.ensures ∙ c.if-not-has_actor.true) in
-    subst (λ (v : CoreView). AllowsNone v.setup (AskRename c.args.actor c.args.hart) v.past) c.self.view_is (no_actor i c.args.actor c.args.hart none)
+    let none : is_actor (setup_in i) c.args.actor ≡ false =
+    ap (λ (v : CoreView). is_actor v.setup c.args.actor) c.self.view_is
+    ∙ (sym c.has_actor.ensures ∙ c.if-not-has_actor.true) in
+    subst (λ (v : CoreView). AllowsNone v.setup (AskRename c.args.actor c.args.hart) v.past) c.self.view_is
+    (no_actor i c.args.actor c.args.hart none)
 
 pub returns-in_err-seq-clause-idle : goal.returns-in_err-seq-clause-idle
 returns-in_err-seq-clause-idle c =
@@ -26,23 +26,36 @@ returns-in_err-seq-clause-idle c =
 pub rename-requires : goal.rename-requires
 rename-requires c =
     let i = c.self.inside in
-    let actor : is_actor (setup_in i) c.args.actor ≡ true = ap (λ (v : CoreView). is_actor v.setup c.args.actor) c.self.view_is ∙ (sym c.has_actor.ensures ∙ c.if-not-has_actor.false) in
-    record { step = rename_from i c.args.actor c.args.hart c.in_ok-seq.seq c.in_ok-seq.phys c.self.invariant actor c.in_ok-seq.ensures.inside c.in_ok-seq.ensures.some }
+    let actor : is_actor (setup_in i) c.args.actor ≡ true =
+    ap (λ (v : CoreView). is_actor v.setup c.args.actor) c.self.view_is
+    ∙ (sym c.has_actor.ensures ∙ c.if-not-has_actor.false) in
+    record {
+      step = rename_from i c.args.actor c.args.hart c.in_ok-seq.seq c.in_ok-seq.phys c.self.invariant actor
+          c.in_ok-seq.ensures.inside c.in_ok-seq.ensures.some;
+    }
 
 pub invariant_of-self : goal.invariant_of-self
 invariant_of-self c =
     let i = c.self.inside in
-    let actor : is_actor (setup_in i) c.args.actor ≡ true = ap (λ (v : CoreView). is_actor v.setup c.args.actor) c.self.view_is ∙ (sym c.has_actor.ensures ∙ c.if-not-has_actor.false) in
-    core_grown i c.rename.new.self c.append.new.history (Rename c.args.actor c.in_ok-seq.seq c.in_ok-seq.phys) c.self.invariant
-    (rename_grows i c.rename.new.self c.args.actor c.args.hart c.in_ok-seq.seq c.in_ok-seq.phys c.self.invariant actor c.in_ok-seq.ensures.some c.rename.ensures.agrees c.rename.ensures.sizes)
+    let actor : is_actor (setup_in i) c.args.actor ≡ true =
+    ap (λ (v : CoreView). is_actor v.setup c.args.actor) c.self.view_is
+    ∙ (sym c.has_actor.ensures ∙ c.if-not-has_actor.false) in
+    core_grown i c.rename.new.self c.append.new.history (Rename c.args.actor c.in_ok-seq.seq c.in_ok-seq.phys)
+    c.self.invariant
+    (rename_grows i c.rename.new.self c.args.actor c.args.hart c.in_ok-seq.seq c.in_ok-seq.phys c.self.invariant actor
+    c.in_ok-seq.ensures.some c.rename.ensures.agrees c.rename.ensures.sizes)
     (quiet_rename c.args.actor c.in_ok-seq.seq c.in_ok-seq.phys) c.append.ensures
 
 pub returns-clause-allowed : goal.returns-clause-allowed
 returns-clause-allowed c =
     let i = c.self.inside in
-    let actor : is_actor (setup_in i) c.args.actor ≡ true = ap (λ (v : CoreView). is_actor v.setup c.args.actor) c.self.view_is ∙ (sym c.has_actor.ensures ∙ c.if-not-has_actor.false) in
-    subst (λ (v : CoreView). refused v.setup v.past (Rename c.args.actor c.in_ok-seq.seq c.in_ok-seq.phys) ≡ None) c.self.view_is
-    (rename_allowed_now i c.args.actor c.args.hart c.in_ok-seq.seq c.in_ok-seq.phys c.self.invariant actor c.in_ok-seq.ensures.some)
+    let actor : is_actor (setup_in i) c.args.actor ≡ true =
+    ap (λ (v : CoreView). is_actor v.setup c.args.actor) c.self.view_is
+    ∙ (sym c.has_actor.ensures ∙ c.if-not-has_actor.false) in
+    subst (λ (v : CoreView). refused v.setup v.past (Rename c.args.actor c.in_ok-seq.seq c.in_ok-seq.phys) ≡ None)
+    c.self.view_is
+    (rename_allowed_now i c.args.actor c.args.hart c.in_ok-seq.seq c.in_ok-seq.phys c.self.invariant actor
+    c.in_ok-seq.ensures.some)
 
 pub returns-clause-answer : goal.returns-clause-answer
 returns-clause-answer c =

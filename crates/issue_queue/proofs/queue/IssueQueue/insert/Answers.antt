@@ -1,5 +1,5 @@
 use Rattle.std.proofs.Common.{arith, sym, ap, ◌∙◌}
-use Rattle.issue_queue.specs.Queue.{inserted}
+use Rattle.issue_queue.specs.Queue.{inserted_entry}
 use Rattle.issue_queue.proofs.Rising.{IsRising-inserted, same_entries}
 use Rattle.issue_queue.proofs.queue.IssueQueue.insert.Goals as goal
 
@@ -10,12 +10,13 @@ invariant_of-self c =
       omega arith,
       omega (arith, room, c.insert.ensures.len),
       rw (c.insert.ensures.items, ← lent, ← c.place_of-index.ensures.place)
-          (IsRising-inserted c.args.entry c.entries.result.now c.entries.ensures.rising (rw c.entries.ensures.entries c.requires.absent)),
+          (IsRising-inserted c.args.entry c.entries.result.now c.entries.ensures.rising
+          (rw c.entries.ensures.entries c.requires.absent)),
     )
 
 pub returns : goal.returns
 returns c =
     let lent = c.entries.ensures.entries ∙ sym (ap (λ q. q.entries) c.self.view_is) in
     rw (← c.self.view_is)
-    (same_entries c.self.inside.size c.insert.new.self.items (inserted c.args.entry c.self.inside.entries.items)
+    (same_entries c.self.inside.size c.insert.new.self.items (inserted_entry c.args.entry c.self.inside.entries.items)
     (rw (c.insert.ensures.items, ← lent) (sym c.place_of-index.ensures.place)))

@@ -9,5 +9,6 @@ invariant_of-self c =
     let written = items-with_items c.self.inside.entries c.wake_all.new.entries same_length in (
       omega arith,
       rw written (omega (arith, same_length)),
-      rw (written, c.wake_all.ensures, c.as_mut_slice.ensures.value) (IsRising-woken c.args.register c.args.value c.self.inside.entries.items c.self.invariant.2),
+      rw (written, c.wake_all.ensures, c.as_mut_slice.ensures.value)
+          (IsRising-woken c.args.register c.args.value c.self.inside.entries.items c.self.invariant.2),
     )

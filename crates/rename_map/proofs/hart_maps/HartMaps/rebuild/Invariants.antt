@@ -6,4 +6,5 @@ use Rattle.rename_map.proofs.hart_maps.HartMaps.rebuild.Given as goal
 abbrev pub invariant-loop-register : goal.invariant-loop-register
 invariant-loop-register l =
     (l.self.committed ≡ l.fn.self.committed)
-    × ((r : ℕ) → renamed_by (drop l.register-index l.renamings) r (lookup l.self r) ≡ renamed_by l.renamings r (committed_of l.fn.self r))
+    × ((r : ℕ) → renamed_by (drop l.register-index l.renamings) r (lookup l.self r)
+    ≡ renamed_by l.renamings r (committed_of l.fn.self r))

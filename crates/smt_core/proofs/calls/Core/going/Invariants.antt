@@ -1,6 +1,5 @@
 use Rattle.std.specs.Prelude.{◌≡◌, ◌≤◌}
-use Rattle.smt_model.specs.Basics.{below, how_many}
-use Rattle.smt_model.specs.Memory.{is_going}
+use Rattle.smt_model.specs.{Basics.below, Basics.how_many, Memory.is_going}
 use Rattle.smt_core.proofs.calls.Core.going.Given as goal
 
 -- those below this hart are counted

@@ -13,7 +13,8 @@ pub loop-hart-preserved : goal.loop-hart-preserved
 loop-hart-preserved c =
     let there = c.loop-hart-test.true in
     let harts = c.harts-hart-end.ensures.value in
-    let is = status_in c.self.inside.state c.args.self.now c.loop-hart.hart c.unwrap.result c.status.result c.self.view_is (omega arith)
+    let is = status_in c.self.inside.state c.args.self.now c.loop-hart.hart c.unwrap.result c.status.result
+    c.self.view_is (omega arith)
     c.status.ensures c.unwrap.ensures in
     c.push.ensures.items ∙ ap (λ s. c.loop-hart.statuses.items ++ s ∷ []) is
     ∙ statuses_next c.args.self.now.past c.loop-hart.hart c.loop-hart.statuses.items c.loop-hart.invariant

@@ -1,6 +1,5 @@
 use Rattle.std.proofs.Common.{◌≡◌, map}
-use Rattle.smt_model.specs.Basics.{below}
-use Rattle.smt_model.specs.Memory.{status}
+use Rattle.smt_model.specs.{Basics.below, Memory.status}
 use Rattle.smt_core.proofs.calls.Core.statuses.Given as goal
 
 abbrev pub invariant-loop-hart : goal.invariant-loop-hart

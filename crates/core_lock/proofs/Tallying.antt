@@ -1,0 +1,46 @@
+-- What the history holds of each actor, event by event.
+use Rattle.std.proofs.Common.{◌≡◌, ◌∙◌, ℕ, ◌+◌, ◌<◌, ◌≤◌, ◌==◌, Bool, true, false, List, [], ◌∷◌, length, get_or}
+use Rattle.std.proofs.Common.{reverse, Option, ap, sym, subst, arith}
+use Rattle.std.proofs.lemmas.Option.{slice_get-get_or}
+use Rattle.events.specs.{declared.event.Event.Event, Event.actor_of}
+use Rattle.smt_model.specs.Account.{event_count, last_event_of}
+use Rattle.core_lock.specs.{Passes.IsTold, Tallies.AreTallies, Tallies.AreBelow, declared.tally.Tally.Tally}
+use Rattle.core_lock.proofs.Counting.{one, count_cons}
+
+-- No actor has made more events than there are.
+one_at_most : (b : Bool) → one b ≤ 1
+one_at_most true = omega arith
+one_at_most false = omega arith
+
+made_within : (k : ℕ) (past : List Event) → event_count k past ≤ length past
+made_within k [] = omega arith
+made_within k (e ∷ past) =
+    let here = count_cons (λ x. actor_of x == k) e past in
+    let rest = made_within k past in
+    let small = one_at_most (actor_of e == k) in
+    omega (arith, here, rest, small)
+
+pub few : (past : List Event) (tallies : List Tally) (n : ℕ) → length past < n → AreTallies past tallies
+    → AreBelow n tallies
+few past tallies n short are k t at = omega (arith, (are k t at).counts, made_within k past, short)
+
+-- A pass lies at its actor's place and has counted what stands there: it was told all, and no other was.
+pub lies_told : (past : List Event) (k a c : ℕ) (l : Option Event) (t : Tally) → a ≡ k → IsTold past k t.count t.last
+    → (c ≡ t.count) × (l ≡ t.last) → (a ≡ k) × IsTold past a c l
+lies_told past k a c l t at told same =
+    (at, subst (λ j. IsTold past j c l) (sym at) (record { counts = same.0 ∙ told.counts; ends = same.1 ∙ told.ends }))
+
+pub counted_so : (past : List Event) (k a c : ℕ) (l : Option Event) (t : Tally) → IsTold past k t.count t.last
+    → (a ≡ k) × IsTold past a c l → (c ≡ t.count) × (l ≡ t.last)
+counted_so past k a c l t told lies = (
+  lies.1.counts ∙ ap (λ j. event_count j past) lies.0 ∙ sym told.counts,
+  lies.1.ends ∙ ap (λ j. last_event_of j past) lies.0 ∙ sym told.ends,
+)
+
+-- What stands at a place, where the events are those of this past.
+pub told_at : (events past : List Event) (tallies : List Tally) (k : ℕ) (d : Tally) → reverse events ≡ past
+    → k < length tallies
+    → AreTallies (reverse events) tallies → IsTold past k (get_or tallies k d).count (get_or tallies k d).last
+told_at events past tallies k d is inside are =
+    subst (λ p. IsTold p k (get_or tallies k d).count (get_or tallies k d).last) is
+    (are k (get_or tallies k d) (slice_get-get_or tallies k d inside))

@@ -1,0 +1,138 @@
+-- The event of a job that is handed back may come next, and what it changes.
+use Rattle.std.specs.Prelude.{◌≡◌, ℕ, ◌≤◌, ◌==◌, true, false, not, List, ◌∷◌, Some, None, is_some}
+use Rattle.std.proofs.Common.{◌∙◌, refl, sym, ap, subst, inl, inr, arith}
+use Rattle.std.proofs.{lemmas.Bool.cases_Bool, lemmas.Bool.Decides.nat_tests, lemmas.Option.none-some}
+use Rattle.std.proofs.{lemmas.Option.same_Some}
+use Rattle.events.specs.{declared.effect.Next.Next, declared.effect.Next.TheVariants.Pc}
+use Rattle.events.specs.{declared.effect.Next.TheVariants.Ended, declared.effect.Next.TheVariants.Stopped}
+use Rattle.events.specs.{declared.effect.Outcome.Outcome, declared.event.Event.Event}
+use Rattle.events.specs.{declared.event.Event.TheVariants.Complete, declared.event.Event.TheVariants.Drop}
+use Rattle.exec_units.specs.Job.{JobView, outcome_of_job}
+use Rattle.retire_squash.specs.declared.active.Active.{Active}
+use Rattle.smt_model.specs.{Basics.holds_of, Basics.or_zero, Setup.Setup, Setup.registers_of, Kinds.first_source}
+use Rattle.smt_model.specs.{Kinds.second_source, Exec.covered_yet, Exec.exec, Faults.checked, Outcomes.outcome_of}
+use Rattle.smt_model.specs.{Fetching.fetch_pc, Nexts.pc_after, Nexts.redirect_pc, Looks.first_look, Picture.picture}
+use Rattle.smt_model.specs.{Registers.operand, Jobs.job, Comparisons.same_next, Comparisons.same_outcome}
+use Rattle.smt_model.specs.{Steps.IsMisprediction}
+use Rattle.smt_model.specs.Fates.{Fetched, fetching, fate, is, is_of, op_of_fetched, mispredicts, Squashed}
+use Rattle.smt_model.specs.Rules.{outcome_now, computed_at, refused, is_legal}
+use Rattle.smt_model.proofs.{Allowed.complete_allows, Allowed.drop_allows, Fates.Moves.same_number-self}
+use Rattle.smt_model.proofs.{Steps.Complete.steps-Complete, Steps.Misprediction.steps-Misprediction, Fates.Sound.sound}
+use Rattle.core_state.specs.{Agree.IsActive, Agree.IsOpenJob, Complete.IsSameJob, Complete.IsFinish}
+use Rattle.core_state.specs.{declared.slot.OpenJob.OpenJob}
+use Rattle.core_state.proofs.{Agreement.Harts.stage_flies, Steps.Executed.checked_same, Steps.Executed.looked_same}
+
+-- ---- The outcome
+
+same_next-self : (next : Next) → same_next next next ≡ true
+same_next-self (Pc pc) = grind (arith, nat_tests)
+same_next-self (Ended status) = grind (arith, nat_tests)
+same_next-self (Stopped cause) = grind (arith, nat_tests)
+
+same_outcome-self : (o : Outcome) → same_outcome o o ≡ true
+same_outcome-self o =
+    rw (
+      same_number-self o.value,
+      same_next-self o.next,
+      same_number-self o.addr,
+      same_number-self o.datum,
+      same_number-self o.out,
+    ) refl
+
+module _ (setup : Setup) (past : List Event) where
+  outcome_of_operands : setup.covers ≡ covered_yet → (s : ℕ) (f : Fetched) (a b : ℕ)
+      → operand setup first_source past s ≡ Some a → operand setup second_source past s ≡ Some b
+      → outcome_now setup past s f ≡ outcome_of (op_of_fetched (Some f))
+      (exec covered_yet (op_of_fetched (Some f)) f.pc a b) None
+  outcome_of_operands yet s f a b first second =
+      let op = op_of_fetched (Some f) in
+      let one : computed_at setup past s f ≡ exec covered_yet op f.pc a b =
+      ap (λ v. checked setup.image op
+      (exec v op f.pc (or_zero (operand setup first_source past s)) (or_zero (operand setup second_source past s))))
+      yet
+      ∙ checked_same setup.image op f.pc (or_zero (operand setup first_source past s))
+      (or_zero (operand setup second_source past s))
+      ∙ ap (λ x. exec covered_yet op f.pc (or_zero x) (or_zero (operand setup second_source past s))) first
+      ∙ ap (λ y. exec covered_yet op f.pc a (or_zero y)) second in
+      ap (λ c. outcome_of op c (Some (first_look setup past f.hart s op c.addr))) one
+      ∙ looked_same op f.pc a b (Some (first_look setup past f.hart s op (exec covered_yet op f.pc a b).addr))
+
+  -- What the unit made of the job is what the completion has to say.
+  outcome_worked : setup.covers ≡ covered_yet → (k : ℕ) (x : OpenJob) (view : JobView)
+      → (opened : IsOpenJob (picture setup past) k x) → IsSameJob x view
+      → outcome_now setup past x.seq opened.instruction ≡ outcome_of_job view
+  unfolding outcome_of_job
+  outcome_worked yet k x view opened same =
+      let f = opened.instruction in
+      outcome_of_operands yet x.seq f x.first x.second opened.first opened.second
+      ∙ ap (λ op. outcome_of op (exec covered_yet op f.pc x.first x.second) None) (sym opened.op ∙ same.op)
+      ∙ ap (λ pc. outcome_of view.op (exec covered_yet view.op pc x.first x.second) None) (opened.pc ∙ same.pc)
+      ∙ ap (λ a. outcome_of view.op (exec covered_yet view.op view.pc a x.second) None) same.first
+      ∙ ap (λ b. outcome_of view.op (exec covered_yet view.op view.pc view.first b) None) same.second
+
+  -- ---- It may come next
+  pub may_complete : setup.covers ≡ covered_yet → is_legal setup past
+      → (k : ℕ) (x : OpenJob) (view : JobView) (h : ℕ) (a : Active) (o : Outcome)
+      → IsOpenJob (picture setup past) k x → IsSameJob x view → o ≡ outcome_of_job view
+      → IsActive (picture setup past) h a → a.seq ≡ x.seq
+      → refused setup past (Complete k a.seq o) ≡ None
+  may_complete yet legal k x view h a o opened same worked active number =
+      let flies = stage_flies (picture setup past) a.seq a.stage active.stage in
+      let at : fetching past a.seq ≡ Some opened.instruction = ap (fetching past) number ∙ opened.fetched in
+      let lent : job past k ≡ Some a.seq = opened.lent ∙ ap Some (sym number) in
+      let now : outcome_now setup past a.seq opened.instruction ≡ o =
+      ap (λ s. outcome_now setup past s opened.instruction) number ∙ outcome_worked yet k x view opened same
+      ∙ sym worked in
+      complete_allows setup past k a.seq o (record {
+        actor_is = (sound setup past legal).actors k x.seq opened.lent;
+        lent = rw lent (same_number-self (Some a.seq));
+        spared = let spared : not (is (fate past a.seq) Squashed) ≡ true = grind (arith, nat_tests) in spared;
+        outcome_is =
+            ap (holds_of (λ f. same_outcome o (outcome_now setup past a.seq f))) at ∙ (rw now (same_outcome-self o));
+      })
+
+  pub may_drop : is_legal setup past → (k : ℕ) (x : OpenJob) → IsOpenJob (picture setup past) k x
+      → is (fate past x.seq) Squashed ≡ true
+      → refused setup past (Drop k x.seq) ≡ None
+  may_drop legal k x opened squashed = drop_allows setup past k x.seq (record {
+    actor_is = (sound setup past legal).actors k x.seq opened.lent;
+    lent = rw opened.lent (same_number-self (Some x.seq));
+    fated = squashed;
+  })
+
+-- ---- What it changes
+
+mispredicted_next : (next : Next) (predicted pc before : ℕ) → redirect_pc next predicted ≡ Some pc
+    → pc_after next before ≡ pc
+mispredicted_next (Pc at) predicted pc before some = elim (cases_Bool (at == predicted)) [
+  | inl t ↦ absurd (none-some pc (rw t at some))
+  | inr f ↦ same_Some at pc (rw f at some)
+]
+mispredicted_next (Ended status) predicted pc before some = absurd (none-some pc some)
+mispredicted_next (Stopped cause) predicted pc before some = absurd (none-some pc some)
+
+mispredicts_is : (setup : Setup) (past : List Event) (h : ℕ) (a : Active) (next : Next)
+    → IsActive (picture setup past) h a
+    → mispredicts past a.seq next ≡ is_some (redirect_pc next a.predicted)
+unfolding mispredicts
+mispredicts_is setup past h a next active = ap (holds_of (λ f. is_some (redirect_pc next f.predicted))) active.fetched
+
+pub finishes : (setup : Setup) (past : List Event) → is_legal setup past → registers_of setup ≤ 512
+    → (h k : ℕ) (a : Active) (o : Outcome)
+    → IsActive (picture setup past) h a → refused setup past (Complete k a.seq o) ≡ None
+    → IsFinish (picture setup past) (picture setup (Complete k a.seq o ∷ past)) h k a o
+finishes setup past legal fits h k a o active ok =
+    let of_hart : is_of past h a.seq ≡ true =
+    ap (holds_of (λ f. f.hart == h)) active.fetched ∙ (grind (arith, nat_tests)) in
+    record {
+      phys = active.phys;
+      straight = λ none.
+          steps-Complete setup past legal k a.seq o ok
+          (mispredicts_is setup past h a o.next active ∙ ap is_some none) h of_hart;
+      mispredicts = λ pc some.
+          let goes = mispredicted_next o.next a.predicted pc (fetch_pc setup past h) some in
+          subst (λ x. IsMisprediction (picture setup past) (picture setup (Complete k a.seq o ∷ past)) h a.seq k o x)
+          goes
+          (steps-Misprediction setup past legal k a.seq o ok fits
+          (mispredicts_is setup past h a o.next active ∙ ap is_some some) h of_hart);
+    }

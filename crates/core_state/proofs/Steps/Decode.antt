@@ -1,0 +1,4 @@
+-- A decode.
+pub mod Rules
+pub mod Parts
+pub mod State

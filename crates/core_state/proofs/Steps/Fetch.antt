@@ -1,0 +1,5 @@
+-- A fetch.
+pub mod Rules
+pub mod Parts
+pub mod State
+pub mod Choice

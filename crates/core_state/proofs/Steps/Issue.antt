@@ -1,0 +1,5 @@
+-- An issue.
+pub mod Rules
+pub mod Parts
+pub mod State
+pub mod Next

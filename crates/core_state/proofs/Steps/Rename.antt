@@ -1,0 +1,5 @@
+-- A rename.
+pub mod Rules
+pub mod Parts
+pub mod State
+pub mod Next

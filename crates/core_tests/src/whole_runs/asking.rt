@@ -1,0 +1,199 @@
+//! What a script leaves of its core and of the lock round it: passes that have counted what their
+//! actors made, and a line for each ask, in the script's order.
+
+use super::printing::{ASTRAY, RUNS, Row};
+use super::{Run, text};
+use crate::counting::{Miscount, counts, first_miscount};
+use crate::files::file_of;
+use crate::predictors::Always;
+use crate::rows::shows;
+use sim_inputs::read_config;
+use simulator::{Finished, StaticPredictor, step_bytes};
+use smt_core::Predict;
+use std::alloc::Global;
+use std::process::Abort;
+use std::sync::Wait;
+
+/// A core without its lock, and the lines of the asks.
+#[derive(Drop)]
+struct Left {
+    finished: Finished,
+    lines: Vec<u8>,
+}
+
+fn left_by<P: Predict, R: Wait>(rt: &R, run: &Run, predict: &mut P, alloc: Global) -> Option<Left> {
+    let Ok(file) = file_of(run.words, 0, alloc) else {
+        return None;
+    };
+    let settings = read_config(run.config, alloc).ok()?;
+    let script = run.script.as_bytes();
+    let mut lines = Vec::new(alloc);
+    let made = step_bytes(rt, &file, &settings, script, predict, &mut lines, alloc);
+    let finished = made.ok()?;
+    Some(Left { finished, lines })
+}
+
+/// An ask as its word in a script spells it: the letter of its kind, its actor, and the hart that
+/// it names, if it names one.
+#[derive(Clone, Copy, Drop)]
+struct Spelled<'a> {
+    kind: &'a str,
+    actor: &'a str,
+    hart: Option<&'a str>,
+}
+
+fn ask_of(word: &str) -> Spelled<'_> {
+    let (kind, place) = (word.get(..1).unwrap_or(""), word.get(1..).unwrap_or(""));
+    match place.split_once('.') {
+        Some((actor, hart)) => Spelled {
+            kind,
+            actor,
+            hart: Some(hart),
+        },
+        None => Spelled {
+            kind,
+            actor: place,
+            hart: None,
+        },
+    }
+}
+
+/// How often a word's ask is made: its number behind the star, or once.
+fn times(number: &str) -> u32 {
+    let mut times = 0u32;
+    for digit in number.bytes() {
+        let ones = digit.wrapping_sub(b'0') as u32;
+        times = times.wrapping_mul(10).wrapping_add(ones);
+    }
+    times
+}
+
+/// The fields of a line, as many as are looked at; empty behind its last.
+fn fields_of(line: &str) -> [&str; 4] {
+    let mut fields = line.split(' ');
+    let first = fields.next().unwrap_or("");
+    let second = fields.next().unwrap_or("");
+    let third = fields.next().unwrap_or("");
+    let fourth = fields.next().unwrap_or("");
+    [first, second, third, fourth]
+}
+
+/// The hart of an instruction: that of the line of its fetch; empty where there is none.
+fn hart_of<'a>(lines: &'a str, seq: &str) -> &'a str {
+    for line in lines.lines() {
+        let [kind, _actor, hart, fetched] = fields_of(line.strip_prefix("done ").unwrap_or(""));
+        if kind == "F" && fetched == seq {
+            return hart;
+        }
+    }
+    ""
+}
+
+/// Whether a line's event is one that an ask makes: of its kind, of its actor, and of the hart that
+/// it names.
+fn is_made(event: &str, ask: Spelled<'_>, lines: &str) -> bool {
+    let [kind, actor, seq, _other] = fields_of(event);
+    let is_of_hart = match ask.hart {
+        Some(hart) => hart_of(lines, seq) == hart,
+        None => true,
+    };
+    let is_dropped = ask.kind == "C" && kind == "X";
+    (kind == ask.kind || is_dropped) && actor == ask.actor && is_of_hart
+}
+
+/// Whether a line is an answer to an ask.
+fn answers(line: &str, ask: Spelled<'_>, lines: &str) -> bool {
+    match line.strip_prefix("done ") {
+        Some(event) => is_made(event, ask, lines),
+        None => line == "idle" || line == "full" || (ask.kind == "C" && line == "none"),
+    }
+}
+
+/// The text behind the answer to an ask, if its first line is one.
+fn behind<'a>(text: &'a str, ask: Spelled<'_>, lines: &str) -> Option<&'a str> {
+    let (line, rest) = text.split_once('\n')?;
+    if answers(line, ask, lines) {
+        Some(rest)
+    } else {
+        None
+    }
+}
+
+/// The same of a word's ask. A unit makes two where a job comes.
+fn behind_word<'a>(text: &'a str, ask: Spelled<'_>, lines: &str) -> Option<&'a str> {
+    if ask.kind != "U" {
+        return behind(text, ask, lines);
+    }
+    let rest = behind(text, Spelled { kind: "I", ..ask }, lines)?;
+    if text.starts_with("done ") {
+        behind(rest, Spelled { kind: "C", ..ask }, lines)
+    } else {
+        Some(rest)
+    }
+}
+
+/// A word of a script, and the text that stands where the lines of its asks should; behind the last
+/// word, the text that is too much.
+#[derive(Clone, Copy, Drop)]
+struct Stray<'a> {
+    word: &'a str,
+    text: &'a str,
+}
+
+/// The text behind the answers to a word's asks, as often as they are made.
+fn behind_all<'a>(text: &'a str, word: &'a str, lines: &str) -> Result<&'a str, Stray<'a>> {
+    let (ask, number) = word.split_once('*').unwrap_or((word, "1"));
+    let mut rest = text;
+    for _ in 0..times(number) {
+        match behind_word(rest, ask_of(ask), lines) {
+            Some(next) => rest = next,
+            None => return Err(Stray { word, text: rest }),
+        }
+    }
+    Ok(rest)
+}
+
+/// The first word of a script whose asks have other lines than their own, if there is one.
+fn first_stray<'a>(script: &'a str, lines: &'a str) -> Option<Stray<'a>> {
+    let mut rest = lines;
+    for word in script.split(' ') {
+        match behind_all(rest, word, lines) {
+            Ok(next) => rest = next,
+            Err(stray) => return Some(stray),
+        }
+    }
+    if rest.is_empty() {
+        None
+    } else {
+        Some(Stray {
+            word: "",
+            text: rest,
+        })
+    }
+}
+
+/// Asserts that the lines are those of the script's asks, in their order.
+fn follows(rt: &impl Abort, script: &str, lines: &str) {
+    if let Some(Stray { word, text }) = first_stray(script, lines) {
+        shows(rt, word, text, false);
+    }
+}
+
+/// Asserts what a lock owes of a run, and that each ask was made.
+fn keeps<P: Predict, R: Wait + Abort>(rt: &R, row: &Row, predict: &mut P, alloc: Global) {
+    let Some(left) = left_by(rt, &row.run, predict, alloc) else {
+        return shows(rt, row.name, "a refusal", false);
+    };
+    shows(rt, row.name, "a stranger's pass", left.finished.told);
+    shows(rt, row.name, "a stranger's core", left.finished.own);
+    counts(rt, row.name, first_miscount(&left.finished));
+    follows(rt, row.run.script, text(&left.lines));
+}
+
+#[test]
+fn passes_count_what_their_actors_make_and_each_ask_has_its_lines(rt: HostRuntime) {
+    for row in &RUNS {
+        keeps(&rt, row, &mut StaticPredictor, rt.alloc());
+    }
+    keeps(&rt, &ASTRAY, &mut Always(0), rt.alloc());
+}

@@ -1,0 +1,12 @@
+-- What every legal history says of registers: who names, writes, claims and holds them, and their numbers.
+pub mod Below
+pub mod Namings
+pub mod Standing
+pub mod Sources
+pub mod Claims
+pub mod Committing
+pub mod Held
+pub mod Counts
+pub mod Values
+pub mod Reading
+pub mod Operands

@@ -1,0 +1,15 @@
+-- What each kind of event changes in the picture of a history: a file for each record of `specs/Steps`.
+pub mod Fetch
+pub mod Decode
+pub mod Rename
+pub mod RenameMap
+pub mod Issue
+pub mod Complete
+pub mod Misprediction
+pub mod Drop
+pub mod Retire
+pub mod RetireCommits
+pub mod End
+pub mod EndHalts
+pub mod Replay
+pub mod ReplaySquash
