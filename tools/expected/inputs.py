@@ -1,0 +1,83 @@
+"""The command line, the configuration and the script, read as docs/FORMATS.md says."""
+
+import re
+import tomllib
+
+ROLES = ("fetch", "front", "retire", "alu", "mul", "mem")
+DEFAULTS = {
+    "harts": 1, "extra": 64, "queue": 16, "ram": 65536, "limit": 1000000, "turns": 10**9,
+    "actors": list(ROLES),
+}
+RANGES = {
+    "harts": (1, 8), "extra": (1, 256), "queue": (4, 64), "ram": (4096, 16777216),
+    "limit": (0, 16777216), "turns": (0, 10**18),
+}
+
+
+class Refused(Exception):
+    """The line of a fault, and its exit status."""
+
+    def __init__(self, why, status):
+        super().__init__(why)
+        self.why, self.status = why, status
+
+
+def read_line(words):
+    """What the words ask for: a command, its files and its options."""
+    if not words or words[0] not in ("step", "list"):
+        raise Refused("command line", 2)
+    command, rest = words[0], list(words[1:])
+    flags = ("--records", "--show") if command == "step" else ()
+    line = {"command": command, "files": [], "config": None, "records": False, "show": False}
+    seen = set()
+    while rest:
+        word = rest.pop(0)
+        name, has_value, value = word.partition("=")
+        if name == "--config" and name not in seen and (has_value or rest):
+            line["config"] = value if has_value else rest.pop(0)
+        elif word in flags and word not in seen:
+            line[word[2:]] = True
+        elif not word.startswith("-"):
+            line["files"].append(word)
+            continue
+        else:
+            raise Refused("command line", 2)
+        seen.add(name)
+    if len(line["files"]) != (2 if command == "step" else 1):
+        raise Refused("command line", 2)
+    return line
+
+
+def read_config(data):
+    """The settings of a configuration's bytes; None is no configuration, and has the defaults."""
+    try:
+        given = tomllib.loads((data or b"").decode("utf-8"))
+    except (UnicodeDecodeError, tomllib.TOMLDecodeError):
+        raise Refused("config refused", 2) from None
+    settings = {**DEFAULTS, **given}
+    ok = set(settings) == set(DEFAULTS)
+    for key, (low, high) in RANGES.items():
+        ok = ok and type(settings[key]) is int and low <= settings[key] <= high
+    actors = settings["actors"]
+    ok = ok and isinstance(actors, list) and 1 <= len(actors) <= 16
+    ok = ok and all(actor in ROLES for actor in actors)
+    if not ok or settings["ram"] % 4096:
+        raise Refused("config refused", 2)
+    return settings
+
+
+ACTOR, HART, TIMES = r"(0|[1-9]|1[0-5])", r"([0-7])", r"(?:\*([1-9][0-9]{0,4}|100000))?"
+WORD = re.compile(rf"(?:([FICU]){ACTOR}|([DRT]){ACTOR}\.{HART}){TIMES}\Z")
+
+
+def read_script(data):
+    """The asks of a script: (letter, actor, hart, how often)."""
+    asks = []
+    words = re.split(r"[ \n]+", data.decode("latin-1"))
+    for place, word in enumerate([w for w in words if w], start=1):
+        found = WORD.match(word)
+        if not found:
+            raise Refused(f"script word {place} refused", 2)
+        letter, actor, other, other_actor, hart, times = found.groups()
+        asks.append((letter or other, int(actor or other_actor), int(hart or 0), int(times or 1)))
+    return asks

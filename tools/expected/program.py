@@ -1,0 +1,148 @@
+"""What the program prints and how it ends, for the words of a command line, as
+docs/FORMATS.md says it.
+
+    python3 tools/expected/program.py step IMAGE SCRIPT [--config FILE] [--records] [--show]
+    python3 tools/expected/program.py list IMAGE [--config FILE]
+"""
+
+import sys
+
+import core
+import image
+import inputs
+from inputs import Refused
+from instructions import spelled
+
+
+def read_file(name):
+    try:
+        with open(name, "rb") as file:
+            return file.read()
+    except OSError:
+        return None
+
+
+def loaded(name, settings):
+    file = read_file(name)
+    if file is None:
+        raise Refused("file", 5)
+    made = image.load(file, settings["ram"])
+    if isinstance(made, int):
+        raise Refused(f"image refused {made}", 2)
+    return made
+
+
+def make_asks(machine, asks):
+    """A line for each ask of a script, and two for a `U` that gets a job."""
+    held = set()
+    for letter, actor, hart, times in asks:
+        for _ in range(times):
+            yield from lines_of_ask(machine, held, letter, actor, hart)
+
+
+def lines_of_ask(machine, held, letter, actor, hart):
+    if letter in "IU":
+        line = answer(machine, lambda: machine.issue(actor))
+        yield line
+        if not line.startswith("done"):
+            return
+        held.add(actor)
+        if letter == "I":
+            return
+    if letter in "CU":
+        # What is handed to a full history is spent all the same.
+        yield "none" if actor not in held else answer(machine, lambda: machine.complete(actor))
+        held.discard(actor)
+        return
+    calls = {"F": lambda: machine.fetch(actor)}
+    for name, call in {"D": machine.decode, "R": machine.rename, "T": machine.retire}.items():
+        calls[name] = lambda call=call: call(actor, hart)
+    yield answer(machine, calls[letter])
+
+
+def answer(machine, call):
+    if machine.is_full():
+        return "full"
+    event = call()
+    return "idle" if event is None else f"done {event}"
+
+
+def items(found):
+    return " ".join(found) or "-"
+
+
+def standing(status):
+    return " ".join(str(part) for part in status)
+
+
+def tables(machine):
+    for h, hart in enumerate(machine.harts):
+        place = f"pc {hart.pc:08x} icount {hart.icount()} reserved {core.digits(hart.reserved)}"
+        yield f"hart {h} {standing(hart.status)} {place}"
+        yield "fetched " + items(str(f.number) for f in hart.at("fetched"))
+        yield "decoded " + items(str(f.number) for f in hart.at("decoded"))
+        flight = hart.in_flight()
+        yield "flight " + items(f"{f.number}:{f.stage[0]}:{core.dash(f.register)}" for f in flight)
+        yield "map " + items(map(str, hart.map()))
+        yield "committed " + items(map(str, hart.committed))
+    yield "queue " + items(f"{f.number}.{f.hart}" for f in machine.queue())
+    yield "jobs " + items(f"{actor}:{machine.jobs[actor].number}" for actor in sorted(machine.jobs))
+    free = machine.free()
+    yield "free " + items(map(str, free))
+    for p in sorted(set(range(machine.total)) - set(free)):
+        yield f"reg {p} {core.digits(machine.values[p])}"
+
+
+def report(machine, with_records):
+    if with_records:
+        yield from machine.records
+    yield f"events {machine.events}"
+    yield f"retired {len(machine.records)}"
+    yield f"lent {len(machine.jobs)}"
+    for h, hart in enumerate(machine.harts):
+        yield f"hart {h} {standing(hart.status)}"
+    yield "output " + (bytes(machine.output).hex() or "-")
+
+
+def exit_status(machine):
+    found = [hart.status for hart in machine.harts]
+    if ("going",) in found:
+        return 3
+    return 0 if all(status == ("ended", 0) for status in found) else 1
+
+
+def listing(made):
+    for pc in range(made.code, made.code + len(made.code_bytes), 4):
+        word = made.word(pc)
+        yield f"{pc:08x} {word:08x} {spelled(word, pc)}"
+
+
+def run(words, executes_memory=None):
+    """The lines on standard output, those on standard error, and the exit status."""
+    try:
+        line = inputs.read_line(words)
+        config = read_file(line["config"]) if line["config"] is not None else b""
+        if config is None:
+            raise Refused("file", 5)
+        settings = inputs.read_config(config)
+        made = loaded(line["files"][0], settings)
+        if line["command"] == "list":
+            return list(listing(made)), [], 0
+        script = read_file(line["files"][1])
+        if script is None:
+            raise Refused("file", 5)
+        asks = inputs.read_script(script)
+    except Refused as refused:
+        return [], [f"smtsim: {refused.why}"], refused.status
+    machine = core.Core(made, settings, executes_memory)
+    out = list(make_asks(machine, asks))
+    out += tables(machine) if line["show"] else []
+    out += report(machine, line["records"])
+    return out, [], exit_status(machine)
+
+
+if __name__ == "__main__":
+    printed, faults, status = run(sys.argv[1:])
+    sys.stdout.writelines(f"{text}\n" for text in printed)
+    sys.stderr.writelines(f"{text}\n" for text in faults)
+    sys.exit(status)

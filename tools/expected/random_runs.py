@@ -1,0 +1,215 @@
+"""Random configurations, images and scripts, from a seed.
+
+    python3 tools/expected/random_runs.py write FOLDER [COUNT] [SEED]
+        the inputs, and what the model here prints for them
+    python3 tools/expected/random_runs.py compare PROGRAM [COUNT] [SEED]
+        a built program beside the model
+    python3 tools/expected/random_runs.py compare PROGRAM=OTHER [COUNT] [SEED]
+        two built programs beside each other
+
+Run K of a seed is the same whatever COUNT is. `compare` prints the runs that differ and leaves
+their inputs in a folder that it names; it ends with status 1 where there is one.
+"""
+
+import os
+import random
+import subprocess
+import sys
+import tempfile
+
+import image
+import program
+
+ROLES = ("fetch", "front", "retire", "alu", "mul", "mem")
+
+
+def some_word(r):
+    """A word of code: mostly arithmetic on few registers, so that sources are in flight; some of
+    everything else."""
+    rd, rs1, rs2 = (r.choice((0, 5, 6, 7, 10, 11, 17)) for _ in range(3))
+    fields = rs2 << 20 | rs1 << 15 | rd << 7
+    kind = r.randrange(100)
+    if kind < 30:
+        immediate = r.choice((0, 1, 2, 5, 93, 0x7FF, 0x800, 0xFFF, r.randrange(4096)))
+        return immediate << 20 | rs1 << 15 | rd << 7 | r.choice((0, 2, 3, 4, 6, 7)) << 12 | 0x13
+    if kind < 45:
+        return fields | r.choice((0, 0, 32)) << 25 | r.randrange(8) << 12 | 0x33
+    if kind < 57:
+        return fields | 1 << 25 | r.randrange(8) << 12 | 0x33
+    if kind < 60:
+        return r.choice((0, 32)) << 25 | fields | r.choice((1, 5)) << 12 | 0x13
+    if kind < 66:
+        return r.randrange(1 << 20) << 12 | rd << 7 | r.choice((0x37, 0x17))
+    if kind < 78:
+        to = r.choice((-12, -8, -4, 4, 8, 8, 12, 16, 2))
+        return branch(r.choice((0, 1, 4, 5, 6, 7)), rs1, rs2, to)
+    if kind < 83:
+        return jump(rd, r.choice((-8, -4, 4, 8, 12, 6)))
+    if kind < 86:
+        return r.choice((0, 4, 1, 0x800)) << 20 | rs1 << 15 | rd << 7 | 0x67
+    if kind < 91:
+        return r.choice((0x05D00893, 0x00100893, 0x00000513, 0x00100513))
+    if kind < 95:
+        return 0x00000073
+    if kind < 96:
+        return r.choice((0x00100073, 0x0FF0000F, 0, 0xFFFFFFFF))
+    if kind < 99:
+        rest = r.choice((0x03, 0x23, 0x2F, 0x1000002F, 0x1800002F))
+        return fields | r.choice((0, 1, 2)) << 12 | rest
+    return r.randrange(1 << 32)
+
+
+def branch(op, rs1, rs2, to):
+    to &= 0x1FFF
+    high = (to >> 12) << 6 | to >> 5 & 63
+    low = (to >> 1 & 15) << 1 | to >> 11 & 1
+    return high << 25 | rs2 << 20 | rs1 << 15 | op << 12 | low << 7 | 0x63
+
+
+def jump(rd, to):
+    to &= 0x1FFFFF
+    high = (to >> 20) << 19 | (to >> 1 & 1023) << 9 | (to >> 11 & 1) << 8 | to >> 12 & 255
+    return high << 12 | rd << 7 | 0x6F
+
+
+def some_config(r):
+    harts = r.choice((1, 1, 2, 2, 3, 4, 8))
+    actors = r.choice(
+        (
+            list(ROLES),
+            ["alu"],
+            ["alu", "mul", "mem"],
+            [r.choice(ROLES) for _ in range(r.randint(1, 16))],
+            ["alu"] * 16,
+        )
+    )
+    return {
+        "harts": harts,
+        "extra": r.choice((1, 2, 3, 8, 64, 256)),
+        "queue": r.choice((4, 5, 16, 64)),
+        "ram": r.choice((4096, 8192, 65536)),
+        "limit": r.choice((0, 1, 17, 60, 1000, 100000, 1000000)) if r.random() < 0.4 else 1000000,
+        "actors": actors,
+    }
+
+
+def some_script(r, config):
+    harts, roles = config["harts"], config["actors"]
+    units = [k for k, role in enumerate(roles) if role in ("alu", "mul", "mem")] or [0]
+    others = list(range(len(roles)))
+    if r.random() < 0.4:
+        return some_rounds(r, harts, units)
+    asks, calm = [], r.random()
+    for _ in range(r.choice((10, 40, 100, 300))):
+        letter = r.choice("FFFDDRRUUUUICTTT")
+        actor = r.choice(units if letter in "ICU" else others)
+        if r.random() < 0.03:
+            actor = r.randrange(16)
+        hart = r.randrange(harts) if r.random() < 0.99 else r.randrange(8)
+        word = f"{letter}{actor}.{hart}" if letter in "DRT" else f"{letter}{actor}"
+        times = r.choice((1, 1, 2, 3, 4, 8)) if r.random() < calm else 1
+        asks.append(word if times == 1 and r.random() < 0.9 else f"{word}*{times}")
+    return r.choice((" ", "\n", "  ")).join(asks) + r.choice(("", "\n"))
+
+
+def some_rounds(r, harts, units):
+    """Rounds that take all harts some steps on, so that programs come to their ends."""
+    a_round = [f"F0*{r.randint(1, 8) * harts}"]
+    for h in range(harts):
+        a_round += [f"{letter}0.{h}*{r.randint(1, 8)}" for letter in "DR"]
+    a_round += [f"{r.choice('UUUI')}{u}" for u in units for _ in range(r.randint(1, 8))]
+    a_round += [f"C{u}" for u in units]
+    a_round += [f"T0.{h}*{r.randint(1, 8)}" for h in range(harts)]
+    return " ".join(a_round * r.choice((1, 3, 8, 20)))
+
+
+def inputs_of(seed, k):
+    """The files of run k: name and bytes; and the words."""
+    r = random.Random(f"{seed} {k}")
+    config = some_config(r)
+    words = [some_word(r) for _ in range(r.choice((1, 3, 6, 12, 24)))]
+    entry = image.BASE + 4 * r.randrange(len(words)) if r.random() < 0.1 else image.BASE
+    text = "".join(f"{key} = {value}\n".replace("'", '"') for key, value in config.items())
+    files = {
+        "image.elf": image.build(words, entry=entry),
+        "config.toml": text.encode(),
+        "script": some_script(r, config).encode(),
+    }
+    line = ["step", "image.elf", "script", "--config", "config.toml"]
+    line += [option for option in ("--records", "--show") if r.random() < 0.6]
+    if r.random() < 0.02:
+        line = ["list", "image.elf"]
+    return files, line
+
+
+def prepare(folder, seed, k):
+    files, line = inputs_of(seed, k)
+    os.makedirs(folder, exist_ok=True)
+    for name, data in files.items():
+        with open(f"{folder}/{name}", "wb") as file:
+            file.write(data)
+    return line
+
+
+def by_model(folder, line):
+    here = os.getcwd()
+    os.chdir(folder)
+    try:
+        out, err, status = program.run(line)
+    finally:
+        os.chdir(here)
+    return "".join(f"{t}\n" for t in out), "".join(f"{t}\n" for t in err), status
+
+
+def by_program(name, folder, line):
+    words = [os.path.abspath(name), *line]
+    done = subprocess.run(words, cwd=folder, capture_output=True, text=True, check=False)
+    return done.stdout, done.stderr, done.returncode
+
+
+def write(folder, count, seed):
+    for k in range(count):
+        place = f"{folder}/{k}"
+        line = prepare(place, seed, k)
+        out, err, status = by_model(place, line)
+        words = " ".join(line)
+        texts = {"words": f"{words}\n", "stdout": out, "stderr": err, "status": f"{status}\n"}
+        for name, text in texts.items():
+            with open(f"{place}/{name}", "w", encoding="utf-8") as file:
+                file.write(text)
+
+
+def compare(names, count, seed):
+    first, _, second = names.partition("=")
+    folder = tempfile.mkdtemp(prefix="random_runs.")
+    differing, endings = [], {}
+    for k in range(count):
+        place = f"{folder}/{k}"
+        line = prepare(place, seed, k)
+        found = by_program(first, place, line)
+        wanted = by_program(second, place, line) if second else by_model(place, line)
+        endings[found[2]] = endings.get(found[2], 0) + 1
+        if found != wanted:
+            differing.append(k)
+            print(f"run {k} of seed {seed} differs: {place}")
+        else:
+            for name in os.listdir(place):
+                os.remove(f"{place}/{name}")
+            os.rmdir(place)
+    print(f"{count} runs, {len(differing)} differ; exit statuses {dict(sorted(endings.items()))}")
+    return 1 if differing else 0
+
+
+def main(words):
+    if len(words) < 2 or words[0] not in ("write", "compare"):
+        print(__doc__, file=sys.stderr)
+        return 2
+    count, seed = int(words[2]) if len(words) > 2 else 1000, int(words[3]) if len(words) > 3 else 1
+    if words[0] == "compare":
+        return compare(words[1], count, seed)
+    write(words[1], count, seed)
+    return 0
+
+
+if __name__ == "__main__":
+    sys.exit(main(sys.argv[1:]))
