@@ -1,4 +1,5 @@
 mod asking;
+mod hearing;
 mod predicting;
 mod tables;
 
@@ -8,6 +9,7 @@ pub(crate) use asking::first_image;
 use asking::{Step, config, first_core, first_other, issue};
 use elf_image::Image;
 use events::{Event, Next, Outcome, OutcomeFields};
+use hearing::{Heard, without_event};
 use smt_core::{Answer, CompleteAnswer, Config, Core, CoreRefused, IssueAnswer, Status};
 use std::alloc::Global;
 use std::process::Abort;
@@ -80,7 +82,7 @@ pub(crate) const FIRST_END: End = End {
 /// account and of its history, the jobs that are out, and the output's length.
 #[derive(Clone, Copy, Drop)]
 struct Told {
-    answer: Answer,
+    answer: Heard,
     events: u32,
     in_history: usize,
     lent: u32,
@@ -91,7 +93,7 @@ struct Told {
 fn told_of(core: &Core, answer: Answer) -> Told {
     let account = core.account();
     Told {
-        answer,
+        answer: without_event(answer),
         events: account.events,
         in_history: core.history().len(),
         lent: account.lent,
@@ -109,7 +111,7 @@ fn told_at_the_end(alloc: Global) -> Option<Told> {
 #[test]
 fn the_first_program_runs_to_its_end(rt: HostRuntime) {
     let told = told_at_the_end(rt.alloc()).expect(&rt, "an ended core");
-    assert!(rt; told.answer == Answer::Full);
+    assert!(rt; told.answer == Heard::Full);
     assert!(rt; told.events == 18);
     assert!(rt; told.in_history == 18);
     assert!(rt; told.lent == 0);
@@ -300,24 +302,24 @@ fn another_actors_job_is_a_strangers(rt: HostRuntime) {
 /// how many events there are then.
 #[derive(Clone, Copy, Drop)]
 struct Answers {
-    stranger: Answer,
-    tenth: Answer,
-    decode: Answer,
-    rename: Answer,
-    retire: Answer,
-    eighth: Answer,
+    stranger: Heard,
+    tenth: Heard,
+    decode: Heard,
+    rename: Heard,
+    retire: Heard,
+    eighth: Heard,
     idle: bool,
     events: u32,
 }
 
 fn answers_of(core: &mut Core) -> Answers {
     Answers {
-        stranger: core.fetch(1, &mut Always(0)),
-        tenth: core.fetch(9, &mut Always(0)),
-        decode: core.decode(0, 0),
-        rename: core.rename(0, 1),
-        retire: core.retire(0, 0),
-        eighth: core.retire(0, 7),
+        stranger: without_event(core.fetch(1, &mut Always(0))),
+        tenth: without_event(core.fetch(9, &mut Always(0))),
+        decode: without_event(core.decode(0, 0)),
+        rename: without_event(core.rename(0, 1)),
+        retire: without_event(core.retire(0, 0)),
+        eighth: without_event(core.retire(0, 7)),
         idle: is_idle(core.issue(0)),
         events: core.account().events,
     }
@@ -329,7 +331,7 @@ fn answers_with_room(limit: u32, alloc: Global) -> Option<Answers> {
 }
 
 /// Asserts that all answers are the same, and that no event was made.
-fn are_all(rt: &impl Abort, answers: &Answers, answer: Answer) {
+fn are_all(rt: &impl Abort, answers: &Answers, answer: Heard) {
     holds(rt, "a fetch of actor 1", answers.stranger == answer);
     holds(rt, "a fetch of actor 9", answers.tenth == answer);
     holds(rt, "a decode", answers.decode == answer);
@@ -342,10 +344,10 @@ fn are_all(rt: &impl Abort, answers: &Answers, answer: Answer) {
 #[test]
 fn full_comes_before_idle_and_idle_where_nothing_can_be_done(rt: HostRuntime) {
     let without = answers_with_room(0, rt.alloc()).expect(&rt, "a core without room");
-    are_all(&rt, &without, Answer::Full);
+    are_all(&rt, &without, Heard::Full);
     assert!(rt; !without.idle);
     let with = answers_with_room(1, rt.alloc()).expect(&rt, "a core with room");
-    are_all(&rt, &with, Answer::Idle);
+    are_all(&rt, &with, Heard::Idle);
     assert!(rt; with.idle);
 }
 

@@ -4,10 +4,11 @@
 ghost use Rattle.std.specs.Prelude.{◌≡◌, ◌+◌, ◌%◌, ◌^◌};
 
 use super::asking::{Step, config, core_of, first_core, first_other, issue, make};
+use super::hearing::{Heard, without_event};
 use crate::predictors::{Always, Behind};
 use crate::rows::is_none;
 use events::Event;
-use smt_core::{Answer, CompleteAnswer, Core, Done, Predict, Status};
+use smt_core::{CompleteAnswer, Core, Done, Predict, Status};
 use std::alloc::Global;
 
 /// A predictor that guesses the pc behind and address 0 by turns, and counts how often it is asked.
@@ -235,19 +236,19 @@ static ASKED: [(Step, &str); 5] = [
 /// after each, and what is first otherwise in between.
 #[derive(Clone, Copy, Drop)]
 struct Asked {
-    stranger: Answer,
+    stranger: Heard,
     asked_by_stranger: u32,
     other: Option<usize>,
-    last: Answer,
+    last: Heard,
     asked: u32,
 }
 
 fn asks_counted(core: &mut Core) -> Asked {
     let mut predictor = ByTurns { asked: 0 };
-    let stranger = core.fetch(1, &mut predictor);
+    let stranger = without_event(core.fetch(1, &mut predictor));
     let asked_by_stranger = predictor.asked;
     let other = first_other(core, &mut predictor, &ASKED);
-    let last = core.fetch(0, &mut predictor);
+    let last = without_event(core.fetch(0, &mut predictor));
     Asked {
         stranger,
         asked_by_stranger,
@@ -265,10 +266,10 @@ fn asked_of_five(alloc: Global) -> Option<Asked> {
 #[test]
 fn a_predictor_is_asked_at_each_word_and_only_there(rt: HostRuntime) {
     let told = asked_of_five(rt.alloc()).expect(&rt, "a core");
-    assert!(rt; told.stranger == Answer::Idle);
+    assert!(rt; told.stranger == Heard::Idle);
     assert!(rt; told.asked_by_stranger == 0);
     is_none(&rt, "five asks", told.other);
-    assert!(rt; told.last == Answer::Full);
+    assert!(rt; told.last == Heard::Full);
     assert!(rt; told.asked == 2);
 }
 

@@ -141,16 +141,16 @@ struct Stray<'a> {
 }
 
 /// The text behind the answers to a word's asks, as often as they are made.
-fn behind_all<'a>(text: &'a str, word: &'a str, lines: &str) -> Result<&'a str, Stray<'a>> {
+fn behind_all<'a>(text: &'a str, word: &str, lines: &str) -> Option<&'a str> {
     let (ask, number) = word.split_once('*').unwrap_or((word, "1"));
     let mut rest = text;
     for _ in 0..times(number) {
         match behind_word(rest, ask_of(ask), lines) {
             Some(next) => rest = next,
-            None => return Err(Stray { word, text: rest }),
+            None => return None,
         }
     }
-    Ok(rest)
+    Some(rest)
 }
 
 /// The first word of a script whose asks have other lines than their own, if there is one.
@@ -158,8 +158,8 @@ fn first_stray<'a>(script: &'a str, lines: &'a str) -> Option<Stray<'a>> {
     let mut rest = lines;
     for word in script.split(' ') {
         match behind_all(rest, word, lines) {
-            Ok(next) => rest = next,
-            Err(stray) => return Some(stray),
+            Some(next) => rest = next,
+            None => return Some(Stray { word, text: rest }),
         }
     }
     if rest.is_empty() {
