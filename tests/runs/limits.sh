@@ -59,7 +59,7 @@ outcome() {
     if has_no_room limit.err; then return; fi
     # The system ends by a signal what has no room for one more page of its stack; that is a matter
     # of a few KiB, and no answer.
-    if [ "$1" -ge 128 ] && [ "$signals" -lt 4 ] && [ "$is_silent" ]; then
+    if [ "$1" -ge 128 ] && [ "$signals" -lt 2 ] && [ "$is_silent" ]; then
         signals=$((signals + 1))
         return
     fi
