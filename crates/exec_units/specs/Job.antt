@@ -2,7 +2,7 @@
 use Rattle.std.specs.Prelude.{ℕ, None}
 use Rattle.rv_decode.specs.declared.op.Op.{Op}
 use Rattle.events.specs.declared.effect.Outcome.{Outcome}
-use Rattle.smt_model.specs.{Exec.exec, Exec.covered_yet, Outcomes.outcome_of}
+use Rattle.smt_model.specs.{Exec.exec, Outcomes.outcome_of}
 
 -- An instruction's number, what was found at its pc, the pc, and the numbers of its first and its
 -- second source:
@@ -22,4 +22,4 @@ pub record DoneView : Type 0 where
 -- What a unit makes of a job: all that the instruction computes, with no look at memory and without
 -- the faults of its access.
 unfoldable pub outcome_of_job : JobView → Outcome
-outcome_of_job job = outcome_of job.op (exec covered_yet job.op job.pc job.first job.second) None
+outcome_of_job job = outcome_of job.op (exec job.op job.pc job.first job.second) None

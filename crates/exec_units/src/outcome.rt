@@ -5,9 +5,9 @@ ghost use Rattle.smt_model.specs.Kinds.{writes_register};
 ghost use Rattle.smt_model.specs.Nexts.{is_last};
 ghost use Rattle.smt_model.specs.Outcomes.{last_outcome, outcome_of};
 
-use crate::computed::Computed;
 use events::{Next, Outcome, OutcomeFields};
 use rv_decode::{Kind, Op};
+use rv_execute::Computed;
 
 /// What the completion says before memory is looked at: an instruction that ends or stops its hart
 /// says nothing else, a register's number is there only for one that writes a register, and an

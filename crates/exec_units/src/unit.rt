@@ -1,9 +1,9 @@
 ghost use Rattle.std.specs.Prelude.{◌≡◌};
 ghost use Rattle.exec_units.specs.Job.{outcome_of_job};
 
-use crate::execute::execute;
 use crate::job::{Done, Job};
 use crate::outcome::outcome;
+use rv_execute::execute;
 
 /// A unit's work: it executes the instruction of the job, and hands the job back with what that
 /// came to.

@@ -3,11 +3,11 @@ pub mod Histories
 pub mod OneHart
 pub mod Accesses
 pub mod Calls
-pub mod Coverage
 pub mod Fetching
 pub mod Forwarding
 pub mod Looks
 pub mod Memory
+pub mod Mispredictions
 pub mod Refusals
 pub mod Renaming
 pub mod Reservations

@@ -1,7 +1,7 @@
 -- What each instruction computes from its operands, before memory is asked (RISC-V Unprivileged
 -- ISA, chapters "RV32I", "M" and "A", in the manual's order). A word is a number below 2 ^ 32. Ends
 -- and stops are this project's own choice.
-use Rattle.std.specs.Prelude.{ℕ, ◌+◌, ◌-◌, ◌*◌, ◌%◌, ◌^◌, Bool, true, false, not, ◌==◌, nat_lt}
+use Rattle.std.specs.Prelude.{ℕ, ◌+◌, ◌-◌, ◌*◌, ◌%◌, ◌^◌, Bool, not, ◌==◌, nat_lt}
 use Rattle.std.specs.Prelude.{if◌then◌else◌, ℤ, Option, Some, None, int_lt}
 use Rattle.std.specs.Int.{cast_unsigned, w32}
 use Rattle.rv_word.specs.Word.{signed, sum_of, difference_of, left_shift_of, right_shift_of}
@@ -142,29 +142,9 @@ computed_of (instr.LoadReserved rd rs1 ordering) pc a b = touches pc a 0
 computed_of (instr.StoreConditional rd rs1 rs2 ordering) pc a b = touches pc a b
 computed_of (instr.Amo kind rd rs1 rs2 ordering) pc a b = touches pc a b
 
--- Which instructions a machine executes: all but those that touch memory, or all of them.
-pub data Coverage : Type 0 where
-  AllButMemory : Coverage
-  WholeSet : Coverage
-
--- What the simulator executes yet.
-abbrev pub covered_yet : Coverage
-covered_yet = AllButMemory
-
--- The instruction is one of them. Every other one stops its hart as an illegal word does.
-unfoldable pub is_executed : Coverage → Instr → Bool
-is_executed WholeSet i = true
-is_executed AllButMemory (instr.Load _ _ _ _) = false
-is_executed AllButMemory (instr.Store _ _ _ _) = false
-is_executed AllButMemory (instr.LoadReserved _ _ _) = false
-is_executed AllButMemory (instr.StoreConditional _ _ _ _) = false
-is_executed AllButMemory (instr.Amo _ _ _ _ _) = false
-is_executed AllButMemory _ = true
-
 -- The same of what was found at the pc. Cause 1: there is no word there. Cause 2: the word is no
 -- instruction.
-unfoldable pub exec : Coverage → Op → ℕ → ℕ → ℕ → Computed
-exec covers (Known i) pc a b =
-    if is_executed covers i then computed_of i pc a b else just_next (Stopped 2)
-exec covers Illegal pc a b = just_next (Stopped 2)
-exec covers NoWord pc a b = just_next (Stopped 1)
+unfoldable pub exec : Op → ℕ → ℕ → ℕ → Computed
+exec (Known i) pc a b = computed_of i pc a b
+exec Illegal pc a b = just_next (Stopped 2)
+exec NoWord pc a b = just_next (Stopped 1)

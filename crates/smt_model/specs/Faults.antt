@@ -34,4 +34,4 @@ checked image op c =
 
 -- What a core computes of an instruction at a pc, with the numbers of its first and second source.
 abbrev pub computed_on : Setup → Op → ℕ → ℕ → ℕ → Computed
-computed_on setup op pc a b = checked setup.image op (exec setup.covers op pc a b)
+computed_on setup op pc a b = checked setup.image op (exec op pc a b)

@@ -8,18 +8,16 @@ use Rattle.elf_image.specs.Image.{ProgramImage}
 use Rattle.rv_decode.specs.declared.op.UnitKind.{UnitKind}
 use Rattle.rv_decode.specs.declared.op.UnitKind.TheVariants as unit
 use Rattle.smt_model.specs.{Words.ProgramImage, Words.UnitKind, declared.config.Role.Role}
-use Rattle.smt_model.specs.{Exec.Coverage}
 use Rattle.smt_model.specs.declared.config.Role.TheVariants as role
 
 -- A program image and the sizes of a core: its harts, the physical registers beyond 31 a hart, the
--- entries of the issue queue, the role of each actor, and which instructions it executes.
+-- entries of the issue queue, and the role of each actor.
 pub record Setup : Type 0 where
   pub image : ProgramImage
   pub harts : ℕ
   pub extra : ℕ
   pub queue : ℕ
   pub roles : List Role
-  pub covers : Coverage
 
 -- How many physical registers there are.
 abbrev pub registers_of : Setup → ℕ

@@ -6,14 +6,14 @@ use Rattle.events.specs.declared.event.Event.TheVariants.{Fetch, Decode, Rename,
 use Rattle.smt_model.specs.declared.config.Role.TheVariants as role
 use Rattle.smt_model.specs.{Basics.below, Setup.Setup, Bytes.number_at, Memory.byte_at, Fetching.fetch_pc}
 use Rattle.smt_model.specs.Fates.{fate, Completed, Retired, Squashed}
-use Rattle.smt_model.proofs.Rows.Histories.{wide, one_of_each, outcome, effect, access, write, past_of, turned_at}
+use Rattle.smt_model.proofs.Rows.Histories.{core, one_of_each, outcome, effect, access, write, past_of, turned_at}
 use Rattle.smt_model.proofs.Rows.Histories.{refusal, refusal_at, rules_of_events, standing, standing_after, order_of}
 
 -- ---- A load behind an older store of its own hart
 
 -- lui x6,0x80001; sw x11,0(x6); lw x5,0(x6); addi x7,x5,1: on one hart, so that 1 is stored.
 abbrev one : Setup
-one = wide 1 (0x80001337 ∷ 0x00b32023 ∷ 0x00032283 ∷ 0x00128393 ∷ [])
+one = core 1 (0x80001337 ∷ 0x00b32023 ∷ 0x00032283 ∷ 0x00128393 ∷ [])
 
 -- All four are renamed, and the first completes.
 abbrev begun : List Event
@@ -125,7 +125,7 @@ pcs_around_the_load = refl
 -- lui x6,0x80001; sw x11,0(x6); addi x5,x0,-1; sb x5,1(x6); lw x7,0(x6); sb x5,2(x6): one hart, two units for memory
 abbrev layers : Setup
 layers =
-    record (wide 1 (0x80001337 ∷ 0x00b32023 ∷ 0xfff00293 ∷ 0x005300a3 ∷ 0x00032383 ∷ 0x00530123 ∷ [])) {
+    record (core 1 (0x80001337 ∷ 0x00b32023 ∷ 0xfff00293 ∷ 0x005300a3 ∷ 0x00032383 ∷ 0x00530123 ∷ [])) {
       roles = one_of_each ++ role.Mem ∷ [];
     }
 
@@ -194,7 +194,7 @@ layered_refines = refl
 
 -- lui x6,0x80001; beq x0,x0,8; sw x11,0(x6); lw x5,0(x6): one hart, on which the jump is predicted not to be taken
 abbrev skipping : Setup
-skipping = wide 1 (0x80001337 ∷ 0x00000463 ∷ 0x00b32023 ∷ 0x00032283 ∷ [])
+skipping = core 1 (0x80001337 ∷ 0x00000463 ∷ 0x00b32023 ∷ 0x00032283 ∷ [])
 
 -- Number 2, the store, completes before the jump, which squashes it. The load then sees 0.
 abbrev skipped : List Event

@@ -21,7 +21,7 @@ use Rattle.smt_model.specs.{Fates.squashes_at_retirement, Registers.is_unclaimed
 use Rattle.smt_model.specs.{Rules.refused, Account.records, Account.order, Account.committed_value}
 use Rattle.smt_model.specs.declared.config.Role.TheVariants as role
 use Rattle.smt_model.specs.Kinds.{kind_of, destination, first_source, second_source, access_size}
-use Rattle.smt_model.specs.Exec.{exec, computed_of, covered_yet, is_executed, WholeSet}
+use Rattle.smt_model.specs.Exec.{exec, computed_of}
 use Rattle.smt_model.specs.Memory.{byte_at, reserved, status, output}
 
 -- ---- Programs and cores
@@ -47,11 +47,7 @@ one_of_each = role.Fetch ∷ role.Front ∷ role.Retire ∷ role.Alu ∷ role.Mu
 -- So many harts on a program, with 64 registers beyond their own and 16 entries in the queue.
 abbrev pub core : ℕ → List ℕ → Setup
 core harts words =
-    record { image = program words; harts = harts; extra = 64; queue = 16; roles = one_of_each; covers = covered_yet }
-
--- The same of a machine that executes all of RV32IMA.
-abbrev pub wide : ℕ → List ℕ → Setup
-wide harts words = record (core harts words) { covers = WholeSet }
+    record { image = program words; harts = harts; extra = 64; queue = 16; roles = one_of_each }
 
 -- One hart on one word.
 abbrev pub one_word : ℕ → Setup
@@ -116,7 +112,7 @@ unfolding
     muldiv_op amo_kind jalr_of branch_of load_of store_of shift_of immediate_of muldiv_of register_of fence_of
     system_of load_reserved_of store_conditional_of amo_of atomic_of decoded op_of_instr op_of_word rd_of rs1_of
     rs2_of unit_of op_rd op_rs1 op_rs2 op_unit kind_of destination first_source second_source access_size exec
-    computed_of is_executed read_value
+    computed_of read_value
 instructions = tt
 
 unfoldable pub rules_of_events : Unit {0}

@@ -6,7 +6,7 @@ use Rattle.events.specs.declared.event.Event.TheVariants.{Fetch, Decode, Rename,
 use Rattle.smt_model.specs.{Basics.below, Setup.Setup, Flights.live, Registers.is_unclaimed, Registers.value}
 use Rattle.smt_model.specs.{Fetching.fetch_pc, Jobs.job, Account.records, Account.committed_value}
 use Rattle.smt_model.specs.Fates.{fate, InDecode, Issued, Completed, Retired, Squashed}
-use Rattle.smt_model.proofs.Rows.Histories.{wide, outcome, effect, access, write, retired, past_of, turned_at, refusal}
+use Rattle.smt_model.proofs.Rows.Histories.{core, outcome, effect, access, write, retired, past_of, turned_at, refusal}
 use Rattle.smt_model.proofs.Rows.Histories.{refusal_at, rules_of_events, standing, standing_after, order_of}
 
 -- ---- A load that another hart's store overtakes
@@ -15,7 +15,7 @@ use Rattle.smt_model.proofs.Rows.Histories.{refusal_at, rules_of_events, standin
 -- hart 1 jumps to the store and stores 2, the number of harts.
 abbrev two : Setup
 two =
-    wide 2 (0x80001337 ∷ 0x00051863 ∷ 0x00032283 ∷ 0x00128393 ∷ 0x00032603 ∷ 0x00b32023 ∷ [])
+    core 2 (0x80001337 ∷ 0x00051863 ∷ 0x00032283 ∷ 0x00128393 ∷ 0x00032603 ∷ 0x00b32023 ∷ [])
 
 -- Hart 0 has numbers 0, 2, 4, 6 and 8, hart 1 has 1, 3, 5 and 7. Number 4 loads 0 and number 6 adds 1 to it. Then
 -- number 5, the store, completes and retires, while number 8, the second load, is out. The store's word and number are
@@ -216,7 +216,7 @@ replayed_refines = refl
 -- The same harts, where hart 1 has sw x0,0(x6).
 abbrev silent : Setup
 silent =
-    wide 2 (0x80001337 ∷ 0x00051863 ∷ 0x00032283 ∷ 0x00128393 ∷ 0x00032603 ∷ 0x00032023 ∷ [])
+    core 2 (0x80001337 ∷ 0x00051863 ∷ 0x00032283 ∷ 0x00128393 ∷ 0x00032603 ∷ 0x00032023 ∷ [])
 
 -- Number 4 retires with what it saw, though the word was stored to: numbers 6 and 8 go on.
 abbrev squashes_none : List Event

@@ -8,7 +8,7 @@ use Rattle.smt_model.specs.declared.config.Status.TheVariants as status
 use Rattle.smt_model.specs.{Basics.below, Setup.Setup, Bytes.number_at, Memory.byte_at, Memory.status, Exec.next_pc}
 use Rattle.smt_model.specs.{Account.committed_value}
 use Rattle.smt_model.specs.Fates.{fate, Retired, Halted, Squashed}
-use Rattle.smt_model.proofs.Rows.Histories.{wide, outcome, effect, access, write, past_of, turned_at, refusal}
+use Rattle.smt_model.proofs.Rows.Histories.{core, outcome, effect, access, write, past_of, turned_at, refusal}
 use Rattle.smt_model.proofs.Rows.Histories.{refusal_at, rules_of_events, standing, standing_after, order_of}
 
 -- Hart 0's word at a pc goes the whole way, on this unit, before the next is fetched.
@@ -38,7 +38,7 @@ stores s pc word addr size n =
 -- lhu x12,2(x6); lb x13,1(x6); sb x5,5(x6); sh x5,6(x6); lw x14,4(x6)
 abbrev parts : Setup
 parts =
-    wide 1 (
+    core 1 (
     0x80001337 ∷ 0x887762b7 ∷ 0x65528293 ∷ 0x00532023 ∷ 0x00330383 ∷ 0x00334403 ∷ 0x00231483 ∷ 0x00235603
     ∷ 0x00130683 ∷ 0x005302a3 ∷ 0x00531323 ∷ 0x00432703 ∷ []
     )
@@ -97,7 +97,7 @@ little_endian_refines = refl
 
 -- lui x6,0x80001; sw x11,0(x6); amoadd.w x5,x11,(x6); lw x7,0(x6): x11 is 1.
 abbrev adder : Setup
-adder = wide 1 (0x80001337 ∷ 0x00b32023 ∷ 0x00b322af ∷ 0x00032383 ∷ [])
+adder = core 1 (0x80001337 ∷ 0x00b32023 ∷ 0x00b322af ∷ 0x00032383 ∷ [])
 
 -- The atomic one gives the old word, 1, as it retires, and writes the sum, 2, which the load has.
 abbrev added : List Event
@@ -143,7 +143,7 @@ added_refines = refl
 
 -- lui x6,0x80001; lw x5,1(x6); addi x7,x5,1
 abbrev misaligned : Setup
-misaligned = wide 1 (0x80001337 ∷ 0x00132283 ∷ 0x00128393 ∷ [])
+misaligned = core 1 (0x80001337 ∷ 0x00132283 ∷ 0x00128393 ∷ [])
 
 -- The load stops its hart with cause 4, and number 2, fetched behind it, is squashed.
 abbrev stopped_load : List Event
@@ -196,7 +196,7 @@ stopped_load_refines = refl
 
 -- lui x6,0x80000; sw x11,0(x6)
 abbrev overwriter : Setup
-overwriter = wide 1 (0x80000337 ∷ 0x00b32023 ∷ [])
+overwriter = core 1 (0x80000337 ∷ 0x00b32023 ∷ [])
 
 -- The store stops its hart with cause 7.
 abbrev stopped_store : List Event

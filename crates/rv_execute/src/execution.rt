@@ -2,7 +2,7 @@
 //! "RV32I", "M" and "A").
 
 ghost use Rattle.std.specs.Prelude.{◌≡◌};
-ghost use Rattle.smt_model.specs.Exec.{extended, computed_of, covered_yet, is_executed, exec};
+ghost use Rattle.smt_model.specs.Exec.{exec, extended, computed_of};
 
 use crate::computed::{Computed, jump_to, next_pc};
 use crate::operations::{
@@ -12,25 +12,17 @@ use events::Next;
 use rv_decode::{Instr, Op};
 use rv_word::add;
 
-/// What is computed at `pc` by what was found there: a word that is no instruction, or none that is
-/// executed yet, stops with cause 2, and no word with cause 1.
+/// What is computed at `pc` by what was found there, from the numbers of its first and its second
+/// source. A word that is no instruction stops with cause 2, and no word with cause 1.
 #[tactic(auto, unfolding(smt_model::specs::Exec::exec))]
 pub fn execute(op: Op, pc: u32, a: u32, b: u32) -> Computed
-    ensures { result ≡ exec covered_yet op pc a b }
+    ensures { result ≡ exec op pc a b }
 {
     match op {
-        Op::Known(instr) if is_executed(instr) => computed_of(instr, pc, a, b),
-        Op::Known(_) | Op::Illegal => Computed::just_next(Next::Stopped(2)),
+        Op::Known(instr) => computed_of(instr, pc, a, b),
+        Op::Illegal => Computed::just_next(Next::Stopped(2)),
         Op::NoWord => Computed::just_next(Next::Stopped(1)),
     }
-}
-
-/// Whether the simulator executes the instruction yet: every one that touches no memory.
-#[tactic(auto, using(crate::proofs::Executed::executed_yet))]
-fn is_executed(instr: Instr) -> bool
-    ensures { result ≡ is_executed covered_yet instr }
-{
-    !instr.kind().touches_memory()
 }
 
 /// What the instruction at `pc` computes from the numbers of its first and its second source.

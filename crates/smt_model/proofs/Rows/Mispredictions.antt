@@ -1,5 +1,6 @@
--- What is executed yet, computed on worked histories: their numbers were found by hand. Jumps, branches and products
--- run; what touches memory stops its hart as an illegal word does.
+-- Accesses outside RAM, and jumps and branches that go elsewhere than was predicted, computed on worked
+-- histories: their
+-- numbers were found by hand.
 use Rattle.std.specs.Prelude.{◌≡◌, ℕ, true, false, List, [], ◌∷◌, map, take, replicate, Option, Some, None, refl}
 use Rattle.events.specs.{declared.effect.Next.TheVariants.Pc, declared.effect.Next.TheVariants.Stopped}
 use Rattle.events.specs.{declared.event.Event.Event}
@@ -7,41 +8,52 @@ use Rattle.events.specs.declared.event.Event.TheVariants.{Fetch, Decode, Rename,
 use Rattle.smt_model.specs.declared.config.Status.TheVariants as status
 use Rattle.smt_model.specs.{Basics.below, Setup.Setup, Flights.icount, Flights.live, Fetching.fetch_pc}
 use Rattle.smt_model.specs.{Registers.is_unclaimed, Registers.value, Account.account, Account.committed_value}
-use Rattle.smt_model.proofs.Rows.Histories.{core, wide, one_word, outcome, effect, past_of, turned_at, refusal}
+use Rattle.smt_model.proofs.Rows.Histories.{core, one_word, outcome, effect, past_of, turned_at, refusal}
 use Rattle.smt_model.proofs.Rows.Histories.{refusal_at, rules_of_events, standing, standing_after}
 
--- ---- What touches memory: with a register of its own or none, one hart's first word stops its hart
+-- ---- An access at 0, which is outside RAM: with a register of its own or none, one hart's first word stops its hart
 
-abbrev stops : ℕ → Option ℕ → List Event
-stops word phys =
+abbrev stops : ℕ → Option ℕ → ℕ → List Event
+stops word phys cause =
     Fetch 0 0 0 0x80000000 (Some word) 0x80000004 ∷ Decode 1 0 ∷ Rename 1 0 phys ∷ Issue 5 0
-    ∷ Complete 5 0 (outcome None (Stopped 2)) ∷ Retire 2 0 (effect None (Stopped 2)) ∷ []
+    ∷ Complete 5 0 (outcome None (Stopped cause)) ∷ Retire 2 0 (effect None (Stopped cause)) ∷ []
 
--- lw x5,0(x6); lr.w x5,(x6); sc.w x5,x7,(x6); amoadd.w x5,x7,(x6)
-stops_with_registers :
-    map (λ word. refusal (one_word word) (stops word (Some 31)))
-    (0x00032283 ∷ 0x100322af ∷ 0x187322af ∷ 0x007322af ∷ [])
-    ≡ replicate 4 None
+-- lw x5,0(x6); lr.w x5,(x6)
+abbrev reads : List ℕ
+reads = 0x00032283 ∷ 0x100322af ∷ []
+
+-- sc.w x5,x7,(x6); amoadd.w x5,x7,(x6)
+abbrev writes : List ℕ
+writes = 0x187322af ∷ 0x007322af ∷ []
+
+reads_stop_with_5 : map (λ word. refusal (one_word word) (stops word (Some 31) 5)) reads ≡ replicate 2 None
 unfolding refusal
-stops_with_registers = refl
+reads_stop_with_5 = refl
+
+writes_stop_with_7 : map (λ word. refusal (one_word word) (stops word (Some 31) 7)) writes ≡ replicate 2 None
+unfolding refusal
+writes_stop_with_7 = refl
 
 -- sw x5,0(x6)
-stops_without_registers : refusal (one_word 0x00532023) (stops 0x00532023 None) ≡ None
+store_stops_with_7 : refusal (one_word 0x00532023) (stops 0x00532023 None 7) ≡ None
 unfolding refusal
-stops_without_registers = refl
+store_stops_with_7 = refl
 
--- The plain machine of the same coverage stops there too.
+-- The plain machine stops there too.
 stops_refine :
-    map (λ word. standing_after (one_word word) [] (0 ∷ [])) (0x00032283 ∷ 0x100322af ∷ 0x187322af ∷ 0x007322af ∷ [])
-    ≡ map (λ word. Some (standing (one_word word) [] (past_of (stops word (Some 31)))))
-    (0x00032283 ∷ 0x100322af ∷ 0x187322af ∷ 0x007322af ∷ [])
+    map (λ word. standing_after (one_word word) [] (0 ∷ [])) (0x00032283 ∷ 0x187322af ∷ [])
+    ≡ Some (standing (one_word 0x00032283) [] (past_of (stops 0x00032283 (Some 31) 5)))
+    ∷ Some (standing (one_word 0x187322af) [] (past_of (stops 0x187322af (Some 31) 7))) ∷ []
 unfolding rules_of_events
 stops_refine = refl
 
--- A machine that executes all stops the load for its address, 0, which is outside RAM.
-whole_set_stops_with_5 : refusal (wide 1 (0x00032283 ∷ [])) (stops 0x00032283 (Some 31)) ≡ refusal_at 4 4
+-- It is no illegal word: none of them stops with 2.
+access_is_an_instruction :
+    map (λ word. refusal (one_word word) (stops word (Some 31) 2)) (0x00032283 ∷ 0x100322af ∷ 0x187322af ∷
+    0x007322af ∷ [])
+    ≡ replicate 4 (refusal_at 4 4)
 unfolding refusal
-whole_set_stops_with_5 = refl
+access_is_an_instruction = refl
 
 -- ---- A jump to a half word: jal x5,2, well predicted
 
