@@ -1,0 +1,8 @@
+pub mod Accesses
+pub mod Advancing
+pub mod Beginning
+pub mod Changes
+pub mod Executing
+pub mod Harts
+pub mod Running
+pub mod Stepping

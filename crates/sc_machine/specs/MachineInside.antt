@@ -1,0 +1,21 @@
+-- How the machine keeps its parts.
+use Rattle.std.specs.Prelude.{◌<◌, ◌≤◌, length}
+use Rattle.std.specs.Vec.{vec_capacity}
+use Rattle.numbers.specs.Sizes.{most_harts}
+use Rattle.sc_machine.specs.{Machine.Machine, declared.machine.Plain.TheInside.Inside}
+
+-- what callers see of it
+abbrev pub machine_of : Inside → Machine
+machine_of a = record {
+  harts = a.harts.items;
+  memory = a.memory;
+  output = a.output.items;
+  room = a.room;
+}
+
+-- there are 1 to 8 harts, and the room for the output has been made
+pub record IsSound (a : Inside) : Type 0 where
+  pub some : 0 < length a.harts.items
+  pub few : length a.harts.items ≤ most_harts
+  pub within : length a.output.items ≤ a.room
+  pub roomy : a.room ≤ vec_capacity a.output

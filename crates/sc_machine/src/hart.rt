@@ -1,0 +1,116 @@
+ghost use Rattle.std.specs.Prelude.{◌≡◌, ℕ, ◌<◌, ◌==◌, ◌&&◌, not, if◌then◌else◌, slice_index};
+ghost use Rattle.smt_model.specs.Nexts.{pc_after};
+ghost use Rattle.smt_model.specs.Plain.{is_going_status, register_after, status_after};
+ghost use Rattle.sc_machine.specs.Harts.{IsFirst, register_written};
+
+use events::{EffectFields, Next};
+use rv_decode::Reg;
+use smt_model::Status;
+
+/// What a hart has of its own. x0 stands in its registers as 0.
+#[derive(Clone, Copy, Debug, Drop)]
+pub struct Hart {
+    pub registers: [u32; 32],
+    pub pc: u32,
+    pub status: Status,
+}
+
+impl Hart {
+    /// Hart `hart` of `harts` as it begins, at the entry of the program: x10 is its number, x11 how
+    /// many harts there are, and all other registers are 0.
+    pub fn new(hart: u8, harts: u8, entry: u32) -> Self
+        ensures { IsFirst hart harts entry result }
+    {
+        let with_harts = with_number(zeros(), 11, u32::from(harts));
+        let registers = with_number(with_harts, 10, u32::from(hart));
+        Hart {
+            registers,
+            pc: entry,
+            status: Status::Going,
+        }
+    }
+
+    /// Whether it goes on.
+    pub fn is_going(&self) -> bool
+        ensures { result ≡ is_going_status self.now.status }
+    {
+        match self.status {
+            Status::Going => true,
+            Status::Ended(_) | Status::Stopped(_) => false,
+        }
+    }
+
+    /// What a register holds.
+    pub fn read(&self, register: Reg) -> u32
+        requires { register < 32 }
+        ensures { result ≡ slice_index self.now.registers register }
+    {
+        self.registers[usize::from(register)]
+    }
+
+    /// The hart after an instruction with this effect, which writes `rd`, 0 for none.
+    pub fn after(&self, rd: Reg, effect: EffectFields) -> Hart
+        requires { rd < 32 }
+        ensures registers { (r : ℕ) → slice_index result.registers r
+            ≡ register_written rd effect.value r (slice_index self.now.registers r) }
+        ensures pc { result.pc ≡ pc_after effect.next self.now.pc }
+        ensures status { result.status ≡ status_after effect.next self.now.status }
+    {
+        Hart {
+            registers: registers_after(self.registers, rd, effect.value),
+            pc: pc_after(effect.next, self.pc),
+            status: status_after(effect.next, self.status),
+        }
+    }
+}
+
+/// Registers that are all 0.
+fn zeros() -> [u32; 32]
+    ensures { (r : ℕ) → slice_index result r ≡ 0 }
+{
+    [0; 32]
+}
+
+/// The registers once `rd` holds a number, where there is one; x0 stays.
+fn registers_after(registers: [u32; 32], rd: Reg, value: Option<u32>) -> [u32; 32]
+    requires { rd < 32 }
+    ensures { (r : ℕ) → slice_index result r
+        ≡ register_written rd value r (slice_index registers r) }
+{
+    match value {
+        Some(number) if rd != 0 => with_number(registers, rd, number),
+        _ => registers,
+    }
+}
+
+/// The registers once `rd` holds a number.
+fn with_number(registers: [u32; 32], rd: Reg, number: u32) -> [u32; 32]
+    requires { rd < 32 }
+    ensures { (r : ℕ) → slice_index result r
+        ≡ (if r == rd then number else slice_index registers r) }
+{
+    let mut changed = registers;
+    changed[usize::from(rd)] = number;
+    changed
+}
+
+/// Where a hart goes on.
+fn pc_after(next: Next, before: u32) -> u32
+    ensures { result ≡ pc_after next before }
+{
+    match next {
+        Next::Pc(pc) => pc,
+        Next::Ended(_) | Next::Stopped(_) => before,
+    }
+}
+
+/// How a hart stands afterwards.
+fn status_after(next: Next, before: Status) -> Status
+    ensures { result ≡ status_after next before }
+{
+    match next {
+        Next::Pc(_) => before,
+        Next::Ended(number) => Status::Ended(number),
+        Next::Stopped(cause) => Status::Stopped(cause),
+    }
+}
