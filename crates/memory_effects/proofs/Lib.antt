@@ -1,0 +1,5 @@
+pub mod Checking
+pub mod Completing
+pub mod Retiring
+pub mod Forwarding
+pub mod Saying
