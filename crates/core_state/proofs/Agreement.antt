@@ -4,4 +4,6 @@ pub mod Rest
 pub mod Shared
 pub mod Filled
 pub mod Fill
+pub mod Accesses
+pub mod Queues
 pub mod Beginning

@@ -3,7 +3,6 @@ pub mod Invariant
 pub mod Asked
 pub mod NoAnswer
 pub mod SameOp
-pub mod Executed
 pub mod Fetch
 pub mod Decode
 pub mod Rename

@@ -15,6 +15,7 @@ use Rattle.retire_squash.specs.declared.active.Stage.TheVariants as stage
 use Rattle.smt_model.specs.{Kinds.destination, Kinds.first_source, Kinds.second_source}
 use Rattle.smt_model.specs.{Picture.Picture, Steps.filled_value}
 use Rattle.smt_model.specs.Fates.{Fetched, Renamed, Issued, Completed}
+use Rattle.core_state.specs.{Accesses.AccessesAgree, Accesses.MemoryAgrees}
 use Rattle.core_state.specs.{declared.slot.Slot.Slot, declared.slot.OpenJob.OpenJob}
 use Rattle.core_state.specs.{declared.hart.HartState.HartState, declared.parts.Parts.Parts}
 
@@ -118,6 +119,8 @@ pub record PartsAgree (p : Picture) (x : Parts) : Type 0 where
   pub values : ValuesAgree p x.values
   pub actors : length x.jobs ≡ most_actors
   pub jobs : JobsAgree p x.jobs
+  pub accesses : AccessesAgree x.harts.items x.accesses
+  pub memory : MemoryAgrees p x.memory
 
 -- A step of hart h can be made: the parts agree with a picture that the step starts from.
 pub record From (x : Parts) (h : ℕ) (Step : Picture → Picture → Type 0) : Type 0 where
@@ -127,10 +130,12 @@ pub record From (x : Parts) (h : ℕ) (Step : Picture → Picture → Type 0) : 
   pub agrees : PartsAgree before x
   pub step : Step before after
 
--- A step changes neither how many harts there are nor how much room the queue has.
+-- A step changes neither how many harts there are, nor how much room the queue has, nor the image
+-- that memory began with.
 pub record KeepsSizes (old new : Parts) : Type 0 where
   pub harts : length new.harts.items ≡ length old.harts.items
   pub queue : new.queue.size ≡ old.queue.size
+  pub image : new.memory.image ≡ old.memory.image
 
 -- An entry's source once register `register` has been given the number `filled`, if any.
 abbrev pub filled_source : Option ℕ → Option ℕ → Source → Source
@@ -154,3 +159,5 @@ pub record IsFilled (register filled : Option ℕ) (old new : Parts) : Type 0 wh
       → slice_index_or new.values x d ≡ filled_value register filled x
       (slice_index_or old.values x d)
   pub jobs : new.jobs ≡ old.jobs
+  pub accesses : new.accesses ≡ old.accesses
+  pub memory : new.memory ≡ old.memory

@@ -2,6 +2,7 @@
 use Rattle.std.specs.Prelude.{◌≡◌, ℕ, ◌+◌, ◌-◌, ◌<◌, ◌&&◌, nat_le, nat_lt, if◌then◌else◌, []}
 use Rattle.std.specs.Prelude.{Option, Some}
 use Rattle.numbers.specs.Layout.{first_extra}
+use Rattle.elf_image.specs.Image.{ProgramImage}
 use Rattle.rename_map.specs.Maps.{lookup, committed_of}
 use Rattle.smt_model.specs.{declared.config.Status.TheVariants.Going, Picture.picture}
 use Rattle.smt_model.specs.{Registers.first_register, Setup.Setup, Setup.first_number}
@@ -30,8 +31,8 @@ first_values_below r harts h x before =
 abbrev pub first_values : ℕ → ℕ → ℕ → Option ℕ → Option ℕ
 first_values harts h x before = first_values_below 32 harts h x before
 
--- The parts agree with the empty history of every setup of these sizes and this entry.
-abbrev pub BeginsAs : ℕ → ℕ → ℕ → Parts → Type 0
-BeginsAs harts extra entry parts =
-    (setup : Setup) → setup.harts ≡ harts → setup.extra ≡ extra → setup.image.entry ≡ entry
+-- The parts agree with the empty history of every setup of these sizes and this image.
+abbrev pub BeginsAs : ℕ → ℕ → ProgramImage → Parts → Type 0
+BeginsAs harts extra image parts =
+    (setup : Setup) → setup.harts ≡ harts → setup.extra ≡ extra → setup.image ≡ image
     → PartsAgree (picture setup []) parts

@@ -2,7 +2,7 @@
 use Rattle.std.specs.Prelude.{ℕ, Bool, ◌&&◌, nat_le, length}
 use Rattle.numbers.specs.Sizes.{most_events}
 use Rattle.elf_image.specs.Image.{ProgramImage}
-use Rattle.smt_model.specs.{declared.config.Config.Config, Exec.covered_yet, Setup.Setup}
+use Rattle.smt_model.specs.{declared.config.Config.Config, Setup.Setup}
 use Rattle.smt_model.specs.{Setup.are_core_sizes}
 
 abbrev pub setup_of : ProgramImage → Config → Setup
@@ -13,7 +13,6 @@ setup_of image config =
       extra = config.extra;
       queue = config.queue;
       roles = config.roles.items;
-      covers = covered_yet;
     }
 
 -- The sizes and the limit are a core's.

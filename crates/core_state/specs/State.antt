@@ -24,6 +24,7 @@ pub record IsCore (i : Inside) : Type 0 where
   pub limit : i.history.limit ≤ most_events
   pub harts : length i.parts.harts.items ≡ i.config.harts
   pub queue : i.parts.queue.size ≡ i.config.queue
+  pub image : i.parts.memory.image ≡ i.image
   pub legal : is_legal (setup_in i) (past_of i)
   pub agrees : PartsAgree (picture (setup_in i) (past_of i)) i.parts
   pub fetched : i.fetched ≡ fetches (past_of i)

@@ -1,19 +1,28 @@
 ghost use Rattle.std.specs.Prelude.{◌≡◌, ℕ, ◌<◌, ◌==◌, ◌↔◌, IsTrue, IfSome, IfNone, Some, None};
 ghost use Rattle.std.specs.Prelude.{Option, false, length, slice_index_or};
 ghost use Rattle.std.specs.List.{list_any};
+ghost use Rattle.numbers.specs.Sizes.{most_harts};
+ghost use Rattle.load_store.specs.Looks.{seen};
+ghost use Rattle.load_store.specs.Queues.{queues_of};
 ghost use Rattle.retire_squash.specs.Active.{with_stage};
+ghost use Rattle.smt_model.specs.Bytes.{read};
+ghost use Rattle.smt_model.specs.Exec.{Computed};
+ghost use Rattle.smt_model.specs.Faults.{checked};
+ghost use Rattle.smt_model.specs.Outcomes.{outcome_of};
 ghost use Rattle.smt_model.specs.Picture.{Picture};
-ghost use Rattle.smt_model.specs.Steps.{IsComplete, IsDrop};
+ghost use Rattle.smt_model.specs.Steps.{IsComplete, IsDrop, op_in};
 ghost use Rattle.core_state.specs.Agree.{IsActive, PartsAgree, KeepsSizes, From};
 ghost use Rattle.core_state.specs.Complete.{IsSameJob, IsFinish};
 ghost use Rattle.smt_model.specs.Nexts.{redirect_pc};
 ghost use Rattle.core_state.specs.declared.slot.OpenJob.{OpenJob as Open};
 
+use crate::accesses::resolve_access;
 use crate::hart::HartState;
 use crate::parts::{Parts, set_job};
 use crate::slot::OpenJob;
 use events::{Next, OutcomeFields};
 use exec_units::{Done, Job};
+use memory_effects::completion;
 use numbers::Seq;
 use retire_squash::{Active, Stage};
 
@@ -89,6 +98,25 @@ impl Parts {
         self.harts[usize::from(hart)].active.find(seq)
     }
 
+    /// What the completion of a job says, from the outcome that its unit handed back: with the fault
+    /// of its access, or with the first look of a load.
+    pub fn completion_of(&self, job: &OpenJob, outcome: OutcomeFields) -> OutcomeFields
+        requires { job.now.hart < most_harts }
+        ensures { (c : Computed) → outcome ≡ outcome_of job.now.op c None
+            → result ≡ outcome_of job.now.op (checked self.now.memory.image job.now.op c)
+            (Some (read job.now.op (seen job.now.seq
+            (queues_of self.now.accesses job.now.hart).stores self.now.memory) c.addr)) }
+    {
+        completion(
+            &self.memory,
+            &self.accesses,
+            job.hart,
+            job.seq,
+            job.op,
+            outcome,
+        )
+    }
+
     /// Hart `hart`'s instruction `active`, which is actor `actor`'s job, has its outcome. Where it
     /// goes elsewhere than was predicted, all younger ones of its hart are squashed, and the hart
     /// is fetched from there.
@@ -107,8 +135,8 @@ impl Parts {
         self.squash(hart, active.seq);
     }
 
-    /// The outcome is written, its number handed on, the actor rid of the job, and the hart is
-    /// fetched from `goes_on`.
+    /// The outcome is written, its number handed on, a store told what it will write, the actor rid
+    /// of the job, and the hart is fetched from `goes_on`.
     fn write_outcome(
         &mut self,
         actor: u8,
@@ -118,13 +146,16 @@ impl Parts {
         goes_on: u32,
     )
         requires inside { hart < length self.old.harts.items }
+        requires place { hart < most_harts }
         ensures agrees { (p q : Picture) → PartsAgree p self.old
             → IsComplete p q hart active.now.seq actor outcome goes_on
-            → active.now.phys ≡ p.phys active.now.seq → PartsAgree q self.new }
+            → active.now.phys ≡ p.phys active.now.seq → active.now.op ≡ op_in p active.now.seq
+            → PartsAgree q self.new }
         ensures sizes { KeepsSizes self.old self.new }
     {
         self.fill(active.phys, outcome.value);
         set_job(&mut self.jobs, usize::from(actor), None);
+        resolve_access(&mut self.accesses, hart, active.op, active.seq, outcome);
         self.harts[usize::from(hart)].complete(active.seq, outcome, goes_on);
     }
 

@@ -11,10 +11,13 @@ ghost use Rattle.core_state.specs.Listed.{listed};
 use crate::hart::HartState;
 use crate::slot::OpenJob;
 use arrayvec::ArrayVec;
+use elf_image::Image;
 use free_list::FreeList;
 use issue_queue::IssueQueue;
+use load_store::LoadStore;
 use numbers::sizes::{MOST_ACTORS, MOST_REGISTERS};
 use numbers::{Phys, Reg, first_register};
+use shared_memory::Memory;
 use std::alloc::{AllocError, Global};
 
 /// The parts of the core that its steps move instructions through.
@@ -27,25 +30,31 @@ pub struct Parts {
     pub values: [Option<u32>; MOST_REGISTERS],
     /// The job that each actor has.
     pub jobs: [Option<OpenJob>; MOST_ACTORS],
+    /// Each hart's loads and stores in flight.
+    pub accesses: LoadStore,
+    /// The bytes and the reservations, as the retired instructions leave them.
+    pub memory: Memory,
 }
 
 impl Parts {
-    /// The parts of a core before its first event: every hart is at the entry, and the extra
-    /// registers are free.
+    /// The parts of a core before its first event: every hart is at the image's entry, memory is
+    /// the image's, and the extra registers are free.
     pub fn new(
         harts: u8,
         extra: u16,
         queue: u8,
-        entry: u32,
+        image: &Image,
         alloc: Global,
     ) -> Result<Parts, AllocError>
         requires harts_fit { harts ≤ most_harts }
         requires extra_fit { extra ≤ most_extra }
         requires queue_fits { queue ≤ most_queued }
-        ensures begins { IfOk result (BeginsAs harts extra entry) }
+        ensures begins { IfOk result (BeginsAs harts extra image.now) }
         ensures harts { IfOk result (λ parts. length parts.harts.items ≡ harts) }
         ensures queue { IfOk result (λ parts. parts.queue.size ≡ queue) }
+        ensures image { IfOk result (λ parts. parts.memory.image ≡ image.now) }
     {
+        let entry = image.entry();
         let mut each = Vec::with_capacity(alloc, usize::from(harts))?;
         let mut values = [None; MOST_REGISTERS];
         for hart in 0..harts {
@@ -58,6 +67,8 @@ impl Parts {
             free: FreeList::new(harts, extra),
             values,
             jobs: [None; MOST_ACTORS],
+            accesses: LoadStore::new(),
+            memory: Memory::new(image, alloc)?,
         })
     }
 

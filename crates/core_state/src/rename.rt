@@ -14,6 +14,7 @@ ghost use Rattle.core_state.specs.Agree.{PartsAgree, KeepsSizes, From};
 ghost use Rattle.core_state.specs.Renaming.{CanRename, IsLeastIn, IsRenaming, CanEnter, HasRenamed};
 ghost use Rattle.core_state.specs.Renaming.{has_full_memory_queue, source_in, emptied};
 
+use crate::accesses::add_access;
 use crate::hart::HartState;
 use crate::parts::Parts;
 use crate::slot::Slot;
@@ -73,6 +74,7 @@ impl Parts {
             sources,
         });
         take(&mut self.free, &mut self.values, phys);
+        add_access(&mut self.accesses, hart, slot.op, slot.seq);
         self.harts[usize::from(hart)].rename(slot, phys);
     }
 }

@@ -20,7 +20,8 @@ use retire_squash::{Active, ActiveList, Stage};
 
 impl Parts {
     /// Throws away hart `hart`'s instructions younger than number `after`: its latches are emptied,
-    /// its registers are given back, and its map and counter are what the older ones make them.
+    /// its registers are given back, its loads and stores leave their queues, and its map and
+    /// counter are what the older ones make them.
     pub fn squash(&mut self, hart: u8, after: Seq)
         requires step { From self.old hart (λ p q. IsSquash p q hart after) }
         ensures agrees { (p q : Picture) → PartsAgree p self.old → IsSquash p q hart after
@@ -29,6 +30,7 @@ impl Parts {
     {
         self.queue.squash(hart, after);
         self.harts[usize::from(hart)].squash(after, &mut self.free);
+        self.accesses.squash(hart, after);
     }
 }
 

@@ -1,46 +1,40 @@
 ghost use Rattle.std.specs.Prelude.{◌≡◌, ◌∷◌, ◌++◌, [], ℕ, ◌<◌, ◌≤◌, ◌+◌, ◌↔◌, ◌==◌, ◌&&◌, length};
-ghost use Rattle.std.specs.Prelude.{IsTrue, IfSome, IfNone, IfOk, IfErr, None, Some, false, true};
-ghost use Rattle.std.specs.Prelude.{Err, reverse, is_some, nat_lt, if◌then◌else◌, vec_len};
-ghost use Rattle.std.specs.Prelude.{vec_capacity};
-ghost use Rattle.numbers.specs.Sizes.{most_harts, most_extra, most_queued, most_actors};
+ghost use Rattle.std.specs.Prelude.{IsTrue, IfSome, IfNone, IfOk, None, Some, false, true};
+ghost use Rattle.std.specs.Prelude.{Err, if◌then◌else◌};
+ghost use Rattle.numbers.specs.Sizes.{most_harts, most_extra, most_queued};
 ghost use Rattle.numbers.specs.Sizes.{most_events};
 ghost use Rattle.events.specs.Range.{HasShortWrite};
-ghost use Rattle.core_state.specs.Listed.{listed};
 ghost use Rattle.core_state.specs.Agree.{IsActive};
 ghost use Rattle.core_state.specs.View.{CoreView, grown};
 ghost use Rattle.core_state.specs.Answers.{AllowsNone, CanFetch, fetched_at, TakesLeast, IsJobOf};
 ghost use Rattle.core_state.specs.Answers.{IsStrange};
-ghost use Rattle.smt_model.specs.Account.{records, open_job_count, committed_value};
+ghost use Rattle.smt_model.specs.Account.{records};
 ghost use Rattle.smt_model.specs.Asks.{answers, AskFetch, AskDecode, AskRename, AskIssue};
 ghost use Rattle.smt_model.specs.Asks.{AskComplete, AskRetire};
-ghost use Rattle.smt_model.specs.Basics.{how_many};
-ghost use Rattle.smt_model.specs.Flights.{icount};
-ghost use Rattle.smt_model.specs.Memory.{status, output};
-ghost use Rattle.smt_model.specs.Picture.{is_free, picture};
-ghost use Rattle.smt_model.specs.Registers.{claims};
-ghost use Rattle.smt_model.specs.Rules.{refused, is_legal};
+ghost use Rattle.smt_model.specs.Memory.{output};
+ghost use Rattle.smt_model.specs.Picture.{picture};
+ghost use Rattle.smt_model.specs.Rules.{refused};
 ghost use Rattle.smt_model.specs.Jobs.{is_actor};
-ghost use Rattle.smt_model.specs.Setup.{is_accepted, registers_of, unit_of_role};
+ghost use Rattle.smt_model.specs.Setup.{is_accepted};
 ghost use Rattle.core_state.specs.Setup.{setup_of, accepts};
 
+mod readers;
 mod tables;
 
 use crate::fetch::choose;
-use crate::issue::{count_jobs, unit_of};
+use crate::issue::unit_of;
 use crate::log::{append, put_out};
-use crate::parts::{Parts, registers_in, value_of};
+use crate::parts::Parts;
 use crate::point::FetchPoint;
 use crate::refused::CoreRefused;
-use crate::retire::effect_of;
-use crate::sizes::{is_core, is_same_config};
-use arrayvec::ArrayVec;
+use crate::sizes::is_core;
 use elf_image::Image;
-use events::{Event, History, Outcome, Record};
+use events::{Effect, Event, History, Outcome, Record};
 use exec_units::{Done, Job};
-use numbers::sizes::MOST_REGISTERS;
-use numbers::{Phys, Reg, Seq};
+use memory_effects::effect;
+use numbers::Seq;
 use retire_squash::Active;
-use smt_model::{Config, Status};
+use smt_model::Config;
 use std::alloc::{AllocError, Global};
 use std::marker::Model;
 
@@ -113,13 +107,7 @@ impl State {
         let history = History::with_limit(limit, alloc)?;
         let records = Vec::with_capacity(alloc, limit as usize)?;
         let output = Vec::with_capacity(alloc, limit as usize)?;
-        let parts = Parts::new(
-            config.harts,
-            config.extra,
-            config.queue,
-            image.entry(),
-            alloc,
-        )?;
+        let parts = Parts::new(config.harts, config.extra, config.queue, &image, alloc)?;
         Ok(State {
             image,
             config,
@@ -263,7 +251,8 @@ impl State {
         let Some(active) = self.parts.in_flight(job.hart, job.seq) else {
             return Some(self.drop_job(actor, job.seq));
         };
-        Some(self.finish(actor, job.hart, &active, done.outcome()))
+        let outcome = self.parts.completion_of(&job, done.outcome().fields());
+        Some(self.finish(actor, job.hart, &active, Outcome::new(outcome)))
     }
 
     /// Writes the completion of an instruction in flight, which may come next.
@@ -315,8 +304,9 @@ impl State {
             return None;
         }
         let (active, outcome) = self.parts.next_to_retire(hart)?;
-        let effect = effect_of(outcome);
-        self.parts.retire(hart, active, effect.fields());
+        let fields = effect(&self.parts.memory, hart, active.op, outcome);
+        self.parts.retire(hart, active, fields);
+        let effect = Effect::new(fields);
         self.records.push_reserved(Record {
             hart,
             pc: active.pc,
@@ -331,97 +321,6 @@ impl State {
         };
         append(&mut self.history, &event);
         Some(event)
-    }
-
-    /// The retired instructions, in the order of retirement.
-    pub fn records(&self) -> &[Record]
-        ensures { result.now ≡ reverse (records self.now.past) }
-    {
-        self.records.as_slice()
-    }
-
-    /// The bytes that the program has put out, in order.
-    pub fn output(&self) -> &[u8]
-        ensures { result.now ≡ output self.now.past }
-    {
-        self.output.as_slice()
-    }
-
-    /// How hart `hart` stands; none where there is no such hart.
-    pub fn status(&self, hart: u8) -> Option<Status>
-        ensures { result
-            ≡ (if nat_lt hart self.now.setup.harts then Some (status self.now.past hart)
-            else None) }
-    {
-        Some(self.parts.harts.get(usize::from(hart))?.status)
-    }
-
-    /// How many instructions of hart `hart` are in decode, rename and the issue queue; none where
-    /// there is no such hart.
-    pub fn icount(&self, hart: u8) -> Option<u32>
-        ensures { result
-            ≡ (if nat_lt hart self.now.setup.harts then Some (icount self.now.past hart)
-            else None) }
-    {
-        Some(self.parts.harts.get(usize::from(hart))?.icount)
-    }
-
-    /// The free physical registers, rising.
-    pub fn free_registers(&self) -> ArrayVec<Phys, MOST_REGISTERS>
-        ensures free { result.items ≡ listed (is_free self.now.setup self.now.past) }
-        ensures once { (p : ℕ) → p < registers_of self.now.setup
-            → claims self.now.setup self.now.past p + how_many (λ x. x == p) result.items ≡ 1 }
-    {
-        registers_in(&self.parts.free)
-    }
-
-    /// How many actors have a job.
-    pub fn lent(&self) -> u32
-        ensures { result ≡ open_job_count self.now.setup self.now.past }
-    {
-        count_jobs(&self.parts.jobs) as u32
-    }
-
-    /// The events so far, the oldest first.
-    pub fn history(&self) -> &[Event]
-        ensures events { reverse result.now ≡ self.now.past }
-        ensures legal { is_legal self.now.setup self.now.past }
-        ensures within { length result.now ≤ self.now.limit }
-        ensures limit { self.now.limit ≤ most_events }
-        ensures actors { length self.now.setup.roles ≤ most_actors }
-    {
-        let _actors = self.config.roles.len();
-        self.history.events()
-    }
-
-    /// How many harts there are, 1 to 8.
-    pub fn harts(&self) -> u8
-        ensures value { result ≡ self.now.setup.harts }
-        ensures range { result ≤ most_harts }
-    {
-        self.config.harts
-    }
-
-    /// What hart `hart`'s register `register` holds as its retired instructions leave it; none
-    /// where there is no such hart or register. x0 is 0.
-    pub fn register(&self, hart: u8, register: Reg) -> Option<u32>
-        ensures { result
-            ≡ (if nat_lt hart self.now.setup.harts && nat_lt register 32
-            then committed_value self.now.setup self.now.past hart register else None) }
-    {
-        let state = self.parts.harts.get(usize::from(hart))?;
-        match register {
-            0 => Some(0),
-            1..32 => value_of(&self.parts.values, state.maps.committed(register)),
-            _ => None,
-        }
-    }
-
-    /// Whether the core was made from this image and this configuration.
-    pub fn is_of(&self, image: &Image, config: &Config) -> bool
-        ensures { IsTrue result ↔ (self.now.setup ≡ setup_of image.now config.now) }
-    {
-        self.image.same_as(image) && is_same_config(&self.config, config)
     }
 
     fn has_actor(&self, actor: u8) -> bool

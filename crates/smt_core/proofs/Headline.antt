@@ -11,7 +11,9 @@ use Rattle.smt_model.specs.{Memory.status, Memory.output, Plain.run, Plain.read_
 use Rattle.smt_model.specs.{Registers.committed, Rules.is_legal, Setup.Setup}
 use Rattle.smt_laws.specs.Sequential.{IsSequential, EachIsSequential}
 use Rattle.core_state.specs.View.{CoreView}
-use Rattle.smt_core.specs.Headline.{IsPlainRun, IsPlainRegister}
+use Rattle.smt_model.specs.Memory.{byte_at, reserved}
+use Rattle.shared_memory.specs.Contents.{Contents, byte_of, reserved_of}
+use Rattle.smt_core.specs.Headline.{IsPlainRun, IsPlainRegister, IsPlainMemory}
 
 -- ---- The account
 
@@ -110,3 +112,18 @@ register_in a b h r o same is =
     subst
     (λ (v : CoreView). o
     ≡ (if nat_lt h v.setup.harts && nat_lt r 32 then committed_value v.setup v.past h r else None)) same is
+
+-- ---- Memory
+
+-- The memory of a core is that of the run.
+pub memory_answered : (core : CoreView) (m : Contents) → EachIsSequential → is_legal core.setup core.past
+    → ((addr : ℕ) → byte_of m addr ≡ byte_at core.setup core.past addr)
+    → ((h : ℕ) → reserved_of m h ≡ reserved core.past h) → IsPlainMemory core m
+memory_answered core m headline legal bytes held =
+    let is = headline core.setup core.past legal in
+    record {
+      ran = is.ran;
+      runs = is.runs;
+      bytes = λ addr. bytes addr ∙ sym (is.bytes addr);
+      reserved = λ h. held h ∙ sym (is.reserved h);
+    }

@@ -12,9 +12,10 @@ ghost use Rattle.smt_model.specs.Basics.{below, how_many};
 ghost use Rattle.smt_model.specs.Flights.{icount};
 ghost use Rattle.smt_model.specs.Picture.{is_free};
 ghost use Rattle.smt_model.specs.Registers.{claims};
-ghost use Rattle.smt_model.specs.Memory.{status, output, is_going};
+ghost use Rattle.smt_model.specs.Memory.{byte_at, reserved, status, output, is_going};
+ghost use Rattle.shared_memory.specs.Contents.{byte_of, reserved_of};
 ghost use Rattle.smt_model.specs.Rules.{is_legal};
-ghost use Rattle.smt_core.specs.Headline.{IsPlainRun, IsPlainRegister};
+ghost use Rattle.smt_core.specs.Headline.{IsPlainRun, IsPlainRegister, IsPlainMemory};
 ghost use Rattle.smt_core.specs.Answers.{Answered, IssueAnswered, CompleteAnswered, IsPredicted};
 ghost use Rattle.smt_model.specs.Setup.{is_accepted, registers_of};
 
@@ -28,6 +29,7 @@ use events::Event;
 use exec_units::Done;
 use numbers::Phys;
 use numbers::sizes::MOST_REGISTERS;
+use shared_memory::Memory;
 use smt_laws::laws::{refines_the_plain_machine, writes_at_most_a_word};
 use smt_model::{Config, Status};
 use std::alloc::Global;
@@ -202,6 +204,21 @@ impl Core {
         // The history is legal: that is a clause of this call.
         let _events = self.history();
         self.state.register(hart, register)
+    }
+
+    /// The memory as the retired instructions leave it: its bytes, and the word that each hart has
+    /// reserved.
+    pub fn memory(&self) -> &Memory
+        ensures image { result.now.image ≡ self.now.setup.image }
+        ensures bytes { (addr : ℕ)
+            → byte_of result.now addr ≡ byte_at self.now.setup self.now.past addr }
+        ensures reserved { (h : ℕ) → reserved_of result.now h ≡ reserved self.now.past h }
+        ensures sequential { IsPlainMemory self.now result.now }
+    {
+        refines_the_plain_machine();
+        // The history is legal: that is a clause of this call.
+        let _events = self.history();
+        self.state.memory()
     }
 
     /// How many harts there are, 1 to 8.

@@ -1,4 +1,4 @@
-//! The core: eight calls that each make one step of the pipeline or say why there is none.
+//! The core: six calls that each make one step of the pipeline or say why there is none.
 //!
 //! Read in this order: `predict` (what a branch predictor is), `answer` (what the calls answer),
 //! `account` (what a history comes to), `calls`.

@@ -12,6 +12,10 @@ use Rattle.issue_queue.specs.Queue.{Queue}
 use Rattle.smt_model.specs.{Picture.picture, Picture.is_free, Registers.is_unclaimed, Registers.first_register}
 use Rattle.smt_model.specs.{Setup.Setup, Setup.first_number}
 use Rattle.smt_model.proofs.Registers.Claims.{IsFlightClaim, IsCommittedClaim, claimant, committed_claimed}
+use Rattle.elf_image.specs.Image.{ProgramImage, byte_in}
+use Rattle.shared_memory.specs.Contents.{IsStart}
+use Rattle.load_store.specs.Queues.{queues_of, empty}
+use Rattle.core_state.specs.Accesses.{accesses_of}
 use Rattle.core_state.specs.Agree.{IsSlot, IsActive, IsEntry, HartAgrees, QueueAgrees}
 use Rattle.core_state.specs.First.{IsNew, first_values_below, first_values, BeginsAs}
 use Rattle.core_state.specs.{declared.hart.HartState.HartState, declared.parts.Parts.Parts}
@@ -174,16 +178,20 @@ first_free setup x =
       | inr above ↦ let unclaimed = unclaimed_above setup x above in grind (arith, nat_tests)
     ]
 
-pub begins : (harts extra entry : ℕ) (x : Parts) → length x.harts.items ≡ harts → AreNew entry x.harts.items
+pub begins : (harts extra : ℕ) (image : ProgramImage) (x : Parts) → length x.harts.items ≡ harts
+    → AreNew image.entry x.harts.items
     → x.queue.entries ≡ []
     → ((q : ℕ) → holds x.free q ≡ (nat_le (31 * harts) q && nat_lt q (31 * harts + extra))) → length x.values ≡ 512
     → AreFirst harts harts x.values → length x.jobs ≡ 16
     → ((k : ℕ) (d : Option OpenJob) → k < 16 → slice_index_or x.jobs k d ≡ None)
-    → BeginsAs harts extra entry x
-begins harts extra entry x count new queue free registers values actors jobs setup same_harts same_extra same_entry =
+    → harts ≤ 8 → ((h : ℕ) → queues_of x.accesses h ≡ empty) → IsStart image x.memory
+    → BeginsAs harts extra image x
+begins harts extra image x count new queue free registers values actors jobs few accesses memory setup same_harts
+    same_extra same_image =
     let hart_new : (h : ℕ) (d : HartState) → h < length x.harts.items
     → IsNew h setup.image.entry (slice_index_or x.harts.items h d) =
-    λ h d inside. subst (λ e. IsNew h e (slice_index_or x.harts.items h d)) (sym same_entry) (new h d inside) in
+    λ h d inside. subst (λ (i : ProgramImage). IsNew h i.entry (slice_index_or x.harts.items h d)) (sym same_image)
+    (new h d inside) in
     record {
       harts = λ h d inside. hart_begins setup h (slice_index_or x.harts.items h d) (hart_new h d inside);
       queue = queue_begins setup x.queue queue;
@@ -196,4 +204,12 @@ begins harts extra entry x count new queue free registers values actors jobs set
           (sym same_harts);
       actors = actors;
       jobs = λ k d inside. rw (jobs k d inside) refl;
+      accesses = record {
+        places = omega arith;
+        each = λ h d inside. accesses h ∙ sym (ap accesses_of (new h d inside).active);
+      };
+      memory = record {
+        byte = λ addr. memory.bytes addr ∙ ap (λ i. byte_in i addr) (sym same_image);
+        reserved = memory.reserved;
+      };
     }

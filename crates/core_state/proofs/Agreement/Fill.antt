@@ -27,6 +27,8 @@ is_filled_none register filled x none = rw none (record {
   count = refl;
   values = λ y d under. refl;
   jobs = refl;
+  accesses = refl;
+  memory = refl;
 })
 
 pub is_filled_empty : (register filled : Option ℕ) (x : Parts) (r : ℕ) (values : List (Option ℕ)) → register ≡ Some r
@@ -39,4 +41,6 @@ is_filled_empty register filled x r values some none set = rw (some, none) (reco
   count = rw (set, none) (length-set x.values r None);
   values = λ y d under. rw (set, none) (at_set x.values r y None d under);
   jobs = refl;
+  accesses = refl;
+  memory = refl;
 })

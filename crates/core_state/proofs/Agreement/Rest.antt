@@ -3,9 +3,11 @@
 use Rattle.std.specs.Prelude.{◌≡◌, [], ◌∷◌, length}
 use Rattle.std.proofs.Common.{◌∙◌, subst, sym, ap}
 use Rattle.smt_model.specs.{Picture.Picture, Frames.Fetches, Frames.KeepsAllFlights, Frames.KeepsShared}
+use Rattle.core_state.specs.Accesses.{AccessesAgree, MemoryAgrees}
 use Rattle.core_state.specs.Agree.{QueueAgrees, FreeAgrees, ValuesAgree, JobsAgree, EachAgrees, PartsAgree}
 use Rattle.core_state.specs.declared.parts.Parts.{Parts}
-use Rattle.core_state.proofs.Agreement.Shared.{queue_kept, values_kept, jobs_kept}
+use Rattle.core_state.proofs.{Agreement.Queues.memory_kept, Agreement.Shared.queue_kept, Agreement.Shared.values_kept}
+use Rattle.core_state.proofs.{Agreement.Shared.jobs_kept}
 
 -- What such a step keeps, whether it fetches or not.
 pub record KeepsRest (p q : Picture) : Type 0 where
@@ -34,8 +36,9 @@ all_kept p q flights shared = record {
 -- All that such a step leaves, where its harts agree.
 pub rest_kept : (p q : Picture) (x y : Parts) → KeepsRest p q → PartsAgree p x → EachAgrees q y.harts.items
     → y.queue ≡ x.queue
-    → y.free ≡ x.free → y.values ≡ x.values → y.jobs ≡ x.jobs → PartsAgree q y
-rest_kept p q x y keeps agrees harts queue free values jobs = record {
+    → y.free ≡ x.free → y.values ≡ x.values → y.jobs ≡ x.jobs → AccessesAgree y.harts.items y.accesses
+    → y.memory ≡ x.memory → PartsAgree q y
+rest_kept p q x y keeps agrees harts queue free values jobs accesses memory = record {
   harts = harts;
   queue = subst (QueueAgrees q) (sym queue)
       (queue_kept p q x.queue keeps.shared.kept keeps.flights keeps.shared.readings keeps.shared.queue agrees.queue);
@@ -46,4 +49,6 @@ rest_kept p q x y keeps agrees harts queue free values jobs = record {
   actors = ap length jobs ∙ agrees.actors;
   jobs = subst (JobsAgree q) (sym jobs)
       (jobs_kept p q x.jobs keeps.shared.kept keeps.shared.job keeps.shared.operands agrees.jobs);
+  accesses = accesses;
+  memory = subst (MemoryAgrees q) (sym memory) (memory_kept p q x.memory keeps.shared.memory agrees.memory);
 }

@@ -3,3 +3,5 @@ pub mod Rules
 pub mod Parts
 pub mod State
 pub mod Job
+pub mod Look
+pub mod Memory

@@ -1,6 +1,9 @@
 -- A retirement.
 pub mod Rules
+pub mod Look
+pub mod Memory
 pub mod Parts
+pub mod Replay
+pub mod Writes
 pub mod State
 pub mod Halt
-pub mod Effect

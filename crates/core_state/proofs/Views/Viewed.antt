@@ -1,6 +1,6 @@
 -- What callers see of a state, said of its fields.
 use Rattle.std.specs.Prelude.{◌≡◌, ℕ, ◌<◌, true, length}
-use Rattle.std.proofs.{Common.sym, Common.subst, Common.arith, lemmas.List.length-reverse}
+use Rattle.std.proofs.{Common.sym, Common.subst, Common.arith}
 use Rattle.smt_model.specs.Jobs.{is_actor}
 use Rattle.core_state.specs.State.{IsCore, view_of, past_of, setup_in}
 use Rattle.core_state.specs.{View.CoreView, declared.state.State.TheInside.Inside}

@@ -11,6 +11,7 @@ use numbers::sizes::MOST_REGISTERS;
 use numbers::{Phys, first_extra};
 use rename_map::HartMaps;
 use retire_squash::{Active, Stage};
+use shared_memory::Memory;
 use smt_model::Status;
 use std::io;
 use std::io::Write;
@@ -22,7 +23,7 @@ impl State {
     ///
     /// An error is the one that `out` answered; what was written before it has gone out.
     pub fn tables<W: Write>(&self, out: &mut W) -> io::Result<()> {
-        write_harts(self.parts.harts.as_slice(), out)?;
+        write_harts(self.parts.harts.as_slice(), &self.parts.memory, out)?;
         write_queue(self.parts.queue.entries(), out)?;
         write_jobs(&self.parts.jobs, out)?;
         write_free(&self.parts.free, out)?;
@@ -31,9 +32,9 @@ impl State {
     }
 }
 
-fn write_harts<W: Write>(harts: &[HartState], out: &mut W) -> io::Result<()> {
+fn write_harts<W: Write>(harts: &[HartState], memory: &Memory, out: &mut W) -> io::Result<()> {
     for (hart, state) in harts.iter().enumerate() {
-        write_standing(hart, state, out)?;
+        write_standing(hart, state, reservation(memory, hart), out)?;
         write_latch("fetched", state.decode_latch.as_slice(), out)?;
         write_latch("decoded", state.rename_latch.as_slice(), out)?;
         write_flight(state.active.items(), out)?;
@@ -43,14 +44,30 @@ fn write_harts<W: Write>(harts: &[HartState], out: &mut W) -> io::Result<()> {
     Ok(())
 }
 
-/// How a hart stands, where it is fetched next, and its ICOUNT. No address is reserved as long as
-/// no instruction reserves one.
-fn write_standing<W: Write>(hart: usize, state: &HartState, out: &mut W) -> io::Result<()> {
+/// The word that a hart has reserved.
+fn reservation(memory: &Memory, hart: usize) -> Option<u32> {
+    match hart {
+        0..8 => memory.reservation(hart as u8),
+        _ => None,
+    }
+}
+
+/// How a hart stands, where it is fetched next, its ICOUNT, and the word that it has reserved.
+fn write_standing<W: Write>(
+    hart: usize,
+    state: &HartState,
+    reserved: Option<u32>,
+    out: &mut W,
+) -> io::Result<()> {
     write!(out, "hart {hart} ")?;
     write_status(state.status, out)?;
     let pc = state.fetch_pc;
     let icount = state.icount;
-    writeln!(out, " pc {pc:08x} icount {icount} reserved -")
+    write!(out, " pc {pc:08x} icount {icount} reserved ")?;
+    match reserved {
+        Some(addr) => writeln!(out, "{addr:08x}"),
+        None => writeln!(out, "-"),
+    }
 }
 
 fn write_status<W: Write>(status: Status, out: &mut W) -> io::Result<()> {

@@ -9,14 +9,20 @@ use Rattle.events.specs.declared.effect.Outcome.{Outcome}
 use Rattle.retire_squash.specs.{Active.with_stage, Active.staged, declared.active.Active.Active}
 use Rattle.retire_squash.specs.{declared.active.Stage.Stage}
 use Rattle.retire_squash.specs.declared.active.Stage.TheVariants as stage
-use Rattle.smt_model.specs.Fates.{Renamed, Issued, is, stage as stage_number}
+use Rattle.rv_decode.specs.declared.op.Op.{Op}
+use Rattle.load_store.specs.Queues.{Changes}
+use Rattle.smt_model.specs.Fates.{Renamed, Issued, Completed, is, stage as stage_number}
+use Rattle.smt_model.specs.Looks.{stored_by}
 use Rattle.smt_model.specs.Picture.{Picture}
-use Rattle.smt_model.specs.Steps.{IsComplete, IsDrop, KeepsFetched, KeepsJobs, EndsJob, filled_value}
+use Rattle.smt_model.specs.Steps.{IsComplete, IsDrop, KeepsFetched, KeepsJobs, EndsJob, filled_value, op_in}
+use Rattle.core_state.specs.Accesses.{with_write}
 use Rattle.core_state.specs.Agree.{IsActive, HartAgrees, PartsAgree, ValuesAgree, JobsAgree, IsFilled}
 use Rattle.core_state.specs.{declared.hart.HartState.HartState, declared.parts.Parts.Parts}
 use Rattle.core_state.specs.{declared.slot.OpenJob.OpenJob}
 use Rattle.core_state.proofs.Agreement.Harts.{slots_kept, active_kept, stage_flies, hart_kept, others_kept, each_set}
 use Rattle.core_state.proofs.Agreement.Harts.{each_kept}
+use Rattle.core_state.proofs.{Agreement.Accesses.accesses_completed, Agreement.Queues.accesses_set}
+use Rattle.core_state.proofs.{Agreement.Queues.opens, Agreement.Queues.memory_kept}
 use Rattle.core_state.proofs.{Agreement.Shared.queue_kept, Agreement.Shared.lent_kept, Agreement.Shared.values_kept}
 use Rattle.core_state.proofs.{Agreement.Filled.WakesBoth, Agreement.Filled.queue_filled, Agreement.Fill.at_set}
 
@@ -44,6 +50,9 @@ jobs_done p q k jobs count kept job operands agrees = λ j d under.
           let still : q.job j ≡ p.job j = job j ∙ (rw f refl) in
           rw same (lent_kept p q j (slice_index_or jobs j d) kept still operands (agrees j d under))
     ]
+
+issued_completed : Issued ≡ Completed → ⊥
+issued_completed same = omega (arith, ap stage_number same)
 
 renamed_issued : Renamed ≡ Issued → ⊥
 renamed_issued same = omega (arith, ap stage_number same)
@@ -105,7 +114,8 @@ module _ (p q : Picture) (h n k : ℕ) (o : Outcome) (pc : ℕ) (s : IsComplete 
       ∙ sym (s.values x claimed)
 
 -- What the code has made of the parts, in one place.
-pub record IsCompleted (h n k : ℕ) (o : Outcome) (pc : ℕ) (phys : Option ℕ) (old between new : Parts) : Type 0 where
+pub record IsCompleted (h n k : ℕ) (op : Op) (o : Outcome) (pc : ℕ) (phys : Option ℕ) (old between new : Parts)
+    : Type 0 where
   pub was : HartState
   pub at : was ≡ slice_index_or old.harts.items h was
   pub filled : IsFilled phys o.value old between
@@ -115,14 +125,19 @@ pub record IsCompleted (h n k : ℕ) (o : Outcome) (pc : ℕ) (phys : Option ℕ
   pub free : new.free ≡ between.free
   pub values : new.values ≡ between.values
   pub jobs : new.jobs ≡ slice_set old.jobs k None
+  pub accesses : Changes (with_write n (stored_by op o)) h old.accesses new.accesses
+  pub memory : new.memory ≡ old.memory
 
-pub parts_completed : (p q : Picture) (h n k : ℕ) (o : Outcome) (pc : ℕ) (phys : Option ℕ) (old between new : Parts)
-    → h < length old.harts.items
-    → PartsAgree p old → IsComplete p q h n k o pc → phys ≡ p.phys n → IsCompleted h n k o pc phys old between new
-    → PartsAgree q new
-parts_completed p q h n k o pc phys old between new inside agrees s is_phys is =
+pub parts_completed : (p q : Picture) (h n k : ℕ) (op : Op) (o : Outcome) (pc : ℕ) (phys : Option ℕ)
+    (old between new : Parts) → h < length old.harts.items
+    → PartsAgree p old → IsComplete p q h n k o pc → phys ≡ p.phys n → op ≡ op_in p n
+    → IsCompleted h n k op o pc phys old between new → PartsAgree q new
+parts_completed p q h n k op o pc phys old between new inside agrees s is_phys is_op is =
     let kept = s.stays.shared.kept in
     let readings = subst (λ r. WakesBoth p q r o.value) (sym is_phys) s.readings in
+    let hart : HartAgrees p h is.was = subst (HartAgrees p h) (sym is.at) (agrees.harts h is.was inside) in
+    let unresolved = opens p h n op (sym is_op) (λ done. issued_completed (sym s.waited ∙ done)) is.was.active
+    hart.actives in
     record {
       harts =
           rw is.harts
@@ -144,6 +159,12 @@ parts_completed p q h n k o pc phys old between new inside agrees s is_phys is =
       jobs =
           rw is.jobs
           (jobs_done p q k old.jobs agrees.actors s.stays.shared.kept s.job s.stays.shared.operands agrees.jobs);
+      accesses =
+          rw is.harts
+          (accesses_set (with_write n (stored_by op o)) old.harts.items h is.was
+          (record is.was { active = with_stage n (stage.Completed o) is.was.active; fetch_pc = pc }) old.accesses
+          new.accesses inside is.at is.accesses (accesses_completed n op o is.was.active unresolved) agrees.accesses);
+      memory = rw is.memory (memory_kept p q old.memory s.stays.shared.memory agrees.memory);
     }
 
 -- ---- A drop
@@ -162,4 +183,6 @@ parts_dropped p q n k old jobs agrees s is =
       values = values_kept p q old.values s.shared.free s.shared.values agrees.values;
       actors = rw is (length-set old.jobs k None ∙ agrees.actors);
       jobs = rw is (jobs_done p q k old.jobs agrees.actors s.shared.kept s.job s.shared.operands agrees.jobs);
+      accesses = agrees.accesses;
+      memory = memory_kept p q old.memory s.shared.memory agrees.memory;
     }

@@ -1,5 +1,5 @@
 -- The event of a job that is handed back may come next, and what it changes.
-use Rattle.std.specs.Prelude.{◌≡◌, ℕ, ◌≤◌, ◌==◌, true, false, not, List, ◌∷◌, Some, None, is_some}
+use Rattle.std.specs.Prelude.{◌≡◌, ℕ, ◌≤◌, ◌==◌, true, not, List, ◌∷◌, Some, None, is_some}
 use Rattle.std.proofs.Common.{◌∙◌, refl, sym, ap, subst, inl, inr, arith}
 use Rattle.std.proofs.{lemmas.Bool.cases_Bool, lemmas.Bool.Decides.nat_tests, lemmas.Option.none-some}
 use Rattle.std.proofs.{lemmas.Option.same_Some}
@@ -7,20 +7,18 @@ use Rattle.events.specs.{declared.effect.Next.Next, declared.effect.Next.TheVari
 use Rattle.events.specs.{declared.effect.Next.TheVariants.Ended, declared.effect.Next.TheVariants.Stopped}
 use Rattle.events.specs.{declared.effect.Outcome.Outcome, declared.event.Event.Event}
 use Rattle.events.specs.{declared.event.Event.TheVariants.Complete, declared.event.Event.TheVariants.Drop}
-use Rattle.exec_units.specs.Job.{JobView, outcome_of_job}
 use Rattle.retire_squash.specs.declared.active.Active.{Active}
-use Rattle.smt_model.specs.{Basics.holds_of, Basics.or_zero, Setup.Setup, Setup.registers_of, Kinds.first_source}
-use Rattle.smt_model.specs.{Kinds.second_source, Exec.covered_yet, Exec.exec, Faults.checked, Outcomes.outcome_of}
-use Rattle.smt_model.specs.{Fetching.fetch_pc, Nexts.pc_after, Nexts.redirect_pc, Looks.first_look, Picture.picture}
-use Rattle.smt_model.specs.{Registers.operand, Jobs.job, Comparisons.same_next, Comparisons.same_outcome}
+use Rattle.smt_model.specs.{Basics.holds_of, Setup.Setup, Setup.registers_of}
+use Rattle.smt_model.specs.{Fetching.fetch_pc, Nexts.pc_after, Nexts.redirect_pc, Picture.picture}
+use Rattle.smt_model.specs.{Jobs.job, Comparisons.same_next, Comparisons.same_outcome}
 use Rattle.smt_model.specs.{Steps.IsMisprediction}
-use Rattle.smt_model.specs.Fates.{Fetched, fetching, fate, is, is_of, op_of_fetched, mispredicts, Squashed}
-use Rattle.smt_model.specs.Rules.{outcome_now, computed_at, refused, is_legal}
+use Rattle.smt_model.specs.Fates.{fetching, fate, is, is_of, mispredicts, op_of_fetched, Squashed}
+use Rattle.smt_model.specs.Rules.{outcome_now, refused, is_legal}
 use Rattle.smt_model.proofs.{Allowed.complete_allows, Allowed.drop_allows, Fates.Moves.same_number-self}
 use Rattle.smt_model.proofs.{Steps.Complete.steps-Complete, Steps.Misprediction.steps-Misprediction, Fates.Sound.sound}
-use Rattle.core_state.specs.{Agree.IsActive, Agree.IsOpenJob, Complete.IsSameJob, Complete.IsFinish}
+use Rattle.core_state.specs.{Agree.IsActive, Agree.IsOpenJob, Complete.IsFinish}
 use Rattle.core_state.specs.{declared.slot.OpenJob.OpenJob}
-use Rattle.core_state.proofs.{Agreement.Harts.stage_flies, Steps.Executed.checked_same, Steps.Executed.looked_same}
+use Rattle.core_state.proofs.Agreement.Harts.{stage_flies}
 
 -- ---- The outcome
 
@@ -40,49 +38,18 @@ same_outcome-self o =
     ) refl
 
 module _ (setup : Setup) (past : List Event) where
-  outcome_of_operands : setup.covers ≡ covered_yet → (s : ℕ) (f : Fetched) (a b : ℕ)
-      → operand setup first_source past s ≡ Some a → operand setup second_source past s ≡ Some b
-      → outcome_now setup past s f ≡ outcome_of (op_of_fetched (Some f))
-      (exec covered_yet (op_of_fetched (Some f)) f.pc a b) None
-  outcome_of_operands yet s f a b first second =
-      let op = op_of_fetched (Some f) in
-      let one : computed_at setup past s f ≡ exec covered_yet op f.pc a b =
-      ap (λ v. checked setup.image op
-      (exec v op f.pc (or_zero (operand setup first_source past s)) (or_zero (operand setup second_source past s))))
-      yet
-      ∙ checked_same setup.image op f.pc (or_zero (operand setup first_source past s))
-      (or_zero (operand setup second_source past s))
-      ∙ ap (λ x. exec covered_yet op f.pc (or_zero x) (or_zero (operand setup second_source past s))) first
-      ∙ ap (λ y. exec covered_yet op f.pc a (or_zero y)) second in
-      ap (λ c. outcome_of op c (Some (first_look setup past f.hart s op c.addr))) one
-      ∙ looked_same op f.pc a b (Some (first_look setup past f.hart s op (exec covered_yet op f.pc a b).addr))
-
-  -- What the unit made of the job is what the completion has to say.
-  outcome_worked : setup.covers ≡ covered_yet → (k : ℕ) (x : OpenJob) (view : JobView)
-      → (opened : IsOpenJob (picture setup past) k x) → IsSameJob x view
-      → outcome_now setup past x.seq opened.instruction ≡ outcome_of_job view
-  unfolding outcome_of_job
-  outcome_worked yet k x view opened same =
-      let f = opened.instruction in
-      outcome_of_operands yet x.seq f x.first x.second opened.first opened.second
-      ∙ ap (λ op. outcome_of op (exec covered_yet op f.pc x.first x.second) None) (sym opened.op ∙ same.op)
-      ∙ ap (λ pc. outcome_of view.op (exec covered_yet view.op pc x.first x.second) None) (opened.pc ∙ same.pc)
-      ∙ ap (λ a. outcome_of view.op (exec covered_yet view.op view.pc a x.second) None) same.first
-      ∙ ap (λ b. outcome_of view.op (exec covered_yet view.op view.pc view.first b) None) same.second
-
-  -- ---- It may come next
-  pub may_complete : setup.covers ≡ covered_yet → is_legal setup past
-      → (k : ℕ) (x : OpenJob) (view : JobView) (h : ℕ) (a : Active) (o : Outcome)
-      → IsOpenJob (picture setup past) k x → IsSameJob x view → o ≡ outcome_of_job view
+  -- ---- It may come next, where it says what the rules compute
+  pub may_complete : is_legal setup past
+      → (k : ℕ) (x : OpenJob) (h : ℕ) (a : Active) (o : Outcome)
+      → (opened : IsOpenJob (picture setup past) k x) → o ≡ outcome_now setup past x.seq opened.instruction
       → IsActive (picture setup past) h a → a.seq ≡ x.seq
       → refused setup past (Complete k a.seq o) ≡ None
-  may_complete yet legal k x view h a o opened same worked active number =
+  may_complete legal k x h a o opened says active number =
       let flies = stage_flies (picture setup past) a.seq a.stage active.stage in
       let at : fetching past a.seq ≡ Some opened.instruction = ap (fetching past) number ∙ opened.fetched in
       let lent : job past k ≡ Some a.seq = opened.lent ∙ ap Some (sym number) in
       let now : outcome_now setup past a.seq opened.instruction ≡ o =
-      ap (λ s. outcome_now setup past s opened.instruction) number ∙ outcome_worked yet k x view opened same
-      ∙ sym worked in
+      ap (λ s. outcome_now setup past s opened.instruction) number ∙ sym says in
       complete_allows setup past k a.seq o (record {
         actor_is = (sound setup past legal).actors k x.seq opened.lent;
         lent = rw lent (same_number-self (Some a.seq));
@@ -126,6 +93,7 @@ finishes setup past legal fits h k a o active ok =
     ap (holds_of (λ f. f.hart == h)) active.fetched ∙ (grind (arith, nat_tests)) in
     record {
       phys = active.phys;
+      op = active.op ∙ sym (ap op_of_fetched active.fetched);
       straight = λ none.
           steps-Complete setup past legal k a.seq o ok
           (mispredicts_is setup past h a o.next active ∙ ap is_some none) h of_hart;

@@ -2,12 +2,14 @@
 use Rattle.std.specs.Prelude.{◌≡◌, ℕ, ◌+◌, ◌*◌, ◌<◌, ◌≤◌, ◌==◌, ◌&&◌, nat_le, true, false, [], ◌∷◌, ◌++◌, length, Some}
 use Rattle.std.specs.Prelude.{None, slice_index_or}
 use Rattle.std.specs.List.{list_any}
-use Rattle.std.proofs.Common.{◌∙◌, refl, sym, ap, subst, arith}
+use Rattle.std.proofs.Common.{◌∙◌, sym, ap, subst, arith}
 use Rattle.std.proofs.lemmas.Bool.Decides.{nat_tests}
 use Rattle.events.specs.{History.EventList, declared.effect.Outcome.Outcome, declared.event.Event.TheVariants.Complete}
 use Rattle.events.specs.{declared.event.Event.TheVariants.Drop}
 use Rattle.exec_units.specs.Job.{JobView, outcome_of_job}
+use Rattle.load_store.specs.{Looks.seen, Queues.queues_of}
 use Rattle.retire_squash.specs.declared.active.Active.{Active}
+use Rattle.smt_model.specs.{Bytes.read, Exec.Computed, Faults.checked, Outcomes.outcome_of}
 use Rattle.smt_model.specs.{Basics.holds_of, Setup.registers_of, Setup.are_core_sizes, Fates.is_of, Picture.Picture}
 use Rattle.smt_model.specs.{Picture.picture, Rules.refused, Steps.IsDrop}
 use Rattle.smt_model.proofs.{Fates.Choosing.hart_there, Steps.Drop.steps-Drop}
@@ -18,7 +20,8 @@ use Rattle.core_state.specs.{declared.state.State.TheInside.Inside}
 use Rattle.core_state.specs.State.{IsCore, past_of, setup_in, view_of}
 use Rattle.core_state.proofs.{Steps.Invariant.core_grown, Steps.Invariant.quiet_complete, Steps.Invariant.quiet_drop}
 use Rattle.core_state.proofs.{Steps.Complete.Rules.finishes, Steps.Complete.Rules.may_complete}
-use Rattle.core_state.proofs.{Steps.Complete.Rules.may_drop}
+use Rattle.core_state.proofs.{Agreement.Queues.has_place, Steps.Complete.Rules.may_drop}
+use Rattle.core_state.proofs.{Steps.Complete.Memory.says_now}
 use Rattle.core_state.proofs.Steps.Complete.Job.{open_job, is_job, stranger, job_hart_there, job_squashed}
 
 -- ---- The sizes
@@ -55,6 +58,10 @@ module _ (i : Inside) (core : IsCore i) where
       let under = job_hart_there (setup_in i) (past_of i) core.legal k x (core_job k x at) in
       subst (λ n. x.hart < n) (sym core.harts) under
 
+  pub core_job_place : (k : ℕ) (x : OpenJob) → slice_index_or i.parts.jobs k None ≡ Some x → x.hart < 8
+  core_job_place k x at =
+      has_place i.parts.harts.items i.parts.accesses x.hart core.agrees.accesses (core_job_hart k x at)
+
   module _ (v : CoreView) (is : view_of i ≡ v) where
     pub core_is_job : (k : ℕ) (x : OpenJob) (view : JobView) → slice_index_or i.parts.jobs k None ≡ Some x
         → IsSameJob x view
@@ -69,16 +76,20 @@ module _ (i : Inside) (core : IsCore i) where
         subst (λ u. IsStrange u.setup u.past k view) is
         (stranger (setup_in i) (past_of i) core.legal actors i.parts.jobs k view core.agrees.jobs other)
 
-    pub core_completes : (k : ℕ) (x : OpenJob) (view : JobView) (a : Active) (o : Outcome)
-        → slice_index_or i.parts.jobs k None ≡ Some x
-        → IsSameJob x view → o ≡ outcome_of_job view
+    -- What the parts make of what a unit handed back, o of w, completes the instruction.
+    pub core_completes : (k : ℕ) (x : OpenJob) (view : JobView) (a : Active) (w o : Outcome)
+        → slice_index_or i.parts.jobs k None ≡ Some x → IsSameJob x view → w ≡ outcome_of_job view
+        → ((c : Computed) → w ≡ outcome_of x.op c None
+        → o ≡ outcome_of x.op (checked i.parts.memory.image x.op c)
+        (Some (read x.op (seen x.seq (queues_of i.parts.accesses x.hart).stores i.parts.memory) c.addr)))
         → ((p : Picture) → PartsAgree p i.parts → IsActive p x.hart a × (a.seq ≡ x.seq))
         → refused v.setup v.past (Complete k a.seq o) ≡ None
-    core_completes k x view a o at same worked found =
+    core_completes k x view a w o at same worked says found =
         let here = found (picture (setup_in i) (past_of i)) core.agrees in
+        let now = says_now (setup_in i) (past_of i) i.parts core.agrees core.image k x view o (core_job k x at) same
+        (core_job_hart k x at) (λ c is_of. says c (worked ∙ is_of)) in
         subst (λ u. refused u.setup u.past (Complete k a.seq o) ≡ None) is
-        (may_complete (setup_in i) (past_of i) refl core.legal k x view x.hart a o
-        (core_job k x at) same worked here.0 here.1)
+        (may_complete (setup_in i) (past_of i) core.legal k x x.hart a o (core_job k x at) now here.0 here.1)
 
     pub core_active : (x : OpenJob) (a : Active)
         → ((p : Picture) → PartsAgree p i.parts → IsActive p x.hart a × (a.seq ≡ x.seq))

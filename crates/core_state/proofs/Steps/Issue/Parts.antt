@@ -12,13 +12,16 @@ use Rattle.issue_queue.specs.{declared.entry.Source.TheVariants.Value}
 use Rattle.retire_squash.specs.{Active.with_stage, declared.active.Active.Active}
 use Rattle.retire_squash.specs.declared.active.Stage.TheVariants as stage
 use Rattle.smt_model.specs.{Kinds.first_source, Kinds.second_source, Fates.is, Fates.is_in_flight, Picture.Picture}
-use Rattle.smt_model.specs.{Steps.IsIssue}
+use Rattle.smt_model.specs.{Fates.Renamed, Fates.Completed, Fates.stage as stage_number, Steps.IsIssue, Steps.op_in}
+use Rattle.core_state.specs.Accesses.{AccessesAgree, MemoryAgrees, accesses_of}
 use Rattle.core_state.specs.Agree.{PartsAgree, source_of, source_at, IsActive, HartAgrees, EachAgrees, IsEntry}
 use Rattle.core_state.specs.Agree.{QueueAgrees, FreeAgrees, ValuesAgree, IsOpenJob, JobsAgree}
 use Rattle.core_state.specs.Issuing.{IsIssuing, source_number, first_source_number, second_number, open_job_of}
 use Rattle.core_state.specs.{declared.slot.OpenJob.OpenJob, declared.hart.HartState.HartState}
 use Rattle.core_state.specs.{declared.parts.Parts.Parts}
 use Rattle.core_state.proofs.Agreement.Harts.{slots_kept, active_kept, stage_flies, others_kept, each_set}
+use Rattle.core_state.proofs.{Agreement.Accesses.accesses_issued, Agreement.Queues.accesses_still}
+use Rattle.core_state.proofs.{Agreement.Queues.opens, Agreement.Queues.memory_kept}
 use Rattle.core_state.proofs.Agreement.Shared.{waiting_kept, lent_kept, values_kept}
 
 -- ---- The hart's own
@@ -173,6 +176,9 @@ jobs_issued p q k e jobs issuing ready inside count all = λ j d under.
 
 -- ---- The whole step
 
+renamed_completed : Renamed ≡ Completed → ⊥
+renamed_completed same = omega (arith, ap stage_number same)
+
 pub parts_issued : (p q : Picture) (x : Parts) (k : ℕ) (e : Entry) (state new : HartState) (queue : Queue)
     → IsIssuing p q k e → has_values e ≡ true
     → k < 16 → PartsAgree p x → e.hart < length x.harts.items → state ≡ slice_index_or x.harts.items e.hart state
@@ -183,8 +189,12 @@ pub parts_issued : (p q : Picture) (x : Parts) (k : ℕ) (e : Entry) (state new 
     × ValuesAgree q x.values
     × (length (slice_set x.jobs k (Some (open_job_of e))) ≡ 16)
     × JobsAgree q (slice_set x.jobs k (Some (open_job_of e)))
+    × AccessesAgree (slice_set x.harts.items e.hart new) x.accesses × MemoryAgrees q x.memory
 parts_issued p q x k e state new queue issuing ready actor agrees inside at active count rest queued =
     let step = issuing.step in
+    let hart : HartAgrees p e.hart state = subst (HartAgrees p e.hart) (sym at) (agrees.harts e.hart state inside) in
+    let unresolved = opens p e.hart e.seq (op_in p e.seq) refl (λ done. renamed_completed (sym step.waited ∙ done))
+    state.active hart.actives in
     let left : QueueAgrees q (record x.queue { entries = filter (is_other e.seq) x.queue.entries }) = record {
       numbers = numbers_left e.seq x.queue.entries
           ∙ (ap (filter (λ s. not (s == e.seq))) agrees.queue.numbers ∙ sym step.queue);
@@ -196,4 +206,7 @@ parts_issued p q x k e state new queue issuing ready actor agrees inside at acti
       values_kept p q x.values step.stays.shared.free step.stays.shared.values agrees.values,
       length-set x.jobs k (Some (open_job_of e)) ∙ agrees.actors,
       jobs_issued p q k e x.jobs issuing ready actor agrees.actors agrees.jobs,
+      accesses_still x.harts.items e.hart state new x.accesses inside at
+          (ap accesses_of active ∙ accesses_issued e.seq (op_in p e.seq) state.active unresolved) agrees.accesses,
+      memory_kept p q x.memory step.stays.shared.memory agrees.memory,
     )

@@ -9,17 +9,14 @@ use Rattle.std.proofs.{lemmas.List.Sums.length-filter}
 use Rattle.rv_decode.specs.declared.op.Op.{Op}
 use Rattle.free_list.specs.Flags.{holds}
 use Rattle.retire_squash.specs.declared.active.Active.{Active}
-use Rattle.smt_model.specs.{Basics.first, Basics.how_many, Fates.op_of_fetched, Picture.Picture, Steps.op_in}
+use Rattle.smt_model.specs.{Basics.first, Basics.how_many, Picture.Picture, Steps.op_in}
 use Rattle.smt_model.specs.Kinds.{kind_of, is_loading, is_storing, destination}
 use Rattle.core_state.specs.Agree.{PartsAgree, HartAgrees, IsSlot, IsActive}
 use Rattle.core_state.specs.{Renaming.CanRename, Renaming.CanEnter, declared.slot.Slot.Slot}
 use Rattle.core_state.specs.{declared.hart.HartState.HartState, declared.parts.Parts.Parts}
-use Rattle.core_state.proofs.Steps.Rename.Parts.{slot_op}
+use Rattle.core_state.proofs.{Agreement.Queues.active_op, Steps.Rename.Parts.slot_op}
 
 -- ---- Counting
-
-active_op : (p : Picture) (h : ℕ) (x : Active) → IsActive p h x → op_in p x.seq ≡ x.op
-active_op p h x is = ap op_of_fetched is.fetched ∙ sym is.op
 
 how_many-first : {A : Type 0} (test : A → Bool) (x : A) (xs : List A) (b : Bool) → test x ≡ b
     → how_many test (x ∷ xs) ≡ (if b then how_many test xs + 1 else how_many test xs)

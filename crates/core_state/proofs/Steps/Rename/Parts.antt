@@ -19,11 +19,15 @@ use Rattle.smt_model.specs.{Picture.Picture}
 use Rattle.smt_model.specs.Fates.{is, is_in_flight, Renamed, op_of_fetched}
 use Rattle.smt_model.specs.Steps.{IsRename, IsSameInstruction, renamed_map, is_register_taken, op_in}
 use Rattle.smt_model.specs.Steps as numbers
+use Rattle.load_store.specs.Queues.{Queues, Changes}
+use Rattle.core_state.specs.Accesses.{AccessesAgree, MemoryAgrees, accesses_of, with_access}
 use Rattle.core_state.specs.Agree.{PartsAgree, From, fetched_as, source_at, IsSlot, IsActive, HartAgrees, EachAgrees}
 use Rattle.core_state.specs.Agree.{IsEntry, QueueAgrees, FreeAgrees, ValuesAgree, JobsAgree}
 use Rattle.core_state.specs.Renaming.{IsRenaming, IsClaimed, HasRenamed, active_of, source_in, emptied}
 use Rattle.core_state.specs.{declared.slot.Slot.Slot, declared.hart.HartState.HartState, declared.parts.Parts.Parts}
 use Rattle.core_state.proofs.Agreement.Harts.{slots_kept, actives_kept, others_kept, each_set}
+use Rattle.core_state.proofs.{Agreement.Accesses.accesses_pushed, Agreement.Queues.accesses_set}
+use Rattle.core_state.proofs.{Agreement.Queues.memory_kept}
 use Rattle.core_state.proofs.Agreement.Shared.{entry_kept, jobs_kept}
 
 -- ---- The oldest decoded instruction
@@ -401,7 +405,7 @@ same_entry h xs ys d values maps one two r1 r2 same names_one names_two reads_on
 
 -- What the code has made of the parts: the hart's own, the queue, the free registers and their numbers.
 pub record HasMade (x : Parts) (h : ℕ) (taken : Option ℕ) (slot : Slot) (state new : HartState) (queue : Queue)
-    (free : List Bool) (values : List (Option ℕ)) : Type 0 where
+    (free : List Bool) (values : List (Option ℕ)) (accesses : List Queues) : Type 0 where
   pub own : HasRenamed slot taken state new
   pub queued : queue ≡ record x.queue {
     entries = entries.inserted_entry
@@ -411,15 +415,17 @@ pub record HasMade (x : Parts) (h : ℕ) (taken : Option ℕ) (slot : Slot) (sta
   }
   pub taken_out : (y : ℕ) → holds free y ≡ (holds x.free y && not (is_register_taken taken y))
   pub lost : values ≡ emptied taken x.values
+  pub added : Changes (with_access slot.op slot.seq) h x.accesses accesses
 
 pub parts_renamed : (p q : Picture) (x : Parts) (size h : ℕ) (taken : Option ℕ) (d : Slot) (state new : HartState)
     (queue : Queue) (free : List Bool)
-    (values : List (Option ℕ)) → IsRenaming p q size h taken → PartsAgree p x → h < length x.harts.items
-    → state ≡ slice_index_or x.harts.items h state
-    → HasMade x h taken (slice_index_or state.rename_latch.items 0 d) state new queue free values
+    (values : List (Option ℕ)) (accesses : List Queues) → IsRenaming p q size h taken → PartsAgree p x
+    → h < length x.harts.items → state ≡ slice_index_or x.harts.items h state
+    → HasMade x h taken (slice_index_or state.rename_latch.items 0 d) state new queue free values accesses
     → EachAgrees q (slice_set x.harts.items h new) × QueueAgrees q queue × FreeAgrees q free × (length values ≡ 512)
-    × ValuesAgree q values × JobsAgree q x.jobs
-parts_renamed p q x size h taken d state new queue free values renaming agrees inside at made =
+    × ValuesAgree q values × JobsAgree q x.jobs × AccessesAgree (slice_set x.harts.items h new) accesses
+    × MemoryAgrees q x.memory
+parts_renamed p q x size h taken d state new queue free values accesses renaming agrees inside at made =
     let n = renaming.number in
     let step = renaming.step in
     let hart : HartAgrees p h state = subst (HartAgrees p h) (sym at) (agrees.harts h state inside) in
@@ -444,4 +450,7 @@ parts_renamed p q x size h taken d state new queue free values renaming agrees i
       ap length made.lost ∙ (emptied_length taken x.values ∙ agrees.registers),
       subst (ValuesAgree q) (sym made.lost) (values_renamed p q h n taken x.values step agrees.values),
       jobs_kept p q x.jobs step.stays.shared.kept step.stays.shared.job step.stays.shared.operands agrees.jobs,
+      accesses_set (with_access slot.op slot.seq) x.harts.items h state new x.accesses accesses inside at made.added
+          (ap accesses_of made.own.active ∙ accesses_pushed state.active (active_of slot taken) refl) agrees.accesses,
+      memory_kept p q x.memory step.stays.shared.memory agrees.memory,
     )

@@ -1,7 +1,8 @@
 -- A retirement that ends or stops its hart, in two steps: between them stands the history's own picture, but for the
 -- hart's map, which still has the register of the one that has left. The squash makes the map anew, so it takes any.
-use Rattle.std.specs.Prelude.{◌≡◌, ◌≢◌, ℕ, ◌==◌, true, false, List, [], ◌∷◌, if◌then◌else◌}
-use Rattle.std.proofs.Common.{◌∙◌, refl, sym, ap, arith}
+use Rattle.std.specs.Prelude.{◌≡◌, ◌≢◌, ℕ, ◌<◌, ◌==◌, true, false, List, [], ◌∷◌, length, slice_index_or}
+use Rattle.std.specs.Prelude.{if◌then◌else◌}
+use Rattle.std.proofs.Common.{◌∙◌, refl, sym, ap, subst, arith}
 use Rattle.std.proofs.lemmas.Bool.Decides.{nat_tests}
 use Rattle.events.specs.declared.effect.Effect.{Effect}
 use Rattle.events.specs.declared.effect.Next.TheVariants as next
@@ -9,9 +10,12 @@ use Rattle.retire_squash.specs.declared.active.Active.{Active}
 use Rattle.smt_model.specs.{declared.config.Status.Status, declared.config.Status.TheVariants.Ended}
 use Rattle.smt_model.specs.{declared.config.Status.TheVariants.Stopped, Nexts.is_last, Kinds.destination}
 use Rattle.smt_model.specs.{Picture.Picture, Plain.status_after}
-use Rattle.smt_model.specs.Steps.{IsHalt, IsSquash, IsSameHart, IsSameInstruction, KeepsReadings, AreOwn, youngest}
+use Rattle.smt_model.specs.Steps.{IsRetire, IsHalt, IsSquash, IsSameHart, IsSameInstruction, KeepsReadings, AreOwn}
+use Rattle.smt_model.specs.Steps.{youngest}
 use Rattle.smt_model.specs.Steps.{up_to, renamed_map, op_in}
-use Rattle.core_state.specs.Retirement.{Ends, Leaves, Retires}
+use Rattle.core_state.specs.{Agree.HartAgrees, Agree.PartsAgree, declared.hart.HartState.HartState}
+use Rattle.core_state.specs.declared.parts.Parts.{Parts}
+use Rattle.core_state.specs.Retirement.{Commits, Replays, Ends, Leaves, Retires, is_replay}
 
 -- Picture m, with hart h's map as p has it.
 abbrev pub with_map : Picture → Picture → ℕ → Picture
@@ -179,7 +183,28 @@ squash_with p m q h n squash =
       };
     }
 
--- ---- Which of the two it is
+-- ---- Which of the three it is
+
+-- The hart is fetched on from where it was, which its state has.
+pub fetched_on : (p q : Picture) (parts : Parts) (h : ℕ) (x : Active) (effect : Effect) (pc : ℕ) (a : HartState)
+    → h < length parts.harts.items → a ≡ slice_index_or parts.harts.items h a → PartsAgree p parts
+    → effect.next ≡ next.Pc pc → is_replay x effect ≡ false → Retires p q h x effect
+    → Commits p q h x effect a.fetch_pc
+fetched_on p q parts h x effect pc a inside is agrees at same retires =
+    let here : HartAgrees p h a = subst (HartAgrees p h) (sym is) (agrees.harts h a inside) in
+    record {
+      is_oldest = retires.is_oldest;
+      goes_on = ap is_last at;
+      step = subst (IsRetire p q h x.seq effect) (sym here.fetch_pc) (retires.goes_on (ap is_last at) same);
+    }
+
+pub replays_on : (p q : Picture) (h : ℕ) (x : Active) (effect : Effect) (pc : ℕ) → effect.next ≡ next.Pc pc
+    → is_replay x effect ≡ true → Retires p q h x effect → Replays p q h x effect pc
+replays_on p q h x effect pc at other retires = record {
+  is_oldest = retires.is_oldest;
+  goes_on = ap is_last at;
+  step = retires.replays pc at other;
+}
 
 pub ends_ended : (p q : Picture) (h : ℕ) (x : Active) (effect : Effect) (status : ℕ) → effect.next ≡ next.Ended status
     → Retires p q h x effect

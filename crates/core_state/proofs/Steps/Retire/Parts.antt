@@ -12,13 +12,18 @@ use Rattle.free_list.specs.Flags.{holds}
 use Rattle.rename_map.specs.Maps.{committed_of}
 use Rattle.retire_squash.specs.declared.active.Active.{Active}
 use Rattle.smt_model.specs.Steps.{KeepsFetched, KeepsFlights, KeepsReadings, filled_value, renamed_map, op_in, AreOwn}
+use Rattle.shared_memory.specs.Contents.{Contents}
+use Rattle.load_store.specs.Queues.{Queues, Changes}
+use Rattle.core_state.specs.Accesses.{MemoryAgrees, accesses_of, without_access}
 use Rattle.core_state.specs.Agree.{IsActive, HartAgrees, EachAgrees, IsSlot, FreeAgrees, ValuesAgree, JobsAgree}
 use Rattle.core_state.specs.Agree.{PartsAgree, IsFilled}
 use Rattle.core_state.specs.Retirement.{Commits, Leaves, HasCommitted, HasLeft, replaced_by}
 use Rattle.core_state.specs.{declared.hart.HartState.HartState, declared.slot.Slot.Slot, declared.parts.Parts.Parts}
 use Rattle.smt_model.proofs.Fates.Moves.{stage_of, fate_at}
 use Rattle.core_state.proofs.{Agreement.Filled.WakesBoth, Agreement.Filled.queue_filled, Agreement.Filled.filled_none}
-use Rattle.core_state.proofs.{Agreement.Shared.jobs_kept}
+use Rattle.core_state.proofs.{Agreement.Shared.jobs_kept, Agreement.Queues.accesses_set, Agreement.Queues.active_op}
+use Rattle.core_state.proofs.{Agreement.Queues.memory_kept}
+use Rattle.core_state.proofs.Steps.Retire.Memory.{IsCommitted, accesses_dropped, memory_committed}
 use Rattle.core_state.proofs.Agreement.Harts.{slots_kept, stage_flies, active_kept, others_kept, each_set}
 
 or_left : (a b : Bool) → (a || b) ≡ false → a ≡ false
@@ -118,10 +123,10 @@ renamed_same rd d phys taken r before other one two three =
     ap (λ z. renamed_map z phys r before) one
     ∙ (ap (λ z. renamed_map d z r before) two ∙ ap (renamed_map d taken r) three)
 
-hart_committed : (p q : Picture) (h : ℕ) (x : Active) (effect : Effect) (a y : HartState) (replaced : Option ℕ)
-    → Commits p q h x effect
-    → HasCommitted a y x.rd x.phys replaced → HartAgrees p h a → HartAgrees q h y
-hart_committed p q h x effect a y replaced commits has is =
+hart_committed : (p q : Picture) (h : ℕ) (x : Active) (effect : Effect) (pc : ℕ) (a y : HartState) (replaced : Option ℕ)
+    → Commits p q h x effect pc
+    → HasCommitted a y x.rd x.phys pc replaced → HartAgrees p h a → HartAgrees q h y
+hart_committed p q h x effect pc a y replaced commits has is =
     let step = commits.step in
     let oldest = commits.is_oldest in
     let kept : KeepsFetched p q = step.stays.shared.kept in
@@ -146,42 +151,47 @@ hart_committed p q h x effect a y replaced commits has is =
           (p.committed h r) oldest.rd oldest.phys
           (is.committed r above under)
           ∙ sym (step.committed r above under));
-      fetch_pc = has.fetch_pc ∙ (is.fetch_pc ∙ sym step.fetch_pc);
+      fetch_pc = has.fetch_pc ∙ sym step.fetch_pc;
       status = has.status ∙ (is.status ∙ sym step.stays.hart.status);
     }
 
 -- The register that was committed before is the picture's.
-was_committed : (p q : Picture) (h : ℕ) (x : Active) (effect : Effect) (a : HartState) → Commits p q h x effect
+was_committed : (p q : Picture) (h : ℕ) (x : Active) (effect : Effect) (pc : ℕ) (a : HartState)
+    → Commits p q h x effect pc
     → HartAgrees p h a
     → is_some x.phys ≡ true → committed_of a.maps x.rd ≡ p.committed h (destination (op_in p x.seq))
-was_committed p q h x effect a commits is some =
+was_committed p q h x effect pc a commits is some =
     let oldest = commits.is_oldest in
     let writes : is_some x.phys ≡ not (x.rd == 0) =
     ap is_some oldest.phys ∙ (commits.step.fits ∙ ap (λ d. not (d == 0)) (sym oldest.rd)) in
     let low : 0 < x.rd = grind (arith, nat_tests) in
     is.committed x.rd low oldest.range ∙ ap (p.committed h) oldest.rd
 
-free_committed : (p q : Picture) (h : ℕ) (x : Active) (effect : Effect) (a y : HartState) (replaced : Option ℕ)
+free_committed : (p q : Picture) (h : ℕ) (x : Active) (effect : Effect) (pc : ℕ) (a y : HartState) (replaced : Option ℕ)
     (old new : List Bool)
-    → Commits p q h x effect → HasCommitted a y x.rd x.phys replaced → HartAgrees p h a
+    → Commits p q h x effect pc → HasCommitted a y x.rd x.phys pc replaced → HartAgrees p h a
     → ((r : ℕ) → holds new r ≡ (holds old r || same_number replaced (Some r))) → FreeAgrees p old → FreeAgrees q new
-free_committed p q h x effect a y replaced old new commits has is gives agrees =
+free_committed p q h x effect pc a y replaced old new commits has is gives agrees =
     let d = destination (op_in p x.seq) in
     free_given p q old new replaced (λ r. is_some (p.phys x.seq) && (r == p.committed h d)) gives
     (λ r.
     ap (λ o. same_number o (Some r)) has.answer
-    ∙ (given_replaced x.phys (committed_of a.maps x.rd) (p.committed h d) r (was_committed p q h x effect a commits is)
+    ∙ (given_replaced x.phys (committed_of a.maps x.rd) (p.committed h d) r
+    (was_committed p q h x effect pc a commits is)
     ∙ ap (λ o. is_some o && (r == p.committed h d)) commits.is_oldest.phys))
     commits.step.free agrees
 
-pub parts_committed : (p q : Picture) (h : ℕ) (x : Active) (effect : Effect) (old new : Parts) (a y : HartState)
-    (replaced : Option ℕ)
-    (free : List Bool) → h < length old.harts.items → a ≡ slice_index_or old.harts.items h a
-    → HasCommitted a y x.rd x.phys replaced
+pub parts_committed : (p q : Picture) (h : ℕ) (x : Active) (effect : Effect) (pc : ℕ) (old new : Parts)
+    (a y : HartState) (replaced : Option ℕ) (free : List Bool) (accesses : List Queues) (memory : Contents)
+    → h < length old.harts.items → a ≡ slice_index_or old.harts.items h a
+    → HasCommitted a y x.rd x.phys pc replaced → Changes (without_access x.op) h old.accesses accesses
+    → IsCommitted h x effect.write old.memory memory
     → ((r : ℕ) → holds free r ≡ (holds old.free r || same_number replaced (Some r)))
-    → IsFilled x.phys effect.value (record old { harts = with_item old.harts h y; free = free }) new → PartsAgree p old
-    → Commits p q h x effect → PartsAgree q new
-parts_committed p q h x effect old new a y replaced free inside at has gives filled agrees commits =
+    → IsFilled x.phys effect.value
+    (record old { harts = with_item old.harts h y; free = free; accesses = accesses; memory = memory }) new
+    → PartsAgree p old → Commits p q h x effect pc → PartsAgree q new
+parts_committed p q h x effect pc old new a y replaced free accesses memory inside at has left made gives filled agrees
+    commits =
     let step = commits.step in
     let oldest = commits.is_oldest in
     let here : HartAgrees p h a = subst (HartAgrees p h) (sym at) (agrees.harts h a inside) in
@@ -194,7 +204,7 @@ parts_committed p q h x effect old new a y replaced free inside at has gives fil
     record {
       harts =
           subst (λ v. EachAgrees q v.items) (sym filled.harts)
-          (each_set p q old.harts.items h a y inside at (hart_committed p q h x effect a y replaced commits has)
+          (each_set p q old.harts.items h a y inside at (hart_committed p q h x effect pc a y replaced commits has)
           (others_kept p q h x.seq step.stays step.of_hart step.flights) agrees.harts);
       queue =
           queue_filled p q x.phys effect.value step.stays.shared.kept
@@ -202,13 +212,22 @@ parts_committed p q h x effect old new a y replaced free inside at has gives fil
           agrees.queue step.stays.shared.queue filled.queue;
       free =
           subst (FreeAgrees q) (sym filled.free)
-          (free_committed p q h x effect a y replaced old.free free commits has here gives agrees.free);
+          (free_committed p q h x effect pc a y replaced old.free free commits has here gives agrees.free);
       registers = filled.count ∙ agrees.registers;
       values = values_filled p q x.phys effect.value old.values new.values filled.count filled.values values claims
           agrees.values;
       actors = ap length filled.jobs ∙ agrees.actors;
       jobs = subst (JobsAgree q) (sym filled.jobs)
           (jobs_kept p q old.jobs step.stays.shared.kept step.stays.shared.job step.stays.shared.operands agrees.jobs);
+      accesses =
+          rw (filled.accesses, filled.harts)
+          (accesses_set (without_access x.op) old.harts.items h a y old.accesses accesses inside at left
+          (ap accesses_of has.active
+          ∙ accesses_dropped p h x.seq x.op a.active (q.flight h) (here.active ∙ step.flight) here.actives
+          (active_op p h x oldest.is_active)) agrees.accesses);
+      memory =
+          subst (MemoryAgrees q) (sym filled.memory)
+          (memory_committed p q h x effect pc old.memory memory commits made agrees.memory);
     }
 
 -- ---- A halt
@@ -234,14 +253,16 @@ hart_left p q h x status a leaves is =
     }
 
 pub parts_left : (p q : Picture) (h : ℕ) (x : Active) (status : Status) (old : Parts) (a y : HartState)
-    (free : List Bool)
+    (free : List Bool) (accesses : List Queues)
     → h < length old.harts.items → a ≡ slice_index_or old.harts.items h a → HasLeft a y status
+    → Changes (without_access x.op) h old.accesses accesses
     → ((r : ℕ) → holds free r ≡ (holds old.free r || same_number x.phys (Some r))) → PartsAgree p old
     → Leaves p q h x status
-    → PartsAgree q (record old { harts = with_item old.harts h y; free = free })
-parts_left p q h x status old a y free inside at has gives agrees leaves =
+    → PartsAgree q (record old { harts = with_item old.harts h y; free = free; accesses = accesses })
+parts_left p q h x status old a y free accesses inside at has left gives agrees leaves =
     let step = leaves.step in
     let oldest = leaves.is_oldest in
+    let here : HartAgrees p h a = subst (HartAgrees p h) (sym at) (agrees.harts h a inside) in
     let claims : (r : ℕ) → q.free r ≡ false → p.free r ≡ false =
     λ r claimed. or_left (p.free r) _ (sym (step.free r) ∙ claimed) in
     record {
@@ -262,6 +283,12 @@ parts_left p q h x status old a y free inside at has gives agrees leaves =
           λ r d under claimed. agrees.values r d under (claims r claimed) ∙ sym (step.stays.shared.values r claimed);
       actors = agrees.actors;
       jobs = jobs_kept p q old.jobs step.stays.shared.kept step.stays.shared.job step.stays.shared.operands agrees.jobs;
+      accesses =
+          accesses_set (without_access x.op) old.harts.items h a y old.accesses accesses inside at left
+          (ap (λ (z : HartState). accesses_of z.active) has
+          ∙ accesses_dropped p h x.seq x.op a.active (q.flight h) (here.active ∙ step.flight) here.actives
+          (active_op p h x oldest.is_active)) agrees.accesses;
+      memory = memory_kept p q old.memory step.stays.shared.memory agrees.memory;
     }
 
 -- Its own register can be given back: it is in range and isn't free.

@@ -1,20 +1,32 @@
 -- A core's retirement: what its parts' step starts from, and that the state is a core's again after it.
-use Rattle.std.specs.Prelude.{◌≡◌, ℕ, ◌<◌, ◌≤◌, ◌+◌, Bool, true, List, [], ◌∷◌, ◌++◌, Option, Some, None, IfNone}
-use Rattle.std.specs.Prelude.{length, reverse, vec_capacity}
+use Rattle.std.specs.Prelude.{◌≡◌, ℕ, ◌<◌, ◌≤◌, ◌+◌, Bool, true, false, List, [], ◌∷◌, ◌++◌, Option, Some, None, IfNone}
+use Rattle.std.specs.Prelude.{length, reverse, vec_capacity, IfSome}
+use Rattle.elf_image.specs.Image.{ProgramImage}
+use Rattle.rv_decode.specs.declared.op.Op.{Op}
 use Rattle.std.proofs.Common.{◌∙◌, Vec, Global, refl, sym, ap, subst, arith}
 use Rattle.std.proofs.{lemmas.Bool.Decides.nat_tests, lemmas.List.length_push, lemmas.List.reverse-append}
 use Rattle.events.specs.{History.EventList, declared.effect.Effect.Effect, declared.effect.Outcome.Outcome}
 use Rattle.events.specs.{declared.effect.Record.Record, declared.event.Event.TheVariants.Retire}
 use Rattle.retire_squash.specs.declared.active.Active.{Active}
 use Rattle.smt_model.specs.{Account.records, Asks.AskRetire, Fates.Fetched, Fates.is_of, Picture.Picture}
-use Rattle.smt_model.specs.{Picture.picture, Plain.output_after, Rules.refused, Jobs.is_actor, Setup.registers_of}
+use Rattle.smt_model.specs.{Picture.picture, Plain.output_after, Rules.refused, Rules.effect_now, Jobs.is_actor}
+use Rattle.smt_model.specs.{Setup.registers_of}
+use Rattle.smt_model.specs.{Basics.or_zero, Exec.Computed, Exec.exec, Faults.checked, Outcomes.outcome_of}
+use Rattle.smt_model.specs.{Effects.effect_of}
+use Rattle.smt_model.specs.{Bytes.read, Reservations.holds_word, Registers.operand, Fates.op_of_fetched}
+use Rattle.smt_model.specs.{Memory.byte_at, Memory.reserved, Kinds.first_source, Kinds.second_source}
+use Rattle.shared_memory.specs.Contents.{Contents, byte_of, reserved_of}
+use Rattle.core_state.specs.Accesses.{CanWrite}
 use Rattle.smt_model.proofs.Steps.Retire.{records-Retire}
 use Rattle.core_state.specs.{Agree.PartsAgree, Agree.KeepsSizes, Agree.From, Answers.AllowsNone, View.CoreView}
 use Rattle.core_state.specs.{declared.parts.Parts.Parts, declared.state.State.TheInside.Inside}
-use Rattle.core_state.specs.Retirement.{CanRetire, NoneCanRetire, Retires, effect_from}
+use Rattle.core_state.specs.Retirement.{CanRetire, NoneCanRetire, Retires}
 use Rattle.core_state.specs.State.{IsCore, past_of, setup_in, view_of}
 use Rattle.core_state.proofs.Steps.Invariant.{core_retired}
-use Rattle.core_state.proofs.Steps.Retire.Rules.{retire_follows, retires_by, is_its_own, none_completed}
+use Rattle.core_state.proofs.Steps.Retire.Look.{fetched_of, retires_now, effect-same}
+use Rattle.core_state.proofs.{Steps.Retire.Writes.can_write, Steps.Complete.Look.says_with_look}
+use Rattle.core_state.proofs.{Steps.Complete.Look.checked-address, Agreement.Queues.has_place}
+use Rattle.core_state.proofs.Steps.Retire.Rules.{retires_by, is_its_own, none_completed}
 
 registers_fit : (i : Inside) → IsCore i → registers_of (setup_in i) ≤ 512
 registers_fit i core =
@@ -23,22 +35,76 @@ registers_fit i core =
     let extra : i.config.extra ≤ 256 = grind (arith, nat_tests) in
     omega arith
 
--- What the code has found: hart h is there, and x may retire with this outcome, whatever picture the parts agree with.
+-- ---- The effect
+
+-- Hart h has a place.
+pub place_in : (i : Inside) (h : ℕ) → IsCore i → h < length i.parts.harts.items → h < 8
+place_in i h core inside = has_place i.parts.harts.items i.parts.accesses h core.agrees.accesses inside
+
+-- What the code makes of an outcome, by memory as it is, for every c of which it is the outcome.
+abbrev pub Effects : Contents → ProgramImage → ℕ → Op → Outcome → Effect → Type 0
+Effects m image h op o effect =
+    (c : Computed) (look : Option ℕ) → o ≡ outcome_of op (checked image op c) look
+    → effect ≡ effect_of op (checked image op c) (read op (byte_of m) c.addr) (holds_word (reserved_of m h) c.addr)
+
+-- It is what the rules want now.
+pub effect_in : (i : Inside) (h : ℕ) (x : Active) (o : Outcome) (effect : Effect) → IsCore i
+    → CanRetire (picture (setup_in i) (past_of i)) h x o
+    → Effects i.parts.memory i.parts.memory.image h x.op o effect
+    → effect ≡ effect_now (setup_in i) (past_of i) x.seq (fetched_of h x)
+effect_in i h x o effect core can says =
+    let setup = setup_in i in
+    let past = past_of i in
+    let m = i.parts.memory in
+    let f = fetched_of h x in
+    let op = op_of_fetched (Some f) in
+    let c = exec op f.pc (or_zero (operand setup first_source past x.seq))
+    (or_zero (operand setup second_source past x.seq)) in
+    let said = says_with_look setup past core.legal x.seq f o can.is_active.fetched can.completed can.outcome in
+    let here : Effects m setup.image h op o effect =
+    subst (λ z. Effects m setup.image h z o effect) can.is_active.op
+    (subst (λ z. Effects m z h x.op o effect) core.image says) in
+    let d = checked setup.image op c in
+    here c (Some said.look) said.outcome_is
+    ∙ (ap (λ a. effect_of op d (read op (byte_of m) a) (holds_word (reserved_of m h) a))
+    (sym (checked-address setup.image op c))
+    ∙ effect-same setup past x.seq f (byte_of m) (reserved_of m h) core.agrees.memory.byte
+    (core.agrees.memory.reserved h))
+
+-- And what it writes can be written.
+pub write_in_core : (i : Inside) (h : ℕ) (x : Active) (effect : Effect) → IsCore i
+    → effect ≡ effect_now (setup_in i) (past_of i) x.seq (fetched_of h x)
+    → IfSome effect.write (CanWrite i.parts.memory.image)
+write_in_core i h x effect core is =
+    let setup = setup_in i in
+    let past = past_of i in
+    let f = fetched_of h x in
+    let op = op_of_fetched (Some f) in
+    let c = exec op f.pc (or_zero (operand setup first_source past x.seq))
+    (or_zero (operand setup second_source past x.seq)) in
+    let d = checked setup.image op c in
+    subst (λ image. IfSome effect.write (CanWrite image)) (sym core.image)
+    (subst (λ (e : Effect). IfSome e.write (CanWrite setup.image)) (sym is)
+    (can_write setup.image op c (read op (byte_at setup past) d.addr) (holds_word (reserved past h) d.addr)))
+
+-- ---- What the code has found: hart h is there, and x may retire with this outcome, whatever picture the parts agree
+-- with.
 pub record Finds (i : Inside) (actor h : ℕ) (x : Active) (o : Outcome) (effect : Effect) : Type 0 where
   pub there : is_actor (setup_in i) actor ≡ true
   pub inside : h < length i.parts.harts.items
   pub can : (p : Picture) → PartsAgree p i.parts → CanRetire p h x o
-  pub effect_is : effect ≡ effect_from o
+  pub effect_is : effect ≡ effect_now (setup_in i) (past_of i) x.seq (fetched_of h x)
 
 pub finds_in : (i : Inside) (v : CoreView) (actor h : ℕ) (x : Active) (o : Outcome) (effect : Effect) (has : Bool)
     → view_of i ≡ v
     → has ≡ is_actor v.setup actor → has ≡ true → h < length i.parts.harts.items
-    → ((p : Picture) → PartsAgree p i.parts → CanRetire p h x o) → effect ≡ effect_from o → Finds i actor h x o effect
-finds_in i v actor h x o effect has at tells true_is inside can effect_is = record {
+    → ((p : Picture) → PartsAgree p i.parts → CanRetire p h x o)
+    → IsCore i → Effects i.parts.memory i.parts.memory.image h x.op o effect → Finds i actor h x o effect
+finds_in i v actor h x o effect has at tells true_is inside can core says = record {
   there = subst (λ w. is_actor w.setup actor ≡ true) (sym at) (sym tells ∙ true_is);
   inside = inside;
   can = can;
-  effect_is = effect_is;
+  effect_is = effect_in i h x o effect core (can (picture (setup_in i) (past_of i)) core.agrees) says;
 }
 
 abbrev pub now_of : Inside → Picture
@@ -48,17 +114,15 @@ found_retires : (i : Inside) (actor h : ℕ) (x : Active) (o : Outcome) (effect 
     → Finds i actor h x o effect
     → Retires (now_of i) (picture (setup_in i) (Retire actor x.seq effect ∷ past_of i)) h x effect
 found_retires i actor h x o effect core finds =
-    subst (λ z. Retires (now_of i) (picture (setup_in i) (Retire actor x.seq z ∷ past_of i)) h x z)
-    (sym finds.effect_is)
-    (retires_by (setup_in i) (past_of i) refl core.legal (registers_fit i core) actor h finds.there x o
-    (finds.can (now_of i) core.agrees))
+    retires_by (setup_in i) (past_of i) core.legal (registers_fit i core) actor h finds.there x o effect
+    (finds.can (now_of i) core.agrees) finds.effect_is
 
 found_follows : (i : Inside) (actor h : ℕ) (x : Active) (o : Outcome) (effect : Effect) → IsCore i
     → Finds i actor h x o effect
     → refused (setup_in i) (past_of i) (Retire actor x.seq effect) ≡ None
 found_follows i actor h x o effect core finds =
-    subst (λ z. refused (setup_in i) (past_of i) (Retire actor x.seq z) ≡ None) (sym finds.effect_is)
-    (retire_follows (setup_in i) (past_of i) refl core.legal actor h finds.there x o (finds.can (now_of i) core.agrees))
+    retires_now (setup_in i) (past_of i) actor h finds.there x o effect (finds.can (now_of i) core.agrees)
+    finds.effect_is
 
 pub found_from : (i : Inside) (actor h : ℕ) (x : Active) (o : Outcome) (effect : Effect) → IsCore i
     → Finds i actor h x o effect

@@ -7,11 +7,15 @@ use Rattle.std.proofs.{lemmas.Bool.cases_Bool, lemmas.Bool.Decides.nat_tests}
 use Rattle.free_list.specs.Flags.{holds}
 use Rattle.issue_queue.specs.{Queue.Queue, Queue.stays, declared.entry.Entry.Entry}
 use Rattle.smt_model.specs.{Basics.holds_of, Fates.is, Picture.Picture, Steps.IsSquash, Steps.is_hart_of}
+use Rattle.load_store.specs.Queues.{Changes, squashed}
+use Rattle.core_state.specs.Accesses.{accesses_of}
 use Rattle.core_state.specs.Agree.{IsEntry, QueueAgrees, HartAgrees, PartsAgree, ValuesAgree}
 use Rattle.core_state.specs.Squash.{younger, has_phys, IsSquashedBehind, HaveOwn}
 use Rattle.core_state.specs.{declared.hart.HartState.HartState, declared.parts.Parts.Parts}
 use Rattle.core_state.proofs.{Agreement.Harts.hart_kept, Agreement.Harts.hart_alone, Agreement.Harts.each_set}
 use Rattle.core_state.proofs.{Agreement.Shared.waiting_kept, Agreement.Shared.jobs_kept}
+use Rattle.core_state.proofs.{Agreement.Accesses.accesses_squashed, Agreement.Queues.accesses_set}
+use Rattle.core_state.proofs.{Agreement.Queues.memory_kept}
 use Rattle.core_state.proofs.{Steps.Squash.Parts.hart_squashed, Steps.Squash.Parts.owns}
 use Rattle.core_state.proofs.{Steps.Squash.Parts.free_squashed}
 
@@ -81,6 +85,8 @@ pub record IsSquashed (h n : ℕ) (old new : Parts) : Type 0 where
   pub free : (r : ℕ) → holds new.free r ≡ (holds old.free r || list_any (has_phys r) (younger n was.active))
   pub values : new.values ≡ old.values
   pub jobs : new.jobs ≡ old.jobs
+  pub accesses : Changes (squashed n) h old.accesses new.accesses
+  pub memory : new.memory ≡ old.memory
 
 pub parts_squashed : (p q : Picture) (h n : ℕ) (old new : Parts) → h < length old.harts.items → PartsAgree p old
     → IsSquash p q h n → IsSquashed h n old new → PartsAgree q new
@@ -98,6 +104,11 @@ parts_squashed p q h n old new inside agrees s is =
       jobs =
           rw is.jobs
           (jobs_kept p q old.jobs s.stays.shared.kept s.stays.shared.job s.stays.shared.operands agrees.jobs);
+      accesses =
+          rw is.harts
+          (accesses_set (squashed n) old.harts.items h is.was is.left old.accesses new.accesses inside is.at is.accesses
+          (ap accesses_of is.squash_behind.active ∙ accesses_squashed n is.was.active) agrees.accesses);
+      memory = rw is.memory (memory_kept p q old.memory s.stays.shared.memory agrees.memory);
     }
 
 -- The registers of the hart's instructions can be given back.

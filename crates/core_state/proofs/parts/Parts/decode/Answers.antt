@@ -1,7 +1,9 @@
 -- The hart that decodes agrees with the picture after it, and so does all that it leaves.
-use Rattle.std.proofs.Common.{◌<◌, length, refl, subst, sym}
+use Rattle.std.proofs.Common.{◌<◌, length, refl, ap, subst, sym}
 use Rattle.smt_model.specs.Steps.{IsDecode}
-use Rattle.core_state.proofs.{Agreement.Harts.each_set, Agreement.Rest.rest_kept, Steps.Decode.Parts.keeps_rest}
+use Rattle.core_state.specs.Accesses.{accesses_of}
+use Rattle.core_state.proofs.{Agreement.Harts.each_set, Agreement.Queues.accesses_still, Agreement.Rest.rest_kept}
+use Rattle.core_state.proofs.{Steps.Decode.Parts.keeps_rest}
 use Rattle.core_state.proofs.{Steps.Decode.Parts.own_decode, Steps.Decode.Parts.other_decode}
 use Rattle.core_state.proofs.parts.Parts.decode.Goals as goal
 
@@ -17,3 +19,6 @@ returns-clause-agrees c = λ p q agrees n step.
     (each_set p q c.args.self.now.harts.items h x y inside c.index_mut.ensures.value
     (own_decode p q h n x y here c.decode.ensures) (λ g other z. other_decode p q h n g z other here) agrees.harts)
     refl refl refl refl
+    (accesses_still c.args.self.now.harts.items h x y c.args.self.now.accesses inside c.index_mut.ensures.value
+    (ap accesses_of c.decode.ensures.active) agrees.accesses)
+    refl

@@ -1,6 +1,8 @@
 -- The hart that fetches agrees with the picture after it, and so does all that it leaves.
-use Rattle.std.proofs.Common.{refl}
-use Rattle.core_state.proofs.{Agreement.Harts.each_set, Agreement.Rest.rest_kept, Steps.Fetch.Parts.keeps_rest}
+use Rattle.std.proofs.Common.{refl, ap}
+use Rattle.core_state.specs.Accesses.{accesses_of}
+use Rattle.core_state.proofs.{Agreement.Harts.each_set, Agreement.Queues.accesses_still, Agreement.Rest.rest_kept}
+use Rattle.core_state.proofs.{Steps.Fetch.Parts.keeps_rest}
 use Rattle.core_state.proofs.{Steps.Fetch.Parts.own_fetch, Steps.Fetch.Parts.other_fetch}
 use Rattle.core_state.proofs.parts.Parts.fetch.Goals as goal
 
@@ -15,3 +17,6 @@ returns-clause-agrees c = λ p q agrees step.
     (own_fetch p q h slot x y c.requires.op step c.fetch.ensures)
     (λ g other z. other_fetch p q h slot g z other step) agrees.harts)
     refl refl refl refl
+    (accesses_still c.args.self.now.harts.items h x y c.args.self.now.accesses c.requires.step.inside
+    c.index_mut.ensures.value (ap accesses_of c.fetch.ensures.active) agrees.accesses)
+    refl

@@ -33,4 +33,6 @@ returns-clause-agrees c = λ p q agrees issuing.
       values = all.3;
       actors = subst (λ (js : List (Option OpenJob)). length js ≡ 16) (sym jobs) all.4;
       jobs = subst (JobsAgree q) (sym jobs) all.5;
+      accesses = rw c.from.ensures all.6;
+      memory = all.7;
     }

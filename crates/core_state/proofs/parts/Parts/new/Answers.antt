@@ -20,11 +20,11 @@ pub loop-hart-preserved : goal.loop-hart-preserved
 loop-hart-preserved c =
     let more = c.in_ok-push.ensures.items in
     let count = c.loop-hart.invariant.0 in
-    let new : IsNew (length c.loop-hart.each.items) c.args.entry c.new.result =
-    subst (λ n. IsNew n c.args.entry c.new.result) (sym count) c.new.ensures in (
+    let new : IsNew (length c.loop-hart.each.items) c.entry-entry.result c.new.result =
+    subst (λ n. IsNew n c.entry-entry.result c.new.result) (sym count) c.new.ensures in (
       ap length more ∙ (length_push c.loop-hart.each.items c.new.result ∙ ap (λ n. n + 1) count),
-      subst (AreNew c.args.entry) (sym more)
-          (new_more c.args.entry c.loop-hart.each.items c.new.result new c.loop-hart.invariant.1),
+      subst (AreNew c.entry-entry.result) (sym more)
+          (new_more c.entry-entry.result c.loop-hart.each.items c.new.result new c.loop-hart.invariant.1),
       first_more c.args.harts c.loop-hart.hart c.loop-hart.values c.set_first_values.new.values
           c.set_first_values.ensures c.loop-hart.invariant.2,
       c.set_first_values.array_long,
@@ -36,7 +36,8 @@ returns-clause-begins c =
     let end = c.loop-hart-test.false in
     let all : c.loop-hart.hart ≡ c.args.harts = omega arith in
     let kept = c.loop-hart.invariant in
-    begins c.args.harts c.args.extra c.args.entry _ (kept.0 ∙ all) kept.1
+    begins c.args.harts c.args.extra c.args.image.now _ (kept.0 ∙ all)
+    (subst (λ e. AreNew e c.loop-hart.each.items) c.entry-entry.ensures.value kept.1)
     (ap (λ (q : Queue). q.entries) c.new-2.ensures) c.new-3.ensures kept.3
     (subst (λ n. AreFirst c.args.harts n c.loop-hart.values) all kept.2) refl
-    (λ k d inside. get_or-replicate 16 k None d inside)
+    (λ k d inside. get_or-replicate 16 k None d inside) c.requires.harts_fit c.new-4.ensures c.in_ok-new.ensures

@@ -2,6 +2,9 @@ use Rattle.std.specs.Prelude.{◌≡◌, ◌<◌, length, None, slice_index_or}
 use Rattle.std.proofs.Common.{◌∙◌, sym, ap, subst}
 use Rattle.issue_queue.specs.Queue as entries
 use Rattle.core_state.specs.{Renaming.HasRenamed, declared.slot.Slot.Slot}
+use Rattle.load_store.specs.Queues.{Changes}
+use Rattle.core_state.specs.Accesses.{with_access}
+use Rattle.core_state.proofs.Steps.Rename.Accesses.{room_at, place_at}
 use Rattle.core_state.proofs.Steps.Rename.Parts.{same_hart, ready_at, parts_renamed, known_range, same_entry}
 use Rattle.rv_decode.specs.{declared.op.Op.TheVariants.Known, declared.instr.Instr.TheVariants.Lui}
 use Rattle.core_state.proofs.parts.Parts.rename.Goals as goal
@@ -25,6 +28,29 @@ insert-requires-clause-absent c =
 
 pub take-requires : goal.take-requires
 take-requires c = known_range c.args.phys c.requires.step.step.in_range
+
+pub add_access-requires-clause-hart : goal.add_access-requires-clause-hart
+add_access-requires-clause-hart c = place_at c.args.self.now c.args.hart c.args.phys c.requires.step
+
+pub add_access-requires-clause-load_room : goal.add_access-requires-clause-load_room
+add_access-requires-clause-load_room c =
+    (room_at c.args.self.now c.args.hart c.args.phys c.from.result c.index-state.result.now c.deref.result.now _
+    c.requires.step c.from.ensures c.index-state.ensures c.deref.ensures.0).load_room
+
+pub add_access-requires-clause-store_room : goal.add_access-requires-clause-store_room
+add_access-requires-clause-store_room c =
+    (room_at c.args.self.now c.args.hart c.args.phys c.from.result c.index-state.result.now c.deref.result.now _
+    c.requires.step c.from.ensures c.index-state.ensures c.deref.ensures.0).store_room
+
+pub add_access-requires-clause-load_above : goal.add_access-requires-clause-load_above
+add_access-requires-clause-load_above c =
+    (room_at c.args.self.now c.args.hart c.args.phys c.from.result c.index-state.result.now c.deref.result.now _
+    c.requires.step c.from.ensures c.index-state.ensures c.deref.ensures.0).load_above
+
+pub add_access-requires-clause-store_above : goal.add_access-requires-clause-store_above
+add_access-requires-clause-store_above c =
+    (room_at c.args.self.now c.args.hart c.args.phys c.from.result c.index-state.result.now c.deref.result.now _
+    c.requires.step c.from.ensures c.index-state.ensures c.deref.ensures.0).store_above
 
 pub rename-requires-clause-younger : goal.rename-requires-clause-younger
 rename-requires-clause-younger c =
@@ -61,8 +87,8 @@ returns-clause-agrees c = λ p q agrees renaming.
     f.inside at again in
     let d : Slot = record { seq = 0; pc = 0; word = None; op = Known (Lui 0 0); predicted = 0 } in
     let all = parts_renamed p q c.args.self.now c.args.self.now.queue.size c.args.hart c.args.phys d
-    c.index-state.result.now c.rename.new.self c.insert.new.self c.take.new.free c.take.new.values renaming agrees
-    f.inside at (record {
+    c.index-state.result.now c.rename.new.self c.insert.new.self c.take.new.free c.take.new.values
+    c.add_access.new.accesses renaming agrees f.inside at (record {
       own =
           subst
           (λ x. HasRenamed (slice_index_or c.index-state.result.now.rename_latch.items 0 d) c.args.phys x
@@ -77,6 +103,10 @@ returns-clause-agrees c = λ p q agrees renaming.
           c.rs2.ensures.value c.source.ensures c.source-2.ensures);
       taken_out = c.take.ensures.free;
       lost = c.take.ensures.values;
+      added =
+          subst
+          (λ xs. Changes (with_access (slice_index_or xs 0 d).op (slice_index_or xs 0 d).seq) c.args.hart
+          c.args.self.now.accesses c.add_access.new.accesses) c.deref.ensures.0 c.add_access.ensures;
     }) in
     record {
       harts = rw c.from-2.ensures all.0;
@@ -86,4 +116,6 @@ returns-clause-agrees c = λ p q agrees renaming.
       values = all.4;
       actors = agrees.actors;
       jobs = all.5;
+      accesses = rw c.from-2.ensures all.6;
+      memory = all.7;
     }

@@ -1,4 +1,5 @@
 use Rattle.std.proofs.Common.{refl, ap, subst, ◌≡◌, get_or, slice_set}
+use Rattle.core_state.proofs.Agreement.Queues.{has_place}
 use Rattle.core_state.proofs.Steps.Squash.Shared.{parts_squashed, own_registers}
 use Rattle.core_state.proofs.parts.Parts.squash.Goals as goal
 
@@ -11,6 +12,11 @@ squash-requires-2 c =
           step.agrees step.step
           (subst (λ i. x ≡ get_or c.args.self.now.harts.items i x) c.from.ensures c.index_mut.ensures.value);
     }
+
+pub squash-requires-3 : goal.squash-requires-3
+squash-requires-3 c =
+    let step = c.requires.step in
+    has_place c.args.self.now.harts.items c.args.self.now.accesses c.args.hart step.agrees.accesses step.inside
 
 pub returns-clause-agrees : goal.returns-clause-agrees
 returns-clause-agrees c = λ p q agrees step.
@@ -25,4 +31,6 @@ returns-clause-agrees c = λ p q agrees step.
       free = c.squash-2.ensures.free;
       values = refl;
       jobs = refl;
+      accesses = c.squash-3.ensures;
+      memory = refl;
     })

@@ -1,5 +1,5 @@
 -- The first state is a core's: its history is empty, and its parts agree with that.
-use Rattle.std.proofs.{Common.refl, Common.sym, Common.arith, lemmas.Grind.common_steps}
+use Rattle.std.proofs.{Common.refl, Common.arith, lemmas.Grind.common_steps}
 use Rattle.core_state.proofs.state.State.make.Goals as goal
 
 pub invariant_of-result : goal.invariant_of-result
@@ -8,8 +8,9 @@ invariant_of-result c = rw c.in_ok-history.ensures (record {
   limit = c.requires.limit;
   harts = c.in_ok-parts.ensures.harts;
   queue = c.in_ok-parts.ensures.queue;
+  image = c.in_ok-parts.ensures.image;
   legal = tt;
-  agrees = c.in_ok-parts.ensures.begins _ refl refl (sym c.entry.ensures.value);
+  agrees = c.in_ok-parts.ensures.begins _ refl refl refl;
   fetched = refl;
   last = refl;
   records = c.in_ok-records.ensures.items;
