@@ -11,9 +11,6 @@ pub record IsRead (text rest : List ℕ) (words : List Word) : Type 0 where
   pub parts : pieces text ≡ done ++ pieces rest
   pub spelled : AllZip SpellsWord done words
 
-pub read_none : (text : List ℕ) → IsRead text text []
-read_none text = record { done = []; parts = refl; spelled = tt }
-
 spelled_push : (ps : List (List ℕ)) (ws : List Word) (p : List ℕ) (w : Word) → AllZip SpellsWord ps ws
     → SpellsWord p w →
     AllZip SpellsWord (ps ++ p ∷ []) (ws ++ w ∷ [])
@@ -29,12 +26,6 @@ read_more text rest piece more words w h e s = record {
   parts = grind (arith, common_steps, h.parts, e);
   spelled = spelled_push h.done words piece w h.spelled s;
 }
-
-pub read_all : (text rest : List ℕ) (words : List Word) → IsRead text rest words → pieces rest ≡ []
-    → IsScript text words
-read_all text rest words h e =
-    let all : pieces text ≡ h.done = grind (arith, common_steps, h.parts, e) in
-    rw all h.spelled
 
 same_length : (ps : List (List ℕ)) (ws : List Word) → AllZip SpellsWord ps ws → length ws ≡ length ps
 same_length [] [] h = refl

@@ -67,29 +67,12 @@ told_refusal image settings script reason passes accepted asks (inl same) =
 told_refusal image settings script reason passes accepted asks (inr same) =
     subst (AreInputsRefusedFor image settings script) (sym same) ((passes, accepted), asks)
 
--- What is refused of the configuration is refused of the line.
-pub settings_refusal : (line : Line) (config image script : Read) (reason : Refused)
-    → IsSettingsRefusal config reason → IsRefusal line config image script reason
-settings_refusal line config image script (Image number) is = absurd is
-settings_refusal line config image script Config is = is
-settings_refusal line config image script (Script number) is = absurd is
-settings_refusal line config image script Memory is = tt
-settings_refusal line config image script File is = inl is
-settings_refusal line config image script Output is = absurd is
-
 -- A configuration's settings are never refused for a core.
 never_refused : (text : List ℕ) (settings : Settings) → IsConfiguration text settings → AreRefused settings → ⊥
 never_refused text settings is refused =
     let empty : ProgramImage = record { ram = 0; entry = 0; segments = [] } in
     let both : true ≡ false = sym is.sets.in_range.accepted ∙ refused empty in
     absurd (grind (arith, both))
-
--- What holds of the settings of a configuration that was read.
-pub of_settings : (P : Settings → Type 0) (config : Read) (settings : Settings)
-    → OfFile config (λ text. IsConfiguration text settings)
-    → P settings → OfSettings config P
-of_settings P (Ok text) settings is holds = (settings, is, holds)
-of_settings P (Err why) settings is holds = absurd is
 
 -- What is refused of the image and the script is refused of the line.
 pub line_refusal : (line : Line) (config : Read) (settings : Settings)
@@ -106,52 +89,9 @@ line_refusal line (Ok text) settings is image script Memory because = tt
 line_refusal line (Ok text) settings is image script File because = inr (settings, is, because)
 line_refusal line (Ok text) settings is image script Output because = (settings, is, because)
 
--- An output that failed is refused of the line, with its inputs accepted.
-pub output_refused : (line : Line) (config : Read) (settings : Settings)
-    → OfFile config (λ text. IsConfiguration text settings) → (image script : Read)
-    → OfFile image (λ file. PassesAll file settings.ram) → (IsStepLine line → AreAccepted settings)
-    → (IsStepLine line → IsAsking script) → IsRefusal line config image script Output
-output_refused line (Err why) settings is image script passes accepted asks = absurd is
-output_refused (lines.Step a b c records show) (Ok text) settings is image script passes accepted asks =
-    (settings, is, ((passes, accepted tt), asks tt))
-output_refused (lines.List a c) (Ok text) settings is image script passes accepted asks = (settings, is, passes)
-
 -- A flush changes nothing of what was written.
 pub kept : (old mid new : Option (List ℕ)) (text : List ℕ) → Appends old mid text → Keeps mid new → Appends old new text
 kept None mid new text written flushed = tt
 kept (Some xs) None new text written flushed = absurd written
 kept (Some xs) (Some ys) None text written flushed = absurd flushed
 kept (Some xs) (Some ys) (Some zs) text written flushed = flushed ∙ written
-
-listing_kept : (image : Read) (ram : ℕ) (old mid new : Option (List ℕ)) → Keeps mid new
-    → OfFile image (λ file. IsListed file ram old mid)
-    → OfFile image (λ file. IsListed file ram old new)
-listing_kept (Err why) ram old mid new flushed listed = absurd listed
-listing_kept (Ok file) ram old mid new flushed listed =
-    record { image = listed.image; is_image = listed.is_image; written = kept old mid new _ listed.written flushed }
-
-reported_kept : (line : Line) (settings : Settings) (image script : Read) (old mid new : Option (List ℕ)) (status : ℕ)
-    → Keeps mid new → IsReportedBy line settings image script old mid status
-    → IsReportedBy line settings image script old new status
-reported_kept (lines.Step a b c records show) settings image script old mid new status flushed told = record {
-  core = told.core;
-  is_image = told.is_image;
-  setup = told.setup;
-  limit = told.limit;
-  shown = told.shown;
-  harts = told.harts;
-  printed = (told.printed.0, told.printed.1, kept old mid new told.printed.0 told.printed.2 flushed);
-}
-reported_kept (lines.List a c) settings image script old mid new status flushed told = tt
-
-pub ended_kept : (line : Line) (settings : Settings) (image script : Read) (old mid new : Option (List ℕ)) (status : ℕ)
-    → Keeps mid new
-    → HasEnded line settings image script old mid status → HasEnded line settings image script old new status
-ended_kept line settings image script old mid new status flushed ended = record {
-  passed = ended.passed;
-  accepted = ended.accepted;
-  asks = ended.asks;
-  zero = ended.zero;
-  listed = λ is. listing_kept image settings.ram old mid new flushed (ended.listed is);
-  reported = reported_kept line settings image script old mid new status flushed ended.reported;
-}

@@ -46,10 +46,6 @@ prints_both first second held between now old mid new one two = (
   appends_more old mid new one.0 two.0 one.2 two.2,
 )
 
-pub prints_nothing : (held : Holding) (old : Option (List ℕ)) → Prints old old (AreMade [] held held)
-prints_nothing held None = ([], (refl, refl), tt)
-prints_nothing held (Some xs) = ([], (refl, refl), sym (after_nothing xs))
-
 again : {X : Type 0} (n : ℕ) (x : X) → replicate (suc n) x ≡ replicate n x ++ x ∷ []
 again zero x = refl
 again (suc n) x = ap (λ l. x ∷ l) (again n x)

@@ -126,3 +126,9 @@ exit_status_of Output = 5
 -- An exit status that says how the harts stand, and not that there is no report.
 abbrev pub says_harts : ℕ → Bool
 says_harts status = status == 0 || (status == 1 || status == 3)
+
+-- The exit status of words that ask for no line: 0 for help, or 5 where the output takes no more.
+abbrev pub IsWordsStatus : WordsRefused → ℕ → Type 0
+IsWordsStatus (words.Help text) status = (status ≡ 0) ⊎ (status ≡ 5)
+IsWordsStatus words.Refused status = status ≡ 2
+IsWordsStatus words.Memory status = status ≡ 5

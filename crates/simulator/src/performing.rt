@@ -20,7 +20,7 @@ use crate::reporting::{report, status_of};
 use crate::stepping::{read_image, step_files};
 use sim_inputs::{ConfigRefused, Line, Settings, read_config};
 use smt_core::{Core, Predict};
-use std::alloc::Global;
+use std::alloc::{AllocError, Global};
 use std::io::Write;
 use std::sync::Wait;
 
@@ -235,7 +235,7 @@ fn tell<W: Write>(
 {
     let tables = match table_text(core, printing.tables, alloc) {
         Ok(tables) => tables,
-        Err(refused) => return Err(refused),
+        Err(AllocError) => return Err(Refused::Memory),
     };
     if out.write_all(tables.as_slice()).is_err() {
         return Err(Refused::Output);
@@ -248,8 +248,7 @@ fn tell<W: Write>(
 }
 
 /// The text of the tables where they are wanted, else none.
-fn table_text(core: &Core, wanted: bool, alloc: Global) -> Result<Vec<u8>, Refused>
-    ensures refused { IfErr result (λ reason. reason ≡ Memory) }
+fn table_text(core: &Core, wanted: bool, alloc: Global) -> Result<Vec<u8>, AllocError>
     ensures tables { IfOk result (λ text. AreTables wanted text.items) }
 {
     let mut text = Vec::new(alloc);
@@ -258,6 +257,6 @@ fn table_text(core: &Core, wanted: bool, alloc: Global) -> Result<Vec<u8>, Refus
     }
     match core.tables(&mut text) {
         Ok(()) => Ok(text),
-        Err(_) => Err(Refused::Memory),
+        Err(_) => Err(AllocError),
     }
 }

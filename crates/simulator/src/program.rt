@@ -1,13 +1,15 @@
-ghost use Rattle.std.specs.Prelude.{◌≡◌, ◌⊎◌, IsTrue};
+ghost use Rattle.std.specs.Prelude.{◌≡◌, ◌⊎◌, ◌≤◌, ◌^◌, IsTrue, Ok, Err, IfOk, IfErr, IfNone, OnOk};
+ghost use Rattle.std.specs.Prelude.{[], IsOkAnd, vec_len};
+ghost use Rattle.std.specs.Io.KnownBytes.{Appends};
 ghost use Rattle.std.specs.IoError.{error_kind};
-ghost use Rattle.simulator.specs.Refusals.{says_harts, words_refused};
+ghost use Rattle.simulator.specs.Refusals.{as_read, says_harts, words_refused, IsWordsStatus};
 
 use crate::files::read_file;
 use crate::performing::{Inputs, perform};
 use crate::refused::{Refused, Unread, refuse};
 use sim_inputs::{Line, WordsRefused, read_words};
 use smt_core::Predict;
-use std::alloc::Global;
+use std::alloc::{AllocError, Global};
 use std::env::Args;
 use std::io;
 use std::io::{ErrorKind, Write};
@@ -16,7 +18,8 @@ use std::sync::Wait;
 
 /// Does all that the program does with its words, its own name first, and answers its exit status:
 /// what the words ask for is printed on `out`, and why it isn't on `err`. 0 for help, 2 for a wrong
-/// command line, 5 for want of memory and where `out` fails; else that of what is performed.
+/// command line, 5 for want of memory and where `out` fails; else that of what is performed. Words
+/// that are no text are a wrong command line.
 pub fn run<S: Files + Wait, P: Predict, W: Write + Drop, E: Write>(
     system: &S,
     words: io::Result<Args>,
@@ -25,7 +28,10 @@ pub fn run<S: Files + Wait, P: Predict, W: Write + Drop, E: Write>(
     err: &mut E,
     alloc: Global,
 ) -> u8
-    ensures { IsTrue (says_harts result) ⊎ (result ≡ 2) ⊎ (result ≡ 5) }
+    ensures known { IsTrue (says_harts result) ⊎ (result ≡ 2) ⊎ (result ≡ 5) }
+    ensures unopened { IfErr out (λ error. result ≡ 5) }
+    ensures unread { IfOk out (λ opened. IfErr words
+        (λ error. IsWordsStatus (words_refused (error_kind error)) result)) }
 {
     match out {
         Ok(mut out) => answer_words(system, words, predict, &mut out, err, alloc),
@@ -41,34 +47,18 @@ fn answer_words<S: Files + Wait, P: Predict, W: Write, E: Write>(
     err: &mut E,
     alloc: Global,
 ) -> u8
-    ensures { IsTrue (says_harts result) ⊎ (result ≡ 2) ⊎ (result ≡ 5) }
+    ensures known { IsTrue (says_harts result) ⊎ (result ≡ 2) ⊎ (result ≡ 5) }
+    ensures unread { IfErr words
+        (λ error. IsWordsStatus (words_refused (error_kind error)) result) }
 {
-    let words = match collect(words, alloc) {
-        Ok(words) => words,
-        Err(refused) => return refuse_words(refused, out, err),
-    };
-    let texts = match texts(words.as_slice(), alloc) {
-        Ok(texts) => texts,
-        Err(refused) => return refuse_words(refused, out, err),
-    };
-    match read_words(texts.as_slice(), alloc) {
-        Ok(line) => read_and_perform(system, &line, predict, out, err, alloc),
-        Err(refused) => refuse_words(refused, out, err),
-    }
-}
-
-fn collect(words: io::Result<Args>, alloc: Global) -> Result<Vec<String>, WordsRefused> {
     let words = match words {
         Ok(words) => words,
-        Err(error) => return Err(unread_words(&error)),
+        Err(error) => return refuse_words(unread_words(&error), out, err),
     };
-    let mut all = Vec::new(alloc);
-    for word in words {
-        if all.push(word).is_err() {
-            return Err(WordsRefused::Memory);
-        }
+    match collect_and_answer(system, words, predict, out, err, alloc) {
+        Ok(status) => status,
+        Err(AllocError) => refuse(Refused::Memory, err),
     }
-    Ok(all)
 }
 
 /// Why words that couldn't be read are refused: one that is no text is none of a command line.
@@ -81,19 +71,46 @@ fn unread_words(error: &io::Error) -> WordsRefused
     }
 }
 
-fn texts<'a>(words: &'a [String], alloc: Global) -> Result<Vec<&'a str>, WordsRefused> {
+/// Answers words that are all texts. Fails only where there is no memory to hold them.
+fn collect_and_answer<S: Files + Wait, P: Predict, W: Write, E: Write>(
+    system: &S,
+    words: Args,
+    predict: &mut P,
+    out: &mut W,
+    err: &mut E,
+    alloc: Global,
+) -> Result<u8, AllocError>
+    ensures { IfOk result
+        (λ status. IsTrue (says_harts status) ⊎ (status ≡ 2) ⊎ (status ≡ 5)) }
+{
+    let words = collect(words, alloc)?;
+    let texts = texts(words.as_slice(), alloc)?;
+    match read_words(texts.as_slice(), alloc) {
+        Ok(line) => Ok(read_and_perform(system, &line, predict, out, err, alloc)),
+        Err(refused) => Ok(refuse_words(refused, out, err)),
+    }
+}
+
+fn collect(words: Args, alloc: Global) -> Result<Vec<String>, AllocError> {
+    let mut all = Vec::new(alloc);
+    for word in words {
+        all.push(word)?;
+    }
+    Ok(all)
+}
+
+fn texts<'a>(words: &'a [String], alloc: Global) -> Result<Vec<&'a str>, AllocError> {
     let mut texts = Vec::new(alloc);
     for word in words {
-        if texts.push(word.as_str()).is_err() {
-            return Err(WordsRefused::Memory);
-        }
+        texts.push(word.as_str())?;
     }
     Ok(texts)
 }
 
 /// Prints the help that was asked for, or says on one line why nothing is done.
 fn refuse_words<W: Write, E: Write>(refused: WordsRefused, out: &mut W, err: &mut E) -> u8
-    ensures { (result ≡ 0) ⊎ (result ≡ 2) ⊎ (result ≡ 5) }
+    ensures known { IsTrue (says_harts result) ⊎ (result ≡ 2) ⊎ (result ≡ 5) }
+    ensures status { IsWordsStatus refused result }
 {
     match refused {
         WordsRefused::Help(text) => match print(text.as_str(), out) {
@@ -108,7 +125,9 @@ fn refuse_words<W: Write, E: Write>(refused: WordsRefused, out: &mut W, err: &mu
     }
 }
 
-fn print<W: Write>(text: &str, out: &mut W) -> io::Result<()> {
+fn print<W: Write>(text: &str, out: &mut W) -> io::Result<()>
+    ensures { OnOk result (Appends (W.contents out.old) (W.contents out.new) text.now) }
+{
     out.write_all(text.as_bytes())?;
     out.flush()
 }
@@ -136,14 +155,21 @@ fn read_and_perform<S: Files + Wait, P: Predict, W: Write, E: Write>(
 }
 
 /// The bytes of a file that the line names; none where it names none.
-fn read_named<S: Files>(system: &S, name: Option<&str>, alloc: Global) -> Result<Vec<u8>, Unread> {
+fn read_named<S: Files>(system: &S, name: Option<&str>, alloc: Global) -> Result<Vec<u8>, Unread>
+    ensures few { IfOk result (λ bytes. vec_len bytes ≤ 2 ^ 30) }
+    ensures unnamed { IfNone name.entry (IsOkAnd result (λ bytes. bytes.items ≡ [])) }
+{
     match name {
         Some(name) => read_file(system, name, alloc),
         None => Ok(Vec::new(alloc)),
     }
 }
 
-fn lent(file: &Result<Vec<u8>, Unread>) -> Result<&[u8], Unread> {
+/// The same bytes, or the same reason why there are none.
+fn lent(file: &Result<Vec<u8>, Unread>) -> Result<&[u8], Unread>
+    ensures bytes { IfOk file.now (λ bytes. as_read result ≡ Ok bytes.items) }
+    ensures why { IfErr file.now (λ why. as_read result ≡ Err why) }
+{
     match file {
         Ok(bytes) => Ok(bytes.as_slice()),
         Err(why) => Err(*why),
