@@ -24,11 +24,6 @@ pub count_cons : {X : Type 0} (test : X → Bool) (x : X) (xs : List X)
     → how_many test (x ∷ xs) ≡ one (test x) + how_many test xs
 count_cons test x xs = grind arith
 
--- The loop: one more event, which may be the actor's.
-pub made_more : (k : ℕ) (e : Event) (past : List Event)
-    → event_count k (e ∷ past) ≡ event_count k (e ∷ []) + event_count k past
-made_more k e past = grind arith
-
 -- Of those by an actor or a greater one, some are the actor's own and the others by greater ones.
 shared : (k n : ℕ) → one (nat_le k n) ≡ one (n == k) + one (nat_le (k + 1) n)
 shared k n = grind (arith, nat_tests)

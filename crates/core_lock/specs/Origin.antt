@@ -1,6 +1,6 @@
 -- The core that is named where no core is.
 use Rattle.std.specs.Prelude.{[]}
-use Rattle.smt_model.specs.{Exec.covered_yet, Setup.Setup}
+use Rattle.smt_model.specs.{Setup.Setup}
 
 -- A setup of no program and no size.
 abbrev pub no_setup : Setup
@@ -11,5 +11,4 @@ no_setup =
       extra = 0;
       queue = 0;
       roles = [];
-      covers = covered_yet;
     }

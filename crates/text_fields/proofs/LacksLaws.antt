@@ -24,18 +24,3 @@ Lacks-decimal s n other small = Lacks-from_all is_ascii_digit s (decimal n) othe
 
 pub Lacks-hex : (s count n : ℕ) → is_hex_digit s ≡ false → Lacks s (hex count n)
 Lacks-hex s count n other = Lacks-from_all is_hex_digit s (hex count n) other (hex_digits count n)
-
-pub Lacks-dash : (s : ℕ) → (45 == s) ≡ false → Lacks s dash
-Lacks-dash s other = rw other refl
-
-pub Lacks-optional : {A : Type 0} (s : ℕ) (spelling : A → List ℕ) (o : Option A) → (45 == s) ≡ false →
-    IfSome o (λ value. Lacks s (spelling value)) → Lacks s (optional spelling o)
-Lacks-optional s spelling None other given = Lacks-dash s other
-Lacks-optional s spelling (Some value) other given = given
-
--- the size of a signed number fits 63 bits
-pub Lacks-signed_decimal : (s : ℕ) (z : ℤ) → (45 == s) ≡ false → is_ascii_digit s ≡ false → mag z < 2 ^ 63
-    → Lacks s (signed_decimal z)
-Lacks-signed_decimal s (pos n) dash_other other small = Lacks-decimal s n other (omega arith)
-Lacks-signed_decimal s (negsuc n) dash_other other small =
-    Lacks-append s dash (decimal (suc n)) (Lacks-dash s dash_other) (Lacks-decimal s (suc n) other (omega arith))

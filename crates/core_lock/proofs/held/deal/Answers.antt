@@ -1,4 +1,4 @@
-use Rattle.std.proofs.Common.{◌≡◌, ◌+◌, ◌∙◌, ap, arith}
+use Rattle.std.proofs.Common.{◌≡◌, ◌+◌, ◌∙◌, ap, arith, rules}
 use Rattle.smt_model.specs.Account.{event_count}
 use Rattle.core_lock.specs.Passes.{made_from}
 use Rattle.core_lock.proofs.Counting.{own_and_greater, none_from_16}
@@ -31,3 +31,6 @@ returns-clause-amount g c =
     let count : c.tally_of-count.result.count ≡ event_count k past =
     c.tally_of-count.ensures.count ∙ ap (event_count k) c.history.ensures.events in
     omega (arith, count, c.requires.amount, own_and_greater k past, c.split_off-part.ensures.amount_left)
+
+pub returns-clause-count : goal.returns-clause-count
+returns-clause-count g c = search rules

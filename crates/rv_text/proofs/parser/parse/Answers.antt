@@ -1,4 +1,4 @@
-use Rattle.std.proofs.Common.{sym, ◌∙◌, ap}
+use Rattle.std.proofs.Common.{rules, sym, ◌∙◌, ap}
 use Rattle.rv_text.specs.{Spelling.mnemonic_of, Reading.instr_at}
 use Rattle.rv_text.proofs.TextLaws.{row_named, said_is_read, result_is_said}
 use Rattle.rv_text.proofs.parser.parse.Goals as goal
@@ -19,3 +19,6 @@ returns-clause-only c =
     λ i says. c.instr_of.ensures ∙ ap (instr_at c.args.pc c.in-Some.row) c.split_name.ensures.operands
     ∙ said_is_read c.args.pc c.ranges.pc.fits c.args.text.now c.in-Some.row
     (sym c.split_name.ensures.name ∙ c.in-Some.ensures.found) i says
+
+pub returns-clause-operands : goal.returns-clause-operands
+returns-clause-operands c = search rules

@@ -1,4 +1,4 @@
-use Rattle.std.proofs.Common.{arith}
+use Rattle.std.proofs.Common.{arith, rules}
 use Rattle.text_fields.proofs.HexLemmas.{push_digit}
 use Rattle.text_fields.proofs.print.push_hex.Goals as goal
 
@@ -8,3 +8,15 @@ loop-place-preserved g c = record {
       (rw (← c.hex_digit.ensures.spelled) c.push_ascii.ensures.spelled);
   length = omega arith;
 }
+
+pub loop-place-init : goal.loop-place-init
+loop-place-init g c = search rules
+
+pub push_ascii-requires : goal.push_ascii-requires
+push_ascii-requires g c = search rules
+
+pub returns-clause-spelled : goal.returns-clause-spelled
+returns-clause-spelled g c = search rules
+
+pub returns-clause-length : goal.returns-clause-length
+returns-clause-length g c = search rules

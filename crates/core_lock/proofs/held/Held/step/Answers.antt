@@ -1,4 +1,4 @@
-use Rattle.std.proofs.Common.{◌≡◌, ◌∙◌, true, ap, subst, sym}
+use Rattle.std.proofs.Common.{◌≡◌, ◌∙◌, true, ap, rules, subst, sym}
 use Rattle.core_lock.specs.{Asks.is_reply, Passes.more, Passes.later, Passes.IsTold}
 use Rattle.core_lock.proofs.Replies.{own_reply, told_still, counted_still, setup_still, limit_still}
 use Rattle.core_lock.proofs.held.Held.step.Goals as goal
@@ -27,3 +27,12 @@ returns-clause-told g c = λ told.
     (told_still _ _ _ _ _ _ _ _ _ c.make-said.ensures.answer
     (c.note.ensures.count ∙ ap (more c.args.pass.now.count) c.event.ensures)
     (c.note.ensures.last ∙ ap (later c.args.pass.now.last) c.event.ensures) told)
+
+pub returns-clause-answer : goal.returns-clause-answer
+returns-clause-answer g c = search rules
+
+pub returns-clause-maker : goal.returns-clause-maker
+returns-clause-maker g c = search rules
+
+pub returns-clause-own : goal.returns-clause-own
+returns-clause-own g c = search rules
