@@ -47,6 +47,11 @@ limits() {
     uniq outcomes
 }
 
+# How many limits may fall into the 64 KiB in which the stack grows: two at least.
+stack_steps() {
+    if [ "$step" -lt 32 ]; then echo $((64 / step)); else echo 2; fi
+}
+
 # What came of one limit, which gave this status.
 outcome() {
     said='' && more=''
@@ -57,9 +62,9 @@ outcome() {
     [ -s limit.out ] || [ -s limit.err ] || is_silent=yes
     if [ -z "$has_begun" ] && [ "$1" -ge 128 ] && [ "$is_silent" ]; then return; fi
     if has_no_room limit.err; then return; fi
-    # The system ends by a signal what has no room for one more page of its stack; that is a matter
-    # of a few KiB, and no answer.
-    if [ "$1" -ge 128 ] && [ "$signals" -lt 2 ] && [ "$is_silent" ]; then
+    # The system ends by a signal what has no room for its stack to grow, and that is no answer: the
+    # frame in which a core is made takes some 166 KiB, of which the system gives 128 at the start.
+    if [ "$1" -ge 128 ] && [ "$signals" -lt "$(stack_steps)" ] && [ "$is_silent" ]; then
         signals=$((signals + 1))
         return
     fi

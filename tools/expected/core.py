@@ -6,12 +6,8 @@ oldest first; latches, queue, ICOUNT, free registers and maps are filters over t
 
 from dataclasses import dataclass, field
 
-from instructions import ATOMIC_RESULTS, MASK, NO_WORD, SIZES, Computed
+from instructions import ATOMIC_RESULTS, MASK, NO_WORD, SIZES
 from instructions import compute, decode, predicted, signed
-
-# What the program executes yet: with False an instruction that touches memory stops its hart with
-# cause 2 as it completes.
-EXECUTES_MEMORY = False
 
 UNITS = ("alu", "mul", "mem")
 
@@ -65,8 +61,7 @@ class Hart:
 
 
 class Core:
-    def __init__(self, image, settings, executes_memory=None):
-        self.executes_memory = EXECUTES_MEMORY if executes_memory is None else executes_memory
+    def __init__(self, image, settings):
         self.image, self.roles, self.limit = image, settings["actors"], settings["limit"]
         harts, self.queue_size = settings["harts"], settings["queue"]
         self.total = 31 * harts + settings["extra"]
@@ -243,8 +238,6 @@ class Core:
     def computed(self, f):
         """What the instruction makes of its operands, the faults of its access included."""
         i = f.instruction
-        if i.kind != "compute" and not self.executes_memory:
-            return Computed(("s", 2))
         c = compute(i, f.pc, *f.operands)
         if i.kind == "compute":
             return c

@@ -5,6 +5,7 @@ What is wrong with a wrong one is in its name.
 
 import os
 
+import memory_images
 from image import BASE, R, W, X, build
 
 FIRST = [0x00500513, 0x05D00893, 0x00000073]
@@ -57,6 +58,10 @@ PROGRAMS = {
     "end_with_half": [0x00155513, 0x05D00893, 0x00000073],
     # addi x10,x0,0; addi x17,x0,93; ecall
     "end_with_zero": [0x00000513, 0x05D00893, 0x00000073],
+    # addi x10,x0,256; addi x17,x0,93; ecall: the low byte of the number is 0
+    "end_with_256": [0x10000513, 0x05D00893, 0x00000073],
+    # addi x10,x0,-1; addi x17,x0,93; ecall: the greatest number there is
+    "end_with_the_greatest": [0xFFF00513, 0x05D00893, 0x00000073],
     # bne x10,x0,0x8000000c; addi x17,x0,93; ecall; ebreak: hart 0 ends with 0, the others stop
     "zero_or_stop": [0x00051663, 0x05D00893, 0x00000073, 0x00100073],
     # beq x10,x0,0x80000010; addi x10,x0,0; addi x17,x0,93; ecall; ebreak: hart 0 stops, the others
@@ -177,13 +182,22 @@ MORE = {
     "higher": build(
         FIRST, at=BASE + 0x1000, entry=BASE + 0x1000, more=[(BASE, b"data", R | W, 64)]
     ),
+    # The text lies at 80001000.
+    "put_out_a_text": build(
+        memory_images.PUT_OUT_A_TEXT, more=[(BASE + 0x1000, b"SMT", R | W, 8)]
+    ),
+    # The stack begins where the code does, behind 64 bytes of RAM.
+    "stack_below_ram": build(
+        memory_images.STACK_BELOW_RAM, at=BASE + 0x40, entry=BASE + 0x40
+    ),
     "sixteen_mib": build(FIRST, more=[(BASE + 0x1000, b"\7", R | W, 0xFFF000)]),
 }
 
 
 def main():
     os.makedirs(FOLDER, exist_ok=True)
-    files = {name: build(words) for name, words in PROGRAMS.items()} | MORE
+    programs = PROGRAMS | memory_images.PROGRAMS
+    files = {name: build(words) for name, words in programs.items()} | MORE
     for name, data in files.items():
         with open(f"{FOLDER}/{name}.elf", "wb") as file:
             file.write(data)

@@ -117,7 +117,7 @@ def listing(made):
         yield f"{pc:08x} {word:08x} {spelled(word, pc)}"
 
 
-def run(words, executes_memory=None):
+def run(words):
     """The lines on standard output, those on standard error, and the exit status."""
     try:
         line = inputs.read_line(words)
@@ -134,7 +134,7 @@ def run(words, executes_memory=None):
         asks = inputs.read_script(script)
     except Refused as refused:
         return [], [f"smtsim: {refused.why}"], refused.status
-    machine = core.Core(made, settings, executes_memory)
+    machine = core.Core(made, settings)
     out = list(make_asks(machine, asks))
     out += tables(machine) if line["show"] else []
     out += report(machine, line["records"])

@@ -19,16 +19,17 @@ import tempfile
 
 import image
 import program
+from instructions import ILLEGAL, decode
 
 ROLES = ("fetch", "front", "retire", "alu", "mul", "mem")
 
 
-def some_word(r):
+def some_word(r, kinds=100):
     """A word of code: mostly arithmetic on few registers, so that sources are in flight; some of
-    everything else."""
+    everything else, unless only the first `kinds` of a hundred kinds are wanted."""
     rd, rs1, rs2 = (r.choice((0, 5, 6, 7, 10, 11, 17)) for _ in range(3))
     fields = rs2 << 20 | rs1 << 15 | rd << 7
-    kind = r.randrange(100)
+    kind = r.randrange(kinds)
     if kind < 30:
         immediate = r.choice((0, 1, 2, 5, 93, 0x7FF, 0x800, 0xFFF, r.randrange(4096)))
         return immediate << 20 | rs1 << 15 | rd << 7 | r.choice((0, 2, 3, 4, 6, 7)) << 12 | 0x13
@@ -57,6 +58,43 @@ def some_word(r):
         rest = r.choice((0x03, 0x23, 0x2F, 0x1000002F, 0x1800002F))
         return fields | r.choice((0, 1, 2)) << 12 | rest
     return r.randrange(1 << 32)
+
+
+# auipc x8,0; addi x9,x8,256: where the words begin that all harts load and store.
+TO_MEMORY = [0x00000417, 0x10040493]
+
+
+def some_access(r):
+    """A word that loads, stores or is an atomic: of two words that all harts share, as x9 has their
+    address; now and then misaligned, of the code, or far away."""
+    rd, rs2 = r.choice((0, 5, 6, 7, 10, 11, 17)), r.choice((0, 5, 6, 7, 10, 11))
+    base = 9 if r.random() < 0.99 else r.choice((0, 8, 10))
+    kind, place = r.randrange(100), r.choice((0, 0, 4, 4, 1, 2, 3, 6))
+    size = r.choice((0, 1, 2, 2))
+    offset = place if r.random() < 0.02 else place >> size << size
+    if kind < 40:
+        extends = r.choice((0, 4)) if size < 2 else 0
+        return offset << 20 | base << 15 | (size | extends) << 12 | rd << 7 | 0x03
+    if kind < 75:
+        return rs2 << 20 | base << 15 | size << 12 | offset << 7 | 0x23
+    if kind < 84:
+        return base << 15 | rd << 7 | 0x1000202F
+    fields = rs2 << 20 | base << 15 | rd << 7 | r.randrange(4) << 25 | 0x202F
+    row = 3 if kind < 92 else r.choice((0, 1, 4, 8, 12, 16, 20, 24, 28))
+    return row << 27 | fields
+
+
+def some_code(r):
+    """The words of a program. Every second one has many words that touch memory, few jumps and no
+    illegal words, and begins again behind its last word."""
+    if r.random() < 0.5:
+        return [some_word(r) for _ in range(r.choice((1, 3, 6, 12, 24)))]
+    count, share, kinds = r.choice((6, 12, 24, 40)), r.choice((0.5, 0.8)), r.choice((60, 60, 90))
+    words = []
+    while len(words) < count:
+        word = some_access(r) if r.random() < share else some_word(r, kinds)
+        words += [] if decode(word) is ILLEGAL else [word]
+    return TO_MEMORY + words + [jump(0, -4 * count)]
 
 
 def branch(op, rs1, rs2, to):
@@ -93,11 +131,11 @@ def some_config(r):
     }
 
 
-def some_script(r, config):
+def some_script(r, config, share_of_rounds):
     harts, roles = config["harts"], config["actors"]
     units = [k for k, role in enumerate(roles) if role in ("alu", "mul", "mem")] or [0]
     others = list(range(len(roles)))
-    if r.random() < 0.4:
+    if r.random() < share_of_rounds:
         return some_rounds(r, harts, units)
     asks, calm = [], r.random()
     for _ in range(r.choice((10, 40, 100, 300))):
@@ -127,13 +165,16 @@ def inputs_of(seed, k):
     """The files of run k: name and bytes; and the words."""
     r = random.Random(f"{seed} {k}")
     config = some_config(r)
-    words = [some_word(r) for _ in range(r.choice((1, 3, 6, 12, 24)))]
+    words = some_code(r)
+    uses_memory = words[:2] == TO_MEMORY
+    if uses_memory:
+        config["actors"] = [*config["actors"][:13], "mem", "alu", r.choice(("mem", "mul"))]
     entry = image.BASE + 4 * r.randrange(len(words)) if r.random() < 0.1 else image.BASE
     text = "".join(f"{key} = {value}\n".replace("'", '"') for key, value in config.items())
     files = {
         "image.elf": image.build(words, entry=entry),
         "config.toml": text.encode(),
-        "script": some_script(r, config).encode(),
+        "script": some_script(r, config, 0.8 if uses_memory else 0.4).encode(),
     }
     line = ["step", "image.elf", "script", "--config", "config.toml"]
     line += [option for option in ("--records", "--show") if r.random() < 0.6]

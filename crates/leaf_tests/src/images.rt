@@ -23,7 +23,7 @@ pub const EXIT_WITH_5: [u8; 96] = [
 type Placed = (u32, u32, u32, u32, u32);
 
 /// Appends words, the lowest byte of each first.
-fn push_words(file: &mut Vec<u8>, words: &[u32]) -> Result<(), AllocError> {
+pub fn push_words(file: &mut Vec<u8>, words: &[u32]) -> Result<(), AllocError> {
     for word in words {
         file.extend_from_slice(&word.to_le_bytes())?;
     }

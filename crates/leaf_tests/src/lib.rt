@@ -4,9 +4,13 @@
 #![tactic(auto)]
 
 #[cfg(test)]
+mod accesses;
+#[cfg(test)]
 mod decoding;
 #[cfg(test)]
 mod event_lines;
+#[cfg(test)]
+mod executions;
 #[cfg(test)]
 mod fields;
 #[cfg(test)]
@@ -23,6 +27,8 @@ mod maps;
 mod memories;
 #[cfg(test)]
 mod operations;
+#[cfg(test)]
+mod plain;
 #[cfg(test)]
 mod registers;
 #[cfg(test)]

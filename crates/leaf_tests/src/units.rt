@@ -120,11 +120,17 @@ static ROWS: [(&str, Op, u32, u32, OutcomeFields); 12] = [
         outcome!(None, Next::Stopped(3), None),
     ),
     (
-        "not executed yet",
+        "load",
         LW,
+        0x8000_1000,
         0,
-        0,
-        outcome!(None, Next::Stopped(2), None),
+        OutcomeFields {
+            value: None,
+            next: BEHIND,
+            addr: Some(0x8000_1000),
+            datum: None,
+            out: None,
+        },
     ),
 ];
 

@@ -1,0 +1,29 @@
+/* Two loadable segments: the code from the start of RAM, to be read and executed, and behind it the data. The stacks are at the
+   end of RAM. Change ram_size together with the key `ram` of the configuration. */
+OUTPUT_ARCH(riscv)
+ENTRY(_start)
+
+ram_size = 65536;
+stack_size = 4096;
+most_harts = 8;
+ram_end = 0x80000000 + ram_size;
+
+PHDRS
+{
+    code PT_LOAD FLAGS(5);
+    data PT_LOAD FLAGS(6);
+}
+
+SECTIONS
+{
+    . = 0x80000000;
+    .text : { *(.text.start) *(.text .text.*) . = ALIGN(4); } :code
+    /* An image may not have an empty segment: a word, so that there is data even where a program has none. */
+    .rodata : { LONG(0) *(.rodata .rodata.* .srodata .srodata.*) } :data
+    .data : { *(.data .data.* .sdata .sdata.*) } :data
+    .bss : { *(.sbss .sbss.*) *(.bss .bss.* COMMON) } :data
+    data_end = .;
+    /DISCARD/ : { *(.riscv.attributes) *(.comment) *(.note*) *(.eh_frame*) }
+}
+
+ASSERT(data_end <= ram_end - most_harts * stack_size, "the data reach into the stacks")
