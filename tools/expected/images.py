@@ -38,6 +38,7 @@ PROGRAMS = {
     # addi x10,x0,5; addi x17,x0,93; ecall
     "first": FIRST,
     "nops": [NOP] * 4,
+    "one_nop": [NOP],
     # lui x6,0x80001; bne x10,x0,0x80000014; lw x5,0(x6); addi x7,x5,1; ebreak; addi x5,x0,7; sw
     # x5,0(x6); sw x0,0(x6); ebreak
     "loads_and_stores": [

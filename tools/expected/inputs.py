@@ -1,4 +1,4 @@
-"""The command line, the configuration and the script, read as docs/FORMATS.md says."""
+"""The command line, the configuration, the script and the order, read as docs/FORMATS.md says."""
 
 import re
 import tomllib
@@ -12,6 +12,8 @@ RANGES = {
     "harts": (1, 8), "extra": (1, 256), "queue": (4, 64), "ram": (4096, 16777216),
     "limit": (0, 16777216), "turns": (0, 10**18),
 }
+# How many files each command has, and which options beside `--config`.
+COMMANDS = {"step": (2, ("--records", "--show")), "plain": (2, ("--records",)), "list": (1, ())}
 
 
 class Refused(Exception):
@@ -24,10 +26,10 @@ class Refused(Exception):
 
 def read_line(words):
     """What the words ask for: a command, its files and its options."""
-    if not words or words[0] not in ("step", "list"):
+    if not words or words[0] not in COMMANDS:
         raise Refused("command line", 2)
     command, rest = words[0], list(words[1:])
-    flags = ("--records", "--show") if command == "step" else ()
+    count, flags = COMMANDS[command]
     line = {"command": command, "files": [], "config": None, "records": False, "show": False}
     seen = set()
     while rest:
@@ -43,7 +45,7 @@ def read_line(words):
         else:
             raise Refused("command line", 2)
         seen.add(name)
-    if len(line["files"]) != (2 if command == "step" else 1):
+    if len(line["files"]) != count:
         raise Refused("command line", 2)
     return line
 
@@ -70,11 +72,27 @@ ACTOR, HART, TIMES = r"(0|[1-9]|1[0-5])", r"([0-7])", r"(?:\*([1-9][0-9]{0,4}|10
 WORD = re.compile(rf"(?:([FICU]){ACTOR}|([DRT]){ACTOR}\.{HART}){TIMES}\Z")
 
 
+NUMBER = re.compile(r"(?:0|[1-9][0-9]{0,2})\Z")
+
+
+def words_of(data):
+    """The words of a script or an order: apart by spaces or newlines."""
+    return [word for word in re.split(r"[ \n]+", data.decode("latin-1")) if word]
+
+
+def read_order(data):
+    """The harts of an order, which are numbers from 0 to 255."""
+    words = words_of(data)
+    for place, word in enumerate(words):
+        if not NUMBER.match(word) or int(word) > 255:
+            raise Refused(f"order {place} refused 4", 2)
+    return [int(word) for word in words]
+
+
 def read_script(data):
     """The asks of a script: (letter, actor, hart, how often)."""
     asks = []
-    words = re.split(r"[ \n]+", data.decode("latin-1"))
-    for place, word in enumerate([w for w in words if w], start=1):
+    for place, word in enumerate(words_of(data), start=1):
         found = WORD.match(word)
         if not found:
             raise Refused(f"script word {place} refused", 2)

@@ -164,6 +164,15 @@ PROGRAMS = {
         0x80001337, 0xFFF00293, 0x00100393, 0x00532023, 0x8073242F, 0xC07324AF, 0x00532023,
         0xA073252F, 0x00532023, 0xE07325AF, 0x0073262F, 0x087326AF, 0x00032703, 0x00100073,
     ],
+    # each of these AMOs of -1 in memory and 1: lui x6,0x80001; addi x5,x0,-1; addi x7,x0,1; sw
+    # x5,0(x6); amomin.w x8,x7,(x6); sw x5,0(x6); amominu.w x8,x7,(x6); sw x5,0(x6); amomax.w
+    # x8,x7,(x6); sw x5,0(x6); amomaxu.w x8,x7,(x6); sw x5,0(x6); amoadd.w x8,x7,(x6); sw x5,0(x6);
+    # amoswap.w x8,x7,(x6); ebreak
+    "amos_of_minus_one": [
+        0x80001337, 0xFFF00293, 0x00100393, 0x00532023, 0x8073242F, 0x00532023, 0xC073242F,
+        0x00532023, 0xA073242F, 0x00532023, 0xE073242F, 0x00532023, 0x0073242F, 0x00532023,
+        0x0873242F, 0x00100073,
+    ],
     # a store, an AMO into x0, a load behind it, and one that needs what it loads: lui x6,0x80001;
     # addi x5,x0,5; sw x5,0(x6); amoadd.w x0,x5,(x6); lw x7,0(x6); addi x8,x7,1; ebreak
     "amo_into_x0": [

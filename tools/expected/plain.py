@@ -1,19 +1,9 @@
-"""The plain machine: one whole instruction of some hart at a time, on one memory. What the core
-model retires has to be a run of it, in the order of retirement.
-
-    python3 tools/expected/plain.py [COUNT] [SEED]
-        holds the core model of that many random runs (random_runs.py) against this machine
+"""The plain machine: one whole instruction of some hart at a time, on one memory.
 
 Shares the instructions with the core model, and nothing of its pipeline.
 """
 
-import sys
-
-import core
-import image
-import inputs
-import program
-import random_runs
+from core import digits, next_text
 from instructions import ATOMIC_RESULTS, MASK, NO_WORD, SIZES, compute, decode, signed
 
 
@@ -25,6 +15,16 @@ class Plain:
             self.registers[h][10], self.registers[h][11] = h, harts
         self.memory, self.reserved = {}, [None] * harts
         self.statuses, self.output = [("going",)] * harts, []
+
+    def going(self):
+        return [h for h, status in enumerate(self.statuses) if status == ("going",)]
+
+    def refusal(self, h):
+        """Why hart h can't make a step: 3, there is no such hart; 1, it isn't going. None where it
+        can."""
+        if h >= len(self.pcs):
+            return 3
+        return None if self.statuses[h] == ("going",) else 1
 
     def read(self, address, n):
         found = [self.memory.get(a, self.image.byte(a)) for a in range(address, address + n)]
@@ -81,57 +81,5 @@ class Plain:
 
     def record(self, h, pc, word, value, following, write, out):
         where = f"{write[0]:08x} {write[2]:0{2 * write[1]}x}" if write else "- -"
-        next_text, digits = core.next_text(following), core.digits
         start = f"{h} {pc:08x} {digits(word)} {digits(value)}"
-        return f"{start} {next_text} {where} {digits(out, 2)}"
-
-
-def disagreements(machine):
-    """What a plain run in the order of retirement says otherwise than a core."""
-    plain = Plain(machine.image, len(machine.harts))
-    for place, found in enumerate(machine.records):
-        wanted = plain.step(int(found[0]))
-        if wanted != found:
-            return [f"record {place} is {found}, not {wanted}"]
-    said = []
-    for h, hart in enumerate(machine.harts):
-        committed = [0] + [machine.values[p] for p in hart.committed]
-        parts = {
-            "registers": (committed, plain.registers[h]),
-            "status": (hart.status, plain.statuses[h]),
-            "reservation": (hart.reserved, plain.reserved[h]),
-        }
-        said += [f"hart {h}: {name}" for name, (mine, other) in parts.items() if mine != other]
-    said += ["memory"] if machine.written != plain.memory else []
-    return said + (["output"] if machine.output != plain.output else [])
-
-
-def core_of(seed, k):
-    """The core of random run k, behind its script; None for a listing."""
-    files, line = random_runs.inputs_of(seed, k)
-    if line[0] == "list":
-        return None
-    settings = inputs.read_config(files["config.toml"])
-    machine = core.Core(image.load(files["image.elf"], settings["ram"]), settings)
-    for _ in program.make_asks(machine, inputs.read_script(files["script"])):
-        pass
-    return machine
-
-
-def main(words):
-    count, seed = int(words[0]) if words else 1000, int(words[1]) if len(words) > 1 else 1
-    retired, wrong = 0, 0
-    for k in range(count):
-        machine = core_of(seed, k)
-        if machine is None:
-            continue
-        retired += len(machine.records)
-        for text in disagreements(machine):
-            wrong += 1
-            print(f"run {k} of seed {seed}: {text}")
-    print(f"{count} runs, {retired} retired instructions, {wrong} disagreements")
-    return 1 if wrong or not retired else 0
-
-
-if __name__ == "__main__":
-    sys.exit(main(sys.argv[1:]))
+        return f"{start} {next_text(following)} {where} {digits(out, 2)}"

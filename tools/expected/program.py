@@ -2,6 +2,7 @@
 docs/FORMATS.md says it.
 
     python3 tools/expected/program.py step IMAGE SCRIPT [--config FILE] [--records] [--show]
+    python3 tools/expected/program.py plain IMAGE ORDER [--config FILE] [--records]
     python3 tools/expected/program.py list IMAGE [--config FILE]
 """
 
@@ -12,6 +13,7 @@ import image
 import inputs
 from inputs import Refused
 from instructions import spelled
+from plain import Plain
 
 
 def read_file(name):
@@ -99,22 +101,61 @@ def report(machine, with_records):
     yield f"events {machine.events}"
     yield f"retired {len(machine.records)}"
     yield f"lent {len(machine.jobs)}"
-    for h, hart in enumerate(machine.harts):
-        yield f"hart {h} {standing(hart.status)}"
-    yield "output " + (bytes(machine.output).hex() or "-")
+    yield from ending([hart.status for hart in machine.harts], machine.output)
 
 
-def exit_status(machine):
-    found = [hart.status for hart in machine.harts]
-    if ("going",) in found:
+def ending(statuses, output):
+    """The last lines of a report: how the harts stand, and what was put out."""
+    for h, status in enumerate(statuses):
+        yield f"hart {h} {standing(status)}"
+    yield "output " + (bytes(output).hex() or "-")
+
+
+def exit_status(statuses):
+    if ("going",) in statuses:
         return 3
-    return 0 if all(status == ("ended", 0) for status in found) else 1
+    return 0 if all(status == ("ended", 0) for status in statuses) else 1
+
+
+def make_steps(machine, order):
+    """The records of an order's steps, made by the plain machine. The first step that it refuses is
+    told by its place, from 0."""
+    for place, h in enumerate(order):
+        why = machine.refusal(h)
+        if why is not None:
+            raise Refused(f"order {place} refused {why}", 2)
+        yield machine.step(h)
+
+
+def plain_report(machine, records, with_records):
+    if with_records:
+        yield from records
+    yield f"retired {len(records)}"
+    yield from ending(machine.statuses, machine.output)
 
 
 def listing(made):
     for pc in range(made.code, made.code + len(made.code_bytes), 4):
         word = made.word(pc)
         yield f"{pc:08x} {word:08x} {spelled(word, pc)}"
+
+
+def asked(made, settings, second, line):
+    """The lines of a script's asks and of the core's report, and the exit status."""
+    asks = inputs.read_script(second)
+    machine = core.Core(made, settings)
+    out = list(make_asks(machine, asks))
+    out += tables(machine) if line["show"] else []
+    out += report(machine, line["records"])
+    return out, exit_status([hart.status for hart in machine.harts])
+
+
+def ordered(made, settings, second, line):
+    """The lines of the plain machine's report, behind an order, and the exit status."""
+    order = inputs.read_order(second)
+    machine = Plain(made, settings["harts"])
+    records = list(make_steps(machine, order))
+    return list(plain_report(machine, records, line["records"])), exit_status(machine.statuses)
 
 
 def run(words):
@@ -128,17 +169,14 @@ def run(words):
         made = loaded(line["files"][0], settings)
         if line["command"] == "list":
             return list(listing(made)), [], 0
-        script = read_file(line["files"][1])
-        if script is None:
+        second = read_file(line["files"][1])
+        if second is None:
             raise Refused("file", 5)
-        asks = inputs.read_script(script)
+        made_by = {"step": asked, "plain": ordered}[line["command"]]
+        out, status = made_by(made, settings, second, line)
     except Refused as refused:
         return [], [f"smtsim: {refused.why}"], refused.status
-    machine = core.Core(made, settings)
-    out = list(make_asks(machine, asks))
-    out += tables(machine) if line["show"] else []
-    out += report(machine, line["records"])
-    return out, [], exit_status(machine)
+    return out, [], status
 
 
 if __name__ == "__main__":

@@ -1,4 +1,4 @@
-"""Random configurations, images and scripts, from a seed.
+"""Random configurations, images, scripts and orders, from a seed.
 
     python3 tools/expected/random_runs.py write FOLDER [COUNT] [SEED]
         the inputs, and what the model here prints for them
@@ -20,6 +20,7 @@ import tempfile
 import image
 import program
 from instructions import ILLEGAL, decode
+from plain import Plain
 
 ROLES = ("fetch", "front", "retire", "alu", "mul", "mem")
 
@@ -161,6 +162,25 @@ def some_rounds(r, harts, units):
     return " ".join(a_round * r.choice((1, 3, 8, 20)))
 
 
+WRONG = ("8", "9", "255", "256", "1000", "00", "01", "-0", "-1", "+1", "0x0", "a", "0,0", "0\t0")
+
+
+def some_order(r, made, harts):
+    """An order. Half of them have only steps that can be made; the others name any harts, ended
+    ones too, and often one word that is no hart's number."""
+    count, words = r.choice((0, 1, 10, 60, 300)), []
+    if r.random() < 0.5:
+        machine = Plain(made, harts)
+        while len(words) < count and (going := machine.going()):
+            words.append(r.choice(going))
+            machine.step(words[-1])
+    else:
+        words = [r.randrange(harts) for _ in range(count)]
+        if r.random() < 0.6:
+            words.insert(r.randrange(count + 1), r.choice((*WRONG, harts)))
+    return r.choice((" ", "\n", "  ")).join(map(str, words)) + r.choice(("", "\n", " "))
+
+
 def inputs_of(seed, k):
     """The files of run k: name and bytes; and the words."""
     r = random.Random(f"{seed} {k}")
@@ -180,6 +200,11 @@ def inputs_of(seed, k):
     line += [option for option in ("--records", "--show") if r.random() < 0.6]
     if r.random() < 0.02:
         line = ["list", "image.elf"]
+    elif r.random() < 0.25:
+        made = image.load(files["image.elf"], config["ram"])
+        files["order"] = some_order(r, made, config["harts"]).encode()
+        line = ["plain", "image.elf", "order", "--config", "config.toml"]
+        line += ["--records"] if r.random() < 0.6 else []
     return files, line
 
 

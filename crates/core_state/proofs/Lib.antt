@@ -1,3 +1,4 @@
 pub mod Agreement
 pub mod Views
 pub mod Steps
+pub mod Following

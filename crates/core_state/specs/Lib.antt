@@ -7,6 +7,8 @@ pub mod Fetch
 pub mod First
 pub mod Issuing
 pub mod Listed
+pub mod Place
+pub mod Refusals
 pub mod Renaming
 pub mod Retirement
 pub mod Setup

@@ -18,6 +18,7 @@ mod issue;
 mod log;
 mod memory;
 mod parts;
+mod place;
 mod point;
 mod refused;
 mod rename;

@@ -172,7 +172,7 @@ fn has_full_memory_queue(active: &[Active], op: Op) -> bool
 }
 
 /// How many of these are loads.
-fn loads(active: &[Active]) -> usize
+pub fn loads(active: &[Active]) -> usize
     ensures { result ≡ count_by (λ x. is_loading (kind_of x.op)) active.now }
 {
     active
@@ -182,7 +182,7 @@ fn loads(active: &[Active]) -> usize
 }
 
 /// How many of these are stores.
-fn stores(active: &[Active]) -> usize
+pub fn stores(active: &[Active]) -> usize
     ensures { result ≡ count_by (λ x. is_storing (kind_of x.op)) active.now }
 {
     active

@@ -18,12 +18,14 @@ ghost use Rattle.smt_model.specs.Jobs.{is_actor};
 ghost use Rattle.smt_model.specs.Setup.{is_accepted};
 ghost use Rattle.core_state.specs.Setup.{setup_of, accepts};
 
+mod apply;
 mod readers;
+mod refusal;
 mod tables;
 
 use crate::fetch::choose;
 use crate::issue::unit_of;
-use crate::log::{append, put_out};
+use crate::log::append;
 use crate::parts::Parts;
 use crate::point::FetchPoint;
 use crate::refused::CoreRefused;
@@ -180,10 +182,7 @@ impl State {
             return None;
         }
         let seq = self.parts.next_to_decode(hart)?;
-        self.parts.decode(hart);
-        let event = Event::Decode { actor, seq };
-        append(&mut self.history, &event);
-        Some(event)
+        Some(self.write_decode(actor, hart, seq))
     }
 
     /// Renames hart `hart`'s oldest decoded instruction, with the least free register where it
@@ -205,10 +204,7 @@ impl State {
             return None;
         }
         let (seq, phys) = self.parts.next_to_rename(hart)?;
-        self.parts.rename(hart, phys);
-        let event = Event::Rename { actor, seq, phys };
-        append(&mut self.history, &event);
-        Some(event)
+        Some(self.write_rename(actor, hart, seq, phys))
     }
 
     /// Issues the oldest ready instruction of the actor's kind of unit. None where there is none,
@@ -225,13 +221,7 @@ impl State {
     {
         let kind = unit_of(*self.config.roles.get(usize::from(actor))?)?;
         let entry = self.parts.next_to_issue(actor, kind)?;
-        let job = self.parts.issue(actor, entry);
-        let event = Event::Issue {
-            actor,
-            seq: job.seq(),
-        };
-        append(&mut self.history, &event);
-        Some((job, event))
+        Some(self.write_issue(actor, entry))
     }
 
     /// Takes back the job of actor `actor`, worked: a completion, or a drop where the instruction
@@ -255,38 +245,6 @@ impl State {
         Some(self.finish(actor, job.hart, &active, Outcome::new(outcome)))
     }
 
-    /// Writes the completion of an instruction in flight, which may come next.
-    fn finish(&mut self, actor: u8, hart: u8, active: &Active, outcome: Outcome) -> Event
-        requires room { length self.old.past < self.old.limit }
-        requires allowed { refused self.old.setup self.old.past
-            (Event.Complete actor active.now.seq outcome) ≡ None }
-        requires active { IsActive (picture self.old.setup self.old.past) hart active.now }
-        ensures event { result ≡ Event.Complete actor active.now.seq outcome }
-        ensures made { self.new ≡ grown result self.old }
-    {
-        self.parts.finish(actor, hart, active, outcome.fields());
-        let event = Event::Complete {
-            actor,
-            seq: active.seq,
-            outcome,
-        };
-        append(&mut self.history, &event);
-        event
-    }
-
-    /// Writes the drop of a squashed instruction, which may come next.
-    fn drop_job(&mut self, actor: u8, seq: Seq) -> Event
-        requires room { length self.old.past < self.old.limit }
-        requires allowed { refused self.old.setup self.old.past (Event.Drop actor seq) ≡ None }
-        ensures event { result ≡ Event.Drop actor seq }
-        ensures made { self.new ≡ grown result self.old }
-    {
-        self.parts.drop_job(actor);
-        let event = Event::Drop { actor, seq };
-        append(&mut self.history, &event);
-        event
-    }
-
     /// Retires hart `hart`'s oldest instruction in flight. None where there is none, it isn't
     /// completed, or there is no such actor or hart, and then nothing changes.
     pub fn retire(&mut self, actor: u8, hart: u8) -> Option<Event>
@@ -305,24 +263,10 @@ impl State {
         }
         let (active, outcome) = self.parts.next_to_retire(hart)?;
         let fields = effect(&self.parts.memory, hart, active.op, outcome);
-        self.parts.retire(hart, active, fields);
-        let effect = Effect::new(fields);
-        self.records.push_reserved(Record {
-            hart,
-            pc: active.pc,
-            word: active.word,
-            effect,
-        });
-        put_out(&mut self.output, effect.out());
-        let event = Event::Retire {
-            actor,
-            seq: active.seq,
-            effect,
-        };
-        append(&mut self.history, &event);
-        Some(event)
+        Some(self.write_retire(actor, hart, active, Effect::new(fields)))
     }
 
+    /// Whether the core has this actor.
     fn has_actor(&self, actor: u8) -> bool
         ensures { result ≡ is_actor self.now.setup actor }
     {

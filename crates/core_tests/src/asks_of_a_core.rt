@@ -5,8 +5,8 @@ mod tables;
 
 use crate::predictors::{Always, Behind};
 use crate::rows::{holds, holds_at};
-pub(crate) use asking::first_image;
-use asking::{Step, config, first_core, first_other, issue};
+pub(crate) use asking::{config, first_image, one_of_each};
+use asking::{Step, first_core, first_other, issue};
 use elf_image::Image;
 use events::{Event, Next, Outcome, OutcomeFields};
 use hearing::{Heard, without_event};
@@ -45,7 +45,7 @@ static FIRST_RUN: [(Step, &str); 15] = [
 ];
 
 /// A core of one hart that has run the first program to its end.
-fn ended_core(alloc: Global) -> Option<Core> {
+pub(crate) fn ended_core(alloc: Global) -> Option<Core> {
     let mut core = first_core(config(1, 64, 16, 1), 18, alloc)?;
     match first_other(&mut core, &mut Behind, &FIRST_RUN) {
         None => Some(core),

@@ -1,8 +1,10 @@
-//! The tests of the core's calls, of the lock, and of whole runs. They stand in one crate, since a
-//! crate with tests of its own is proved twice by the gate. Each module has the tests of one crate,
-//! through its public calls alone.
+//! The tests of the core's calls, of the lock, of the board, of the plain machine's runs, and of
+//! whole runs. They stand in one crate, since a crate with tests of its own is proved twice by the
+//! gate. Each module has the tests of one crate, through its public calls alone.
 #![tactic(auto)]
 
+#[cfg(test)]
+mod acting;
 #[cfg(test)]
 mod asks_of_a_core;
 #[cfg(test)]
@@ -10,7 +12,13 @@ mod counting;
 #[cfg(test)]
 mod files;
 #[cfg(test)]
+mod following;
+#[cfg(test)]
 mod locking;
+#[cfg(test)]
+mod plain_runs;
+#[cfg(test)]
+mod posting;
 #[cfg(test)]
 mod predictors;
 #[cfg(test)]

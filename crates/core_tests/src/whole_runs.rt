@@ -1,5 +1,6 @@
 mod asking;
 mod listing;
+mod plain;
 mod printing;
 mod refusing;
 

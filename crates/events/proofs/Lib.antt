@@ -1,6 +1,9 @@
 pub mod Fields
 pub mod Joining
+pub mod LineEnds
 pub mod LineOnly
 pub mod RangeLaws
 pub mod ReadBack
 pub mod ReadOnly
+pub mod SinkLaws
+pub mod TraceLaws

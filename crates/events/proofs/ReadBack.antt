@@ -22,7 +22,7 @@ use Rattle.events.specs.Reading.{issue_of, kind_named, next_field, of_fields, ou
 use Rattle.events.specs.Reading.{retire_of, sized_field, stopped_of, write_fields}
 use Rattle.events.proofs.Joining.{AllLack, count-joined, first-joined, joined, others-joined}
 use Rattle.events.proofs.Fields.{address_lacks, datum_lacks, fields_lack, fields_of, line_of-joined, next_lacks}
-use Rattle.events.proofs.Fields.{number_lacks, optional_hex_lacks}
+use Rattle.events.proofs.Fields.{number_lacks, optional_hex_lacks, space}
 
 -- what a line of so many fields is read as, by its letter
 letter_lacks : (k : EventKind) → Lacks 32 (letter_of k ∷ [])
@@ -43,7 +43,7 @@ letter_names kind.Complete = refl
 letter_names kind.Drop = refl
 letter_names kind.Retire = refl
 
-by_letter : (k : EventKind) (f : List ℕ) (fs : List (List ℕ)) → AllLack (f ∷ fs) → suc (length fs) ≡ fields_after k →
+by_letter : (k : EventKind) (f : List ℕ) (fs : List (List ℕ)) → AllLack 32 (f ∷ fs) → suc (length fs) ≡ fields_after k →
     event_of (joined ((letter_of k ∷ []) ∷ f ∷ fs)) ≡ of_fields (event_fields k (joined (f ∷ fs)))
 unfolding event_of
 by_letter k f fs lack many =
@@ -114,10 +114,10 @@ outcome_back o within =
     let addr = optional (hex 8) o.addr in
     let datum = optional (hex 8) o.datum in
     let out = optional (hex 2) o.out in
-    let value_lacks = optional_hex_lacks 8 o.value in
-    let next_free = next_lacks o.next within.next in
-    let addr_lacks = optional_hex_lacks 8 o.addr in
-    let datum_free = optional_hex_lacks 8 o.datum in
+    let value_lacks = optional_hex_lacks 32 space 8 o.value in
+    let next_free = next_lacks 32 space o.next within.next in
+    let addr_lacks = optional_hex_lacks 32 space 8 o.addr in
+    let datum_free = optional_hex_lacks 32 space 8 o.datum in
     rw (
       first-joined value next (addr ∷ datum ∷ out ∷ []) value_lacks,
       words_back o.value within.value,
@@ -144,10 +144,10 @@ effect_back e within =
     let addr = address_text e.write in
     let datum = datum_text e.write in
     let out = optional (hex 2) e.out in
-    let value_free = optional_hex_lacks 8 e.value in
-    let next_free = next_lacks e.next within.next in
-    let addr_free = address_lacks e.write in
-    let datum_free = datum_lacks e.write in
+    let value_free = optional_hex_lacks 32 space 8 e.value in
+    let next_free = next_lacks 32 space e.next within.next in
+    let addr_free = address_lacks 32 space e.write in
+    let datum_free = datum_lacks 32 space e.write in
     rw (
       first-joined value next (addr ∷ datum ∷ out ∷ []) value_free,
       words_back e.value within.value,
@@ -176,9 +176,9 @@ seq_back seq small = decimal_field-decimal 16777215 seq (omega arith) (lit< tt)
 pub fields_back : (e : Event) → IsEventInRange e → event_fields (event_kind e) (joined (fields_of e)) ≡ Ok e
 unfolding fetch_of decode_of rename_of issue_of complete_of drop_of retire_of
 fields_back (Fetch actor hart seq pc word predicted) within =
-    let actor_free = number_lacks actor (omega arith) in
-    let hart_free = number_lacks hart (omega arith) in
-    let seq_free = number_lacks seq (omega arith) in
+    let actor_free = number_lacks 32 space actor (omega arith) in
+    let hart_free = number_lacks 32 space hart (omega arith) in
+    let seq_free = number_lacks 32 space seq (omega arith) in
     let a = decimal actor in
     let h = decimal hart in
     let s = decimal seq in
@@ -198,13 +198,13 @@ fields_back (Fetch actor hart seq pc word predicted) within =
       first-joined p w (e ∷ []) (Lacks-hex 32 8 pc refl),
       hex_field-hex 8 pc (omega arith),
       others-joined p w (e ∷ []) (Lacks-hex 32 8 pc refl),
-      first-joined w e [] (optional_hex_lacks 8 word),
+      first-joined w e [] (optional_hex_lacks 32 space 8 word),
       words_back word within.3,
-      others-joined w e [] (optional_hex_lacks 8 word),
+      others-joined w e [] (optional_hex_lacks 32 space 8 word),
       hex_field-hex 8 predicted (omega arith),
     ) refl
 fields_back (Decode actor seq) within =
-    let free = number_lacks actor (omega arith) in
+    let free = number_lacks 32 space actor (omega arith) in
     rw (
       first-joined (decimal actor) (decimal seq) [] free,
       actor_back actor (omega arith),
@@ -212,8 +212,8 @@ fields_back (Decode actor seq) within =
       seq_back seq (omega arith),
     ) refl
 fields_back (Rename actor seq phys) within =
-    let free = number_lacks actor (omega arith) in
-    let seq_free = number_lacks seq (omega arith) in
+    let free = number_lacks 32 space actor (omega arith) in
+    let seq_free = number_lacks 32 space seq (omega arith) in
     let p = optional decimal phys in
     rw (
       first-joined (decimal actor) (decimal seq) (p ∷ []) free,
@@ -225,7 +225,7 @@ fields_back (Rename actor seq phys) within =
       phys_back phys within.1,
     ) refl
 fields_back (Issue actor seq) within =
-    let free = number_lacks actor (omega arith) in
+    let free = number_lacks 32 space actor (omega arith) in
     rw (
       first-joined (decimal actor) (decimal seq) [] free,
       actor_back actor (omega arith),
@@ -233,8 +233,8 @@ fields_back (Issue actor seq) within =
       seq_back seq (omega arith),
     ) refl
 fields_back (Complete actor seq o) within =
-    let free = number_lacks actor (omega arith) in
-    let seq_free = number_lacks seq (omega arith) in
+    let free = number_lacks 32 space actor (omega arith) in
+    let seq_free = number_lacks 32 space seq (omega arith) in
     let v = optional (hex 8) o.value in
     let rest = next_text o.next ∷ optional (hex 8) o.addr ∷ optional (hex 8) o.datum ∷ optional (hex 2) o.out ∷ [] in
     rw (
@@ -247,7 +247,7 @@ fields_back (Complete actor seq o) within =
       outcome_back o within.1,
     ) refl
 fields_back (Drop actor seq) within =
-    let free = number_lacks actor (omega arith) in
+    let free = number_lacks 32 space actor (omega arith) in
     rw (
       first-joined (decimal actor) (decimal seq) [] free,
       actor_back actor (omega arith),
@@ -255,8 +255,8 @@ fields_back (Drop actor seq) within =
       seq_back seq (omega arith),
     ) refl
 fields_back (Retire actor seq e) within =
-    let free = number_lacks actor (omega arith) in
-    let seq_free = number_lacks seq (omega arith) in
+    let free = number_lacks 32 space actor (omega arith) in
+    let seq_free = number_lacks 32 space seq (omega arith) in
     let v = optional (hex 8) e.value in
     let rest = next_text e.next ∷ address_text e.write ∷ datum_text e.write ∷ optional (hex 2) e.out ∷ [] in
     rw (
@@ -289,7 +289,7 @@ some_fields kind.Drop = lit≤ tt
 some_fields kind.Retire = lit≤ tt
 
 -- a line that begins with a letter and has the fields of its kind
-from_fields : (k : EventKind) (e : Event) (fs : List (List ℕ)) → AllLack fs → length fs ≡ fields_after k →
+from_fields : (k : EventKind) (e : Event) (fs : List (List ℕ)) → AllLack 32 fs → length fs ≡ fields_after k →
     event_fields k (joined fs) ≡ Ok e → event_of (joined ((letter_of k ∷ []) ∷ fs)) ≡ Ok e
 from_fields k e [] lack many back = absurd (omega (arith, some_fields k, many))
 from_fields k e (f ∷ fs) lack many back = by_letter k f fs lack many ∙ rw back refl
@@ -297,4 +297,4 @@ from_fields k e (f ∷ fs) lack many back = by_letter k f fs lack many ∙ rw ba
 pub event_of-line_of : (e : Event) → IsEventInRange e → event_of (line_of e) ≡ Ok e
 event_of-line_of e within =
     rw line_of-joined
-    (from_fields (event_kind e) e (fields_of e) (fields_lack e within) (fields_many e) (fields_back e within))
+    (from_fields (event_kind e) e (fields_of e) (fields_lack 32 space e within) (fields_many e) (fields_back e within))

@@ -7,6 +7,9 @@ pub mod Line
 pub mod OutcomeInside
 pub mod Range
 pub mod Reading
+pub mod Refusals
+pub mod Sinking
 pub mod TagLaws
 pub mod Tagged
+pub mod Trace
 pub mod Width

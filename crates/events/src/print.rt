@@ -4,7 +4,7 @@ ghost use Rattle.std.specs.Prelude.{◌≡◌, ◌+◌, ◌*◌, ◌<◌, ◌≤
 ghost use Rattle.std.specs.Fmt.{decimal};
 ghost use Rattle.arrayvec.specs.ArrayString.{array_string_len};
 ghost use Rattle.text_fields.specs.Spelling.{hex, optional};
-ghost use Rattle.events.specs.Range.{HasShortWrite};
+ghost use Rattle.events.specs.Width.{HasWidth};
 ghost use Rattle.events.specs.Line.{after_space, next_text, address_text, datum_text, outcome_text};
 ghost use Rattle.events.specs.Line.{effect_text, step_text, line_of, record_text_of};
 
@@ -79,7 +79,7 @@ fn push_next_field(line: &mut Line, next: Next)
 
 fn push_write_fields(line: &mut Line, write: Option<Written>)
     requires room { array_string_len line.old + 18 ≤ 64 }
-    requires bytes { IfSome write (λ w. w.n ≤ 4) }
+    requires sized { IfSome write HasWidth }
     ensures spelled { line.new.bytes ≡ line.old.bytes ++ after_space (address_text write)
         ++ after_space (datum_text write) }
     ensures length { array_string_len line.new ≤ array_string_len line.old + 18 }
@@ -111,8 +111,7 @@ fn push_outcome(line: &mut Line, outcome: &Outcome)
 }
 
 fn push_effect(line: &mut Line, effect: &Effect)
-    requires room { array_string_len line.old + 40 ≤ 64 }
-    requires bytes { IfSome effect.now.write (λ w. w.n ≤ 4) }
+    requires { array_string_len line.old + 40 ≤ 64 }
     ensures spelled { line.new.bytes ≡ line.old.bytes ++ effect_text effect.now }
 {
     push_optional_word_field(line, effect.value());
@@ -148,9 +147,8 @@ fn print_fetch(actor: u8, hart: u8, seq: Seq, pc: u32, word: Option<u32>, predic
     line
 }
 
-/// The line of an event, without its newline. A write in it may have up to 4 bytes.
+/// The line of an event, without its newline.
 pub fn print_event(event: &Event) -> Line
-    requires { HasShortWrite event.now }
     ensures { result.bytes ≡ line_of event.now }
 {
     match *event {
@@ -188,9 +186,8 @@ pub fn print_event(event: &Event) -> Line
     }
 }
 
-/// The line of a record, without its newline. A write in it may have up to 4 bytes.
+/// The line of a record, without its newline.
 pub fn print_record(record: &Record) -> Line
-    requires { IfSome record.now.effect.write (λ w. w.n ≤ 4) }
     ensures { result.bytes ≡ record_text_of record.now }
 {
     let mut line = Line::new();

@@ -5,7 +5,7 @@ use Rattle.std.proofs.Common.{length-set, zero-add}
 use Rattle.std.specs.List.{range_with_len}
 use Rattle.std.specs.Int.{bit_at, bit_not, trailing_zeros, w64}
 use Rattle.std.proofs.lemmas.Bool.{cases_lt, cases_eq, eq-eqb, ne_eqb, or_right, and_right, not_from_true}
-use Rattle.std.proofs.lemmas.Bool.{not_from_false, true≢false}
+use Rattle.std.proofs.lemmas.Bool.{not_from_false}
 use Rattle.std.proofs.{lemmas.List.get_or_past, lemmas.List.get_or-set_same, lemmas.List.get_or-set_other}
 use Rattle.std.proofs.{lemmas.List.FromFn.length-map-range_with_len, lemmas.List.FromFn.get_or-map-range_with_len}
 use Rattle.std.proofs.{lemmas.Nat.mod_below}

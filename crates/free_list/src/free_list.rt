@@ -1,5 +1,6 @@
 ghost use Rattle.std.specs.Prelude.{◌≡◌, ℕ, ◌+◌, ◌<◌, ◌≤◌, ◌==◌, ◌&&◌, ◌||◌, not, false, nat_le};
 ghost use Rattle.std.specs.Prelude.{nat_lt, IsTrue, IfSome, IfNone};
+ghost use Rattle.std.specs.Bool.{OnFalse};
 ghost use Rattle.numbers.specs.Sizes.{most_harts, most_extra, most_registers};
 ghost use Rattle.numbers.specs.Layout.{first_extra};
 ghost use Rattle.free_list.specs.Flags.{holds, IsLeast};
@@ -89,6 +90,7 @@ impl FreeList {
         ensures was { result ≡ holds self.old register }
         ensures range { IsTrue result → register < most_registers }
         ensures taken { (q : ℕ) → holds self.new q ≡ (holds self.old q && not (q == register)) }
+        ensures unchanged { OnFalse result (self.new ≡ self.old) }
     {
         let was = self.holds(register);
         if was {

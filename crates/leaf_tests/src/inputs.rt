@@ -15,7 +15,7 @@ fn words_of(text: &str, alloc: Global) -> Result<Vec<&str>, AllocError> {
 }
 
 /// Words, and what they ask for.
-static LINES: [(&str, Line<'_>); 8] = [
+static LINES: [(&str, Line<'_>); 10] = [
     (
         "smtsim step first.elf first.script",
         Line::Step {
@@ -24,6 +24,24 @@ static LINES: [(&str, Line<'_>); 8] = [
             config: None,
             records: false,
             show: false,
+        },
+    ),
+    (
+        "smtsim plain a b",
+        Line::Plain {
+            image: "a",
+            order: "b",
+            config: None,
+            records: false,
+        },
+    ),
+    (
+        "smtsim plain --config c a --records b",
+        Line::Plain {
+            image: "a",
+            order: "b",
+            config: Some("c"),
+            records: true,
         },
     ),
     (
@@ -117,12 +135,19 @@ fn a_line_tells_its_options(rt: HostRuntime) {
         records: true,
         show: true,
     };
-    assert!(rt; (step.config(), step.script()) == (Some("c"), Some("b")));
+    assert!(rt; (step.config(), step.second()) == (Some("c"), Some("b")));
     let list = Line::List {
         image: "a",
         config: Some("c"),
     };
-    assert!(rt; (list.config(), list.script(), list.image()) == (Some("c"), None, "a"));
+    assert!(rt; (list.config(), list.second(), list.image()) == (Some("c"), None, "a"));
+    let plain = Line::Plain {
+        image: "a",
+        order: "b",
+        config: Some("c"),
+        records: false,
+    };
+    assert!(rt; (plain.config(), plain.second(), plain.image()) == (Some("c"), Some("b"), "a"));
 }
 
 /// A line for each.
@@ -141,7 +166,10 @@ smtsim list
 smtsim list first.elf first.script
 smtsim list --records first.elf
 smtsim list --show first.elf
-smtsim list --config c --config c a";
+smtsim list --config c --config c a
+smtsim plain a
+smtsim plain a b c
+smtsim plain --show a b";
 
 /// Whether words are refused, where there is memory for them.
 fn are_refused(text: &str, alloc: Global) -> Result<bool, AllocError> {
@@ -160,6 +188,6 @@ fn other_words_are_refused(rt: HostRuntime) {
         holds(&rt, text, are_refused(text, rt.alloc()) == Ok(true));
         rows = rows.wrapping_add(1);
     }
-    assert!(rt; rows == 16);
+    assert!(rt; rows == 19);
     assert!(rt; is_refusal(read_words(&[], rt.alloc())));
 }

@@ -38,6 +38,8 @@ mod scripts;
 #[cfg(test)]
 mod spellings;
 #[cfg(test)]
+mod traces;
+#[cfg(test)]
 mod units;
 #[cfg(test)]
 mod waiting;

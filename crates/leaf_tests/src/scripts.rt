@@ -1,5 +1,5 @@
 use crate::rows::holds;
-use sim_script::{Action, ScriptRefused, Word, read_script};
+use sim_script::{Action, OrderRefused, ScriptRefused, Word, read_order, read_script};
 use std::alloc::Global;
 use std::test::Fail;
 
@@ -89,4 +89,49 @@ fn says(refused: ScriptRefused, text: &str, alloc: Global) -> bool {
 fn a_refusal_says_its_word(rt: HostRuntime) {
     assert!(rt; says(ScriptRefused::Word(2), "script word 2 refused", rt.alloc()));
     assert!(rt; says(ScriptRefused::Memory, "memory", rt.alloc()));
+}
+
+/// Orders, and the harts that they say or the first word that is none.
+static ORDERS: [(&str, Result<&[u8], OrderRefused>); 12] = [
+    ("", Ok(&[])),
+    (" \n", Ok(&[])),
+    ("0 1\n\n 7 255 10 ", Ok(&[0, 1, 7, 255, 10])),
+    ("256", Err(OrderRefused::Word(0))),
+    ("0 00", Err(OrderRefused::Word(1))),
+    ("0 1 01", Err(OrderRefused::Word(2))),
+    ("+1", Err(OrderRefused::Word(0))),
+    ("0 -1 x", Err(OrderRefused::Word(1))),
+    ("0 0 0x1", Err(OrderRefused::Word(2))),
+    ("0,1", Err(OrderRefused::Word(0))),
+    ("0\t1", Err(OrderRefused::Word(0))),
+    ("4294967296", Err(OrderRefused::Word(0))),
+];
+
+/// Whether an order's text is read so.
+fn is_order(text: &str, wanted: &Result<&[u8], OrderRefused>, alloc: Global) -> bool {
+    match (read_order(text.as_bytes(), alloc), wanted) {
+        (Ok(harts), Ok(wanted)) => harts.as_slice() == *wanted,
+        (Err(refused), Err(wanted)) => refused == *wanted,
+        _ => false,
+    }
+}
+
+#[test]
+fn an_order_is_read_word_by_word(rt: HostRuntime) {
+    for (text, wanted) in &ORDERS {
+        holds(&rt, text, is_order(text, wanted, rt.alloc()));
+    }
+}
+
+fn says_of_an_order(refused: OrderRefused, text: &str, alloc: Global) -> bool {
+    match refused.to_string(alloc) {
+        Ok(said) => said.as_str() == text,
+        Err(_) => false,
+    }
+}
+
+#[test]
+fn a_refused_order_says_its_word(rt: HostRuntime) {
+    assert!(rt; says_of_an_order(OrderRefused::Word(2), "order 2 refused 4", rt.alloc()));
+    assert!(rt; says_of_an_order(OrderRefused::Memory, "memory", rt.alloc()));
 }

@@ -1,4 +1,5 @@
 pub mod Access
+pub mod Code
 pub mod Harts
 pub mod Machine
 pub mod MachineInside

@@ -2,7 +2,8 @@
 use Rattle.std.specs.Prelude.{◌<◌, ◌≤◌, length}
 use Rattle.std.specs.Vec.{vec_capacity}
 use Rattle.numbers.specs.Sizes.{most_harts}
-use Rattle.sc_machine.specs.{Machine.Machine, declared.machine.Plain.TheInside.Inside}
+use Rattle.sc_machine.specs.{Code.IsCodeOf, Machine.Machine}
+use Rattle.sc_machine.specs.{declared.machine.Plain.TheInside.Inside}
 
 -- what callers see of it
 abbrev pub machine_of : Inside → Machine
@@ -13,9 +14,10 @@ machine_of a = record {
   room = a.room;
 }
 
--- there are 1 to 8 harts, and the room for the output has been made
+-- there are 1 to 8 harts, the code is that of the image, and the room for the output has been made
 pub record IsSound (a : Inside) : Type 0 where
   pub some : 0 < length a.harts.items
   pub few : length a.harts.items ≤ most_harts
+  pub code : IsCodeOf a.memory.image a.code
   pub within : length a.output.items ≤ a.room
   pub roomy : a.room ≤ vec_capacity a.output

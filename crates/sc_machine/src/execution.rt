@@ -1,11 +1,15 @@
 //! What a hart does next, on memory as it stands.
 
 ghost use Rattle.std.specs.Prelude.{◌≡◌, ◌<◌};
+ghost use Rattle.elf_image.specs.Image.{ProgramImage, code_word};
+ghost use Rattle.rv_decode.specs.Decode.{op_of_word};
 ghost use Rattle.rv_decode.specs.Kinds.{first_source, second_source};
 ghost use Rattle.rv_decode.specs.Table.{OpInRange};
+ghost use Rattle.sc_machine.specs.Code.{IsCodeOf};
 ghost use Rattle.sc_machine.specs.Execution.{IsNext, IsAllowed};
 
 use crate::access::stop_at_fault;
+use crate::code::Code;
 use crate::effect::effect_of;
 use crate::hart::Hart;
 use events::{Effect, Record};
@@ -22,14 +26,14 @@ pub struct Execution {
     pub record: Record,
 }
 
-/// What hart `hart`, with `state` of its own, does next.
-pub fn next_execution(memory: &Memory, hart: u8, state: &Hart) -> Execution
-    requires { hart < 8 }
+/// What hart `hart`, with `state` of its own, does next. The code is that of the memory's image.
+pub fn next_execution(memory: &Memory, code: &Code, hart: u8, state: &Hart) -> Execution
+    requires hart { hart < 8 }
+    requires code { IsCodeOf memory.now.image code.now }
     ensures is { IsNext memory.now hart state.now result }
     ensures allowed { IsAllowed memory.now result }
 {
-    let word = memory.image().code_word(state.pc);
-    let op = Op::of_word(word);
+    let (word, op) = fetch(code, state.pc);
     let first = first_source(op);
     let second = second_source(op);
     let _destination = op.destination();
@@ -49,6 +53,21 @@ pub fn next_execution(memory: &Memory, hart: u8, state: &Hart) -> Execution
             word,
             effect: Effect::new(effect),
         },
+    }
+}
+
+/// The word at a pc and what it is.
+#[tactic(auto, unfolding(rv_decode::specs::Decode::op_of_word))]
+fn fetch(code: &Code, pc: u32) -> (Option<u32>, Op)
+    ensures word { (image : ProgramImage) → IsCodeOf image code.now
+        → result.0 ≡ code_word image pc }
+    ensures op { (image : ProgramImage) → IsCodeOf image code.now
+        → result.1 ≡ op_of_word (code_word image pc) }
+    ensures in_range { (image : ProgramImage) → IsCodeOf image code.now → OpInRange result.1 }
+{
+    match code.at(pc) {
+        Some(fetched) => (Some(fetched.word), fetched.op),
+        None => (None, Op::NoWord),
     }
 }
 

@@ -48,19 +48,17 @@ impl Hart {
         self.registers[usize::from(register)]
     }
 
-    /// The hart after an instruction with this effect, which writes `rd`, 0 for none.
-    pub fn after(&self, rd: Reg, effect: EffectFields) -> Hart
+    /// Does what an instruction with this effect does to the hart, which writes `rd`, 0 for none.
+    pub fn advance(&mut self, rd: Reg, effect: EffectFields)
         requires { rd < 32 }
-        ensures registers { (r : ℕ) → slice_index result.registers r
-            ≡ register_written rd effect.value r (slice_index self.now.registers r) }
-        ensures pc { result.pc ≡ pc_after effect.next self.now.pc }
-        ensures status { result.status ≡ status_after effect.next self.now.status }
+        ensures registers { (r : ℕ) → slice_index self.new.registers r
+            ≡ register_written rd effect.value r (slice_index self.old.registers r) }
+        ensures pc { self.new.pc ≡ pc_after effect.next self.old.pc }
+        ensures status { self.new.status ≡ status_after effect.next self.old.status }
     {
-        Hart {
-            registers: registers_after(self.registers, rd, effect.value),
-            pc: pc_after(effect.next, self.pc),
-            status: status_after(effect.next, self.status),
-        }
+        write_register(&mut self.registers, rd, effect.value);
+        self.pc = pc_after(effect.next, self.pc);
+        self.status = status_after(effect.next, self.status);
     }
 }
 
@@ -71,15 +69,15 @@ fn zeros() -> [u32; 32]
     [0; 32]
 }
 
-/// The registers once `rd` holds a number, where there is one; x0 stays.
-fn registers_after(registers: [u32; 32], rd: Reg, value: Option<u32>) -> [u32; 32]
+/// Writes a number into `rd`, where there is one; x0 stays.
+fn write_register(registers: &mut [u32; 32], rd: Reg, value: Option<u32>)
     requires { rd < 32 }
-    ensures { (r : ℕ) → slice_index result r
-        ≡ register_written rd value r (slice_index registers r) }
+    ensures { (r : ℕ) → slice_index registers.new r
+        ≡ register_written rd value r (slice_index registers.old r) }
 {
     match value {
-        Some(number) if rd != 0 => with_number(registers, rd, number),
-        _ => registers,
+        Some(number) if rd != 0 => registers[usize::from(rd)] = number,
+        _ => {}
     }
 }
 

@@ -8,6 +8,7 @@ ghost use Rattle.sc_machine.specs.Steps.{IsNew, are_harts};
 ghost use Rattle.sc_machine.specs.declared.hart.Hart.{Hart as HartView};
 ghost use Rattle.sc_machine.specs.declared.refused.PlainRefused.TheVariants.{Harts};
 
+use crate::code::Code;
 use crate::hart::Hart;
 use crate::refused::PlainRefused;
 use elf_image::Image;
@@ -23,6 +24,8 @@ use std::marker::Model;
 pub struct Plain {
     pub(crate) harts: Vec<Hart>,
     pub(crate) memory: Memory,
+    /// The code of the image that memory started from.
+    pub(crate) code: Code,
     pub(crate) output: Vec<u8>,
     /// How many bytes may be put out.
     pub(crate) room: usize,
@@ -65,6 +68,7 @@ impl Plain {
         Ok(Plain {
             harts: first_harts(harts, image.entry(), alloc)?,
             memory: Memory::new(image, alloc)?,
+            code: Code::new(image, alloc)?,
             output: Vec::with_capacity(alloc, room)?,
             room,
         })

@@ -84,7 +84,12 @@ impl Plain {
         ensures is { InEachState self.now (λ setup s. IsExecution setup s hart result) }
         ensures allowed { IsAllowed self.now.memory result }
     {
-        next_execution(&self.memory, hart, &self.harts[usize::from(hart)])
+        next_execution(
+            &self.memory,
+            &self.code,
+            hart,
+            &self.harts[usize::from(hart)],
+        )
     }
 
     /// Does what an instruction of a hart does.
@@ -98,8 +103,7 @@ impl Plain {
     {
         let Execution { op, addr, record } = execution;
         let effect = record.effect.fields();
-        let after = self.harts[usize::from(hart)].after(op.destination(), effect);
-        self.harts[usize::from(hart)] = after;
+        self.harts[usize::from(hart)].advance(op.destination(), effect);
         change_memory(&mut self.memory, hart, op, addr, effect);
         put(&mut self.output, effect.out);
     }

@@ -35,6 +35,23 @@ records_are : option_map (λ p. is_flag_set (codes "records") p.1) (subcommand_o
 unfolding clap_on_literals
 records_are = refl
 
+-- `plain` with records; it has no tables.
+abbrev plain_words : List Text
+plain_words = codes "smtsim" ∷ codes "plain" ∷ codes "a" ∷ codes "b" ∷ codes "--records" ∷ []
+
+plain_is_taken : fault_of smtsim plain_words ≡ []
+unfolding clap_on_literals
+plain_is_taken = refl
+
+order_is : option_map (λ p. first_of (codes "ORDER") p.1) (subcommand_of smtsim plain_words) ≡ Some (Some (codes "b"))
+unfolding clap_on_literals
+order_is = refl
+
+no_tables : fault_of smtsim (codes "smtsim" ∷ codes "plain" ∷ codes "--show" ∷ codes "a" ∷ codes "b" ∷ [])
+    ≡ UnknownArgument ∷ []
+unfolding clap_on_literals
+no_tables = refl
+
 -- An option of another subcommand, and one that is given twice.
 other_option : fault_of smtsim (codes "smtsim" ∷ codes "list" ∷ codes "--show" ∷ codes "a" ∷ []) ≡ UnknownArgument ∷ []
 unfolding clap_on_literals

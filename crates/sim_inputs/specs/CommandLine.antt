@@ -16,7 +16,7 @@ use Rattle.sim_inputs.specs.{declared.line.WordsRefused.TheVariants.Refused}
 use Rattle.sim_inputs.specs.{declared.line.WordsRefused.TheVariants.Memory}
 use Rattle.sim_inputs.specs.declared.line.Line.TheVariants as lines
 
--- An argument that names a file and must be there: the image, and the script.
+-- An argument that names a file and must be there: the image, the script, and the order.
 abbrev pub file_rule : Text → Rule
 file_rule name = record (new_rule name) { required = true }
 
@@ -32,6 +32,9 @@ image_rule = file_rule (codes "IMAGE")
 
 abbrev pub script_rule : Rule
 script_rule = file_rule (codes "SCRIPT")
+
+abbrev pub order_rule : Rule
+order_rule = file_rule (codes "ORDER")
 
 abbrev pub config_rule : Rule
 config_rule = file_option_rule (codes "config")
@@ -50,18 +53,27 @@ step_command =
     (with_rule (with_rule (with_rule (new_app (codes "step")) image_rule) script_rule)
     config_rule) records_rule) show_rule
 
+-- The subcommand `plain IMAGE ORDER`, with the options `--config FILE` and `--records`.
+abbrev pub plain_command : App
+plain_command =
+    with_rule
+    (with_rule (with_rule (with_rule (new_app (codes "plain")) image_rule) order_rule)
+    config_rule) records_rule
+
 -- The subcommand `list IMAGE`, with the option `--config FILE`.
 abbrev pub list_command : App
 list_command = with_rule (with_rule (new_app (codes "list")) image_rule) config_rule
 
--- The whole command line: one of the two subcommands must be there. `clap` adds `--help` and
+-- The whole command line: one of the three subcommands must be there. `clap` adds `--help` and
 -- `help`.
 abbrev pub top : App
 top = let app =
     new_app (codes "smtsim") in record app { top = record app.top { subcommand_required = true } }
 
 abbrev pub smtsim : App
-smtsim = with_subcommand (with_subcommand top step_command.top) list_command.top
+smtsim =
+    with_subcommand (with_subcommand (with_subcommand top step_command.top) plain_command.top)
+    list_command.top
 
 -- What `clap` is told: an argument and a command as data, neither of them for the commands below
 -- too.
@@ -85,6 +97,11 @@ IsLineOf name rows (lines.Step image script config records show) = (name ≡ cod
     × (first_of (codes "SCRIPT") rows ≡ Some script.now)
     × (first_of (codes "config") rows ≡ option_map (λ file. file.now) config)
     × (is_flag_set (codes "records") rows ≡ records) × (is_flag_set (codes "show") rows ≡ show)
+IsLineOf name rows (lines.Plain image order config records) = (name ≡ codes "plain")
+    × (first_of (codes "IMAGE") rows ≡ Some image.now)
+    × (first_of (codes "ORDER") rows ≡ Some order.now)
+    × (first_of (codes "config") rows ≡ option_map (λ file. file.now) config)
+    × (is_flag_set (codes "records") rows ≡ records)
 IsLineOf name rows (lines.List image config) = (name ≡ codes "list")
     × (first_of (codes "IMAGE") rows ≡ Some image.now)
     × (first_of (codes "config") rows ≡ option_map (λ file. file.now) config)
@@ -116,15 +133,18 @@ IsRefusalOf kind (Help text) = kind ≡ DisplayHelp
 IsRefusalOf kind Refused = (kind ≢ DisplayHelp) × (kind ≢ OutOfMemory)
 IsRefusalOf kind Memory = Unit {0}
 
--- The options of a line.
+-- The files that a line names: the configuration, the image, and the script or the order.
 abbrev pub config_of : Line → Option Text
 config_of (lines.Step image script config records show) = option_map (λ file. file.now) config
+config_of (lines.Plain image order config records) = option_map (λ file. file.now) config
 config_of (lines.List image config) = option_map (λ file. file.now) config
 
 abbrev pub image_of : Line → Text
 image_of (lines.Step image script config records show) = image.now
+image_of (lines.Plain image order config records) = image.now
 image_of (lines.List image config) = image.now
 
-abbrev pub script_of : Line → Option Text
-script_of (lines.Step image script config records show) = Some script.now
-script_of (lines.List image config) = None
+abbrev pub second_of : Line → Option Text
+second_of (lines.Step image script config records show) = Some script.now
+second_of (lines.Plain image order config records) = Some order.now
+second_of (lines.List image config) = None

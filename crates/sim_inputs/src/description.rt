@@ -1,8 +1,8 @@
 ghost use Rattle.std.specs.Prelude.{◌≡◌, IfOk};
 ghost use Rattle.clap.specs.Words.{app_of};
 ghost use Rattle.sim_inputs.specs.CommandLine.{IsArgument, IsCommand, config_rule, file_rule};
-ghost use Rattle.sim_inputs.specs.CommandLine.{flag_rule, image_rule, list_command, smtsim};
-ghost use Rattle.sim_inputs.specs.CommandLine.{step_command};
+ghost use Rattle.sim_inputs.specs.CommandLine.{flag_rule, image_rule, list_command, plain_command};
+ghost use Rattle.sim_inputs.specs.CommandLine.{records_rule, smtsim, step_command};
 
 use clap::{Arg, ArgAction, Command};
 use std::alloc::{AllocError, Global};
@@ -19,6 +19,11 @@ A script has words apart by spaces or newlines, each an ask of an actor:
   U3    both: actor 3 issues and completes
 Actors are 0 to 15, and harts 0 to 7. Where *n stands behind a word, n from 1
 to 100000, the word is asked n times, as in F0*4.";
+
+/// How an order is written, for the help of `plain_command`.
+const ORDER_FORM: &str = "\
+An order has words apart by spaces or newlines. Each is the number of a hart,
+0 to 255, which makes the next step: one whole instruction.";
 
 /// How a configuration is written, for the help of the program.
 const CONFIGURATION_FORM: &str = "\
@@ -37,12 +42,14 @@ pub fn describe<'a>(alloc: Global) -> Result<Command<'a>, AllocError>
     ensures { IfOk result (λ c. app_of c ≡ smtsim) }
 {
     let step = describe_step(alloc)?;
+    let plain = describe_plain(alloc)?;
     let list = describe_list(alloc)?;
     Command::new(alloc, "smtsim")
         .about("Simulate a simultaneous multithreading core whose harts run one RV32IMA program")
         .after_help(CONFIGURATION_FORM)
         .subcommand_required(true)
         .subcommand(step)?
+        .subcommand(plain)?
         .subcommand(list)
 }
 
@@ -60,12 +67,21 @@ fn describe_step<'a>(alloc: Global) -> Result<Command<'a>, AllocError>
             "The script: what the actors are asked to do",
         ))?
         .arg(config_option(alloc))?
-        .arg(flag(
-            alloc,
-            "records",
-            "Print a record of each retirement, before the report",
-        ))?
+        .arg(records_flag(alloc))?
         .arg(flag(alloc, "show", "Print the core's tables, after the asks"))
+}
+
+/// The subcommand `plain_command`.
+fn describe_plain<'a>(alloc: Global) -> Result<Command<'a>, AllocError>
+    ensures { IfOk result (IsCommand plain_command) }
+{
+    Command::new(alloc, "plain")
+        .about("Run the plain machine in an order of harts, and print a report")
+        .after_help(ORDER_FORM)
+        .arg(image_argument(alloc))?
+        .arg(file_argument(alloc, "ORDER", "The order: which hart makes each step"))?
+        .arg(config_option(alloc))?
+        .arg(records_flag(alloc))
 }
 
 /// The subcommand `list_command`.
@@ -78,7 +94,7 @@ fn describe_list<'a>(alloc: Global) -> Result<Command<'a>, AllocError>
         .arg(config_option(alloc))
 }
 
-/// The image, which both subcommands name.
+/// The image, which each subcommand names.
 fn image_argument<'a>(alloc: Global) -> Arg<'a>
     ensures { IsArgument image_rule result }
 {
@@ -92,7 +108,7 @@ fn file_argument<'a>(alloc: Global, name: &'a str, help: &'a str) -> Arg<'a>
     Arg::new(alloc, name).required(true).help(help)
 }
 
-/// The option that names a configuration, which both subcommands have.
+/// The option that names a configuration, which each subcommand has.
 fn config_option<'a>(alloc: Global) -> Arg<'a>
     ensures { IsArgument config_rule result }
 {
@@ -100,6 +116,17 @@ fn config_option<'a>(alloc: Global) -> Arg<'a>
         .long("config")
         .value_name("FILE")
         .help("The configuration, a TOML file: see smtsim --help")
+}
+
+/// The option for the records before a report.
+fn records_flag<'a>(alloc: Global) -> Arg<'a>
+    ensures { IsArgument records_rule result }
+{
+    flag(
+        alloc,
+        "records",
+        "Print a record of each retirement, before the report",
+    )
 }
 
 /// An option that is given or not.

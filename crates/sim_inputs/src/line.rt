@@ -16,6 +16,15 @@ pub enum Line<'a> {
         /// `--show`: the core's tables are printed between the asks and the report.
         show: bool,
     },
+    /// `plain IMAGE ORDER`: the plain machine makes a step of each hart of the order.
+    Plain {
+        image: &'a str,
+        order: &'a str,
+        /// `--config FILE`: the file of the configuration.
+        config: Option<&'a str>,
+        /// `--records`: a line for each record is printed before the report.
+        records: bool,
+    },
     /// `list IMAGE`: each word of the image's code is printed.
     List {
         image: &'a str,
@@ -25,14 +34,16 @@ pub enum Line<'a> {
 }
 
 impl<'a> Line<'a> {
-    ghost use Rattle.sim_inputs.specs.CommandLine.{config_of, image_of, script_of};
+    ghost use Rattle.sim_inputs.specs.CommandLine.{config_of, image_of, second_of};
 
     /// The file of the configuration, where the line names one.
     pub fn config(&self) -> Option<&'a str>
         ensures { option_map (λ file. file.now) result ≡ config_of self.now }
     {
         match *self {
-            Line::Step { config, .. } | Line::List { config, .. } => config,
+            Line::Step { config, .. } | Line::Plain { config, .. } | Line::List { config, .. } => {
+                config
+            }
         }
     }
 
@@ -41,16 +52,19 @@ impl<'a> Line<'a> {
         ensures { result.now ≡ image_of self.now }
     {
         match *self {
-            Line::Step { image, .. } | Line::List { image, .. } => image,
+            Line::Step { image, .. } | Line::Plain { image, .. } | Line::List { image, .. } => {
+                image
+            }
         }
     }
 
-    /// The file of the script, where the line names one.
-    pub fn script(&self) -> Option<&'a str>
-        ensures { option_map (λ file. file.now) result ≡ script_of self.now }
+    /// The file of the script or of the order, where the line names one.
+    pub fn second(&self) -> Option<&'a str>
+        ensures { option_map (λ file. file.now) result ≡ second_of self.now }
     {
         match *self {
             Line::Step { script, .. } => Some(script),
+            Line::Plain { order, .. } => Some(order),
             Line::List { .. } => None,
         }
     }

@@ -33,6 +33,9 @@ fn line_in<'a>(matches: &ArgMatches<'a>) -> Option<Line<'a>>
     if let Some(step) = matches.subcommand_matches("step") {
         return step_line(step);
     }
+    if let Some(plain) = matches.subcommand_matches("plain") {
+        return plain_line(plain);
+    }
     let Some(list) = matches.subcommand_matches("list") else {
         return None;
     };
@@ -57,6 +60,26 @@ fn step_line<'a>(step: &ArgMatches<'a>) -> Option<Line<'a>>
         config: step.get_str("config"),
         records: is_set(step, "records"),
         show: is_set(step, "show"),
+    })
+}
+
+/// The line of the subcommand `plain`.
+fn plain_line<'a>(plain: &ArgMatches<'a>) -> Option<Line<'a>>
+    ensures held { IfSome result (IsLineOf (codes "plain") (rows_of (found_of plain.now))) }
+    ensures none { IfNone result
+        ((line : AnyLine) → IsLineOf (codes "plain") (rows_of (found_of plain.now)) line → ⊥) }
+{
+    let Some(image) = plain.get_str("IMAGE") else {
+        return None;
+    };
+    let Some(order) = plain.get_str("ORDER") else {
+        return None;
+    };
+    Some(Line::Plain {
+        image,
+        order,
+        config: plain.get_str("config"),
+        records: is_set(plain, "records"),
     })
 }
 

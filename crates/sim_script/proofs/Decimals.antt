@@ -1,10 +1,10 @@
 -- Lemmas on decimal numbers as texts.
-use Rattle.std.proofs.Common.{◌≡◌, ℕ, zero, suc, ◌<◌, ◌≤◌, ◌^◌, ◌==◌, ◌&&◌, ◌||◌, nat_lt, false, List, length}
-use Rattle.std.proofs.Common.{slice_index, slice_index_or, arith, refl, sym, Result, Ok}
-use Rattle.std.specs.{Fmt.decimal, Str.Parse.AllDigits, Str.Parse.digits_value, Str.Parse.ParsesUnsigned}
-use Rattle.std.proofs.{lemmas.List.get_or_default, lemmas.Bool.Decides.nat_tests}
-use Rattle.std.proofs.lemmas.Str.Parse.{IsNumeralModel, numerals_by_value, tells_digits, digit_at, parse_plain}
-use Rattle.std.proofs.lemmas.Fmt.{digits_decimal, first_decimal, decimal_digit, decimal-digits_value}
+use Rattle.std.proofs.Common.{◌≡◌, ℕ, ◌+◌, ◌-◌, ◌<◌, ◌≤◌, ◌^◌, List, [], ◌∷◌, length, sym, ap, ◌∙◌}
+use Rattle.std.proofs.Common.{slice_index_or, arith}
+use Rattle.std.specs.{Fmt.decimal, Str.Parse.AllDigits, Str.Parse.digits_value}
+use Rattle.std.proofs.{lemmas.List.get_or_default}
+use Rattle.std.proofs.lemmas.Str.Parse.{IsNumeralModel, numerals_by_value, tells_digits, digit_at}
+use Rattle.std.proofs.lemmas.Fmt.{digits_decimal, decimal_digit}
 
 -- decimal digits, as the standard library's `parse` has them
 pub own : IsNumeralModel (AllDigits 10) (digits_value 10)
@@ -17,22 +17,11 @@ lacks_decimal byte n low small k d inside e =
     let range = digit_at (decimal n) k (digits_decimal own n small) inside in
     absurd (omega (arith, range.0, get_or_default (decimal n) k d 0 inside, e))
 
--- it begins with neither a plus sign nor a zero before other digits
-pub plain_decimal : (text : List ℕ) (n : ℕ) → n < 2 ^ 64 → text ≡ decimal n →
-    (slice_index text 0 == 43 || (slice_index text 0 == 48 && nat_lt 1 (length text))) ≡ false
-plain_decimal text zero small e = rw (e, decimal_digit 0 (omega arith)) refl
-plain_decimal text (suc n) small e =
-    let above = first_decimal (suc n) (omega arith) small in
-    rw e (grind (arith, nat_tests, above))
-
--- what `parse` reads is spelled as `decimal` spells it, but for a plus sign and leading zeros
-pub spelled : (text : List ℕ) (n : ℕ) → ParsesUnsigned {E = ℕ} 32 10 text (Ok n) →
-    (slice_index text 0 == 43 || (slice_index text 0 == 48 && nat_lt 1 (length text))) ≡ false → text ≡ decimal n
-spelled text n parsed plain =
-    let no_plus : (slice_index text 0 ≡ 43 → ⊥) = λ plus. grind (arith, nat_tests) in
-    let no_zero : (slice_index text 0 ≡ 48 → length text ≤ 1) = λ first. grind (arith, nat_tests) in
-    let answer : Result ℕ ℕ = Ok n in
-    let facts = parse_plain own 32 text answer parsed no_plus in
-    rw facts.1
-    (sym (decimal-digits_value own text facts.0.0 facts.0.1
-    (λ first. let short = no_zero first in omega (arith, facts.0.1)) (omega (arith, facts.0.2))))
+-- a byte that is a digit is the text of its number
+pub one_digit : (text : List ℕ) → length text ≡ 1 → 48 ≤ slice_index_or text 0 0 → slice_index_or text 0 0 < 58
+    → text ≡ decimal (slice_index_or text 0 0 - 48)
+one_digit [] one low high = absurd (omega (arith, one))
+one_digit (byte ∷ []) one low high =
+    let whole : 48 + (byte - 48) ≡ byte = omega arith in
+    sym (decimal_digit (byte - 48) (omega arith) ∙ ap (λ n. n ∷ []) whole)
+one_digit (byte ∷ next ∷ rest) one low high = absurd (omega (arith, one))

@@ -1,9 +1,11 @@
 ghost use Rattle.std.specs.Prelude.{◌≡◌, ℕ, ◌≤◌, ◌<◌, ◌==◌, ◌&&◌, ◌||◌, nat_lt, ◌∷◌, ◌++◌, length};
 ghost use Rattle.std.specs.Prelude.{slice_index, Some, IfSome};
 ghost use Rattle.std.specs.Fmt.{decimal};
+ghost use Rattle.sim_script.specs.Order.{SpellsHart};
 
 use crate::splitting::split_at_byte;
-use std::str;
+use text_fields::laws::decimal_law;
+use text_fields::read_decimal;
 
 /// An actor, 0 to 15.
 pub fn read_actor(text: &[u8]) -> Option<u8>
@@ -11,6 +13,17 @@ pub fn read_actor(text: &[u8]) -> Option<u8>
     ensures only { (actor : ℕ) → actor ≤ 15 → text.now ≡ decimal actor → result ≡ Some actor }
 {
     read_number(text, 15).map(|number| number as u8)
+}
+
+/// A hart of an order, 0 to 255. Whether there is such a hart is for the machine to say.
+pub fn read_hart(text: &[u8]) -> Option<u8>
+    ensures found { IfSome result (SpellsHart text.now) }
+    ensures only { (hart : ℕ) → SpellsHart text.now hart → result ≡ Some hart }
+{
+    if let [digit @ b'0'..=b'9'] = text {
+        return Some(*digit - b'0');
+    }
+    read_number(text, 255).map(|number| number as u8)
 }
 
 /// An actor, a point, and a hart, 0 to 7.
@@ -30,27 +43,9 @@ pub fn read_number(text: &[u8], max: u32) -> Option<u32>
     ensures found { IfSome result (λ n. (n ≤ max) × (text.now ≡ decimal n)) }
     ensures only { (n : ℕ) → n ≤ max → text.now ≡ decimal n → result ≡ Some n }
 {
-    if begins_otherwise(text) {
-        return None;
-    }
-    let Ok(text) = str::from_utf8(text) else {
-        return None;
-    };
-    match text.parse::<u32>() {
-        Ok(number) if number <= max => Some(number),
-        _ => None,
-    }
-}
-
-// A plus sign, or a zero before other digits: the standard library's `parse` takes them.
-fn begins_otherwise(text: &[u8]) -> bool
-    ensures { result
-        ≡ (slice_index text.now 0 == 43
-        || (slice_index text.now 0 == 48 && nat_lt 1 (length text.now))) }
-{
-    match text.first() {
-        Some(b'+') => true,
-        Some(b'0') => text.len() > 1,
-        _ => false,
+    decimal_law();
+    match read_decimal(text, max) {
+        Ok(number) => Some(number),
+        Err(_) => None,
     }
 }

@@ -1,11 +1,10 @@
-ghost use Rattle.std.specs.Prelude.{◌≡◌, ◌∷◌, ◌<◌, ◌≤◌, [], All, length, position, IfSome, IfNone};
-ghost use Rattle.std.specs.Prelude.{IfOk, IfErr};
+ghost use Rattle.std.specs.Prelude.{◌≡◌, All, IfOk, IfErr};
 ghost use Rattle.sim_script.specs.declared.script.ScriptRefused.TheVariants.{Memory};
-ghost use Rattle.sim_script.specs.Script.{is_separator, is_inside, pieces, IsInRange, IsScript};
-ghost use Rattle.sim_script.specs.Script.{IsScriptRefusedFor};
+ghost use Rattle.sim_script.specs.Script.{IsInRange, IsScript, IsScriptRefusedFor};
 
 use crate::actions::Word;
 use crate::spelling::read_word;
+use crate::splitting::first_piece;
 use std::alloc::{AllocFailed, Global};
 use thiserror::Error;
 
@@ -44,38 +43,4 @@ pub fn read_script(bytes: &[u8], alloc: Global) -> Result<Vec<Word>, ScriptRefus
         text = rest;
     }
     Ok(words)
-}
-
-// The first piece of the text, and the text behind it.
-fn first_piece(text: &[u8]) -> Option<(&[u8], &[u8])>
-    ensures found { IfSome result (λ p. pieces text.now ≡ p.0.now ∷ pieces p.1.now) }
-    ensures shorter { IfSome result (λ p. length p.1.now < length text.now) }
-    ensures none { IfNone result (pieces text.now ≡ []) }
-{
-    let Some(start) = piece_start(text) else {
-        return None;
-    };
-    let text = &text[start..];
-    let end = piece_end(text).unwrap_or(text.len());
-    Some((&text[..end], &text[end..]))
-}
-
-// Where the first byte stands that is no separator.
-fn piece_start(text: &[u8]) -> Option<usize>
-    ensures { result ≡ position is_inside text.now }
-{
-    text.iter().position(|byte| !is_separator(*byte))
-}
-
-// Where the first separator stands.
-fn piece_end(text: &[u8]) -> Option<usize>
-    ensures { result ≡ position is_separator text.now }
-{
-    text.iter().position(|byte| is_separator(*byte))
-}
-
-fn is_separator(byte: u8) -> bool
-    ensures { result ≡ is_separator byte }
-{
-    byte == b' ' || byte == b'\n'
 }

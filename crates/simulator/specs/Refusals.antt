@@ -14,8 +14,8 @@ use Rattle.sim_inputs.specs.{declared.line.WordsRefused.WordsRefused}
 use Rattle.sim_inputs.specs.{declared.settings.Settings.Settings}
 use Rattle.sim_inputs.specs.declared.line.WordsRefused.TheVariants as words
 use Rattle.simulator.specs.{declared.refused.Refused.Refused, declared.refused.Unread.Unread}
-use Rattle.simulator.specs.declared.refused.Refused.TheVariants.{Image, Config, Script, Memory}
-use Rattle.simulator.specs.declared.refused.Refused.TheVariants.{File, Output}
+use Rattle.simulator.specs.declared.refused.Refused.TheVariants.{Image, Config, Script, Order}
+use Rattle.simulator.specs.declared.refused.Refused.TheVariants.{Step, Memory, File, Output}
 use Rattle.simulator.specs.declared.refused.Unread.TheVariants as unread
 
 -- A file as it was read: its text, or why there is none.
@@ -83,6 +83,8 @@ AreInputsRefusedFor image settings script Config =
     OfFile image (λ file. PassesAll file settings.ram) × AreRefused settings
 AreInputsRefusedFor image settings script (Script number) =
     AreReadyFor image settings × OfFile script (λ text. IsFirstMisspelled text number)
+AreInputsRefusedFor image settings script (Order index) = ⊥
+AreInputsRefusedFor image settings script (Step index why) = ⊥
 AreInputsRefusedFor image settings script Memory = Unit {0}
 AreInputsRefusedFor image settings script File =
     (image ≡ Err unread.File) ⊎ (AreReadyFor image settings × (script ≡ Err unread.File))
@@ -92,33 +94,28 @@ AreInputsRefusedFor image settings script Output = AreReadyFor image settings ×
 -- script.
 abbrev pub IsImageRefusal : Read → ℕ → Refused → Type 0
 IsImageRefusal image ram (Image number) = OfFile image (λ file. IsFirstFailed file ram number)
-IsImageRefusal image ram Config = ⊥
-IsImageRefusal image ram (Script number) = ⊥
 IsImageRefusal image ram Memory = Unit {0}
 IsImageRefusal image ram File = image ≡ Err unread.File
-IsImageRefusal image ram Output = ⊥
+IsImageRefusal image ram _ = ⊥
 
 abbrev pub IsConfigRefusal : Settings → Refused → Type 0
-IsConfigRefusal settings (Image number) = ⊥
 IsConfigRefusal settings Config = AreRefused settings
-IsConfigRefusal settings (Script number) = ⊥
 IsConfigRefusal settings Memory = Unit {0}
-IsConfigRefusal settings File = ⊥
-IsConfigRefusal settings Output = ⊥
+IsConfigRefusal settings _ = ⊥
 
 abbrev pub IsScriptRefusal : Read → Refused → Type 0
-IsScriptRefusal script (Image number) = ⊥
-IsScriptRefusal script Config = ⊥
 IsScriptRefusal script (Script number) = OfFile script (λ text. IsFirstMisspelled text number)
 IsScriptRefusal script Memory = Unit {0}
 IsScriptRefusal script File = script ≡ Err unread.File
-IsScriptRefusal script Output = ⊥
+IsScriptRefusal script _ = ⊥
 
 -- The number of the exit status: 2 for an input, 5 for memory, files and the output.
 abbrev pub exit_status_of : Refused → ℕ
 exit_status_of (Image number) = 2
 exit_status_of Config = 2
 exit_status_of (Script number) = 2
+exit_status_of (Order index) = 2
+exit_status_of (Step index why) = 2
 exit_status_of Memory = 5
 exit_status_of File = 5
 exit_status_of Output = 5

@@ -61,3 +61,8 @@ report_text events retired lent statuses output =
     count_line (codes "events") events
     ++ (count_line (codes "retired") retired ++ (count_line (codes "lent") lent
     ++ (hart_lines 0 statuses ++ output_line output)))
+
+-- The report of the plain machine, which has no events and no units.
+abbrev pub plain_report_text : ℕ → List Status → List ℕ → List ℕ
+plain_report_text retired statuses output =
+    count_line (codes "retired") retired ++ (hart_lines 0 statuses ++ output_line output)

@@ -15,6 +15,7 @@ ghost use Rattle.simulator.specs.Lines.{IsReportedBy};
 ghost use Rattle.simulator.specs.Told.{AreTables, HasTold, IsReported};
 
 use crate::listing::list;
+use crate::plain::run_and_report;
 use crate::refused::{Refused, Unread, refuse};
 use crate::reporting::{report, status_of};
 use crate::stepping::{read_image, step_files};
@@ -30,7 +31,7 @@ pub struct Inputs<'a> {
     /// The configuration; empty where the line names none.
     pub config: Result<&'a [u8], Unread>,
     pub image: Result<&'a [u8], Unread>,
-    /// The script; empty where the line names none.
+    /// The script or the order; empty where the line names none.
     pub second: Result<&'a [u8], Unread>,
 }
 
@@ -43,8 +44,9 @@ struct Printing {
 
 /// Does all that the program does once its files are read, and answers its exit status: how the
 /// harts stand, 0 for a listing, 2 for a refused input, 5 where memory or a file failed. A refusal
-/// is one line on `err`. The configuration is looked at first, then the image, then the script; a
-/// file that couldn't be read is refused where it is looked at. All that is printed is flushed.
+/// is one line on `err`. The configuration is looked at first, then the image, then the script or
+/// the order; a file that couldn't be read is refused where it is looked at. All that is printed is
+/// flushed.
 pub fn perform<P: Predict, W: Write, E: Write, R: Wait>(
     rt: &R,
     line: &Line<'_>,
@@ -154,6 +156,9 @@ fn answer<P: Predict, W: Write, R: Wait>(
                 tables: *show,
             };
             step_and_report(rt, inputs, settings, printing, predict, out, alloc)
+        }
+        Line::Plain { records, .. } => {
+            run_and_report(inputs.image, settings, inputs.second, *records, out, alloc)
         }
         Line::List { .. } => read_and_list(inputs.image, settings, out, alloc),
     }

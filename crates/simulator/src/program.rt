@@ -145,7 +145,7 @@ fn read_and_perform<S: Files + Wait, P: Predict, W: Write, E: Write>(
 {
     let config = read_named(system, line.config(), alloc);
     let image = read_file(system, line.image(), alloc);
-    let second = read_named(system, line.script(), alloc);
+    let second = read_named(system, line.second(), alloc);
     let inputs = Inputs {
         config: lent(&config),
         image: lent(&image),

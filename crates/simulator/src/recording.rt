@@ -1,6 +1,5 @@
-ghost use Rattle.std.specs.Prelude.{All, flat_map, OnOk};
+ghost use Rattle.std.specs.Prelude.{flat_map, OnOk};
 ghost use Rattle.std.specs.Io.KnownBytes.{Appends};
-ghost use Rattle.smt_laws.specs.Writes.{WritesAWord};
 ghost use Rattle.simulator.specs.Report.{record_line, records_text};
 
 use arrayvec::ArrayString;
@@ -12,7 +11,6 @@ use text_fields::push_ascii;
 /// Writes a line for each record where they are wanted: hart, pc, word, value, next, the address
 /// and number written, and the byte put out.
 pub fn report_records<W: Write>(wanted: bool, records: &[Record], out: &mut W) -> io::Result<()>
-    requires { All WritesAWord records.now }
     ensures { OnOk result
         (Appends (W.contents out.old) (W.contents out.new) (records_text wanted records.now)) }
 {
@@ -23,7 +21,6 @@ pub fn report_records<W: Write>(wanted: bool, records: &[Record], out: &mut W) -
 }
 
 fn write_records<W: Write>(records: &[Record], out: &mut W) -> io::Result<()>
-    requires { All WritesAWord records.now }
     ensures { OnOk result
         (Appends (W.contents out.old) (W.contents out.new) (flat_map record_line records.now)) }
 {
@@ -36,10 +33,11 @@ fn write_records<W: Write>(records: &[Record], out: &mut W) -> io::Result<()>
 /// One write for one line.
 #[tactic(auto, using(crate::proofs::RecordLines::short_write))]
 fn write_record<W: Write>(record: &Record, out: &mut W) -> io::Result<()>
-    requires { WritesAWord record.now }
     ensures { OnOk result
         (Appends (W.contents out.old) (W.contents out.new) (record_line record.now)) }
 {
+    // A write says its width, 1, 2 or 4 bytes, as it is read: so it has room on the line.
+    let _write = record.effect.write();
     let mut line = ArrayString::<80>::new();
     line.push_str(print_record(record).as_str());
     push_ascii(&mut line, b'\n');

@@ -1,6 +1,7 @@
 ghost use Rattle.std.specs.Prelude.{◌≡◌, false};
 ghost use Rattle.simulator.specs.Refusals.{exit_status_of, refusal_of, says_harts};
 
+use sc_machine::Stopped;
 use std::io::Write;
 use thiserror::Error;
 
@@ -16,6 +17,13 @@ pub enum Refused {
     /// This word of the script, from 1, is the first that says nothing.
     #[error("script word {0} refused")]
     Script(usize),
+    /// This word of the order, from 0, is the first that is no number 0 to 255.
+    #[error("order {0} refused 4")]
+    Order(usize),
+    /// The step at this place of the order, from 0, is the first that the plain machine doesn't
+    /// make.
+    #[error("order {index} refused {}", .why.number())]
+    Step { index: usize, why: Stopped },
     /// There isn't enough memory.
     #[error("memory")]
     Memory,
@@ -34,7 +42,8 @@ impl Refused {
         ensures apart { says_harts result ≡ false }
     {
         match self {
-            Refused::Image(_) | Refused::Config | Refused::Script(_) => 2,
+            Refused::Image(_) | Refused::Config => 2,
+            Refused::Script(_) | Refused::Order(_) | Refused::Step { .. } => 2,
             Refused::Memory | Refused::File | Refused::Output => 5,
         }
     }

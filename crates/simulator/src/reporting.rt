@@ -7,10 +7,11 @@ ghost use Rattle.simulator.specs.Refusals.{says_harts};
 ghost use Rattle.smt_model.specs.Plain.{is_going_status};
 ghost use Rattle.simulator.specs.Report.{has_ended_well, status_number, count_line};
 ghost use Rattle.simulator.specs.Report.{status_text, hart_line, hart_lines, output_line};
-ghost use Rattle.simulator.specs.Report.{records_text, report_text};
+ghost use Rattle.simulator.specs.Report.{records_text, report_text, plain_report_text};
 
 use crate::recording::report_records;
 use arrayvec::ArrayString;
+use plain_run::PlainRun;
 use smt_core::{Account, Status};
 use std::io;
 use std::io::Write;
@@ -36,6 +37,21 @@ pub fn report<W: Write>(account: &Account<'_>, records: bool, out: &mut W) -> io
     report_count("lent", u64::from(account.lent), out)?;
     report_harts(account.statuses.as_slice(), out)?;
     report_output(account.output, out)
+}
+
+/// Writes the report of a run of the plain machine: with `records` a line for each of its steps,
+/// then how many there are, how each hart stands, and the output's bytes in hexadecimal. Where it
+/// answers Ok, it has written exactly these lines.
+pub fn report_plain<W: Write>(ran: &PlainRun, records: bool, out: &mut W) -> io::Result<()>
+    ensures { OnOk result
+        (Appends (W.contents out.old) (W.contents out.new)
+        (records_text records ran.now.records
+        ++ plain_report_text (length ran.now.records) ran.now.statuses ran.now.machine.output)) }
+{
+    report_records(records, ran.records(), out)?;
+    report_count("retired", ran.records().len() as u64, out)?;
+    report_harts(ran.statuses().as_slice(), out)?;
+    report_output(ran.output(), out)
 }
 
 fn report_count<W: Write>(name: &str, count: u64, out: &mut W) -> io::Result<()>

@@ -41,7 +41,7 @@ use std::marker::Model;
 /// history, and answers it.
 #[derive(Drop)]
 pub struct Core {
-    state: State,
+    pub(crate) state: State,
 }
 
 impl Model for Core {
@@ -224,6 +224,7 @@ impl Core {
     /// How many harts there are, 1 to 8.
     pub fn harts(&self) -> u8
         ensures harts { result ≡ self.now.setup.harts }
+        ensures some { 0 < result }
         ensures few { result ≤ 8 }
     {
         self.state.harts()

@@ -112,7 +112,7 @@ read-same f g same op addr = ap (read_value op) (number-same f g same addr (acce
 
 -- ---- The plain machine's step
 
-chain-front : (hops : ℕ → Option Hop) (xs : List ℕ) (n : ℕ) (one : Hop) → first xs ≡ Some n → hops n ≡ Some one
+pub chain-front : (hops : ℕ → Option Hop) (xs : List ℕ) (n : ℕ) (one : Hop) → first xs ≡ Some n → hops n ≡ Some one
     → (from end : ℕ)
     → IsChain hops xs from end → one.pc ≡ from
 chain-front hops [] n one front at from end chain = absurd (grind arith)

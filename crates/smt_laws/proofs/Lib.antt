@@ -9,3 +9,4 @@ pub mod PlainLaws
 pub mod Executions
 pub mod Writes
 pub mod Rows
+pub mod Showing

@@ -3,3 +3,5 @@ pub mod Chain
 pub mod PlainLaws
 pub mod Execution
 pub mod Writes
+pub mod Shown
+pub mod Scripts

@@ -2,7 +2,8 @@
 //! at a time.
 //!
 //! There is no code here. The statements stand in `specs`, to be read in this order: `Sequential`,
-//! `Chain`, `Execution`, `PlainLaws`.
+//! `Chain`, `Execution`, `Shown`, `Scripts`, `PlainLaws`.
 #![tactic(auto)]
 
 pub mod laws;
+pub mod shown;

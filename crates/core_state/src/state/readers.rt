@@ -103,6 +103,7 @@ impl State {
     /// How many harts there are, 1 to 8.
     pub fn harts(&self) -> u8
         ensures value { result ≡ self.now.setup.harts }
+        ensures some { 0 < result }
         ensures range { result ≤ most_harts }
     {
         self.config.harts

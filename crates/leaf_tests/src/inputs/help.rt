@@ -10,14 +10,18 @@ use std::test::Fail;
 const COLUMNS: usize = 80;
 
 /// The words that ask for help, and what it tells; a bar stands between two of those.
-static HELPS: [(&str, &str); 3] = [
+static HELPS: [(&str, &str); 4] = [
     (
         "smtsim --help",
-        "Usage: smtsim <COMMAND>|step|list|harts|extra|queue|ram|limit|turns|actors",
+        "Usage: smtsim <COMMAND>|step|plain|list|harts|extra|queue|ram|limit|turns|actors",
     ),
     (
         "smtsim step --help",
         "Usage: smtsim step [OPTIONS] <IMAGE> <SCRIPT>|--config <FILE>|--records|--show",
+    ),
+    (
+        "smtsim plain --help",
+        "Usage: smtsim plain [OPTIONS] <IMAGE> <ORDER>|--config <FILE>|--records|0 to 255",
     ),
     (
         "smtsim list --help",

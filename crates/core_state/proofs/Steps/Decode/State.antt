@@ -1,16 +1,16 @@
 -- A state's decode: the state is a core's after it.
-use Rattle.std.specs.Prelude.{◌≡◌, ℕ, ◌<◌, true, List, ◌∷◌, None, length}
+use Rattle.std.specs.Prelude.{◌≡◌, ℕ, ◌<◌, true, List, [], ◌∷◌, ◌++◌, None, length}
 use Rattle.std.proofs.Common.{◌∙◌, Bool, sym, subst, arith}
 use Rattle.std.proofs.lemmas.Bool.Decides.{nat_tests}
-use Rattle.events.specs.{declared.event.Event.Event, declared.event.Event.TheVariants.Decode}
+use Rattle.events.specs.{History.EventList, declared.event.Event.Event, declared.event.Event.TheVariants.Decode}
 use Rattle.smt_model.specs.{Asks.AskDecode, Asks.answers, Fates.is_of, Picture.Picture, Picture.picture, Rules.refused}
 use Rattle.smt_model.specs.{Jobs.is_actor, Steps.IsDecode}
-use Rattle.smt_model.proofs.Steps.Decode.{steps-Decode}
+use Rattle.smt_model.proofs.{Steps.Decode.steps-Decode, Fates.Choosing.hart_there}
 use Rattle.core_state.specs.{Agree.PartsAgree, Agree.From, Agree.KeepsSizes, Decode.CanDecode, Decode.Decodes}
 use Rattle.core_state.specs.{View.CoreView, declared.parts.Parts.Parts, declared.state.State.TheInside.Inside}
 use Rattle.core_state.specs.State.{IsCore, view_of, past_of, setup_in}
-use Rattle.core_state.proofs.Steps.Decode.Rules.{oldest_is, decode_can, decode_from, CannotDecode}
-use Rattle.core_state.proofs.{Steps.Invariant.Grows, Views.Viewed.actor_in}
+use Rattle.core_state.proofs.Steps.Decode.Rules.{oldest_is, decode_can, can_decode, decode_from, CannotDecode}
+use Rattle.core_state.proofs.{Steps.Invariant.core_grown, Steps.Invariant.quiet_decode, Views.Viewed.actor_in}
 
 -- What the state decodes for the actor.
 pub record IsDecodeIn (i : Inside) (actor h s : ℕ) : Type 0 where
@@ -44,27 +44,38 @@ decode_answers i core actor h s is =
     answering (past_of i) actor h s
     (oldest_is (setup_in i) (past_of i) core.legal h s (can_in i core actor h s is).oldest).of_hart
 
-pub decode_starts : (i : Inside) → IsCore i → (actor h s : ℕ) → IsDecodeIn i actor h s
-    → From i.parts h (λ p q. Decodes p q h)
-decode_starts i core actor h s is =
-    decode_from (setup_in i) (past_of i) core.legal i.parts core.agrees actor h s is.inside (can_in i core actor h s is)
-    (decode_ok i core actor h s is)
+pub decode_owns : (i : Inside) → IsCore i → (actor h s : ℕ) → IsDecodeIn i actor h s → is_of (past_of i) h s ≡ true
+decode_owns i core actor h s is =
+    (oldest_is (setup_in i) (past_of i) core.legal h s (can_in i core actor h s is).oldest).of_hart
 
-pub decode_grows : (i : Inside) → IsCore i → (actor h s : ℕ) (parts : Parts) → IsDecodeIn i actor h s
-    → ((p q : Picture) → PartsAgree p i.parts → (n : ℕ) → IsDecode p q h n → PartsAgree q parts)
-    → KeepsSizes i.parts parts
-    → Grows i parts (Decode actor s)
-decode_grows i core actor h s parts is agrees sizes =
-    let ok = decode_ok i core actor h s is in
-    let before = picture (setup_in i) (past_of i) in
-    let after = picture (setup_in i) (Decode actor s ∷ past_of i) in
-    let of_hart = (oldest_is (setup_in i) (past_of i) core.legal h s (can_in i core actor h s is).oldest).of_hart in
-    record {
-      allowed = ok;
-      agrees =
-          agrees before after core.agrees s (steps-Decode (setup_in i) (past_of i) core.legal actor s ok h of_hart);
-      sizes = sizes;
-    }
+-- One that may come next.
+module _ (i : Inside) (core : IsCore i) (v : CoreView) (at : view_of i ≡ v) (actor h s : ℕ)
+    (ok : refused v.setup v.past (Decode actor s) ≡ None) (of_h : is_of v.past h s ≡ true) where
+  allowed : refused (setup_in i) (past_of i) (Decode actor s) ≡ None
+  allowed = subst (λ u. refused u.setup u.past (Decode actor s) ≡ None) (sym at) ok
+
+  own : is_of (past_of i) h s ≡ true
+  own = subst (λ u. is_of u.past h s ≡ true) (sym at) of_h
+
+  pub decode_starts : From i.parts h (λ p q. Decodes p q h)
+  decode_starts =
+      decode_from (setup_in i) (past_of i) core.legal i.parts core.agrees actor h s
+      (subst (λ n. h < n) (sym core.harts) (hart_there (setup_in i) (past_of i) core.legal h s own))
+      (can_decode (setup_in i) (past_of i) actor h s own allowed) allowed
+
+  pub decode_core : (parts : Parts) (history : EventList)
+      → ((p q : Picture) → PartsAgree p i.parts → (n : ℕ) → IsDecode p q h n → PartsAgree q parts)
+      → KeepsSizes i.parts parts
+      → history ≡ record i.history { items = i.history.items ++ Decode actor s ∷ [] }
+      → IsCore (record i { parts = parts; history = history })
+  decode_core parts history agrees sizes longer =
+      core_grown i parts history (Decode actor s) core
+      (record {
+        allowed = allowed;
+        agrees = agrees (picture (setup_in i) (past_of i)) (picture (setup_in i) (Decode actor s ∷ past_of i))
+            core.agrees s (steps-Decode (setup_in i) (past_of i) core.legal actor s allowed h own);
+        sizes = sizes;
+      }) (quiet_decode actor s) longer
 
 pub none_decodes : (i : Inside) → IsCore i → (actor h : ℕ)
     → ((p : Picture) → PartsAgree p i.parts → h < length i.parts.harts.items → (s : ℕ) → CanDecode p h s → ⊥)

@@ -26,7 +26,7 @@ and_known true true c d one two = rw (sym one, sym two) refl
 and_known true false c d one two = rw (sym one, sym two) refl
 and_known false b c d one two = rw (sym one) refl
 
-ready_known : (p : Picture) (e : Entry) → IsEntry p e
+pub ready_known : (p : Picture) (e : Entry) → IsEntry p e
     → has_values e ≡ (is_some (p.reads first_source e.seq) && is_some (p.reads second_source e.seq))
 ready_known p e is =
     ap (λ xs. list_all is_value xs) is.sources

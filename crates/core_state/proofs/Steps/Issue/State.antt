@@ -1,11 +1,11 @@
 -- A core's issue: what it finds is allowed, the parts can make the step, the job is the actor's open one, and where it
 -- finds nothing no issue is allowed.
-use Rattle.std.specs.Prelude.{◌≡◌, ℕ, ◌<◌, ◌≤◌, true, List, [], ◌∷◌, ◌++◌, length, reverse, Option, Some, None}
+use Rattle.std.specs.Prelude.{◌≡◌, ℕ, ◌<◌, ◌≤◌, ◌==◌, true, List, [], ◌∷◌, ◌++◌, length, reverse, Option, Some, None}
 use Rattle.std.specs.Prelude.{slice_index_or, option_and_then}
 use Rattle.std.proofs.Common.{◌∙◌, refl, sym, ap, subst, arith}
 use Rattle.std.proofs.{lemmas.Bool.Decides.nat_tests, lemmas.Option.slice_get_past, lemmas.Option.slice_get_read}
 use Rattle.rv_decode.specs.declared.op.UnitKind.{UnitKind}
-use Rattle.events.specs.declared.event.Event.{Event}
+use Rattle.events.specs.{History.EventList, declared.event.Event.Event}
 use Rattle.events.specs.declared.event.Event.TheVariants.{Fetch, Decode, Rename, Issue, Complete, Drop, Retire}
 use Rattle.exec_units.specs.Job.{JobView}
 use Rattle.issue_queue.specs.{Entry.has_values, declared.entry.Entry.Entry}
@@ -16,7 +16,10 @@ use Rattle.core_state.specs.Agree.{PartsAgree, IsEntry, IsOpenJob, KeepsSizes, F
 use Rattle.core_state.specs.{Answers.AllowsNone, Answers.IsJobOf, State.IsCore, State.past_of, State.setup_in}
 use Rattle.core_state.specs.{declared.parts.Parts.Parts, declared.state.State.TheInside.Inside}
 use Rattle.core_state.specs.Issuing.{CanIssue, IsIssuing, job_of, open_job_of}
-use Rattle.core_state.proofs.{Steps.Invariant.Grows, Steps.Invariant.past_push, Steps.NoAnswer.allows_none}
+use Rattle.core_state.specs.{State.view_of, View.CoreView}
+use Rattle.smt_model.proofs.Allowed.{issue_allowed}
+use Rattle.core_state.proofs.{Steps.Invariant.core_grown, Steps.Invariant.quiet_issue, Steps.Issue.Next.ready_known}
+use Rattle.core_state.proofs.{Steps.Invariant.past_push, Steps.NoAnswer.allows_none, Steps.NoAnswer.core_sizes}
 use Rattle.core_state.proofs.{Steps.Issue.Parts.job_issued}
 use Rattle.core_state.proofs.Steps.Issue.Rules.{issue_may, issue_can, issue_unit, issuing, entry_of_hart}
 
@@ -75,36 +78,53 @@ issue_allowed_now i actor kind e core issues =
     issue_may (setup_in i) (past_of i) actor e.seq kind issues.actor_is issues.unit
     (issues.can (picture (setup_in i) (past_of i)) core.agrees).1
 
-pub issue_step : (i : Inside) (actor : ℕ) (kind : UnitKind) (e : Entry) → IsCore i → Issues i actor kind e
-    → IsIssuing (picture (setup_in i) (past_of i)) (picture (setup_in i) (Issue actor e.seq ∷ past_of i)) actor e
-issue_step i actor kind e core issues =
-    issuing (setup_in i) (past_of i) core.legal actor e (issues.can (picture (setup_in i) (past_of i)) core.agrees).0
-    (issue_allowed_now i actor kind e core issues)
+-- One that may come next.
+module _ (i : Inside) (core : IsCore i) (v : CoreView) (at : view_of i ≡ v) (actor : ℕ) (e : Entry)
+    (ok : refused v.setup v.past (Issue actor e.seq) ≡ None) (entry : IsEntry (picture v.setup v.past) e) where
+  allowed : refused (setup_in i) (past_of i) (Issue actor e.seq) ≡ None
+  allowed = subst (λ u. refused u.setup u.past (Issue actor e.seq) ≡ None) (sym at) ok
 
-pub issue_from : (i : Inside) (actor : ℕ) (kind : UnitKind) (e : Entry) → IsCore i → Issues i actor kind e
-    → From i.parts e.hart (λ p q. IsIssuing p q actor e)
-issue_from i actor kind e core issues =
-    let of_hart =
-    entry_of_hart (setup_in i) (past_of i) e (issues.can (picture (setup_in i) (past_of i)) core.agrees).0 in
-    record {
-      before = picture (setup_in i) (past_of i);
-      after = picture (setup_in i) (Issue actor e.seq ∷ past_of i);
-      inside = subst (λ m. e.hart < m) (sym core.harts)
-          (hart_there (setup_in i) (past_of i) core.legal e.hart e.seq of_hart);
-      agrees = core.agrees;
-      step = issue_step i actor kind e core issues;
-    }
+  entry_now : IsEntry (picture (setup_in i) (past_of i)) e
+  entry_now = subst (λ u. IsEntry (picture u.setup u.past) e) (sym at) entry
 
-pub issue_grows : (i : Inside) (parts : Parts) (actor : ℕ) (kind : UnitKind) (e : Entry) → IsCore i
-    → Issues i actor kind e
-    → ((p q : Picture) → PartsAgree p i.parts → IsIssuing p q actor e → PartsAgree q parts) → KeepsSizes i.parts parts
-    → Grows i parts (Issue actor e.seq)
-issue_grows i parts actor kind e core issues agrees sizes = record {
-  allowed = issue_allowed_now i actor kind e core issues;
-  agrees = agrees (picture (setup_in i) (past_of i)) (picture (setup_in i) (Issue actor e.seq ∷ past_of i)) core.agrees
-      (issue_step i actor kind e core issues);
-  sizes = sizes;
-}
+  pub issue_actor : actor < 16
+  issue_actor =
+      let is_one = (issue_allowed (setup_in i) (past_of i) actor e.seq allowed).actor_is in
+      let few = (core_sizes i core).actors in
+      grind (arith, nat_tests)
+
+  pub issue_ready : has_values e ≡ true
+  issue_ready =
+      ready_known (picture (setup_in i) (past_of i)) e entry_now
+      ∙ (issue_allowed (setup_in i) (past_of i) actor e.seq allowed).ready
+
+  pub issue_step_of : IsIssuing (picture (setup_in i) (past_of i)) (picture (setup_in i) (Issue actor e.seq ∷ past_of i)) actor e
+  issue_step_of = issuing (setup_in i) (past_of i) core.legal actor e entry_now allowed
+
+  pub issue_starts : From i.parts e.hart (λ p q. IsIssuing p q actor e)
+  issue_starts = record {
+    before = picture (setup_in i) (past_of i);
+    after = picture (setup_in i) (Issue actor e.seq ∷ past_of i);
+    inside = subst (λ m. e.hart < m) (sym core.harts)
+        (hart_there (setup_in i) (past_of i) core.legal e.hart e.seq
+        (entry_of_hart (setup_in i) (past_of i) e entry_now));
+    agrees = core.agrees;
+    step = issue_step_of;
+  }
+
+  pub issue_core : (parts : Parts) (history : EventList)
+      → ((p q : Picture) → PartsAgree p i.parts → IsIssuing p q actor e → PartsAgree q parts)
+      → KeepsSizes i.parts parts
+      → history ≡ record i.history { items = i.history.items ++ Issue actor e.seq ∷ [] }
+      → IsCore (record i { parts = parts; history = history })
+  issue_core parts history agrees sizes longer =
+      core_grown i parts history (Issue actor e.seq) core
+      (record {
+        allowed = allowed;
+        agrees = agrees (picture (setup_in i) (past_of i)) (picture (setup_in i) (Issue actor e.seq ∷ past_of i))
+            core.agrees issue_step_of;
+        sizes = sizes;
+      }) (quiet_issue actor e.seq) longer
 
 -- ---- The job
 
@@ -120,20 +140,21 @@ open_job_is setup past k e is = record {
   second = is.second;
 }
 
-pub issue_job : (i : Inside) (actor : ℕ) (kind : UnitKind) (e : Entry) (view : JobView) (items : List Event) → IsCore i
-    → Issues i actor kind e
-    → has_values e ≡ true → view ≡ job_of e → items ≡ i.history.items ++ Issue actor e.seq ∷ []
-    → IsJobOf (setup_in i) (reverse items) actor view
-issue_job i actor kind e view items core issues ready is longer =
-    let setup = setup_in i in
-    let lent : IsOpenJob (picture setup (Issue actor e.seq ∷ past_of i)) actor (open_job_of e) =
-    job_issued (picture setup (past_of i)) (picture setup (Issue actor e.seq ∷ past_of i)) actor e
-    (issue_step i actor kind e core issues) ready in
-    let now : Issue actor e.seq ∷ past_of i ≡ reverse items =
-    sym (ap reverse longer ∙ past_push i.history.items (Issue actor e.seq)) in
-    subst (λ past. IsJobOf setup past actor view) now
-    (subst (IsJobOf setup (Issue actor e.seq ∷ past_of i) actor) (sym is)
-    (open_job_is setup (Issue actor e.seq ∷ past_of i) actor e lent))
+module _ (i : Inside) (core : IsCore i) (v : CoreView) (at : view_of i ≡ v) (actor : ℕ) (e : Entry)
+    (ok : refused v.setup v.past (Issue actor e.seq) ≡ None) (entry : IsEntry (picture v.setup v.past) e) where
+  pub issue_job : (view : JobView) (items : List Event) → view ≡ job_of e
+      → items ≡ i.history.items ++ Issue actor e.seq ∷ []
+      → IsJobOf (setup_in i) (reverse items) actor view
+  issue_job view items is longer =
+      let setup = setup_in i in
+      let lent : IsOpenJob (picture setup (Issue actor e.seq ∷ past_of i)) actor (open_job_of e) =
+      job_issued (picture setup (past_of i)) (picture setup (Issue actor e.seq ∷ past_of i)) actor e
+      (issue_step_of i core v at actor e ok entry) (issue_ready i core v at actor e ok entry) in
+      let now : Issue actor e.seq ∷ past_of i ≡ reverse items =
+      sym (ap reverse longer ∙ past_push i.history.items (Issue actor e.seq)) in
+      subst (λ past. IsJobOf setup past actor view) now
+      (subst (IsJobOf setup (Issue actor e.seq ∷ past_of i) actor) (sym is)
+      (open_job_is setup (Issue actor e.seq ∷ past_of i) actor e lent))
 
 -- ---- Where nothing is found
 
@@ -164,3 +185,6 @@ nothing_to_issue i actor kind core unit none =
     allows_none (setup_in i) (AskIssue actor) (past_of i) (no_issue i actor (λ n ok.
     none (picture (setup_in i) (past_of i)) core.agrees n
     (issue_can (setup_in i) (past_of i) core.legal actor n kind unit ok)))
+
+pub same_actor : (actor : ℕ) → (actor == actor) ≡ true
+same_actor actor = grind (arith, nat_tests)

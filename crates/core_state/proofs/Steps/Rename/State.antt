@@ -1,9 +1,9 @@
 -- A core's rename: what it finds is allowed and answers the ask, the parts can make the step, and where it finds
 -- nothing no rename is allowed.
-use Rattle.std.specs.Prelude.{◌≡◌, ℕ, ◌<◌, ◌==◌, ◌&&◌, true, false, List, ◌∷◌, length, Option, Some, None}
+use Rattle.std.specs.Prelude.{◌≡◌, ℕ, ◌<◌, ◌==◌, ◌&&◌, true, false, List, [], ◌∷◌, ◌++◌, length, Option, Some, None}
 use Rattle.std.proofs.Common.{◌∙◌, refl, sym, subst, arith}
 use Rattle.std.proofs.{lemmas.Bool.and_parts, lemmas.Bool.Decides.nat_tests}
-use Rattle.events.specs.declared.event.Event.{Event}
+use Rattle.events.specs.{History.EventList, declared.event.Event.Event}
 use Rattle.events.specs.declared.event.Event.TheVariants.{Fetch, Decode, Rename, Issue, Complete, Drop, Retire}
 use Rattle.smt_model.specs.{Asks.answers, Asks.AskRename, Fates.is_of, Picture.Picture, Picture.picture, Rules.refused}
 use Rattle.smt_model.specs.{Jobs.is_actor}
@@ -11,7 +11,8 @@ use Rattle.smt_model.proofs.{Allowed.rename_allowed, Fates.Choosing.hart_there}
 use Rattle.core_state.specs.{Agree.PartsAgree, Agree.KeepsSizes, Agree.From, Answers.AllowsNone, Answers.IsLeastFree}
 use Rattle.core_state.specs.{Renaming.CanRename, Renaming.IsRenaming, Renaming.IsLeastIn, State.IsCore, State.past_of}
 use Rattle.core_state.specs.{State.setup_in, declared.parts.Parts.Parts, declared.state.State.TheInside.Inside}
-use Rattle.core_state.proofs.{Steps.Invariant.Grows, Steps.NoAnswer.allows_none, Steps.NoAnswer.core_sizes}
+use Rattle.core_state.specs.{State.view_of, View.CoreView}
+use Rattle.core_state.proofs.{Steps.Invariant.core_grown, Steps.Invariant.quiet_rename, Steps.NoAnswer.allows_none, Steps.NoAnswer.core_sizes}
 use Rattle.core_state.proofs.Steps.Rename.Rules.{decoded, rename_may, rename_can, renaming}
 
 -- What the parts find to rename can be renamed in every picture with which they agree.
@@ -34,42 +35,45 @@ pub rename_allowed_now : (i : Inside) (actor h n : ℕ) (taken : Option ℕ) →
 rename_allowed_now i actor h n taken core actor_is can =
     rename_may (setup_in i) (past_of i) core.legal actor h n taken actor_is (can_now i h n taken core can)
 
-pub rename_step : (i : Inside) (actor h n : ℕ) (taken : Option ℕ) → IsCore i → is_actor (setup_in i) actor ≡ true
-    → CanBeRenamed i.parts h n taken
-    → IsRenaming (picture (setup_in i) (past_of i)) (picture (setup_in i) (Rename actor n taken ∷ past_of i))
-    i.parts.queue.size h taken
-rename_step i actor h n taken core actor_is can =
-    subst
-    (λ size. IsRenaming (picture (setup_in i) (past_of i)) (picture (setup_in i) (Rename actor n taken ∷ past_of i))
-    size h taken) (sym core.queue)
-    (renaming (setup_in i) (past_of i) core.legal (core_sizes i core).registers actor h n taken
-    (rename_allowed_now i actor h n taken core actor_is can)
-    (rename_of i h n taken core can))
+-- One that may come next.
+module _ (i : Inside) (core : IsCore i) (v : CoreView) (at : view_of i ≡ v) (actor h n : ℕ) (taken : Option ℕ)
+    (ok : refused v.setup v.past (Rename actor n taken) ≡ None) (of_h : is_of v.past h n ≡ true) where
+  allowed : refused (setup_in i) (past_of i) (Rename actor n taken) ≡ None
+  allowed = subst (λ u. refused u.setup u.past (Rename actor n taken) ≡ None) (sym at) ok
 
-pub rename_from : (i : Inside) (actor h n : ℕ) (taken : Option ℕ) → IsCore i → is_actor (setup_in i) actor ≡ true
-    → h < length i.parts.harts.items
-    → CanBeRenamed i.parts h n taken → From i.parts h (λ p q. IsRenaming p q i.parts.queue.size h taken)
-rename_from i actor h n taken core actor_is inside can = record {
-  before = picture (setup_in i) (past_of i);
-  after = picture (setup_in i) (Rename actor n taken ∷ past_of i);
-  inside = inside;
-  agrees = core.agrees;
-  step = rename_step i actor h n taken core actor_is can;
-}
+  own : is_of (past_of i) h n ≡ true
+  own = subst (λ u. is_of u.past h n ≡ true) (sym at) of_h
 
-pub rename_grows : (i : Inside) (parts : Parts) (actor h n : ℕ) (taken : Option ℕ) → IsCore i
-    → is_actor (setup_in i) actor ≡ true
-    → CanBeRenamed i.parts h n taken
-    → ((p q : Picture) → PartsAgree p i.parts → IsRenaming p q i.parts.queue.size h taken → PartsAgree q parts)
-    → KeepsSizes i.parts parts
-    → Grows i parts (Rename actor n taken)
-rename_grows i parts actor h n taken core actor_is can agrees sizes = record {
-  allowed = rename_allowed_now i actor h n taken core actor_is can;
-  agrees =
-      agrees (picture (setup_in i) (past_of i)) (picture (setup_in i) (Rename actor n taken ∷ past_of i)) core.agrees
-      (rename_step i actor h n taken core actor_is can);
-  sizes = sizes;
-}
+  step : IsRenaming (picture (setup_in i) (past_of i)) (picture (setup_in i) (Rename actor n taken ∷ past_of i))
+      i.parts.queue.size h taken
+  step =
+      subst
+      (λ size. IsRenaming (picture (setup_in i) (past_of i)) (picture (setup_in i) (Rename actor n taken ∷ past_of i))
+      size h taken) (sym core.queue)
+      (renaming (setup_in i) (past_of i) core.legal (core_sizes i core).registers actor h n taken allowed own)
+
+  pub rename_starts : From i.parts h (λ p q. IsRenaming p q i.parts.queue.size h taken)
+  rename_starts = record {
+    before = picture (setup_in i) (past_of i);
+    after = picture (setup_in i) (Rename actor n taken ∷ past_of i);
+    inside = subst (λ m. h < m) (sym core.harts) (hart_there (setup_in i) (past_of i) core.legal h n own);
+    agrees = core.agrees;
+    step = step;
+  }
+
+  pub rename_core : (parts : Parts) (history : EventList)
+      → ((p q : Picture) → PartsAgree p i.parts → IsRenaming p q i.parts.queue.size h taken → PartsAgree q parts)
+      → KeepsSizes i.parts parts
+      → history ≡ record i.history { items = i.history.items ++ Rename actor n taken ∷ [] }
+      → IsCore (record i { parts = parts; history = history })
+  rename_core parts history agrees sizes longer =
+      core_grown i parts history (Rename actor n taken) core
+      (record {
+        allowed = allowed;
+        agrees = agrees (picture (setup_in i) (past_of i)) (picture (setup_in i) (Rename actor n taken ∷ past_of i))
+            core.agrees step;
+        sizes = sizes;
+      }) (quiet_rename actor n taken) longer
 
 pub rename_answers : (past : List Event) (actor h n : ℕ) → is_of past h n ≡ true
     → ((actor == actor) && is_of past h n) ≡ true

@@ -1,9 +1,9 @@
 -- A retirement that looks at memory again: the effect that the rules want may come next, and what it changes by the
 -- tests of its end and of its second look.
-use Rattle.std.specs.Prelude.{◌≡◌, ℕ, ◌≤◌, ◌==◌, Bool, true, false, List, ◌∷◌, Option, Some, None, zero, suc, ◌+◌}
+use Rattle.std.specs.Prelude.{◌≡◌, ℕ, ◌≤◌, Bool, true, false, List, ◌∷◌, Option, Some, None, zero, suc, ◌+◌}
 use Rattle.std.specs.Prelude.{◌*◌, ◌^◌}
-use Rattle.std.proofs.Common.{◌∙◌, refl, sym, ap, inl, inr, arith}
-use Rattle.std.proofs.{lemmas.Bool.cases_Bool, lemmas.Bool.Decides.nat_tests}
+use Rattle.std.proofs.Common.{◌∙◌, refl, sym, ap, arith}
+use Rattle.std.proofs.{lemmas.Bool.Decides.nat_tests}
 use Rattle.rv_decode.specs.declared.op.Op.{Op}
 use Rattle.events.specs.{declared.effect.Next.Next, declared.effect.Next.TheVariants.Pc}
 use Rattle.events.specs.{declared.effect.Next.TheVariants.Ended, declared.effect.Next.TheVariants.Stopped}
@@ -12,13 +12,13 @@ use Rattle.events.specs.{declared.effect.Written.Written, declared.event.Event.E
 use Rattle.events.specs.declared.event.Event.TheVariants.{Retire}
 use Rattle.retire_squash.specs.declared.active.Active.{Active}
 use Rattle.smt_model.specs.{Basics.same_number, Setup.Setup, Setup.registers_of, Nexts.is_last, Nexts.pc_after}
-use Rattle.smt_model.specs.{Kinds.access_size, Kinds.kind_of, Kinds.is_loading, Exec.Computed, Effects.effect_of}
-use Rattle.smt_model.specs.{Outcomes.outcome_of, Bytes.number_at, Bytes.read, Bytes.read_value, Picture.picture}
+use Rattle.smt_model.specs.{Kinds.access_size, Effects.effect_of}
+use Rattle.smt_model.specs.{Bytes.number_at, Bytes.read, Bytes.read_value, Picture.picture}
 use Rattle.smt_model.specs.{Reservations.holds_word, Memory.byte_at, Memory.reserved, Fetching.fetch_pc}
 use Rattle.smt_model.specs.{Flights.flight, Jobs.is_actor, Steps.IsRetire, Steps.IsReplay, Steps.IsEnd}
 use Rattle.smt_model.specs.{Comparisons.same_next, Comparisons.same_write, Comparisons.same_effect}
-use Rattle.smt_model.specs.Fates.{Fetched, Completed, fate, fetching, is, is_of, is_replayed, op_at, op_of_fetched}
-use Rattle.smt_model.specs.Fates.{squashes_at_retirement, completion}
+use Rattle.smt_model.specs.Fates.{Fetched, Completed, fetching, is, is_of, is_replayed, op_of_fetched}
+use Rattle.smt_model.specs.Fates.{squashes_at_retirement}
 use Rattle.smt_model.specs.Rules.{computed_at, effect_now, is_first, is_legal, of_fetched, refused}
 use Rattle.smt_model.proofs.{Allowed.retire_allows, Fates.Moves.same_number-self, Steps.End.steps-End}
 use Rattle.smt_model.proofs.{Steps.Retire.steps-Retire, Steps.Replay.steps-Replay}

@@ -1,27 +1,27 @@
 -- The history's side of a retirement: the oldest instruction of a flight may retire where it is completed, with the
 -- effect that the rules want now, and the picture then changes by that step; where it isn't completed, none of its hart
 -- may.
-use Rattle.std.specs.Prelude.{◌≡◌, ℕ, ◌<◌, ◌≤◌, ◌==◌, ◌&&◌, Bool, true, false, List, [], ◌∷◌, drop, Option, Some, None}
+use Rattle.std.specs.Prelude.{◌≡◌, ℕ, ◌<◌, ◌≤◌, ◌==◌, Bool, true, false, List, [], ◌∷◌, drop, Option, Some, None}
 use Rattle.std.specs.Prelude.{is_some}
 use Rattle.std.specs.List.{AllByRecursion}
-use Rattle.std.proofs.Common.{◌∙◌, refl, sym, ap, subst, inl, inr, arith}
+use Rattle.std.proofs.Common.{◌∙◌, refl, sym, ap, subst, arith}
 use Rattle.std.proofs.lemmas.Bool.Decides.{nat_tests}
-use Rattle.events.specs.{declared.effect.Effect.Effect, declared.effect.Outcome.Outcome, declared.effect.Next.Next}
+use Rattle.events.specs.{declared.effect.Effect.Effect, declared.effect.Outcome.Outcome}
 use Rattle.events.specs.{declared.event.Event.Event}
 use Rattle.events.specs.declared.effect.Next.TheVariants as nexts
 use Rattle.events.specs.declared.event.Event.TheVariants.{Fetch, Decode, Rename, Issue, Complete, Drop, Retire}
 use Rattle.retire_squash.specs.{declared.active.Active.Active, declared.active.Stage.Stage}
 use Rattle.retire_squash.specs.declared.active.Stage.TheVariants as stages
 use Rattle.rv_decode.specs.Decode.{op_of_word}
-use Rattle.smt_model.specs.{Asks.AskRetire, Basics.first, Basics.same_number, Basics.or_zero, Setup.Setup}
+use Rattle.smt_model.specs.{Asks.AskRetire, Basics.first, Setup.Setup}
 use Rattle.smt_model.specs.{Setup.registers_of, Nexts.is_last, Nexts.pc_after, Fetching.fetch_pc, Steps.IsReplay}
 use Rattle.smt_model.specs.{Flights.flight, Picture.Picture, Picture.picture}
 use Rattle.smt_model.specs.{Jobs.is_actor}
 use Rattle.smt_model.specs.Kinds.{destination}
 use Rattle.smt_model.specs.Fates.{Fetched, Completed, fate, is, stage, is_of, op_at, op_of_fetched, fetching}
 use Rattle.smt_model.specs.Fates.{is_replayed, completion}
-use Rattle.smt_model.specs.Rules.{is_first, is_legal, of_fetched, refused, effect_now}
-use Rattle.smt_model.proofs.{Allowed.retire_allowed, Allowed.retire_allows, Registers.Below.destination-below}
+use Rattle.smt_model.specs.Rules.{is_legal, of_fetched, refused, effect_now}
+use Rattle.smt_model.proofs.{Allowed.retire_allowed, Registers.Below.destination-below}
 use Rattle.smt_model.proofs.{Fates.Choosing.hart_there, Events.SquashedRegisters.flight-rises, Lists.Each, Lists.Rises}
 use Rattle.smt_model.proofs.{Fates.Moves.stage_of, Fates.Moves.fate_at}
 use Rattle.smt_model.proofs.Fates.Numbers.{first_of_hart}

@@ -1,5 +1,5 @@
 -- A core's retirement: what its parts' step starts from, and that the state is a core's again after it.
-use Rattle.std.specs.Prelude.{◌≡◌, ℕ, ◌<◌, ◌≤◌, ◌+◌, Bool, true, false, List, [], ◌∷◌, ◌++◌, Option, Some, None, IfNone}
+use Rattle.std.specs.Prelude.{◌≡◌, ℕ, ◌<◌, ◌≤◌, ◌+◌, ◌==◌, Bool, true, List, [], ◌∷◌, ◌++◌, Option, Some, None, IfNone}
 use Rattle.std.specs.Prelude.{length, reverse, vec_capacity, IfSome}
 use Rattle.elf_image.specs.Image.{ProgramImage}
 use Rattle.rv_decode.specs.declared.op.Op.{Op}
@@ -22,6 +22,14 @@ use Rattle.core_state.specs.{Agree.PartsAgree, Agree.KeepsSizes, Agree.From, Ans
 use Rattle.core_state.specs.{declared.parts.Parts.Parts, declared.state.State.TheInside.Inside}
 use Rattle.core_state.specs.Retirement.{CanRetire, NoneCanRetire, Retires}
 use Rattle.core_state.specs.State.{IsCore, past_of, setup_in, view_of}
+use Rattle.retire_squash.specs.declared.active.Stage.{Stage}
+use Rattle.retire_squash.specs.declared.active.Stage.TheVariants as stages
+use Rattle.smt_model.specs.{Basics.holds_of, Comparisons.same_effect, Fates.Completed, Fates.fate, Fates.stage}
+use Rattle.smt_model.specs.{Flights.flight}
+use Rattle.smt_model.proofs.{Allowed.retire_allowed, Allowed.RetireAllowed, Fates.Choosing.hart_there}
+use Rattle.smt_model.proofs.{Fates.Moves.fate_at, Fates.Moves.stage_of, Fates.Numbers.first_of_hart}
+use Rattle.core_state.specs.Agree.{IsActive, IsStage}
+use Rattle.core_state.proofs.Following.Sameness.{same_effect-is}
 use Rattle.core_state.proofs.Steps.Invariant.{core_retired}
 use Rattle.core_state.proofs.Steps.Retire.Look.{fetched_of, retires_now, effect-same}
 use Rattle.core_state.proofs.{Steps.Retire.Writes.can_write, Steps.Complete.Look.says_with_look}
@@ -92,7 +100,7 @@ write_in_core i h x effect core is =
 pub record Finds (i : Inside) (actor h : ℕ) (x : Active) (o : Outcome) (effect : Effect) : Type 0 where
   pub there : is_actor (setup_in i) actor ≡ true
   pub inside : h < length i.parts.harts.items
-  pub can : (p : Picture) → PartsAgree p i.parts → CanRetire p h x o
+  pub can : CanRetire (picture (setup_in i) (past_of i)) h x o
   pub effect_is : effect ≡ effect_now (setup_in i) (past_of i) x.seq (fetched_of h x)
 
 pub finds_in : (i : Inside) (v : CoreView) (actor h : ℕ) (x : Active) (o : Outcome) (effect : Effect) (has : Bool)
@@ -103,7 +111,7 @@ pub finds_in : (i : Inside) (v : CoreView) (actor h : ℕ) (x : Active) (o : Out
 finds_in i v actor h x o effect has at tells true_is inside can core says = record {
   there = subst (λ w. is_actor w.setup actor ≡ true) (sym at) (sym tells ∙ true_is);
   inside = inside;
-  can = can;
+  can = can (picture (setup_in i) (past_of i)) core.agrees;
   effect_is = effect_in i h x o effect core (can (picture (setup_in i) (past_of i)) core.agrees) says;
 }
 
@@ -115,13 +123,13 @@ found_retires : (i : Inside) (actor h : ℕ) (x : Active) (o : Outcome) (effect 
     → Retires (now_of i) (picture (setup_in i) (Retire actor x.seq effect ∷ past_of i)) h x effect
 found_retires i actor h x o effect core finds =
     retires_by (setup_in i) (past_of i) core.legal (registers_fit i core) actor h finds.there x o effect
-    (finds.can (now_of i) core.agrees) finds.effect_is
+    finds.can finds.effect_is
 
 found_follows : (i : Inside) (actor h : ℕ) (x : Active) (o : Outcome) (effect : Effect) → IsCore i
     → Finds i actor h x o effect
     → refused (setup_in i) (past_of i) (Retire actor x.seq effect) ≡ None
 found_follows i actor h x o effect core finds =
-    retires_now (setup_in i) (past_of i) actor h finds.there x o effect (finds.can (now_of i) core.agrees)
+    retires_now (setup_in i) (past_of i) actor h finds.there x o effect finds.can
     finds.effect_is
 
 pub found_from : (i : Inside) (actor h : ℕ) (x : Active) (o : Outcome) (effect : Effect) → IsCore i
@@ -149,7 +157,7 @@ pub its_own_in : (i : Inside) (v : CoreView) (actor h : ℕ) (x : Active) (o : O
     → Finds i actor h x o effect → is_of v.past h x.seq ≡ true
 its_own_in i v actor h x o effect at core finds =
     subst (λ w. is_of w.past h x.seq ≡ true)
-    at (is_its_own (setup_in i) (past_of i) h x o (finds.can (now_of i) core.agrees))
+    at (is_its_own (setup_in i) (past_of i) h x o finds.can)
 
 pub none_in : (i : Inside) (v : CoreView) (actor h : ℕ) → view_of i ≡ v → IsCore i
     → (h < length i.parts.harts.items → (p : Picture) → PartsAgree p i.parts → NoneCanRetire p h)
@@ -179,7 +187,7 @@ core_after i parts now out history actor h x o effect core finds steps sizes rec
     let past = past_of i in
     let f : Fetched = record { hart = h; pc = x.pc; word = x.word; predicted = x.predicted } in
     let line : Record = record { hart = h; pc = x.pc; word = x.word; effect = effect } in
-    let can = finds.can (now_of i) core.agrees in
+    let can = finds.can in
     let newest : records (Retire actor x.seq effect ∷ past) ≡ line ∷ records past =
     records-Retire past actor x.seq effect f can.is_active.fetched in
     core_retired i parts now out history (Retire actor x.seq effect) core
@@ -206,3 +214,55 @@ core_after i parts now out history actor h x o effect core finds steps sizes rec
 pub if_none : {A : Type 0} → (r : Option A) (P : Type 0) → P → IfNone r P
 if_none None P holds = holds
 if_none (Some x) P holds = tt
+
+-- ---- One that may come next
+
+-- A completed instruction has its outcome in the active list.
+stage_outcome : (p : Picture) (s : ℕ) (at : Stage) → p.fate s ≡ Completed → IsStage p s at
+    → (o : Outcome) × (p.completion s ≡ Some o)
+stage_outcome p s stages.Renamed done is = absurd (omega (arith, ap stage (sym is ∙ done)))
+stage_outcome p s stages.Issued done is = absurd (omega (arith, ap stage (sym is ∙ done)))
+stage_outcome p s (stages.Completed outcome) done is = (outcome, is.1)
+
+module _ (i : Inside) (core : IsCore i) (v : CoreView) (at : view_of i ≡ v) (actor h : ℕ) (x : Active)
+    (effect : Effect) (ok : refused v.setup v.past (Retire actor x.seq effect) ≡ None)
+    (active : IsActive (picture v.setup v.past) h x) where
+  allowed : refused (setup_in i) (past_of i) (Retire actor x.seq effect) ≡ None
+  allowed = subst (λ u. refused u.setup u.past (Retire actor x.seq effect) ≡ None) (sym at) ok
+
+  active_now : IsActive (now_of i) h x
+  active_now = subst (λ u. IsActive (picture u.setup u.past) h x) (sym at) active
+
+  rules_hold : RetireAllowed (setup_in i) (past_of i) actor x.seq effect
+  rules_hold = retire_allowed (setup_in i) (past_of i) actor x.seq effect allowed
+
+  own : is_of (past_of i) h x.seq ≡ true
+  own = ap (holds_of (λ f. f.hart == h)) active_now.fetched ∙ (grind (arith, nat_tests))
+
+  done : fate (past_of i) x.seq ≡ Completed
+  done = fate_at (fate (past_of i) x.seq) Completed (stage_of (fate (past_of i) x.seq) Completed rules_hold.fated)
+
+  ends : (o : Outcome) × ((now_of i).completion x.seq ≡ Some o)
+  ends = stage_outcome (now_of i) x.seq x.stage done active_now.stage
+
+  same_now : same_effect effect (effect_now (setup_in i) (past_of i) x.seq (fetched_of h x)) ≡ true
+  same_now =
+      sym (ap (holds_of (λ f. same_effect effect (effect_now (setup_in i) (past_of i) x.seq f))) active_now.fetched)
+      ∙ rules_hold.effect_is
+
+  pub said_outcome : Outcome
+  said_outcome = ends.0
+
+  pub finds_next : Finds i actor h x said_outcome effect
+  unfolding said_outcome
+  finds_next = record {
+    there = rules_hold.actor_is;
+    inside = subst (λ n. h < n) (sym core.harts) (hart_there (setup_in i) (past_of i) core.legal h x.seq own);
+    can = record {
+      oldest = first_of_hart (past_of i) (flight (past_of i)) h x.seq own rules_hold.oldest;
+      is_active = active_now;
+      completed = done;
+      outcome = ends.1;
+    };
+    effect_is = same_effect-is effect (effect_now (setup_in i) (past_of i) x.seq (fetched_of h x)) same_now;
+  }

@@ -1,11 +1,11 @@
 -- What a retirement writes can be written: it is of a size that a store has, and has no fault.
-use Rattle.std.specs.Prelude.{◌≡◌, ◌⊎◌, ℕ, Bool, true, false, Option, Some, None, IfSome, if◌then◌else◌}
+use Rattle.std.specs.Prelude.{◌≡◌, ℕ, Bool, true, false, Option, Some, None, IfSome, if◌then◌else◌}
 use Rattle.std.specs.Prelude.{option_map, unwrap_or}
-use Rattle.std.proofs.Common.{◌∙◌, refl, sym, ap, subst, inl, inr, arith}
+use Rattle.std.proofs.Common.{refl, sym, ap, subst, inl, inr, arith}
 use Rattle.std.proofs.lemmas.Bool.{cases_Bool}
 use Rattle.elf_image.specs.Image.{ProgramImage}
 use Rattle.events.specs.{declared.effect.Next.Next, declared.effect.Next.TheVariants.Stopped}
-use Rattle.events.specs.{declared.effect.Effect.Effect, declared.effect.Written.Written, Width.HasWidth}
+use Rattle.events.specs.{declared.effect.Written.Written, Width.HasWidth}
 use Rattle.rv_decode.specs.{declared.op.Op.Op, declared.op.Op.TheVariants.Known, declared.op.Op.TheVariants.Illegal}
 use Rattle.rv_decode.specs.{declared.op.Op.TheVariants.NoWord, declared.instr.Instr.Instr}
 use Rattle.rv_decode.specs.{declared.instr.LoadOp.LoadOp, declared.instr.StoreOp.StoreOp}

@@ -11,6 +11,8 @@ returns c =
     (ap (λ (a : App). record a { top = record a.top { subcommand_required = true } }) c.new.ensures.app) in
     let first = c.in_ok-subcommand.ensures.shape c.in_ok-step.ensures.local
     ∙ ap₂ with_subcommand top_is (ap (λ (a : App). a.top) c.in_ok-step.ensures.app) in
-    IfOk-weaker c.subcommand-2.result _ _
+    let second = c.in_ok-subcommand-2.ensures.shape c.in_ok-plain.ensures.local
+    ∙ ap₂ with_subcommand first (ap (λ (a : App). a.top) c.in_ok-plain.ensures.app) in
+    IfOk-weaker c.subcommand-3.result _ _
     (λ made h. h.shape c.in_ok-list.ensures.local
-    ∙ ap₂ with_subcommand first (ap (λ (a : App). a.top) c.in_ok-list.ensures.app)) c.subcommand-2.ensures
+    ∙ ap₂ with_subcommand second (ap (λ (a : App). a.top) c.in_ok-list.ensures.app)) c.subcommand-3.ensures

@@ -14,5 +14,5 @@ returns c =
     let image = one_more _ _ _ _ _ begins c.image_argument.ensures c.in_ok-arg.ensures in
     let script = one_more _ _ _ _ _ image c.file_argument.ensures c.in_ok-arg-2.ensures in
     let config = one_more _ _ _ _ _ script c.config_option.ensures c.in_ok-arg-3.ensures in
-    let records = one_more _ _ _ _ _ config c.flag.ensures c.in_ok-arg-4.ensures in
-    IfOk-weaker c.arg-5.result _ _ (λ made. one_more _ _ _ made _ records c.flag-2.ensures) c.arg-5.ensures
+    let records = one_more _ _ _ _ _ config c.records_flag.ensures c.in_ok-arg-4.ensures in
+    IfOk-weaker c.arg-5.result _ _ (λ made. one_more _ _ _ made _ records c.flag.ensures) c.arg-5.ensures

@@ -9,3 +9,6 @@ returns-in-List-clause-zero g c = search rules
 
 pub returns-in-List-clause-listed : goal.returns-in-List-clause-listed
 returns-in-List-clause-listed g c = search rules
+
+pub returns-in-Plain-clause-reported : goal.returns-in-Plain-clause-reported
+returns-in-Plain-clause-reported g c = search rules

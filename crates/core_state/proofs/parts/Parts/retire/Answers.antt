@@ -1,5 +1,5 @@
 use Rattle.std.specs.Prelude.{slice_index_or}
-use Rattle.std.proofs.Common.{◌∙◌, refl, sym, ap}
+use Rattle.std.proofs.Common.{◌∙◌, sym, ap}
 use Rattle.core_state.proofs.Steps.Retire.Halt.{fetched_on, replays_on, ends_ended, ends_stopped}
 use Rattle.core_state.proofs.parts.Parts.retire.Goals as goal
 

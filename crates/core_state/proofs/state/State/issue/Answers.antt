@@ -1,12 +1,10 @@
-use Rattle.std.specs.Prelude.{◌≡◌, ◌≤◌, length, List, ◌∷◌, [], ◌++◌, None}
-use Rattle.std.proofs.Common.{◌∙◌, sym, ap, subst}
-use Rattle.events.specs.{History.EventList, declared.event.Event.TheVariants.Issue}
-use Rattle.exec_units.specs.Job.{JobView}
-use Rattle.smt_model.specs.{declared.config.Role.Role, Asks.AskIssue, Rules.refused}
-use Rattle.core_state.specs.{Answers.AllowsNone, State.setup_in, State.past_of, View.CoreView}
-use Rattle.core_state.proofs.Steps.Invariant.{Grows, core_grown, quiet_issue}
-use Rattle.core_state.proofs.Steps.Issue.State.{issues_now, no_role, unit_now, issue_allowed_now, issue_from}
-use Rattle.core_state.proofs.Steps.Issue.State.{issue_grows, issue_job, no_unit, nothing_to_issue}
+use Rattle.std.specs.Prelude.{◌≡◌, ◌≤◌, length, List, None}
+use Rattle.std.proofs.Common.{◌∙◌, subst}
+use Rattle.events.specs.{declared.event.Event.TheVariants.Issue}
+use Rattle.smt_model.specs.{declared.config.Role.Role, Asks.AskIssue, Picture.picture, Rules.refused}
+use Rattle.core_state.specs.{Agree.IsEntry, Answers.AllowsNone, State.setup_in, State.past_of, View.CoreView}
+use Rattle.core_state.proofs.Steps.Issue.State.{issues_now, no_role, unit_now, issue_allowed_now, same_actor}
+use Rattle.core_state.proofs.Steps.Issue.State.{no_unit, nothing_to_issue}
 use Rattle.core_state.proofs.state.State.issue.Goals as goal
 
 pub returns-in_err-get-clause-idle : goal.returns-in_err-get-clause-idle
@@ -39,29 +37,21 @@ returns-in_err-entry-clause-idle c =
     (nothing_to_issue i c.args.actor c.in_ok-kind.kind c.self.invariant
     (unit.1 ∙ c.in_ok-kind.was) c.in_err-entry.ensures.none))
 
-pub issue-job-requires-clause-step : goal.issue-job-requires-clause-step
-issue-job-requires-clause-step c =
+pub write_issue-requires-clause-allowed : goal.write_issue-requires-clause-allowed
+write_issue-requires-clause-allowed c =
     let i = c.self.inside in
     let issues = issues_now i c.args.actor c.from.result c.deref.result.now c.in_ok-get.field-0.now c.unit_of.result
     c.in_ok-kind.kind c.in_ok-entry.entry
     c.deref.ensures.0 c.from.ensures c.in_ok-get.ensures.lookup.3.0 c.in_ok-get.ensures.lookup.1 c.unit_of.ensures
     c.in_ok-kind.was c.in_ok-entry.ensures.some in
-    issue_from i c.args.actor c.in_ok-kind.kind c.in_ok-entry.entry c.self.invariant issues
+    subst (λ (v : CoreView). refused v.setup v.past (Issue c.args.actor c.in_ok-entry.entry.seq) ≡ None) c.self.view_is
+    (issue_allowed_now i c.args.actor c.in_ok-kind.kind c.in_ok-entry.entry c.self.invariant issues)
 
-pub invariant_of-self : goal.invariant_of-self
-invariant_of-self c =
+pub write_issue-requires-clause-entry : goal.write_issue-requires-clause-entry
+write_issue-requires-clause-entry c =
     let i = c.self.inside in
-    let issues = issues_now i c.args.actor c.from.result c.deref.result.now c.in_ok-get.field-0.now c.unit_of.result
-    c.in_ok-kind.kind c.in_ok-entry.entry
-    c.deref.ensures.0 c.from.ensures c.in_ok-get.ensures.lookup.3.0 c.in_ok-get.ensures.lookup.1 c.unit_of.ensures
-    c.in_ok-kind.was c.in_ok-entry.ensures.some in
-    let number : c.seq.result ≡ c.in_ok-entry.entry.seq =
-    c.seq.ensures ∙ ap (λ (v : JobView). v.seq) c.issue-job.ensures.job in
-    core_grown i c.issue-job.new.self c.append.new.history (Issue c.args.actor c.seq.result) c.self.invariant
-    (subst (λ s. Grows i c.issue-job.new.self (Issue c.args.actor s)) (sym number)
-    (issue_grows i c.issue-job.new.self c.args.actor c.in_ok-kind.kind c.in_ok-entry.entry c.self.invariant issues
-    c.issue-job.ensures.agrees c.issue-job.ensures.sizes))
-    (quiet_issue c.args.actor c.seq.result) c.append.ensures
+    subst (λ (v : CoreView). IsEntry (picture v.setup v.past) c.in_ok-entry.entry) c.self.view_is
+    (c.in_ok-entry.ensures.some (picture (setup_in i) (past_of i)) c.self.invariant.agrees).0
 
 pub returns-clause-allowed : goal.returns-clause-allowed
 returns-clause-allowed c =
@@ -70,22 +60,9 @@ returns-clause-allowed c =
     c.in_ok-kind.kind c.in_ok-entry.entry
     c.deref.ensures.0 c.from.ensures c.in_ok-get.ensures.lookup.3.0 c.in_ok-get.ensures.lookup.1 c.unit_of.ensures
     c.in_ok-kind.was c.in_ok-entry.ensures.some in
-    let number : c.seq.result ≡ c.in_ok-entry.entry.seq =
-    c.seq.ensures ∙ ap (λ (v : JobView). v.seq) c.issue-job.ensures.job in
-    subst (λ (v : CoreView). refused v.setup v.past (Issue c.args.actor c.seq.result) ≡ None) c.self.view_is
-    (subst (λ s. refused (setup_in i) (past_of i) (Issue c.args.actor s) ≡ None) (sym number)
+    rw c.write_issue.ensures.event
+    (subst (λ (v : CoreView). refused v.setup v.past (Issue c.args.actor c.in_ok-entry.entry.seq) ≡ None) c.self.view_is
     (issue_allowed_now i c.args.actor c.in_ok-kind.kind c.in_ok-entry.entry c.self.invariant issues))
 
-pub returns-clause-job : goal.returns-clause-job
-returns-clause-job c =
-    let i = c.self.inside in
-    let issues = issues_now i c.args.actor c.from.result c.deref.result.now c.in_ok-get.field-0.now c.unit_of.result
-    c.in_ok-kind.kind c.in_ok-entry.entry
-    c.deref.ensures.0 c.from.ensures c.in_ok-get.ensures.lookup.3.0 c.in_ok-get.ensures.lookup.1 c.unit_of.ensures
-    c.in_ok-kind.was c.in_ok-entry.ensures.some in
-    let number : c.seq.result ≡ c.in_ok-entry.entry.seq =
-    c.seq.ensures ∙ ap (λ (v : JobView). v.seq) c.issue-job.ensures.job in
-    issue_job i c.args.actor c.in_ok-kind.kind c.in_ok-entry.entry c.issue-job.result c.append.new.history.items
-    c.self.invariant issues c.in_ok-entry.ensures.ready
-    c.issue-job.ensures.job
-    (ap (λ (h : EventList). h.items) c.append.ensures ∙ ap (λ s. i.history.items ++ Issue c.args.actor s ∷ []) number)
+pub returns-clause-answer : goal.returns-clause-answer
+returns-clause-answer c = rw c.write_issue.ensures.event (same_actor c.args.actor)

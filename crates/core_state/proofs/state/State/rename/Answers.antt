@@ -3,8 +3,7 @@ use Rattle.std.proofs.Common.{◌∙◌, sym, ap, subst}
 use Rattle.events.specs.declared.event.Event.TheVariants.{Rename}
 use Rattle.smt_model.specs.{Asks.AskRename, Fates.is_of, Rules.refused, Jobs.is_actor}
 use Rattle.core_state.specs.{Answers.AllowsNone, Answers.IsLeastFree, State.setup_in, View.CoreView}
-use Rattle.core_state.proofs.Steps.Invariant.{core_grown, quiet_rename}
-use Rattle.core_state.proofs.Steps.Rename.State.{rename_of, rename_allowed_now, rename_from, rename_grows}
+use Rattle.core_state.proofs.Steps.Rename.State.{rename_of, rename_allowed_now}
 use Rattle.core_state.proofs.Steps.Rename.State.{rename_answers, least_now, no_actor, nothing_to_rename}
 use Rattle.core_state.proofs.state.State.rename.Goals as goal
 
@@ -23,31 +22,8 @@ returns-in_err-seq-clause-idle c =
     (subst (λ (v : CoreView). AllowsNone v.setup (AskRename c.args.actor c.args.hart) v.past) c.self.view_is
     (nothing_to_rename c.self.inside c.args.actor c.args.hart c.self.invariant c.in_err-seq.ensures.none))
 
-pub rename-requires : goal.rename-requires
-rename-requires c =
-    let i = c.self.inside in
-    let actor : is_actor (setup_in i) c.args.actor ≡ true =
-    ap (λ (v : CoreView). is_actor v.setup c.args.actor) c.self.view_is
-    ∙ (sym c.has_actor.ensures ∙ c.if-not-has_actor.false) in
-    record {
-      step = rename_from i c.args.actor c.args.hart c.in_ok-seq.seq c.in_ok-seq.phys c.self.invariant actor
-          c.in_ok-seq.ensures.inside c.in_ok-seq.ensures.some;
-    }
-
-pub invariant_of-self : goal.invariant_of-self
-invariant_of-self c =
-    let i = c.self.inside in
-    let actor : is_actor (setup_in i) c.args.actor ≡ true =
-    ap (λ (v : CoreView). is_actor v.setup c.args.actor) c.self.view_is
-    ∙ (sym c.has_actor.ensures ∙ c.if-not-has_actor.false) in
-    core_grown i c.rename.new.self c.append.new.history (Rename c.args.actor c.in_ok-seq.seq c.in_ok-seq.phys)
-    c.self.invariant
-    (rename_grows i c.rename.new.self c.args.actor c.args.hart c.in_ok-seq.seq c.in_ok-seq.phys c.self.invariant actor
-    c.in_ok-seq.ensures.some c.rename.ensures.agrees c.rename.ensures.sizes)
-    (quiet_rename c.args.actor c.in_ok-seq.seq c.in_ok-seq.phys) c.append.ensures
-
-pub returns-clause-allowed : goal.returns-clause-allowed
-returns-clause-allowed c =
+pub write_rename-requires-clause-allowed : goal.write_rename-requires-clause-allowed
+write_rename-requires-clause-allowed c =
     let i = c.self.inside in
     let actor : is_actor (setup_in i) c.args.actor ≡ true =
     ap (λ (v : CoreView). is_actor v.setup c.args.actor) c.self.view_is
@@ -57,13 +33,32 @@ returns-clause-allowed c =
     (rename_allowed_now i c.args.actor c.args.hart c.in_ok-seq.seq c.in_ok-seq.phys c.self.invariant actor
     c.in_ok-seq.ensures.some)
 
+pub write_rename-requires-clause-of_hart : goal.write_rename-requires-clause-of_hart
+write_rename-requires-clause-of_hart c =
+    subst (λ (v : CoreView). is_of v.past c.args.hart c.in_ok-seq.seq ≡ true) c.self.view_is
+    (rename_of c.self.inside c.args.hart c.in_ok-seq.seq c.in_ok-seq.phys c.self.invariant c.in_ok-seq.ensures.some)
+
+pub returns-clause-allowed : goal.returns-clause-allowed
+returns-clause-allowed c =
+    let i = c.self.inside in
+    let actor : is_actor (setup_in i) c.args.actor ≡ true =
+    ap (λ (v : CoreView). is_actor v.setup c.args.actor) c.self.view_is
+    ∙ (sym c.has_actor.ensures ∙ c.if-not-has_actor.false) in
+    rw c.write_rename.ensures.event
+    (subst (λ (v : CoreView). refused v.setup v.past (Rename c.args.actor c.in_ok-seq.seq c.in_ok-seq.phys) ≡ None)
+    c.self.view_is
+    (rename_allowed_now i c.args.actor c.args.hart c.in_ok-seq.seq c.in_ok-seq.phys c.self.invariant actor
+    c.in_ok-seq.ensures.some))
+
 pub returns-clause-answer : goal.returns-clause-answer
 returns-clause-answer c =
-    rename_answers c.args.self.now.past c.args.actor c.args.hart c.in_ok-seq.seq
+    rw c.write_rename.ensures.event
+    (rename_answers c.args.self.now.past c.args.actor c.args.hart c.in_ok-seq.seq
     (subst (λ (v : CoreView). is_of v.past c.args.hart c.in_ok-seq.seq ≡ true) c.self.view_is
-    (rename_of c.self.inside c.args.hart c.in_ok-seq.seq c.in_ok-seq.phys c.self.invariant c.in_ok-seq.ensures.some))
+    (rename_of c.self.inside c.args.hart c.in_ok-seq.seq c.in_ok-seq.phys c.self.invariant c.in_ok-seq.ensures.some)))
 
 pub returns-clause-least : goal.returns-clause-least
 returns-clause-least c =
-    subst (λ (v : CoreView). IsLeastFree v.setup v.past c.in_ok-seq.phys) c.self.view_is
-    (least_now c.self.inside c.in_ok-seq.phys c.self.invariant c.in_ok-seq.ensures.least)
+    rw c.write_rename.ensures.event
+    (subst (λ (v : CoreView). IsLeastFree v.setup v.past c.in_ok-seq.phys) c.self.view_is
+    (least_now c.self.inside c.in_ok-seq.phys c.self.invariant c.in_ok-seq.ensures.least))

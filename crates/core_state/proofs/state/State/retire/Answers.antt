@@ -1,8 +1,10 @@
 use Rattle.std.specs.Prelude.{◌≡◌, ℕ, ◌==◌, ◌&&◌, Bool, true}
-use Rattle.std.proofs.Common.{◌∙◌, sym, arith}
+use Rattle.std.proofs.Common.{◌∙◌, sym, subst, arith}
+use Rattle.smt_model.specs.Picture.{picture}
+use Rattle.core_state.specs.{Agree.IsActive, State.past_of, State.setup_in, View.CoreView}
 use Rattle.std.proofs.lemmas.Bool.Decides.{nat_tests}
 use Rattle.core_state.proofs.Steps.Retire.Rules.{no_actor_retires}
-use Rattle.core_state.proofs.Steps.Retire.State.{finds_in, found_from, allowed_in, its_own_in, none_in, core_after}
+use Rattle.core_state.proofs.Steps.Retire.State.{finds_in, allowed_in, its_own_in, none_in}
 use Rattle.core_state.proofs.Steps.Retire.State.{if_none, place_in, write_in_core}
 use Rattle.core_state.proofs.Steps.Retire.Writes.{has_width}
 use Rattle.core_state.proofs.state.State.retire.Goals as goal
@@ -24,26 +26,10 @@ returns-in_err-active-clause-idle c =
 pub effect-fields-requires : goal.effect-fields-requires
 effect-fields-requires c = place_in c.self.inside c.args.hart c.self.invariant c.in_ok-active.ensures.inside
 
-pub retire-requires : goal.retire-requires
-retire-requires c =
-    let finds = (finds_in c.self.inside c.args.self.now c.args.actor c.args.hart c.in_ok-active.active
-    c.in_ok-active.outcome
-    c.effect-fields.result
-    c.has_actor.result c.self.view_is c.has_actor.ensures c.if-not-has_actor.false c.in_ok-active.ensures.inside
-    c.in_ok-active.ensures.some c.self.invariant
-    c.effect-fields.ensures) in
-    record {
-      step =
-          found_from c.self.inside c.args.actor c.args.hart c.in_ok-active.active c.in_ok-active.outcome
-          c.effect-fields.result c.self.invariant finds;
-      write = write_in_core c.self.inside c.args.hart c.in_ok-active.active c.effect-fields.result c.self.invariant
-          finds.effect_is;
-    }
-
-pub new-effect-requires : goal.new-effect-requires
-new-effect-requires c =
-    let finds = (finds_in c.self.inside c.args.self.now c.args.actor c.args.hart c.in_ok-active.active
-    c.in_ok-active.outcome
+pub new-requires : goal.new-requires
+new-requires c =
+    let finds =
+    (finds_in c.self.inside c.args.self.now c.args.actor c.args.hart c.in_ok-active.active c.in_ok-active.outcome
     c.effect-fields.result
     c.has_actor.result c.self.view_is c.has_actor.ensures c.if-not-has_actor.false c.in_ok-active.ensures.inside
     c.in_ok-active.ensures.some c.self.invariant
@@ -55,39 +41,43 @@ new-effect-requires c =
           finds.effect_is);
     }
 
-pub invariant_of-self : goal.invariant_of-self
-invariant_of-self c =
-    core_after c.self.inside c.retire.new.self c.push_reserved.new.self c.put_out.new.output c.append.new.history
-    c.args.actor c.args.hart
-    c.in_ok-active.active c.in_ok-active.outcome c.new-effect.result c.self.invariant
+pub write_retire-requires-clause-allowed : goal.write_retire-requires-clause-allowed
+write_retire-requires-clause-allowed c =
+    rw c.new.ensures
+    (allowed_in c.self.inside c.args.self.now c.args.actor c.args.hart c.in_ok-active.active c.in_ok-active.outcome
+    c.effect-fields.result c.self.view_is c.self.invariant
     (finds_in c.self.inside c.args.self.now c.args.actor c.args.hart c.in_ok-active.active c.in_ok-active.outcome
-    c.new-effect.result
+    c.effect-fields.result
     c.has_actor.result c.self.view_is c.has_actor.ensures c.if-not-has_actor.false c.in_ok-active.ensures.inside
-    c.in_ok-active.ensures.some
-    c.self.invariant (rw (← c.new-effect.ensures) at c.effect-fields.ensures))
-    (rw (← c.new-effect.ensures) at c.retire.ensures.agrees) c.retire.ensures.sizes c.push_reserved.ensures.items
-    c.push_reserved.ensures.capacity (rw c.out.ensures at c.put_out.ensures.items)
-    c.put_out.ensures.capacity c.append.ensures
+    c.in_ok-active.ensures.some c.self.invariant
+    c.effect-fields.ensures))
+
+pub write_retire-requires-clause-active : goal.write_retire-requires-clause-active
+write_retire-requires-clause-active c =
+    let i = c.self.inside in
+    subst (λ (v : CoreView). IsActive (picture v.setup v.past) c.args.hart c.in_ok-active.active) c.self.view_is
+    (c.in_ok-active.ensures.some (picture (setup_in i) (past_of i)) c.self.invariant.agrees).is_active
 
 pub returns-clause-allowed : goal.returns-clause-allowed
 returns-clause-allowed c =
-    allowed_in c.self.inside c.args.self.now c.args.actor c.args.hart c.in_ok-active.active c.in_ok-active.outcome
-    c.new-effect.result
-    c.self.view_is c.self.invariant
+    rw (c.write_retire.ensures.event, c.new.ensures)
+    (allowed_in c.self.inside c.args.self.now c.args.actor c.args.hart c.in_ok-active.active c.in_ok-active.outcome
+    c.effect-fields.result c.self.view_is c.self.invariant
     (finds_in c.self.inside c.args.self.now c.args.actor c.args.hart c.in_ok-active.active c.in_ok-active.outcome
-    c.new-effect.result
+    c.effect-fields.result
     c.has_actor.result c.self.view_is c.has_actor.ensures c.if-not-has_actor.false c.in_ok-active.ensures.inside
-    c.in_ok-active.ensures.some
-    c.self.invariant (rw (← c.new-effect.ensures) at c.effect-fields.ensures))
+    c.in_ok-active.ensures.some c.self.invariant
+    c.effect-fields.ensures))
 
 pub returns-clause-answer : goal.returns-clause-answer
 returns-clause-answer c =
-    both_true c.args.actor _
+    rw c.write_retire.ensures.event
+    (both_true c.args.actor _
     (its_own_in c.self.inside c.args.self.now c.args.actor c.args.hart c.in_ok-active.active c.in_ok-active.outcome
     c.effect-fields.result
     c.self.view_is c.self.invariant
     (finds_in c.self.inside c.args.self.now c.args.actor c.args.hart c.in_ok-active.active c.in_ok-active.outcome
     c.effect-fields.result
     c.has_actor.result c.self.view_is c.has_actor.ensures c.if-not-has_actor.false c.in_ok-active.ensures.inside
-    c.in_ok-active.ensures.some
-    c.self.invariant c.effect-fields.ensures))
+    c.in_ok-active.ensures.some c.self.invariant
+    c.effect-fields.ensures)))

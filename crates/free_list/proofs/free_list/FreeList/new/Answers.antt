@@ -1,4 +1,4 @@
-use Rattle.std.proofs.Common.{◌≡◌, ◌*◌, ◌&&◌, ◌∙◌, ℕ, sym, refl, false, ltb, leb, arith, replicate}
+use Rattle.std.proofs.Common.{◌≡◌, ◌&&◌, ◌∙◌, ℕ, sym, refl, false, ltb, leb, arith, replicate}
 use Rattle.std.proofs.{lemmas.Bool.Decides.nat_tests, lemmas.List.get_or-replicate}
 use Rattle.free_list.proofs.Bits.{holds-none}
 use Rattle.free_list.proofs.free_list.FreeList.new.Goals as goal

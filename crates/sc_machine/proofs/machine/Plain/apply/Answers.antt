@@ -13,10 +13,10 @@ returns-clause-agrees c = λ setup s agrees.
     let addr = c.args.execution.addr in
     let e = c.fields-effect.result in
     let m = machine_of c.self.inside in
-    let x = c.index.result.now in
-    let y = c.after-after.result in
+    let x = c.index_mut.result.now in
+    let y = c.advance.new.self in
     let n : Machine = record {
-      harts = slice_set m.harts c.from-2.result y;
+      harts = slice_set m.harts c.from.result y;
       memory = c.change_memory.new.memory;
       output = c.put.new.output.items;
       room = m.room;
@@ -24,12 +24,12 @@ returns-clause-agrees c = λ setup s agrees.
     let here : Agrees setup s m = subst (Agrees setup s) (sym c.self.view_is) agrees in
     let inside : h < length m.harts =
     subst (λ (m : Machine). h < length m.harts) (sym c.self.view_is) c.requires.inside in
-    let at = c.index.ensures ∙ ap (λ i. get_or m.harts i x) c.from.ensures in
+    let at = c.index_mut.ensures.value ∙ ap (λ i. get_or m.harts i x) c.from.ensures in
     let is = subst (HartAgrees s h) (sym at) (here.each h x inside) in
     let own = own_hart s h op addr e x y is
     (λ r. subst (λ rd. slice_index y.registers r ≡ register_written rd e.value r (slice_index x.registers r))
-    c.destination.ensures.value (c.after-after.ensures.registers r)) c.after-after.ensures.pc
-    c.after-after.ensures.status in
+    c.destination.ensures.value (c.advance.ensures.registers r)) c.advance.ensures.pc
+    c.advance.ensures.status in
     subst (λ e. Agrees setup (after s h op addr e) n) c.fields-effect.ensures.value
-    (advanced setup s m n h op addr e y here inside own (ap (λ i. slice_set m.harts i y) c.from-2.ensures)
+    (advanced setup s m n h op addr e y here inside own (ap (λ i. slice_set m.harts i y) c.from.ensures)
     c.change_memory.ensures.image c.change_memory.ensures.bytes c.change_memory.ensures.reserved c.put.ensures.items)

@@ -1,0 +1,33 @@
+-- A unit that hands back the job that came has taken its turn.
+use Rattle.std.proofs.Common.{◌≡◌, ℕ, Bool, if◌then◌else◌, subst}
+use Rattle.std.specs.Prelude.{Option, Some}
+use Rattle.exec_units.specs.Job.{JobView, DoneView}
+use Rattle.smt_model.specs.Setup.{Setup}
+use Rattle.core_lock.specs.declared.ask.Ask.TheVariants as ask
+use Rattle.board.specs.declared.reason.Reason.TheVariants as reason
+use Rattle.actors.specs.declared.progress.Progress.{Progress}
+use Rattle.actors.specs.declared.progress.Progress.TheVariants as came
+use Rattle.actors.specs.Turns.{Counted, Asks, Issues, IsUnitTurn, both}
+
+pub handed_back : (setup : Setup) (limit actor now : ℕ) (lent : Option JobView) (job : JobView)
+    (before : Counted) (issued : Progress) (between : Counted) (done : DoneView) (completed : Progress)
+    (after : Counted) (goes_on : Bool) (progress : Progress)
+    → Issues setup limit actor lent before issued between → lent ≡ Some job → done.job ≡ job → now ≡ actor
+    → Asks setup limit now (ask.Complete done) between completed after
+    → progress ≡ (if goes_on then both issued completed else came.Over reason.Asked)
+    → IsUnitTurn setup limit actor before progress after
+handed_back setup limit actor now lent job before issued between done completed after goes_on progress issues came_job
+    its_job is completes ends = (
+      Some job,
+      issued,
+      between,
+      subst (λ j. Issues setup limit actor j before issued between) came_job issues,
+      (
+        done,
+        its_job,
+        completed,
+        subst (λ k. Asks setup limit k (ask.Complete done) between completed after) is completes,
+        goes_on,
+        ends,
+      ),
+    )

@@ -1,0 +1,3 @@
+pub mod EveryRole
+pub mod Handing
+pub mod Telling

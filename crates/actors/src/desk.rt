@@ -1,0 +1,115 @@
+ghost use Rattle.std.specs.Prelude.{◌≡◌, ◌≤◌, ◌<◌, ◌↔◌, All, IsTrue};
+ghost use Rattle.board.specs.Seats.{board_of, name_of};
+
+use board::{Board, BoardView, Reason, Seat};
+use core_lock::Pass;
+use std::alloc::{AllocError, Global};
+use std::marker::{Brand, PhantomData};
+use std::sync::ledger::Ledger;
+
+/// Which board the seats of a run are at.
+pub(crate) trait Naming {
+    ghost use Rattle.atomic_table.specs.Seated.{TableId};
+
+    ghost board: { TableId };
+}
+
+impl Naming for Brand {
+    ghost use Rattle.actors.specs.Naming.{no_board};
+
+    ghost board = { no_board };
+}
+
+/// The board of a run.
+#[derive(Drop)]
+pub(crate) struct Desk<N: Naming> {
+    board: Board,
+    of: PhantomData<N>,
+    ghost named: { name_of board ≡ N.board },
+}
+
+/// A seat at that board.
+#[derive(Drop)]
+pub(crate) struct Placed<N: Naming> {
+    seat: Seat,
+    of: PhantomData<N>,
+    ghost named: { board_of seat ≡ N.board },
+}
+
+impl<N: Naming> Placed<N> {
+    /// A seat at this board.
+    fn new(seat: Seat) -> Placed<N>
+        requires { board_of seat ≡ N.board }
+        ensures { result.seat ≡ seat }
+    {
+        Placed {
+            seat,
+            of: PhantomData,
+        }
+    }
+
+    /// Whether this is the seat of the pass's actor, and it posted no more than the pass has
+    /// counted.
+    pub(crate) fn is_of<L: Ledger>(&self, pass: &Pass<L>) -> bool
+        ensures { IsTrue result
+            ↔ (pass.now.actor ≡ self.now.seat.place) × (self.now.seat.place < 16)
+            × (self.now.seat.posted ≤ pass.now.count) }
+    {
+        self.seat.place() == pass.actor()
+            && self.seat.place() < 16
+            && self.seat.posted() <= pass.count()
+    }
+}
+
+impl<N: Naming> Desk<N> {
+    /// The desk of this board.
+    pub(crate) fn new(board: Board) -> Desk<N>
+        requires { name_of board ≡ N.board }
+    {
+        Desk {
+            board,
+            of: PhantomData,
+        }
+    }
+
+    /// What stands on the board.
+    pub(crate) fn read(&self, placed: &mut Placed<N>) -> BoardView
+        ensures place { placed.new.seat.place ≡ placed.old.seat.place }
+        ensures posted { placed.new.seat.posted ≡ placed.old.seat.posted }
+    {
+        self.board.read(&mut placed.seat)
+    }
+
+    /// Posts what the pass has counted.
+    pub(crate) fn post<L: Ledger>(&self, placed: &mut Placed<N>, pass: &Pass<L>)
+        requires place { pass.now.actor ≡ placed.old.seat.place }
+        requires within { placed.old.seat.place < 16 }
+        requires rising { placed.old.seat.posted ≤ pass.now.count }
+        ensures place { placed.new.seat.place ≡ placed.old.seat.place }
+        ensures posted { placed.new.seat.posted ≡ pass.now.count }
+    {
+        self.board.post(&mut placed.seat, pass);
+    }
+
+    /// Asks all actors to stop.
+    pub(crate) fn stop(&self, placed: &mut Placed<N>, reason: Reason)
+        ensures place { placed.new.seat.place ≡ placed.old.seat.place }
+        ensures posted { placed.new.seat.posted ≡ placed.old.seat.posted }
+    {
+        self.board.stop(&mut placed.seat, reason);
+    }
+}
+
+/// The seats of a run, in a row that can be lent to threads one by one.
+pub(crate) fn place_all<N: Naming>(
+    seats: [Seat; 17],
+    alloc: Global,
+) -> Result<Vec<Placed<N>>, AllocError>
+    requires { All (λ seat. board_of seat ≡ N.board) seats }
+{
+    let mut all = Vec::new(alloc);
+    for seat in seats {
+        all.push(Placed::new(seat))?;
+    }
+    Ok(all)
+}

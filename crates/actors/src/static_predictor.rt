@@ -1,0 +1,41 @@
+ghost use Rattle.std.specs.Prelude.{◌≡◌, pos, int_lt};
+ghost use Rattle.rv_word.specs.Word.{sum_of};
+ghost use Rattle.smt_model.specs.Exec.{extended};
+ghost use Rattle.actors.specs.Prediction.{static_guess};
+
+use rv_decode::{Instr, decode};
+use rv_word::add;
+use smt_core::Predict;
+
+/// The predictor of the program: a jump whose target stands in its word goes there, and so does a
+/// branch backwards; after all else the instruction behind is expected (Smith 1981).
+#[derive(Clone, Copy, Debug, PartialEq, Eq, Drop)]
+pub struct StaticPredictor;
+
+impl Predict for StaticPredictor {
+    ghost use Rattle.std.specs.Prelude.{◌≡◌};
+    ghost use Rattle.rv_decode.specs.Decode.{decoded};
+    ghost use Rattle.actors.specs.Prediction.{static_guess};
+
+    ghost predicts = { λ before hart pc word guess after. guess ≡ static_guess pc (decoded word) };
+
+    fn predict(&mut self, _hart: u8, pc: u32, word: u32) -> u32 {
+        guess(pc, decode(word))
+    }
+}
+
+fn guess(pc: u32, instr: Option<Instr>) -> u32
+    ensures { result ≡ static_guess pc instr }
+{
+    match instr {
+        Some(Instr::Jal { offset, .. }) => target(pc, offset),
+        Some(Instr::Branch { offset, .. }) if offset < 0 => target(pc, offset),
+        _ => pc.wrapping_add(4),
+    }
+}
+
+fn target(pc: u32, offset: i32) -> u32
+    ensures { result ≡ sum_of pc (extended offset) }
+{
+    add(pc, offset.cast_unsigned())
+}

@@ -1,0 +1,4 @@
+pub mod Reasons
+pub mod Knowledge
+pub mod Rule
+pub mod Seats

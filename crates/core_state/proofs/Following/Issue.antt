@@ -1,0 +1,141 @@
+-- Which rule an issue breaks.
+use Rattle.std.specs.Prelude.{◌≡◌, ℕ, ◌==◌, ◌&&◌, Bool, true, false, not, nat_lt, List, [], ◌∷◌, map, find}
+use Rattle.std.specs.Prelude.{Option, Some, None, is_some, is_none, if◌then◌else◌, IfSome, IfNone}
+use Rattle.std.specs.List.{AllByRecursion, list_all}
+use Rattle.std.proofs.Common.{◌∙◌, refl, sym, ap, inl, inr, arith}
+use Rattle.std.proofs.{lemmas.Bool.cases_Bool, lemmas.Bool.false≢true}
+use Rattle.std.proofs.{lemmas.Option.none-some}
+use Rattle.events.specs.{declared.event.Event.Event, declared.event.Event.TheVariants.Issue}
+use Rattle.issue_queue.specs.{Entry.has_values, Entry.can_issue, declared.entry.Entry.Entry}
+use Rattle.rv_decode.specs.{Registers.op_unit, Registers.same_unit, declared.op.UnitKind.UnitKind}
+use Rattle.smt_model.specs.{Picture.picture, Setup.Setup, Basics.holds_of}
+use Rattle.smt_model.specs.{Jobs.is_actor, Jobs.job, Jobs.unit_of_actor, Registers.is_ready}
+use Rattle.smt_model.specs.Fates.{fate, is, op_at, op_of_fetched, stage, Renamed}
+use Rattle.smt_model.specs.Flights.{queue, all_numbers}
+use Rattle.smt_model.specs.Rules.{first_failing, refused, is_for, is_oldest_ready, is_legal}
+use Rattle.smt_model.proofs.{Lists.member, Lists.filter-member, Fates.Numbers.all_numbers-member}
+use Rattle.smt_model.proofs.{Fates.Numbers.known_below, Fates.Moves.stage_of}
+use Rattle.core_state.specs.{Agree.IsEntry}
+use Rattle.core_state.specs.{Refusals.idle_unit, Refusals.IsEntryOf}
+use Rattle.core_state.proofs.Following.Place.{found, missing}
+use Rattle.core_state.proofs.Following.Tests.{refused-is, holds, fails}
+use Rattle.core_state.proofs.Steps.Issue.Next.{ready_known, suits_known}
+
+-- ---- The entry
+
+module _ (setup : Setup) (past : List Event) (legal : is_legal setup past) (s : ℕ) (es : List Entry)
+    (numbers : map (λ e. e.seq) es ≡ queue past) (entries : AllByRecursion (IsEntry (picture setup past)) es) where
+  pub waits : (r : Option Entry) → r ≡ find (λ e. e.seq == s) es
+      → IfSome r (IsEntryOf (picture setup past) s)
+  waits None is_it = tt
+  waits (Some e) is_it =
+      let it = found (λ z. z.seq) (IsEntry (picture setup past)) s es e entries (sym is_it) in
+      record { entry = it.0; number = it.1 }
+
+  pub waits_not : (r : Option Entry) → r ≡ find (λ e. e.seq == s) es
+      → IfNone r (is (fate past s) Renamed ≡ false)
+  waits_not (Some e) is_it = tt
+  waits_not None is_it = elim (cases_Bool (is (fate past s) Renamed)) [
+    | inl t ↦
+        let at : stage (fate past s) ≡ 3 = stage_of (fate past s) Renamed t in
+        let there = all_numbers-member setup past legal s (known_below setup past legal s (omega arith)) in
+        let m = filter-member (λ n. is (fate past n) Renamed) s (all_numbers past) there t in
+        absurd (false≢true (sym (missing (λ z. z.seq) s es (sym is_it)) ∙ (ap (member s) numbers ∙ m)))
+    | inr f ↦ f
+  ]
+
+-- ---- The rules
+
+module _ (setup : Setup) (past : List Event) (actor s : ℕ) where
+  abbrev behind_fate : List (ℕ × Bool)
+  behind_fate =
+      (4, is_for setup past actor s) ∷ (5, is_ready setup past s) ∷ (6, is_oldest_ready setup past actor s) ∷ []
+
+  abbrev behind_unit : List (ℕ × Bool)
+  behind_unit = (3, is (fate past s) Renamed) ∷ behind_fate
+
+  abbrev idle : Bool
+  idle = is_some (unit_of_actor setup actor) && is_none (job past actor)
+
+  abbrev behind_actor : List (ℕ × Bool)
+  behind_actor = (2, idle) ∷ behind_unit
+
+  pub no_actor : is_actor setup actor ≡ false → refused setup past (Issue actor s) ≡ Some 1
+  no_actor none = refused-is setup past (Issue actor s) ∙ fails 1 (is_actor setup actor) behind_actor none
+
+  busy_by : (u : Option UnitKind) (j : Bool) → (if j then u else None) ≡ None → (is_some u && j) ≡ false
+  busy_by None true none = refl
+  busy_by None false none = refl
+  busy_by (Some kind) true none = absurd (none-some kind (sym none))
+  busy_by (Some kind) false none = refl
+
+  pub busy : is_actor setup actor ≡ true → idle_unit setup past actor ≡ None
+      → refused setup past (Issue actor s) ≡ Some 2
+  busy one none =
+      refused-is setup past (Issue actor s)
+      ∙ (holds 1 (is_actor setup actor) behind_actor one
+      ∙ fails 2 idle behind_unit (busy_by (unit_of_actor setup actor) (is_none (job past actor)) none))
+
+  record IsIdle (u : Option UnitKind) (j : Bool) (kind : UnitKind) : Type 0 where
+    pub unit : u ≡ Some kind
+    pub both : (is_some u && j) ≡ true
+
+  idle_by : (u : Option UnitKind) (j : Bool) (kind : UnitKind) → (if j then u else None) ≡ Some kind → IsIdle u j kind
+  idle_by None true kind some = absurd (none-some kind some)
+  idle_by None false kind some = absurd (none-some kind some)
+  idle_by (Some other) true kind some = record { unit = some; both = refl }
+  idle_by (Some other) false kind some = absurd (none-some kind some)
+
+  idle_is : (kind : UnitKind) → idle_unit setup past actor ≡ Some kind
+      → IsIdle (unit_of_actor setup actor) (is_none (job past actor)) kind
+  idle_is kind some = idle_by (unit_of_actor setup actor) (is_none (job past actor)) kind some
+
+  pub waits_nowhere : (kind : UnitKind) → is_actor setup actor ≡ true → idle_unit setup past actor ≡ Some kind
+      → is (fate past s) Renamed ≡ false → refused setup past (Issue actor s) ≡ Some 3
+  waits_nowhere kind one some not_there =
+      refused-is setup past (Issue actor s)
+      ∙ (holds 1 (is_actor setup actor) behind_actor one
+      ∙ (holds 2 idle behind_unit (idle_is kind some).both
+      ∙ fails 3 (is (fate past s) Renamed) behind_fate not_there))
+
+  -- The kind of unit that executes an instruction, and whether a unit of the actor's kind may take it up.
+  abbrev for_kind : Option UnitKind → ℕ → Bool
+  for_kind unit t = holds_of (λ u. same_unit u (op_unit (op_at past t))) unit
+
+  oldest_known : (kind : UnitKind) (es : List Entry) → AllByRecursion (IsEntry (picture setup past)) es
+      → list_all (λ t. not (nat_lt t s && (for_kind (Some kind) t && is_ready setup past t))) (map (λ e. e.seq) es)
+      ≡ list_all (λ e. not (nat_lt e.seq s && can_issue kind e)) es
+  oldest_known kind [] all = refl
+  oldest_known kind (e ∷ es) all =
+      let one = suits_known (picture setup past) kind e all.0 in
+      let rest = oldest_known kind es all.1 in
+      ap (λ b. not (nat_lt e.seq s && b)
+      && list_all (λ t. not (nat_lt t s && (for_kind (Some kind) t && is_ready setup past t))) (map (λ e. e.seq) es)) one
+      ∙ ap (λ b. not (nat_lt e.seq s && can_issue kind e) && b) rest
+
+  pub there : (kind : UnitKind) (e : Entry) (es : List Entry) (a b c : Bool) → is_actor setup actor ≡ true
+      → idle_unit setup past actor ≡ Some kind → IsEntryOf (picture setup past) s e
+      → map (λ e. e.seq) es ≡ queue past → AllByRecursion (IsEntry (picture setup past)) es
+      → a ≡ same_unit kind (op_unit e.op) → b ≡ has_values e
+      → c ≡ list_all (λ x. not (nat_lt x.seq s && can_issue kind x)) es
+      → refused setup past (Issue actor s) ≡ first_failing ((4, a) ∷ (5, b) ∷ (6, c) ∷ [])
+  there kind e es a b c one some it numbers entries a_is b_is c_is =
+      let is_idle = idle_is kind some in
+      let number = it.number in
+      let op : op_at past s ≡ e.op =
+      ap (op_at past) (sym number) ∙ (ap op_of_fetched it.entry.fetched ∙ sym it.entry.op) in
+      let fated : is (fate past s) Renamed ≡ true =
+      ap (λ n. is (fate past n) Renamed) (sym number) ∙ ap (λ f. is f Renamed) it.entry.waits in
+      let a_now : is_for setup past actor s ≡ a =
+      ap (λ u. for_kind u s) is_idle.unit ∙ (ap (λ o. same_unit kind (op_unit o)) op ∙ sym a_is) in
+      let b_now : is_ready setup past s ≡ b =
+      ap (is_ready setup past) (sym number) ∙ (sym (ready_known (picture setup past) e it.entry) ∙ sym b_is) in
+      let c_now : is_oldest_ready setup past actor s ≡ c =
+      ap (λ u. list_all (λ t. not (nat_lt t s && (for_kind u t && is_ready setup past t))) (queue past)) is_idle.unit
+      ∙ (ap (list_all (λ t. not (nat_lt t s && (for_kind (Some kind) t && is_ready setup past t)))) (sym numbers)
+      ∙ (oldest_known kind es entries ∙ sym c_is)) in
+      refused-is setup past (Issue actor s)
+      ∙ (holds 1 (is_actor setup actor) behind_actor one
+      ∙ (holds 2 idle behind_unit is_idle.both
+      ∙ (holds 3 (is (fate past s) Renamed) behind_fate fated
+      ∙ rw (a_now, b_now, c_now) refl)))

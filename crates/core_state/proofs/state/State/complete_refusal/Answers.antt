@@ -1,0 +1,66 @@
+-- The tests of the parts are the rules of a completion.
+use Rattle.std.proofs.Common.{◌∙◌, true, false, sym, ap}
+use Rattle.smt_model.specs.Comparisons.{same_outcome}
+use Rattle.core_state.proofs.Agreement.Queues.{has_place}
+use Rattle.core_state.proofs.Following.Complete.{no_actor, no_job, squashed, tells, lent_it, hart_inside, gone_by}
+use Rattle.core_state.proofs.Following.Complete.{flies_by, says_by, is_none_by}
+use Rattle.core_state.proofs.state.State.complete_refusal.Goals as goal
+
+pub returns-then-not-has_actor : goal.returns-then-not-has_actor
+returns-then-not-has_actor c =
+    sym (no_actor c.args.self.now.setup c.args.self.now.past c.args.actor c.args.seq c.args.outcome
+    (sym c.has_actor.ensures ∙ c.if-not-has_actor.true))
+
+pub job_with-requires : goal.job_with-requires
+job_with-requires c = sym c.has_actor.ensures ∙ c.if-not-has_actor.false
+
+pub returns-in_default : goal.returns-in_default
+returns-in_default c =
+    sym (no_job c.args.self.now.setup c.args.self.now.past c.args.actor c.args.seq c.args.outcome
+    (sym c.has_actor.ensures ∙ c.if-not-has_actor.false) c.in_default.ensures.none)
+
+pub in_flight-requires : goal.in_flight-requires
+in_flight-requires c =
+    hart_inside c.self.inside c.self.invariant c.args.self.now c.self.view_is c.args.actor c.args.seq c.in-Some.job
+    c.in-Some.ensures.some
+
+pub returns-then-is_none : goal.returns-then-is_none
+returns-then-is_none c =
+    sym (squashed c.args.self.now.setup c.args.self.now.past c.args.actor c.args.seq c.args.outcome
+    (sym c.has_actor.ensures ∙ c.if-not-has_actor.false) (lent_it c.self.inside c.self.invariant c.args.self.now c.self.view_is c.args.actor c.args.seq c.in-Some.job
+    c.in-Some.ensures.some)
+    (gone_by c.self.inside c.self.invariant c.args.self.now c.self.view_is c.args.actor c.args.seq c.in-Some.job
+    c.in-Some.ensures.some
+    c.in_flight.result (is_none_by c.in_flight.result c.is_none.result true c.is_none.ensures c.if-is_none.true) c.in_flight.ensures.none))
+
+pub completion_of-now-requires : goal.completion_of-now-requires
+completion_of-now-requires c =
+    has_place c.self.inside.parts.harts.items c.self.inside.parts.accesses c.in-Some.job.hart
+    c.self.invariant.agrees.accesses (hart_inside c.self.inside c.self.invariant c.args.self.now c.self.view_is c.args.actor c.args.seq c.in-Some.job
+    c.in-Some.ensures.some)
+
+pub returns-then-not-is_same_outcome : goal.returns-then-not-is_same_outcome
+returns-then-not-is_same_outcome c =
+    sym (tells c.args.self.now.setup c.args.self.now.past c.args.actor c.args.seq c.args.outcome false
+    (sym c.has_actor.ensures ∙ c.if-not-has_actor.false) (lent_it c.self.inside c.self.invariant c.args.self.now c.self.view_is c.args.actor c.args.seq c.in-Some.job
+    c.in-Some.ensures.some)
+    (flies_by c.self.inside c.self.invariant c.args.self.now c.self.view_is c.args.actor c.args.seq c.in-Some.job
+    c.in-Some.ensures.some
+    c.in_flight.result (is_none_by c.in_flight.result c.is_none.result false c.is_none.ensures c.if-is_none.false) c.in_flight.ensures.some)
+    (says_by c.self.inside c.self.invariant c.args.self.now c.self.view_is c.args.actor c.args.seq c.in-Some.job
+    c.in-Some.ensures.some
+    c.worked.result c.completion_of-now.result c.args.outcome false c.worked.ensures
+    c.completion_of-now.ensures (sym (sym c.is_same_outcome.ensures ∙ c.if-not-is_same_outcome.true) ∙ ap (λ o. same_outcome o c.completion_of-now.result) c.fields.ensures)))
+
+pub returns : goal.returns
+returns c =
+    sym (tells c.args.self.now.setup c.args.self.now.past c.args.actor c.args.seq c.args.outcome true
+    (sym c.has_actor.ensures ∙ c.if-not-has_actor.false) (lent_it c.self.inside c.self.invariant c.args.self.now c.self.view_is c.args.actor c.args.seq c.in-Some.job
+    c.in-Some.ensures.some)
+    (flies_by c.self.inside c.self.invariant c.args.self.now c.self.view_is c.args.actor c.args.seq c.in-Some.job
+    c.in-Some.ensures.some
+    c.in_flight.result (is_none_by c.in_flight.result c.is_none.result false c.is_none.ensures c.if-is_none.false) c.in_flight.ensures.some)
+    (says_by c.self.inside c.self.invariant c.args.self.now c.self.view_is c.args.actor c.args.seq c.in-Some.job
+    c.in-Some.ensures.some
+    c.worked.result c.completion_of-now.result c.args.outcome true c.worked.ensures
+    c.completion_of-now.ensures (sym (sym c.is_same_outcome.ensures ∙ c.if-not-is_same_outcome.false) ∙ ap (λ o. same_outcome o c.completion_of-now.result) c.fields.ensures)))

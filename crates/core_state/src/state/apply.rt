@@ -1,0 +1,230 @@
+//! What an event does, whoever decides that it comes: a step of the core, or a history that is
+//! followed.
+
+ghost use Rattle.std.specs.Prelude.{◌≡◌, ◌<◌, length, None, true};
+ghost use Rattle.events.specs.declared.event.Event.TheVariants.{Decode, Rename, Issue, Complete};
+ghost use Rattle.events.specs.declared.event.Event.TheVariants.{Retire};
+ghost use Rattle.smt_model.specs.Fates.{fate, is_live, is_of};
+ghost use Rattle.smt_model.specs.Picture.{picture};
+ghost use Rattle.smt_model.specs.Rules.{refused};
+ghost use Rattle.core_state.specs.Agree.{IsActive, IsEntry};
+ghost use Rattle.core_state.specs.Answers.{IsJobOf};
+ghost use Rattle.core_state.specs.View.{CoreView, grown};
+
+use super::State;
+use crate::log::{append, put_out};
+use crate::point::FetchPoint;
+use events::{Effect, Event, Outcome, Record};
+use exec_units::Job;
+use issue_queue::Entry;
+use numbers::{Phys, Seq};
+use retire_squash::Active;
+
+impl State {
+    /// Takes an event that may come next, as it is told.
+    pub fn apply(&mut self, event: &Event)
+        requires room { length self.old.past < self.old.limit }
+        requires allowed { refused self.old.setup self.old.past event.now ≡ None }
+        ensures { self.new ≡ grown event.now self.old }
+    {
+        match *event {
+            Event::Fetch {
+                actor,
+                hart,
+                seq: _,
+                pc,
+                word,
+                predicted,
+            } => {
+                self.fetch(actor, FetchPoint { hart, pc, word }, predicted);
+            }
+            Event::Decode { actor, seq } => {
+                let hart = self.hart_of(seq);
+                self.write_decode(actor, hart, seq);
+            }
+            Event::Rename { actor, seq, phys } => {
+                let hart = self.hart_of(seq);
+                self.write_rename(actor, hart, seq, phys);
+            }
+            Event::Issue { actor, seq } => self.apply_issue(actor, seq),
+            Event::Complete {
+                actor,
+                seq,
+                outcome,
+            } => self.apply_completion(actor, seq, outcome),
+            Event::Drop { actor, seq } => {
+                self.drop_job(actor, seq);
+            }
+            Event::Retire { actor, seq, effect } => self.apply_retirement(actor, seq, effect),
+        }
+    }
+
+    fn apply_issue(&mut self, actor: u8, seq: Seq)
+        requires room { length self.old.past < self.old.limit }
+        requires allowed { refused self.old.setup self.old.past (Issue actor seq) ≡ None }
+        ensures { self.new ≡ grown (Issue actor seq) self.old }
+    {
+        let Some(entry) = self.entry_of(seq) else {
+            unreachable!();
+        };
+        let (job, _event) = self.write_issue(actor, entry);
+        job.abandon();
+    }
+
+    fn apply_completion(&mut self, actor: u8, seq: Seq, outcome: Outcome)
+        requires room { length self.old.past < self.old.limit }
+        requires allowed { refused self.old.setup self.old.past
+            (Complete actor seq outcome) ≡ None }
+        ensures { self.new ≡ grown (Complete actor seq outcome) self.old }
+    {
+        let Some(job) = self.job_with(actor, seq) else {
+            unreachable!();
+        };
+        let Some(active) = self.parts.in_flight(job.hart, seq) else {
+            unreachable!();
+        };
+        self.finish(actor, job.hart, &active, outcome);
+    }
+
+    fn apply_retirement(&mut self, actor: u8, seq: Seq, effect: Effect)
+        requires room { length self.old.past < self.old.limit }
+        requires allowed { refused self.old.setup self.old.past (Retire actor seq effect) ≡ None }
+        ensures { self.new ≡ grown (Retire actor seq effect) self.old }
+    {
+        let Some((hart, place)) = self.place_of(seq) else {
+            unreachable!();
+        };
+        let Some(active) = place.active() else {
+            unreachable!();
+        };
+        self.write_retire(actor, hart, active, effect);
+    }
+
+    /// The hart of an instruction that is in a latch or in flight.
+    fn hart_of(&self, seq: Seq) -> u8
+        requires { is_live (fate self.now.past seq) ≡ true }
+        ensures { is_of self.now.past result seq ≡ true }
+    {
+        match self.place_of(seq) {
+            Some((hart, _)) => hart,
+            None => unreachable!(),
+        }
+    }
+
+    /// Writes the decode of instruction `seq` of hart `hart`, which may come next.
+    pub(super) fn write_decode(&mut self, actor: u8, hart: u8, seq: Seq) -> Event
+        requires room { length self.old.past < self.old.limit }
+        requires allowed { refused self.old.setup self.old.past (Decode actor seq) ≡ None }
+        requires of_hart { is_of self.old.past hart seq ≡ true }
+        ensures event { result ≡ Decode actor seq }
+        ensures made { self.new ≡ grown result self.old }
+    {
+        self.parts.decode(hart);
+        let event = Event::Decode { actor, seq };
+        append(&mut self.history, &event);
+        event
+    }
+
+    /// Writes the rename of instruction `seq` of hart `hart`, which may come next with the register
+    /// `phys`.
+    pub(super) fn write_rename(
+        &mut self,
+        actor: u8,
+        hart: u8,
+        seq: Seq,
+        phys: Option<Phys>,
+    ) -> Event
+        requires room { length self.old.past < self.old.limit }
+        requires allowed { refused self.old.setup self.old.past (Rename actor seq phys) ≡ None }
+        requires of_hart { is_of self.old.past hart seq ≡ true }
+        ensures event { result ≡ Rename actor seq phys }
+        ensures made { self.new ≡ grown result self.old }
+    {
+        self.parts.rename(hart, phys);
+        let event = Event::Rename { actor, seq, phys };
+        append(&mut self.history, &event);
+        event
+    }
+
+    /// Writes the issue of the instruction of `entry`, which may come next.
+    pub(super) fn write_issue(&mut self, actor: u8, entry: Entry) -> (Job, Event)
+        requires room { length self.old.past < self.old.limit }
+        requires allowed { refused self.old.setup self.old.past (Issue actor entry.seq) ≡ None }
+        requires entry { IsEntry (picture self.old.setup self.old.past) entry }
+        ensures event { result.1 ≡ Issue actor entry.seq }
+        ensures made { self.new ≡ grown result.1 self.old }
+        ensures job { IsJobOf self.new.setup self.new.past actor result.0 }
+    {
+        let job = self.parts.issue(actor, entry);
+        let event = Event::Issue {
+            actor,
+            seq: entry.seq,
+        };
+        append(&mut self.history, &event);
+        (job, event)
+    }
+
+    /// Writes the completion of an instruction in flight, which may come next.
+    pub(super) fn finish(&mut self, actor: u8, hart: u8, active: &Active, outcome: Outcome) -> Event
+        requires room { length self.old.past < self.old.limit }
+        requires allowed { refused self.old.setup self.old.past
+            (Complete actor active.now.seq outcome) ≡ None }
+        requires active { IsActive (picture self.old.setup self.old.past) hart active.now }
+        ensures event { result ≡ Complete actor active.now.seq outcome }
+        ensures made { self.new ≡ grown result self.old }
+    {
+        self.parts.finish(actor, hart, active, outcome.fields());
+        let event = Event::Complete {
+            actor,
+            seq: active.seq,
+            outcome,
+        };
+        append(&mut self.history, &event);
+        event
+    }
+
+    /// Writes the drop of a squashed instruction, which may come next.
+    pub(super) fn drop_job(&mut self, actor: u8, seq: Seq) -> Event
+        requires room { length self.old.past < self.old.limit }
+        requires allowed { refused self.old.setup self.old.past (Event.Drop actor seq) ≡ None }
+        ensures event { result ≡ Event.Drop actor seq }
+        ensures made { self.new ≡ grown result self.old }
+    {
+        self.parts.drop_job(actor);
+        let event = Event::Drop { actor, seq };
+        append(&mut self.history, &event);
+        event
+    }
+
+    /// Writes the retirement of an instruction in flight, which may come next with this effect.
+    pub(super) fn write_retire(
+        &mut self,
+        actor: u8,
+        hart: u8,
+        active: Active,
+        effect: Effect,
+    ) -> Event
+        requires room { length self.old.past < self.old.limit }
+        requires allowed { refused self.old.setup self.old.past
+            (Retire actor active.seq effect) ≡ None }
+        requires active { IsActive (picture self.old.setup self.old.past) hart active }
+        ensures event { result ≡ Retire actor active.seq effect }
+        ensures made { self.new ≡ grown result self.old }
+    {
+        self.parts.retire(hart, active, effect.fields());
+        self.records.push_reserved(Record {
+            hart,
+            pc: active.pc,
+            word: active.word,
+            effect,
+        });
+        put_out(&mut self.output, effect.out());
+        let event = Event::Retire {
+            actor,
+            seq: active.seq,
+            effect,
+        };
+        append(&mut self.history, &event);
+        event
+    }
+}

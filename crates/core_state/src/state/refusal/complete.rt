@@ -1,0 +1,90 @@
+ghost use Rattle.std.specs.Prelude.{◌≡◌, IfSome, IfNone, Some, false, true};
+ghost use Rattle.events.specs.declared.event.Event.TheVariants.{Complete};
+ghost use Rattle.smt_model.specs.Basics.{same_number};
+ghost use Rattle.smt_model.specs.Comparisons.{same_outcome};
+ghost use Rattle.smt_model.specs.Jobs.{is_actor, job};
+ghost use Rattle.smt_model.specs.Picture.{picture};
+ghost use Rattle.smt_model.specs.Rules.{refused};
+ghost use Rattle.core_state.specs.Agree.{HasOpenJob};
+ghost use Rattle.core_state.specs.Refusals.{IsJobWith, open_view};
+ghost use Rattle.exec_units.specs.Job.{outcome_of_job};
+
+use super::same::is_same_outcome;
+use crate::slot::OpenJob;
+use crate::state::State;
+use events::{Event, Outcome, OutcomeFields};
+use exec_units::{Job, work};
+use numbers::Seq;
+
+impl State {
+    /// The first rule that a completion of instruction `seq` by actor `actor` with this outcome
+    /// breaks.
+    pub(in crate::state) fn complete_refusal(
+        &self,
+        actor: u8,
+        seq: Seq,
+        outcome: Outcome,
+    ) -> Option<u8>
+        ensures { result ≡ refused self.now.setup self.now.past (Complete actor seq outcome) }
+    {
+        if !self.has_actor(actor) {
+            return Some(1);
+        }
+        let Some(job) = self.job_with(actor, seq) else {
+            return Some(2);
+        };
+        if self.parts.in_flight(job.hart, seq).is_none() {
+            return Some(3);
+        }
+        let now = self.parts.completion_of(&job, worked(&job));
+        if !is_same_outcome(outcome.fields(), now) {
+            return Some(4);
+        }
+        None
+    }
+
+    /// The first rule that a drop of instruction `seq` by actor `actor` breaks.
+    pub(in crate::state) fn drop_refusal(&self, actor: u8, seq: Seq) -> Option<u8>
+        ensures { result ≡ refused self.now.setup self.now.past (Event.Drop actor seq) }
+    {
+        if !self.has_actor(actor) {
+            return Some(1);
+        }
+        let Some(job) = self.job_with(actor, seq) else {
+            return Some(2);
+        };
+        if self.parts.in_flight(job.hart, seq).is_some() {
+            return Some(3);
+        }
+        None
+    }
+
+    /// The open job of an actor of the core.
+    pub(super) fn open_job(&self, actor: u8) -> Option<OpenJob>
+        requires { is_actor self.now.setup actor ≡ true }
+        ensures { HasOpenJob (picture self.now.setup self.now.past) actor result }
+    {
+        self.parts.jobs[usize::from(actor)]
+    }
+
+    /// The open job of an actor of the core, where it is of instruction `seq`.
+    pub(in crate::state) fn job_with(&self, actor: u8, seq: Seq) -> Option<OpenJob>
+        requires { is_actor self.now.setup actor ≡ true }
+        ensures some { IfSome result
+            (IsJobWith (picture self.now.setup self.now.past) actor seq) }
+        ensures none { IfNone result
+            (same_number (job self.now.past actor) (Some seq) ≡ false) }
+    {
+        let job = self.open_job(actor)?;
+        if job.seq == seq { Some(job) } else { None }
+    }
+}
+
+/// What a unit makes of a job.
+fn worked(job: &OpenJob) -> OutcomeFields
+    ensures { result ≡ outcome_of_job (open_view job.now) }
+{
+    work(Job::new(job.seq, job.op, job.pc, job.first, job.second))
+        .into_outcome()
+        .fields()
+}

@@ -1,0 +1,52 @@
+ghost use Rattle.std.specs.Prelude.{◌≡◌, Some};
+ghost use Rattle.events.specs.declared.event.Event.TheVariants.{Fetch};
+ghost use Rattle.smt_model.specs.Basics.{same_number};
+ghost use Rattle.smt_model.specs.Fetching.{choice};
+ghost use Rattle.smt_model.specs.Rules.{refused};
+
+use super::first_failing;
+use super::same::is_same_number;
+use crate::fetch::choose;
+use crate::point::FetchPoint;
+use crate::state::State;
+use numbers::Seq;
+
+impl State {
+    /// The first rule that a fetch at `point` by actor `actor` with this number breaks, whatever it
+    /// predicts.
+    pub(in crate::state) fn fetch_refusal(
+        &self,
+        actor: u8,
+        point: FetchPoint,
+        seq: Seq,
+        predicted: u32,
+    ) -> Option<u8>
+        ensures { result ≡ refused self.now.setup self.now.past
+            (Fetch actor point.hart seq point.pc point.word predicted) }
+    {
+        if !self.has_actor(actor) {
+            return Some(1);
+        }
+        if !self.is_chosen(point.hart) {
+            return Some(2);
+        }
+        first_failing(&[
+            (3, seq == self.fetched),
+            (4, point.pc == self.hart(point.hart).fetch_pc),
+            (
+                5,
+                is_same_number(point.word, self.image.code_word(point.pc)),
+            ),
+        ])
+    }
+
+    /// Whether hart `hart` is the one to fetch.
+    fn is_chosen(&self, hart: u8) -> bool
+        ensures { result ≡ same_number (choice self.now.setup self.now.past) (Some hart) }
+    {
+        match choose(&self.parts.harts, self.last) {
+            Some(chosen) => chosen == usize::from(hart),
+            None => false,
+        }
+    }
+}

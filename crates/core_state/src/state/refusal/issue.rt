@@ -1,0 +1,81 @@
+ghost use Rattle.std.specs.Prelude.{◌≡◌, ◌==◌, ◌&&◌, not, nat_lt, find, IfSome, IfNone, true, false};
+ghost use Rattle.std.specs.List.{list_all};
+ghost use Rattle.events.specs.declared.event.Event.TheVariants.{Issue};
+ghost use Rattle.issue_queue.specs.Entry.{can_issue};
+ghost use Rattle.rv_decode.specs.Registers.{op_unit, same_unit};
+ghost use Rattle.smt_model.specs.Fates.{fate, is, Renamed};
+ghost use Rattle.smt_model.specs.Jobs.{is_actor};
+ghost use Rattle.smt_model.specs.Picture.{picture};
+ghost use Rattle.smt_model.specs.Rules.{refused};
+ghost use Rattle.core_state.specs.Refusals.{idle_unit, IsEntryOf};
+
+use super::first_failing;
+use crate::issue::unit_of;
+use crate::state::State;
+use issue_queue::Entry;
+use numbers::Seq;
+use rv_decode::{Op, UnitKind};
+
+impl State {
+    /// The first rule that an issue of instruction `seq` by actor `actor` breaks.
+    pub(in crate::state) fn issue_refusal(&self, actor: u8, seq: Seq) -> Option<u8>
+        ensures { result ≡ refused self.now.setup self.now.past (Issue actor seq) }
+    {
+        if !self.has_actor(actor) {
+            return Some(1);
+        }
+        let Some(kind) = self.idle_unit(actor) else {
+            return Some(2);
+        };
+        let Some(entry) = self.entry_of(seq) else {
+            return Some(3);
+        };
+        first_failing(&[
+            (4, is_for(kind, entry.op)),
+            (5, entry.is_ready()),
+            (6, is_oldest_ready(self.parts.queue.entries(), kind, seq)),
+        ])
+    }
+
+    /// The kind of unit that an actor of the core is, where it is one and has no job.
+    fn idle_unit(&self, actor: u8) -> Option<UnitKind>
+        requires { is_actor self.now.setup actor ≡ true }
+        ensures { result ≡ idle_unit self.now.setup self.now.past actor }
+    {
+        if self.open_job(actor).is_some() {
+            return None;
+        }
+        unit_of(self.config.roles[usize::from(actor)])
+    }
+
+    /// The entry of instruction `seq`, where it waits in the queue.
+    pub(in crate::state) fn entry_of(&self, seq: Seq) -> Option<Entry>
+        ensures waits { IfSome result (IsEntryOf (picture self.now.setup self.now.past) seq) }
+        ensures none { IfNone result (is (fate self.now.past seq) Renamed ≡ false) }
+    {
+        entry_with(self.parts.queue.entries(), seq)
+    }
+}
+
+/// The entry of this number.
+fn entry_with(entries: &[Entry], seq: Seq) -> Option<Entry>
+    ensures { result ≡ find (λ x. x.seq == seq) entries.now }
+{
+    entries.iter().copied().find(|entry| entry.seq == seq)
+}
+
+/// Whether a unit of this kind executes the instruction.
+fn is_for(kind: UnitKind, op: Op) -> bool
+    ensures { result ≡ same_unit kind (op_unit op) }
+{
+    kind == op.unit()
+}
+
+/// Whether no entry of a lower number may be taken up by a unit of this kind.
+fn is_oldest_ready(entries: &[Entry], kind: UnitKind, seq: Seq) -> bool
+    ensures { result ≡ list_all (λ x. not (nat_lt x.seq seq && can_issue kind x)) entries.now }
+{
+    entries
+        .iter()
+        .all(|entry| !(entry.seq < seq && entry.can_issue(kind)))
+}

@@ -1,0 +1,86 @@
+ghost use Rattle.std.specs.Prelude.{◌≡◌, ◌||◌, not, count_by, nat_lt, is_some};
+ghost use Rattle.events.specs.declared.event.Event.TheVariants.{Rename};
+ghost use Rattle.numbers.specs.Sizes.{most_accesses};
+ghost use Rattle.smt_model.specs.Kinds.{kind_of, is_loading, is_storing, writes_register};
+ghost use Rattle.smt_model.specs.Basics.{same_truth};
+ghost use Rattle.smt_model.specs.Rules.{refused};
+ghost use Rattle.core_state.specs.Refusals.{is_free_or_none};
+
+use super::decode::is_oldest;
+use super::first_failing;
+use crate::rename::{loads, stores};
+use crate::state::State;
+use numbers::sizes::MOST_ACCESSES;
+use numbers::{Phys, Seq};
+use retire_squash::Active;
+use rv_decode::Op;
+
+impl State {
+    /// The first rule that a rename of instruction `seq` by actor `actor` breaks, with the register
+    /// `phys` where it is given one.
+    pub(in crate::state) fn rename_refusal(
+        &self,
+        actor: u8,
+        seq: Seq,
+        phys: Option<Phys>,
+    ) -> Option<u8>
+        ensures { result ≡ refused self.now.setup self.now.past (Rename actor seq phys) }
+    {
+        if !self.has_actor(actor) {
+            return Some(1);
+        }
+        let Some((hart, place)) = self.place_of(seq) else {
+            return Some(2);
+        };
+        let Some(slot) = place.rename_slot() else {
+            return Some(2);
+        };
+        let state = self.hart(hart);
+        first_failing(&[
+            (3, is_oldest(&state.rename_latch, seq)),
+            (4, !self.parts.queue.is_full()),
+            (5, !state.active.is_full()),
+            (6, has_load_room(state.active.items(), slot.op)),
+            (7, has_store_room(state.active.items(), slot.op)),
+            (8, is_fitting(phys, slot.op)),
+            (9, self.may_take(phys)),
+        ])
+    }
+
+    /// Whether nothing is taken, or a free register.
+    fn may_take(&self, phys: Option<Phys>) -> bool
+        ensures { result ≡ is_free_or_none self.now.setup self.now.past phys }
+    {
+        match phys {
+            Some(register) => self.parts.free.holds(register),
+            None => true,
+        }
+    }
+}
+
+/// Whether a register is named exactly where the instruction writes one.
+fn is_fitting(phys: Option<Phys>, op: Op) -> bool
+    ensures { result ≡ same_truth (is_some phys) (writes_register op) }
+{
+    if phys.is_some() {
+        op.writes_register()
+    } else {
+        !op.writes_register()
+    }
+}
+
+/// Whether the instruction is no load, or there is room for another.
+fn has_load_room(active: &[Active], op: Op) -> bool
+    ensures { result ≡ (not (is_loading (kind_of op))
+        || nat_lt (count_by (λ x. is_loading (kind_of x.op)) active.now) most_accesses) }
+{
+    !op.kind().is_loading() || loads(active) < MOST_ACCESSES
+}
+
+/// Whether the instruction is no store, or there is room for another.
+fn has_store_room(active: &[Active], op: Op) -> bool
+    ensures { result ≡ (not (is_storing (kind_of op))
+        || nat_lt (count_by (λ x. is_storing (kind_of x.op)) active.now) most_accesses) }
+{
+    !op.kind().is_storing() || stores(active) < MOST_ACCESSES
+}

@@ -1,0 +1,152 @@
+//! Events that are given: the eighteen of the first program, as they stand in its trace, and the
+//! same with other lines in the places of some.
+
+use crate::asks_of_a_core::{config, first_image};
+use crate::rows::holds;
+use events::{Event, read_event_line};
+use history_check::{CheckRefused, check};
+use smt_core::{Core, Followed};
+use std::alloc::Global;
+use std::process::Abort;
+
+/// The events of the first program, whose hart ends with 5.
+static FIRST_TRACE: [&str; 18] = [
+    "F 0 0 0 80000000 00500513 80000004",
+    "F 0 0 1 80000004 05d00893 80000008",
+    "F 0 0 2 80000008 00000073 8000000c",
+    "D 0 0",
+    "D 0 1",
+    "D 0 2",
+    "R 0 0 31",
+    "R 0 1 32",
+    "R 0 2 -",
+    "I 0 0",
+    "C 0 0 00000005 p80000004 - - -",
+    "I 0 1",
+    "C 0 1 0000005d p80000008 - - -",
+    "I 0 2",
+    "C 0 2 - e00000005 - - -",
+    "T 0 0 00000005 p80000004 - - -",
+    "T 0 1 0000005d p80000008 - - -",
+    "T 0 2 - e00000005 - - -",
+];
+
+/// Two lines that stand at these places of the trace for its own, and the place and the rule at
+/// which the events are refused then, if they are.
+struct Row {
+    places: [usize; 2],
+    lines: [&'static str; 2],
+    refused: Option<(u32, u8)>,
+}
+
+static ROWS: [Row; 6] = [
+    Row {
+        places: [3, 4],
+        lines: ["D 0 0", "D 0 1"],
+        refused: None,
+    },
+    // Any free register will do.
+    Row {
+        places: [6, 7],
+        lines: ["R 0 0 32", "R 0 1 31"],
+        refused: None,
+    },
+    // Register 30 is one of the hart's own.
+    Row {
+        places: [6, 7],
+        lines: ["R 0 0 30", "R 0 1 32"],
+        refused: Some((6, 9)),
+    },
+    // It writes x10, so it needs a register.
+    Row {
+        places: [6, 7],
+        lines: ["R 0 0 -", "R 0 1 32"],
+        refused: Some((6, 8)),
+    },
+    // 0 and 5 aren't 6.
+    Row {
+        places: [15, 16],
+        lines: [
+            "T 0 0 00000006 p80000004 - - -",
+            "T 0 1 0000005d p80000008 - - -",
+        ],
+        refused: Some((15, 4)),
+    },
+    // Nobody is actor 7.
+    Row {
+        places: [3, 4],
+        lines: ["D 7 0", "D 0 1"],
+        refused: Some((3, 1)),
+    },
+];
+
+/// The trace with a row's lines in it. None where a line can't be read or there is no memory.
+fn trace_with(row: &Row, alloc: Global) -> Option<Vec<Event>> {
+    let mut events = Vec::new(alloc);
+    for (place, line) in FIRST_TRACE.iter().enumerate() {
+        let line = if place == row.places[0] {
+            row.lines[0]
+        } else if place == row.places[1] {
+            row.lines[1]
+        } else {
+            *line
+        };
+        let event = read_event_line(line.as_bytes()).ok()?;
+        events.push(event).ok()?;
+    }
+    Some(events)
+}
+
+/// How the check of a row's events ends: none where it can't be made.
+fn checked(row: &Row, alloc: Global) -> Option<Option<(u32, u8)>> {
+    let events = trace_with(row, alloc)?;
+    let image = first_image(alloc)?;
+    match check(&image, config(1, 64, 16, 1), events.as_slice(), alloc) {
+        Ok(checked) => {
+            let account = checked.account();
+            if account.records.len() == 3 && account.events == 18 && account.lent == 0 {
+                Some(None)
+            } else {
+                None
+            }
+        }
+        Err(CheckRefused::Event { index, rule }) => Some(Some((index, rule))),
+        Err(CheckRefused::BadConfig | CheckRefused::Memory) => None,
+    }
+}
+
+/// How many of a row's events a core follows, with room for as many as there are, and what it
+/// answers to the one behind them, which is the last once more where it follows all.
+fn followed(row: &Row, alloc: Global) -> Option<(usize, Followed)> {
+    let events = trace_with(row, alloc)?;
+    let image = first_image(alloc)?;
+    let mut core = Core::new(&image, config(1, 64, 16, 1), 18, alloc).ok()?;
+    for event in events.as_slice() {
+        let answer = core.follow(event);
+        if answer != Followed::Done {
+            return Some((core.history().len(), answer));
+        }
+    }
+    let last = *events.last()?;
+    Some((core.history().len(), core.follow(&last)))
+}
+
+#[test]
+fn a_check_names_the_first_event_and_rule(rt: HostRuntime) {
+    for row in &ROWS {
+        let came = checked(row, rt.alloc());
+        holds(&rt, row.lines[0], came == Some(row.refused));
+    }
+}
+
+#[test]
+fn a_core_follows_up_to_the_first_refused(rt: HostRuntime) {
+    for row in &ROWS {
+        let expected = match row.refused {
+            Some((index, rule)) => (index as usize, Followed::Refused(rule)),
+            None => (18, Followed::Full),
+        };
+        let came = followed(row, rt.alloc());
+        holds(&rt, row.lines[0], came == Some(expected));
+    }
+}

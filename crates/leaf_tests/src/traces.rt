@@ -1,0 +1,155 @@
+use crate::event_lines::trace;
+use crate::rows::{holds, holds_at};
+use events::{Event, Over, TraceRefused, print_trace, read_trace};
+use std::alloc::{AllocError, Global};
+use std::io;
+use std::io::{ErrorKind, Write};
+use std::test::Fail;
+
+/// The text of the trace of 18 events.
+fn trace_text(alloc: Global) -> Result<Vec<u8>, AllocError> {
+    let mut text = Vec::new(alloc);
+    text.extend_from_slice(b"smt-trace 1\n")?;
+    for (_, line) in &trace() {
+        text.extend_from_slice(line.as_bytes())?;
+        text.extend_from_slice(b"\n")?;
+    }
+    Ok(text)
+}
+
+#[test]
+fn a_trace_is_read_and_printed_again(rt: HostRuntime) -> Result<(), Fail> {
+    let text = trace_text(rt.alloc())?;
+    let read = read_trace(text.as_slice(), rt.alloc())?;
+    for (event, (expected, line)) in read.events().iter().zip(&trace()) {
+        holds(&rt, line, event == expected);
+    }
+    assert!(rt; read.events().len() == 18);
+    let mut sink = Over::new(Vec::new(rt.alloc()));
+    print_trace(read.events(), &mut sink)?;
+    assert!(rt; sink.into_inner().as_slice() == text.as_slice());
+    Ok(())
+}
+
+/// Texts, each with the line and the rule that it is refused for.
+static REFUSED: [(&str, usize, u8); 31] = [
+    ("", 1, 2),
+    ("smt-trace 1", 1, 2),
+    ("smt-trace 2", 1, 2),
+    ("smt-trace 2\n", 1, 1),
+    ("smt-trace 1\r\n", 1, 1),
+    ("smt-trace 2\nD 0 00\n", 1, 1),
+    ("smt-trace 1\n\n", 2, 3),
+    ("smt-trace 1\nd 0 0\n", 2, 3),
+    ("smt-trace 1\n D 0 0\n", 2, 3),
+    ("smt-trace 1\nD\t0 0\n", 2, 3),
+    ("smt-trace 1\nD 0 0\nI 0 0\nQ 0 0\n", 4, 3),
+    ("smt-trace 1\nD 0 0 \n", 2, 4),
+    ("smt-trace 1\nD 0  0\n", 2, 4),
+    ("smt-trace 1\nD 0\n", 2, 4),
+    ("smt-trace 1\nF 0 0 0 80000000 00500513\n", 2, 4),
+    ("smt-trace 1\nD 0 00\n", 2, 5),
+    ("smt-trace 1\nD 00 16777216\n", 2, 5),
+    ("smt-trace 1\nD 0 0\r\n", 2, 5),
+    ("smt-trace 1\nX 0 -1\n", 2, 5),
+    ("smt-trace 1\nF 0 0 0 8000000A - 80000004\n", 2, 5),
+    ("smt-trace 1\nF 0 0 0 8000000 - 80000004\n", 2, 5),
+    ("smt-trace 1\nC 0 0 - s9 - - -\n", 2, 5),
+    ("smt-trace 1\nT 0 0 - p80000004 80001001 - -\n", 2, 5),
+    ("smt-trace 1\nT 0 0 - p80000004 - aa -\n", 2, 5),
+    ("smt-trace 1\nT 0 0 - p80000004 80001001 aaa -\n", 2, 5),
+    ("smt-trace 1\nD 16 0\n", 2, 6),
+    ("smt-trace 1\nD 16 00\n", 2, 6),
+    ("smt-trace 1\nF 0 8 0 80000000 - 80000004\n", 2, 6),
+    ("smt-trace 1\nR 0 0 504\n", 2, 6),
+    ("smt-trace 1\nD 0 0\nD 0 16777216\n", 3, 6),
+    ("smt-trace 1\nD 0 0\nD 0 16777216", 3, 2),
+];
+
+#[test]
+fn the_first_line_that_breaks_a_rule_is_named(rt: HostRuntime) {
+    for (text, line, rule) in &REFUSED {
+        let expected = TraceRefused::Line {
+            line: *line,
+            rule: *rule,
+        };
+        let refused = read_trace(text.as_bytes(), rt.alloc()).err();
+        holds(&rt, text, refused == Some(expected));
+    }
+}
+
+fn says(refused: TraceRefused, text: &str, alloc: Global) -> bool {
+    match refused.to_string(alloc) {
+        Ok(said) => said.as_str() == text,
+        Err(_) => false,
+    }
+}
+
+#[test]
+fn a_refused_trace_says_its_line_and_its_rule(rt: HostRuntime) {
+    let refused = TraceRefused::Line { line: 2, rule: 5 };
+    assert!(rt; says(refused, "trace line 2 refused 5", rt.alloc()));
+    assert!(rt; says(TraceRefused::Memory, "memory", rt.alloc()));
+}
+
+/// A writer that takes three bytes at once and has room for some. Each fourth call is interrupted.
+#[derive(Drop)]
+struct Narrow {
+    taken: Vec<u8>,
+    room: usize,
+    calls: u32,
+    failures: u32,
+}
+
+impl Write for Narrow {
+    fn write(&mut self, bytes: &[u8]) -> io::Result<usize> {
+        self.calls = self.calls.wrapping_add(1);
+        if self.calls % 4 == 0 {
+            return Err(io::Error::from(ErrorKind::Interrupted));
+        }
+        let count = bytes.len().min(3).min(self.room);
+        if count == 0 {
+            self.failures = self.failures.wrapping_add(1);
+            return if self.calls % 2 == 0 {
+                Ok(0)
+            } else {
+                Err(io::Error::from(ErrorKind::StorageFull))
+            };
+        }
+        self.room -= count;
+        self.taken.extend_from_slice(&bytes[..count])?;
+        Ok(count)
+    }
+
+    fn flush(&mut self) -> io::Result<()> {
+        Ok(())
+    }
+}
+
+/// Whether a writer with so much room takes a beginning of the text, and fails once where that
+/// isn't all of it.
+fn begins(events: &[Event], text: &[u8], room: usize, alloc: Global) -> bool {
+    let mut sink = Over::new(Narrow {
+        taken: Vec::new(alloc),
+        room,
+        calls: 0,
+        failures: 0,
+    });
+    let whole = print_trace(events, &mut sink).is_ok();
+    let writer = sink.into_inner();
+    whole == (room >= text.len())
+        && text.get(..room.min(text.len())) == Some(writer.taken.as_slice())
+        && writer.failures == u32::from(!whole)
+}
+
+#[test]
+fn printing_ends_where_the_sink_fails(rt: HostRuntime) -> Result<(), Fail> {
+    let text = trace_text(rt.alloc())?;
+    let read = read_trace(text.as_slice(), rt.alloc())?;
+    assert!(rt; text.len() < 600);
+    for room in 0..600u32 {
+        let is = begins(read.events(), text.as_slice(), room as usize, rt.alloc());
+        holds_at(&rt, room, is);
+    }
+    Ok(())
+}

@@ -1,0 +1,4 @@
+pub mod Left
+pub mod LeftInside
+pub mod Orders
+pub mod Again

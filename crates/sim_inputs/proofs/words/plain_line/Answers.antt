@@ -1,0 +1,18 @@
+use Rattle.std.proofs.Common.{codes, refl, sym}
+use Rattle.sim_inputs.proofs.Found.{option_row, plain_no_image, plain_no_order, row_value}
+use Rattle.sim_inputs.proofs.words.plain_line.Goals as goal
+
+pub returns-in_default-clause-none : goal.returns-in_default-clause-none
+returns-in_default-clause-none c = plain_no_image c.args.plain.now c.in_default.ensures
+
+pub returns-in_default-get_str-clause-none : goal.returns-in_default-get_str-clause-none
+returns-in_default-get_str-clause-none c = plain_no_order c.args.plain.now c.in_default-get_str.ensures
+
+pub returns-clause-held : goal.returns-clause-held
+returns-clause-held c = (
+  refl,
+  row_value c.args.plain.now (codes "IMAGE") c.in-Some.image.now c.in-Some.ensures,
+  row_value c.args.plain.now (codes "ORDER") c.in-Some-get_str.order.now c.in-Some-get_str.ensures,
+  option_row c.args.plain.now (codes "config") _ c.get_str-3.ensures,
+  sym c.is_set.ensures,
+)
