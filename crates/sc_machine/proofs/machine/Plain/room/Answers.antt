@@ -1,0 +1,5 @@
+use Rattle.std.proofs.Common.{rules}
+use Rattle.sc_machine.proofs.machine.Plain.room.Goals as goal
+
+pub returns : goal.returns
+returns c = search rules
