@@ -1,8 +1,9 @@
 #!/bin/sh
 # compare.sh [PROGRAM]: runs every script, and the plain machine on its order. Each script has to show the outcome that its name
 # says, the plain machine the same records, statuses and exit status; and the outcomes of all scripts have to be those that orders
-# of whole instructions can have (outcomes.out). No output and status 0 where all agree. PROGRAM is the simulator, without it the
-# one of this repository.
+# of whole instructions can have (outcomes.out). `smtsim schedule` has to print the script of each order; beside a script that is
+# written by hand, one that makes the core retire the same. No output and status 0 where all agree. PROGRAM is the simulator,
+# without it the one of this repository.
 set -eu
 LC_ALL=C
 export LC_ALL
@@ -15,11 +16,16 @@ trap 'rm -rf "$work"' EXIT
 made() {
     status=0
     "$smtsim" "$1" "$here/$test.elf" "$2" --config "$here/$config" --records >"$work/printed" || status=$?
-    grep -E '^([0-7] |retired |hart |output )' "$work/printed"
+    grep -E '^([0-7] |retired |hart |output )' "$work/printed" || true
     echo "status $status"
 }
 
 agree=0
+differs() {
+    echo "$1"
+    agree=1
+}
+
 for script in "$here"/*.script; do
     name=$(basename "$script" .script)
     test=${name%%_[0-9]*}
@@ -29,18 +35,19 @@ for script in "$here"/*.script; do
     esac
     made step "$script" >"$work/by_core"
     made plain "$here/$name.order" >"$work/by_plain"
-    if ! diff "$work/by_core" "$work/by_plain"; then
-        echo "$name: the plain machine does otherwise"
-        agree=1
-    fi
-    shown=$(sed -n 's/^hart [0-7] //p' "$work/by_core" | paste -s -d , - | sed 's/,/, /g')
+    diff "$work/by_core" "$work/by_plain" || differs "$name: the plain machine does otherwise"
+    "$smtsim" schedule "$here/$test.elf" "$here/$name.order" --config "$here/$config" >"$work/scheduled" || agree=1
     outcome=${name#"$test"_}
-    if [ "$(printf '%s' "$shown" | tr -cd 0-9)" != "${outcome%%_*}" ]; then
-        echo "$name shows $shown"
-        agree=1
-    fi
+    case $outcome in
+    *_*) # written by hand
+        made step "$work/scheduled" | diff "$work/by_core" - || differs "$name: the script of its order retires otherwise"
+        ;;
+    *) diff "$script" "$work/scheduled" || differs "$name: its order has another script" ;;
+    esac
+    shown=$(sed -n 's/^hart [0-7] //p' "$work/by_core" | paste -s -d , - | sed 's/,/, /g')
+    if [ "$(printf '%s' "$shown" | tr -cd 0-9)" != "${outcome%%_*}" ]; then differs "$name shows $shown"; fi
     echo "$test: $shown" >>"$work/shown"
 done
 sort "$here/outcomes.out" >"$work/wanted"
-if ! sort -u "$work/shown" | diff "$work/wanted" -; then agree=1; fi
+sort -u "$work/shown" | diff "$work/wanted" - || differs "the outcomes aren't those that orders can have"
 exit "$agree"

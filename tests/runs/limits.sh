@@ -63,7 +63,7 @@ outcome() {
     if [ -z "$has_begun" ] && [ "$1" -ge 128 ] && [ "$is_silent" ]; then return; fi
     if has_no_room limit.err; then return; fi
     # The system ends by a signal what has no room for its stack to grow, and that is no answer: the
-    # frame in which a core is made takes some 166 KiB, of which the system gives 128 at the start.
+    # frames in which a core is made take some 156 KiB, of which the system gives 128 at the start.
     if [ "$1" -ge 128 ] && [ "$signals" -lt "$(stack_steps)" ] && [ "$is_silent" ]; then
         signals=$((signals + 1))
         return

@@ -206,6 +206,29 @@ PROGRAMS = {
         0x00000317, 0x02830283, 0x02834383, 0x02B30403, 0x02831483, 0x02835583, 0x02A31603,
         0x02A35683, 0x02832703, 0x00100073, 0x7F00FF80,
     ],
+    # each hart adds 1 to one word a thousand times by AMOADD and waits at a barrier for all; hart 0
+    # then puts the word out, its low byte first; all end with 0: lui x6,0x80001; addi x5,x0,1; addi
+    # x28,x0,1000; amoadd.w x0,x5,(x6); addi x28,x28,-1; bne x28,x0,0x8000000c; addi x7,x6,4;
+    # amoadd.w x0,x5,(x7); lw x29,0(x7); bne x29,x11,0x80000020; bne x10,x0,0x8000004c; lw x8,0(x6);
+    # addi x17,x0,1; addi x9,x0,4; addi x10,x8,0; ecall; srli x8,x8,8; addi x9,x9,-1; bne
+    # x9,x0,0x80000038; addi x10,x0,0; addi x17,x0,93; ecall
+    "counter_and_barrier": [
+        0x80001337, 0x00100293, 0x3E800E13, 0x0053202F, 0xFFFE0E13, 0xFE0E1CE3, 0x00430393,
+        0x0053A02F, 0x0003AE83, 0xFEBE9EE3, 0x02051263, 0x00032403, 0x00100893, 0x00400493,
+        0x00040513, 0x00000073, 0x00845413, 0xFFF48493, 0xFE0498E3, 0x00000513, 0x05D00893,
+        0x00000073,
+    ],
+    # each hart adds 1 to one word a hundred times, under a spin lock of LR and SC, and waits for
+    # all; hart 0 ends with the word, the others with their numbers: lui x6,0x80001; addi
+    # x28,x0,100; lr.w x5,(x6); bne x5,x0,0x80000008; addi x7,x0,1; sc.w x5,x7,(x6); bne
+    # x5,x0,0x80000008; lw x8,4(x6); addi x8,x8,1; sw x8,4(x6); sw x0,0(x6); addi x28,x28,-1; bne
+    # x28,x0,0x80000008; addi x9,x6,8; amoadd.w x0,x7,(x9); lw x29,0(x9); bne x29,x11,0x8000003c;
+    # bne x10,x0,0x8000004c; lw x10,4(x6); addi x17,x0,93; ecall
+    "counter_under_a_lock": [
+        0x80001337, 0x06400E13, 0x100322AF, 0xFE029EE3, 0x00100393, 0x187322AF, 0xFE0298E3,
+        0x00432403, 0x00140413, 0x00832223, 0x00032023, 0xFFFE0E13, 0xFC0E1CE3, 0x00830493,
+        0x0074A02F, 0x0004AE83, 0xFEBE9EE3, 0x00051463, 0x00432503, 0x05D00893, 0x00000073,
+    ],
 }
 
 # puts out the bytes of a segment of data up to a 0: auipc x6,0x00001; addi x17,x0,1; lbu x10,0(x6);

@@ -14,9 +14,15 @@ pub enum Point {
 /// What every actor of a run asks whether it may go on. A gate is given no leave to wait: it may
 /// look, keep what it sees, and give its processor away for a while.
 pub trait Gate {
+    /// A run begins whose history has room for so many events. No actor has asked yet.
+    fn begin(&self, _limit: u32) {}
+
     /// Whether actor `actor` may go on. `seen` is what it read of the board before this turn.
     /// Where it may not, it asks all actors to stop.
     fn at(&self, actor: u8, point: Point, seen: &BoardView) -> bool;
+
+    /// The run is over: all threads are joined, and no actor asks any more.
+    fn rest(&self) {}
 }
 
 /// The gate that lets all pass.

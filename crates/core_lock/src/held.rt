@@ -7,6 +7,7 @@ ghost use Rattle.core_lock.specs.Asks.{Replied, IssueReplied, CompleteReplied, I
 ghost use Rattle.core_lock.specs.Asks.{plain_said, asked_of, event_in, grown_by, is_reply};
 ghost use Rattle.core_lock.specs.Passes.{IsTold, more, later, made_from, going_in, places};
 ghost use Rattle.core_lock.specs.Shown.{Shown};
+ghost use Rattle.core_lock.specs.Tallies.{AreTallies};
 
 mod passes;
 mod replies;
@@ -15,7 +16,7 @@ use crate::ask::{Ask, Asked, Said};
 use crate::finished::Finished;
 use crate::origin::Origin;
 use crate::reader::CoreReader;
-use crate::tally::{Tally, tallies_of, tally_of};
+use crate::tally::{Tally, tallies_of, tally_at, tally_of};
 use elf_image::Image;
 use events::Event;
 use exec_units::Done;
@@ -74,23 +75,24 @@ impl<L: Origin> Held<L> {
     {
         let (mut book, mut rest) = blank.open::<L>();
         book.add(&mut rest, core.history().len() as u64);
+        let tallies = tallies_in(&core);
         let passes = [
-            deal(&core, &mut rest, 0),
-            deal(&core, &mut rest, 1),
-            deal(&core, &mut rest, 2),
-            deal(&core, &mut rest, 3),
-            deal(&core, &mut rest, 4),
-            deal(&core, &mut rest, 5),
-            deal(&core, &mut rest, 6),
-            deal(&core, &mut rest, 7),
-            deal(&core, &mut rest, 8),
-            deal(&core, &mut rest, 9),
-            deal(&core, &mut rest, 10),
-            deal(&core, &mut rest, 11),
-            deal(&core, &mut rest, 12),
-            deal(&core, &mut rest, 13),
-            deal(&core, &mut rest, 14),
-            deal(&core, &mut rest, 15),
+            deal(&core, &tallies, &mut rest, 0),
+            deal(&core, &tallies, &mut rest, 1),
+            deal(&core, &tallies, &mut rest, 2),
+            deal(&core, &tallies, &mut rest, 3),
+            deal(&core, &tallies, &mut rest, 4),
+            deal(&core, &tallies, &mut rest, 5),
+            deal(&core, &tallies, &mut rest, 6),
+            deal(&core, &tallies, &mut rest, 7),
+            deal(&core, &tallies, &mut rest, 8),
+            deal(&core, &tallies, &mut rest, 9),
+            deal(&core, &tallies, &mut rest, 10),
+            deal(&core, &tallies, &mut rest, 11),
+            deal(&core, &tallies, &mut rest, 12),
+            deal(&core, &tallies, &mut rest, 13),
+            deal(&core, &tallies, &mut rest, 14),
+            deal(&core, &tallies, &mut rest, 15),
         ];
         book.audit(&mut rest);
         (Held { core, book, rest }, passes)
@@ -193,8 +195,16 @@ fn show(core: &Core)
     let _events = core.history().len();
 }
 
+/// What the history holds of each actor, told in one pass over it.
+fn tallies_in(core: &Core) -> [Tally; 16]
+    ensures { AreTallies core.now.past result }
+{
+    tallies_of(core.history())
+}
+
 /// The pass of actor `actor`, taken from what is left for it and those of greater numbers.
-fn deal<L: Ledger>(core: &Core, rest: &mut Share<L>, actor: u8) -> Pass<L>
+fn deal<L: Ledger>(core: &Core, tallies: &[Tally; 16], rest: &mut Share<L>, actor: u8) -> Pass<L>
+    requires tallies { AreTallies core.now.past tallies.now }
     requires parts { rest.old.parts + actor ≡ 16 }
     requires inside { actor < 16 }
     requires amount { rest.old.amount ≡ made_from actor core.now.past }
@@ -204,7 +214,9 @@ fn deal<L: Ledger>(core: &Core, rest: &mut Share<L>, actor: u8) -> Pass<L>
     ensures parts { rest.new.parts + (actor + 1) ≡ 16 }
     ensures amount { rest.new.amount ≡ made_from (actor + 1) core.now.past }
 {
-    let Tally { count, last } = tally_of(core.history(), actor);
+    // The history is legal and of at most sixteen actors: that is a clause of this call.
+    let _events = core.history();
+    let Tally { count, last } = tally_at(tallies, actor);
     let part = rest.split_off(1, count);
     Pass {
         actor,

@@ -3,6 +3,7 @@ ghost use Rattle.std.specs.Prelude.{reverse, ℕ, List};
 ghost use Rattle.smt_model.specs.Account.{event_count, last_event_of};
 ghost use Rattle.events.specs.Event.{actor_of};
 ghost use Rattle.events.specs.declared.event.Event.{Event as AnyEvent};
+ghost use Rattle.core_lock.specs.Passes.{IsTold};
 ghost use Rattle.core_lock.specs.Tallies.{AreTallies, AreBelow};
 
 use events::Event;
@@ -59,6 +60,15 @@ pub fn tallies_of(events: &[Event]) -> [Tally; 16]
         enter(&mut tallies, event);
     }
     tallies
+}
+
+/// What stands at the place of actor `actor`.
+pub fn tally_at(tallies: &[Tally; 16], actor: u8) -> Tally
+    requires { actor < 16 }
+    ensures { (past : List AnyEvent) → AreTallies past tallies.now
+        → IsTold past actor result.count result.last }
+{
+    tallies[usize::from(actor)]
 }
 
 /// Enters an event at its actor's place. There is no place for an actor above 15.

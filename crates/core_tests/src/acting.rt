@@ -7,10 +7,8 @@ mod meeting;
 
 use crate::asks_of_a_core::{End, FIRST_END, end_of, first_image, one_of_each};
 use crate::counting::{Miscount, counts, first_miscount};
-use crate::files::file_of;
 use actors::{Gate, Open, RunRefused, StaticPredictor, run};
 use core_lock::Finished;
-use elf_image::{Image, RamSize, load};
 use smt_core::{Config, Status};
 use std::alloc::Global;
 use std::sync::Wait;
@@ -18,11 +16,6 @@ use std::thread::Threads;
 
 /// More turns than any run here takes.
 const MANY_TURNS: u64 = 1_000_000_000;
-
-fn image_of(words: &[u32], alloc: Global) -> Option<Image> {
-    let file = file_of(words, 0, alloc).ok()?;
-    load(alloc, &file, RamSize::new(65536)?).ok()
-}
 
 /// What a run of the first program leaves, with one actor of each role.
 fn first_run<G: Gate + Sync, R: Threads + Wait + Sync>(

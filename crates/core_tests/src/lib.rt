@@ -8,6 +8,8 @@ mod acting;
 #[cfg(test)]
 mod asks_of_a_core;
 #[cfg(test)]
+mod checking_traces;
+#[cfg(test)]
 mod counting;
 #[cfg(test)]
 mod files;
@@ -23,5 +25,9 @@ mod posting;
 mod predictors;
 #[cfg(test)]
 mod rows;
+#[cfg(test)]
+mod scheduling_orders;
+#[cfg(test)]
+mod telling_progress;
 #[cfg(test)]
 mod whole_runs;

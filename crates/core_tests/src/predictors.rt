@@ -5,7 +5,7 @@ ghost use Rattle.std.specs.Prelude.{◌≡◌, ◌+◌, ◌%◌, ◌^◌};
 use smt_core::Predict;
 
 /// A predictor that guesses one address.
-#[derive(Drop)]
+#[derive(Clone, Copy, Drop)]
 pub struct Always(pub u32);
 
 impl Predict for Always {

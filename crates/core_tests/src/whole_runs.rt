@@ -1,10 +1,16 @@
+ghost use Rattle.std.specs.Prelude.{◌≡◌, false};
+
 mod asking;
 mod listing;
 mod plain;
 mod printing;
 mod refusing;
+mod threading;
+mod tracing;
 
 use crate::files::file_of;
+use actors::Open;
+use events::{Over, Sink};
 use sim_inputs::Line;
 use simulator::{Inputs, perform};
 use smt_core::Predict;
@@ -12,6 +18,7 @@ use std::alloc::Global;
 use std::io::Write;
 use std::str;
 use std::sync::Wait;
+use std::thread::Threads;
 
 /// The exit status, and what was written to standard error.
 #[derive(Drop)]
@@ -20,17 +27,35 @@ struct Told {
     err: Vec<u8>,
 }
 
-/// Performs a line.
-fn performed<P: Predict, W: Write, R: Wait>(
+/// Performs a line that keeps no trace.
+fn performed<P: Predict + Copy + Send, W: Write, R: Threads + Wait + Sync>(
     rt: &R,
     line: &Line<'_>,
     inputs: &Inputs<'_>,
-    predict: &mut P,
+    predict: P,
     out: &mut W,
     alloc: Global,
 ) -> Told {
+    let mut trace = Over::new(Vec::new(alloc));
+    kept(rt, line, inputs, predict, &mut trace, out, alloc)
+}
+
+/// Performs a line, and keeps its trace in a sink.
+fn kept<P: Predict + Copy + Send, S: Sink, W: Write, R: Threads + Wait + Sync>(
+    rt: &R,
+    line: &Line<'_>,
+    inputs: &Inputs<'_>,
+    predict: P,
+    trace: &mut S,
+    out: &mut W,
+    alloc: Global,
+) -> Told
+    requires { S.has_failed trace.old ≡ false }
+{
     let mut err = Vec::new(alloc);
-    let status = perform(rt, line, inputs, predict, out, &mut err, alloc);
+    let status = perform(
+        rt, line, inputs, &Open, predict, trace, out, &mut err, alloc,
+    );
     Told { status, err }
 }
 
@@ -42,6 +67,7 @@ fn step_line(records: bool, show: bool) -> Line<'static> {
         config: None,
         records,
         show,
+        trace: None,
     }
 }
 
@@ -86,10 +112,10 @@ struct Printed {
 
 /// How a run ends. There is no answer where something is written to standard error, or no memory
 /// is left.
-fn outcome<P: Predict, R: Wait>(
+fn outcome<P: Predict + Copy + Send, R: Threads + Wait + Sync>(
     rt: &R,
     run: &Run,
-    predict: &mut P,
+    predict: P,
     alloc: Global,
 ) -> Option<Printed> {
     let Ok(file) = file_of(run.words, 0, alloc) else {

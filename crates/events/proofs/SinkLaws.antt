@@ -1,9 +1,10 @@
 -- What goes into a sink, one text after another.
 
 use Rattle.std.proofs.Common.{◌≡◌, ℕ, Bool, false, List, [], ◌++◌, Option, Result, Ok, Err, sym, ◌∙◌, ap, append_assoc}
+use Rattle.std.proofs.Common.{refl}
 use Rattle.std.specs.Prelude.{OnErr}
 use Rattle.std.proofs.KnownBytes.{Appends-nil, Appends-trans}
-use Rattle.events.specs.{declared.sink.Broken.Broken, Sinking.HasBroken, Sinking.HasPut}
+use Rattle.events.specs.{declared.sink.Broken.Broken, Sinking.HasBroken, Sinking.HasPut, Sinking.HasPutBut}
 
 module _ {S : Type 0} (written : S → Option (List ℕ)) (has_failed : S → Bool) where
   pub HasPut-nil : (s : S) → has_failed s ≡ false → HasPut written has_failed s s []
@@ -15,6 +16,34 @@ module _ {S : Type 0} (written : S → Option (List ℕ)) (has_failed : S → Bo
     appended = Appends-trans (written r) (written s) (written t) a b first.appended second.appended;
     works = second.works;
   }
+
+  -- nothing was put, and all is held back
+  pub HasPutBut-nil : (s : S) (text : List ℕ) → has_failed s ≡ false → HasPutBut written has_failed s s text text
+  HasPutBut-nil s text works = record { part = []; parts = refl; put = HasPut-nil s works }
+
+  -- another text is held back behind it
+  pub HasPutBut-more : (r s : S) (text held next : List ℕ) → HasPutBut written has_failed r s text held
+      → HasPutBut written has_failed r s (text ++ next) (held ++ next)
+  HasPutBut-more r s text held next h = record {
+    part = h.part;
+    parts = ap (λ t. t ++ next) h.parts ∙ append_assoc h.part held next;
+    put = h.put;
+  }
+
+  -- a part of what was held back is put
+  pub HasPutBut-step : (r s t : S) (text held left : List ℕ) → HasPutBut written has_failed r s text held
+      → HasPutBut written has_failed s t held left → HasPutBut written has_failed r t text left
+  HasPutBut-step r s t text held left first second = record {
+    part = first.part ++ second.part;
+    parts = first.parts ∙ ap (λ u. first.part ++ u) second.parts ∙ sym (append_assoc first.part second.part left);
+    put = HasPut-append r s t first.part second.part first.put second.put;
+  }
+
+  -- all that was held back is put
+  pub HasPutBut-rest : (r s t : S) (text held : List ℕ) → HasPutBut written has_failed r s text held
+      → HasPut written has_failed s t held → HasPut written has_failed r t text
+  HasPutBut-rest r s t text held first second =
+      rw first.parts (HasPut-append r s t first.part held first.put second)
 
   module _ (puts : S → List ℕ → Result ℕ Broken → S → Type 0) where
     -- the first text went out whole
@@ -32,6 +61,12 @@ module _ {S : Type 0} (written : S → Option (List ℕ)) (has_failed : S → Bo
       cause = h.cause;
       last = h.last;
     }
+
+    -- what was held back went out in part
+    pub HasBroken-held : (r s t : S) (text held : List ℕ) → HasPutBut written has_failed r s text held
+        → HasBroken written has_failed puts s t held → HasBroken written has_failed puts r t text
+    HasBroken-held r s t text held first h =
+        rw first.parts (HasBroken-behind r s t first.part held first.put h)
 
     -- another text was to come
     pub HasBroken-before : (r t : S) (a b : List ℕ) → HasBroken written has_failed puts r t a

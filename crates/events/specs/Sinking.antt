@@ -11,6 +11,13 @@ pub record HasPut {S : Type 0} (written : S → Option (List ℕ)) (has_failed :
   pub appended : Appends (written old) (written new) text
   pub works : has_failed new ≡ false
 
+-- the sink took all of this text but an end that is held back, and none of its puts failed
+pub record HasPutBut {S : Type 0} (written : S → Option (List ℕ)) (has_failed : S → Bool)
+    (old new : S) (text held : List ℕ) : Type 0 where
+  pub part : List ℕ
+  pub parts : text ≡ part ++ held
+  pub put : HasPut written has_failed old new part
+
 -- The sink took a beginning of the text; then a put failed, the first that did, and it was the last
 -- of all.
 pub record HasBroken {S : Type 0} (written : S → Option (List ℕ)) (has_failed : S → Bool)

@@ -8,6 +8,7 @@ ghost use Rattle.core_state.specs.Setup.{setup_of};
 ghost use Rattle.history_check.specs.Checking.{IsFirstBroken};
 ghost use Rattle.numbers.specs.Sizes.{most_events};
 ghost use Rattle.smt_core.specs.Headline.{IsPlainRun};
+ghost use Rattle.smt_laws.specs.Sequential.{IsSequential};
 ghost use Rattle.smt_model.specs.Account.{records, open_job_count};
 ghost use Rattle.smt_model.specs.Basics.{below};
 ghost use Rattle.smt_model.specs.Memory.{output, status};
@@ -17,6 +18,7 @@ ghost use Rattle.smt_model.specs.Setup.{is_accepted};
 use elf_image::Image;
 use events::Event;
 use smt_core::{Account, Config, Core, CoreRefused, Followed};
+use smt_laws::laws::refines_the_plain_machine;
 use std::alloc::Global;
 use std::marker::Model;
 
@@ -61,6 +63,7 @@ pub fn check(
           past = reverse events.now;
         }) }
     ensures legal { IfOk result (λ checked. is_legal checked.setup checked.past) }
+    ensures sequential { IfOk result (λ checked. IsSequential checked.setup checked.past) }
     ensures accepted { IfOk result
         (λ checked. is_accepted checked.setup (length events.now) ≡ true) }
     ensures config { (result ≡ Err CheckRefused.BadConfig)
@@ -70,6 +73,8 @@ pub fn check(
     ensures illegal { (index rule : ℕ) → result ≡ Err (CheckRefused.Event index rule)
         → is_legal (setup_of image.now config) (reverse events.now) → ⊥ }
 {
+    // The headline speaks of every legal history, so of this one.
+    refines_the_plain_machine();
     let Ok(limit) = u32::try_from(events.len()) else {
         return Err(CheckRefused::BadConfig);
     };

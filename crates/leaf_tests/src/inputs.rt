@@ -15,7 +15,7 @@ fn words_of(text: &str, alloc: Global) -> Result<Vec<&str>, AllocError> {
 }
 
 /// Words, and what they ask for.
-static LINES: [(&str, Line<'_>); 10] = [
+static LINES: [(&str, Line<'_>); 18] = [
     (
         "smtsim step first.elf first.script",
         Line::Step {
@@ -24,6 +24,118 @@ static LINES: [(&str, Line<'_>); 10] = [
             config: None,
             records: false,
             show: false,
+            trace: None,
+        },
+    ),
+    (
+        "smtsim step a b --config c",
+        Line::Step {
+            image: "a",
+            script: "b",
+            config: Some("c"),
+            records: false,
+            show: false,
+            trace: None,
+        },
+    ),
+    (
+        "smtsim step --config=c a b",
+        Line::Step {
+            image: "a",
+            script: "b",
+            config: Some("c"),
+            records: false,
+            show: false,
+            trace: None,
+        },
+    ),
+    (
+        "smtsim step a --records b",
+        Line::Step {
+            image: "a",
+            script: "b",
+            config: None,
+            records: true,
+            show: false,
+            trace: None,
+        },
+    ),
+    (
+        "smtsim step --show a b",
+        Line::Step {
+            image: "a",
+            script: "b",
+            config: None,
+            records: false,
+            show: true,
+            trace: None,
+        },
+    ),
+    (
+        "smtsim step a b --trace t",
+        Line::Step {
+            image: "a",
+            script: "b",
+            config: None,
+            records: false,
+            show: false,
+            trace: Some("t"),
+        },
+    ),
+    (
+        "smtsim step --show a --config c --trace=t b --records",
+        Line::Step {
+            image: "a",
+            script: "b",
+            config: Some("c"),
+            records: true,
+            show: true,
+            trace: Some("t"),
+        },
+    ),
+    (
+        "smtsim run a",
+        Line::Run {
+            image: "a",
+            config: None,
+            records: false,
+            trace: None,
+        },
+    ),
+    (
+        "smtsim run --records --config c a",
+        Line::Run {
+            image: "a",
+            config: Some("c"),
+            records: true,
+            trace: None,
+        },
+    ),
+    (
+        "smtsim run --trace t a",
+        Line::Run {
+            image: "a",
+            config: None,
+            records: false,
+            trace: Some("t"),
+        },
+    ),
+    (
+        "smtsim check a t",
+        Line::Check {
+            image: "a",
+            trace: "t",
+            config: None,
+            records: false,
+        },
+    ),
+    (
+        "smtsim check --records a --config c t",
+        Line::Check {
+            image: "a",
+            trace: "t",
+            config: Some("c"),
+            records: true,
         },
     ),
     (
@@ -45,6 +157,22 @@ static LINES: [(&str, Line<'_>); 10] = [
         },
     ),
     (
+        "smtsim schedule a b",
+        Line::Schedule {
+            image: "a",
+            order: "b",
+            config: None,
+        },
+    ),
+    (
+        "smtsim schedule a --config c b",
+        Line::Schedule {
+            image: "a",
+            order: "b",
+            config: Some("c"),
+        },
+    ),
+    (
         "smtsim list list.elf",
         Line::List {
             image: "list.elf",
@@ -56,56 +184,6 @@ static LINES: [(&str, Line<'_>); 10] = [
         Line::List {
             image: "list.elf",
             config: Some("c.toml"),
-        },
-    ),
-    (
-        "smtsim step a b --config c",
-        Line::Step {
-            image: "a",
-            script: "b",
-            config: Some("c"),
-            records: false,
-            show: false,
-        },
-    ),
-    (
-        "smtsim step --config=c a b",
-        Line::Step {
-            image: "a",
-            script: "b",
-            config: Some("c"),
-            records: false,
-            show: false,
-        },
-    ),
-    (
-        "smtsim step a --records b",
-        Line::Step {
-            image: "a",
-            script: "b",
-            config: None,
-            records: true,
-            show: false,
-        },
-    ),
-    (
-        "smtsim step --show a b",
-        Line::Step {
-            image: "a",
-            script: "b",
-            config: None,
-            records: false,
-            show: true,
-        },
-    ),
-    (
-        "smtsim step --show a --config c b --records",
-        Line::Step {
-            image: "a",
-            script: "b",
-            config: Some("c"),
-            records: true,
-            show: true,
         },
     ),
 ];
@@ -126,28 +204,73 @@ fn each_line_is_read_with_its_files_and_options(rt: HostRuntime) {
     }
 }
 
+/// The files of a line: its image, its configuration, the other one that is read, and the one that
+/// is written.
+type Files<'a> = (&'a str, Option<&'a str>, Option<&'a str>, Option<&'a str>);
+
+/// A line of each subcommand, and its files.
+static TOLD: [(Line<'_>, Files<'_>); 6] = [
+    (
+        Line::Step {
+            image: "a",
+            script: "b",
+            config: Some("c"),
+            records: true,
+            show: true,
+            trace: Some("t"),
+        },
+        ("a", Some("c"), Some("b"), Some("t")),
+    ),
+    (
+        Line::Run {
+            image: "a",
+            config: Some("c"),
+            records: true,
+            trace: Some("t"),
+        },
+        ("a", Some("c"), None, Some("t")),
+    ),
+    (
+        Line::Check {
+            image: "a",
+            trace: "t",
+            config: Some("c"),
+            records: true,
+        },
+        ("a", Some("c"), Some("t"), None),
+    ),
+    (
+        Line::Plain {
+            image: "a",
+            order: "b",
+            config: Some("c"),
+            records: false,
+        },
+        ("a", Some("c"), Some("b"), None),
+    ),
+    (
+        Line::Schedule {
+            image: "a",
+            order: "b",
+            config: Some("c"),
+        },
+        ("a", Some("c"), Some("b"), None),
+    ),
+    (
+        Line::List {
+            image: "a",
+            config: Some("c"),
+        },
+        ("a", Some("c"), None, None),
+    ),
+];
+
 #[test]
-fn a_line_tells_its_options(rt: HostRuntime) {
-    let step = Line::Step {
-        image: "a",
-        script: "b",
-        config: Some("c"),
-        records: true,
-        show: true,
-    };
-    assert!(rt; (step.config(), step.second()) == (Some("c"), Some("b")));
-    let list = Line::List {
-        image: "a",
-        config: Some("c"),
-    };
-    assert!(rt; (list.config(), list.second(), list.image()) == (Some("c"), None, "a"));
-    let plain = Line::Plain {
-        image: "a",
-        order: "b",
-        config: Some("c"),
-        records: false,
-    };
-    assert!(rt; (plain.config(), plain.second(), plain.image()) == (Some("c"), Some("b"), "a"));
+fn a_line_tells_its_files(rt: HostRuntime) {
+    for (line, files) in &TOLD {
+        let told = (line.image(), line.config(), line.second(), line.kept());
+        assert!(rt; told == *files);
+    }
 }
 
 /// A line for each.
@@ -161,15 +284,34 @@ smtsim step --show --show a b
 smtsim step --show=yes a b
 smtsim step --record a b
 smtsim step a b --config
+smtsim step a b --trace
+smtsim step --trace t --trace t a b
 smtsim --config c step a b
+smtsim run
+smtsim run a b
+smtsim run --show a
+smtsim run a --trace
+smtsim run --trace t --trace u a
+smtsim check
+smtsim check a
+smtsim check a t u
+smtsim check --trace t a u
+smtsim check --show a t
+smtsim plain a
+smtsim plain a b c
+smtsim plain --show a b
+smtsim plain --trace t a b
+smtsim schedule a
+smtsim schedule a b c
+smtsim schedule --records a b
+smtsim schedule --show a b
+smtsim schedule --trace t a b
 smtsim list
 smtsim list first.elf first.script
 smtsim list --records first.elf
 smtsim list --show first.elf
-smtsim list --config c --config c a
-smtsim plain a
-smtsim plain a b c
-smtsim plain --show a b";
+smtsim list --trace t first.elf
+smtsim list --config c --config c a";
 
 /// Whether words are refused, where there is memory for them.
 fn are_refused(text: &str, alloc: Global) -> Result<bool, AllocError> {
@@ -188,6 +330,6 @@ fn other_words_are_refused(rt: HostRuntime) {
         holds(&rt, text, are_refused(text, rt.alloc()) == Ok(true));
         rows = rows.wrapping_add(1);
     }
-    assert!(rt; rows == 19);
+    assert!(rt; rows == 38);
     assert!(rt; is_refusal(read_words(&[], rt.alloc())));
 }

@@ -153,3 +153,100 @@ fn printing_ends_where_the_sink_fails(rt: HostRuntime) -> Result<(), Fail> {
     }
     Ok(())
 }
+
+/// The events of the trace, so many times.
+fn repeated(times: u32, alloc: Global) -> Result<Vec<Event>, AllocError> {
+    let mut events = Vec::new(alloc);
+    for _ in 0..times {
+        for (event, _) in &trace() {
+            events.push(*event)?;
+        }
+    }
+    Ok(events)
+}
+
+/// Their text.
+fn repeated_text(times: u32, alloc: Global) -> Result<Vec<u8>, AllocError> {
+    let mut text = Vec::new(alloc);
+    text.extend_from_slice(b"smt-trace 1\n")?;
+    for _ in 0..times {
+        for (_, line) in &trace() {
+            text.extend_from_slice(line.as_bytes())?;
+            text.extend_from_slice(b"\n")?;
+        }
+    }
+    Ok(text)
+}
+
+/// A writer that counts its calls, and the bytes of the least piece that isn't the last, and of the
+/// greatest.
+#[derive(Drop)]
+struct Counting {
+    taken: Vec<u8>,
+    calls: u32,
+    last: usize,
+    least: usize,
+    greatest: usize,
+}
+
+impl Write for Counting {
+    fn write(&mut self, bytes: &[u8]) -> io::Result<usize> {
+        if self.calls > 0 {
+            self.least = self.least.min(self.last);
+        }
+        self.calls = self.calls.wrapping_add(1);
+        self.last = bytes.len();
+        self.greatest = self.greatest.max(bytes.len());
+        self.taken.extend_from_slice(bytes)?;
+        Ok(bytes.len())
+    }
+
+    fn flush(&mut self) -> io::Result<()> {
+        Ok(())
+    }
+}
+
+#[test]
+fn lines_go_out_in_large_pieces(rt: HostRuntime) -> Result<(), Fail> {
+    let events = repeated(50, rt.alloc())?;
+    let text = repeated_text(50, rt.alloc())?;
+    assert!(rt; text.len() > 16384);
+    let mut sink = Over::new(Counting {
+        taken: Vec::new(rt.alloc()),
+        calls: 0,
+        last: 0,
+        least: usize::MAX,
+        greatest: 0,
+    });
+    print_trace(events.as_slice(), &mut sink)?;
+    let writer = sink.into_inner();
+    assert!(rt; writer.taken.as_slice() == text.as_slice());
+    assert!(rt; writer.greatest <= 4096);
+    assert!(rt; writer.least > 4096 - 65);
+    assert!(rt; writer.calls as usize <= text.len() / 4032 + 1);
+    Ok(())
+}
+
+#[test]
+fn printing_ends_in_the_piece_where_the_sink_fails(rt: HostRuntime) -> Result<(), Fail> {
+    let events = repeated(50, rt.alloc())?;
+    let text = repeated_text(50, rt.alloc())?;
+    let long = text.len();
+    for room in [
+        0,
+        1,
+        4031,
+        4032,
+        4095,
+        4096,
+        4097,
+        8192,
+        long.saturating_sub(1),
+        long,
+        long.saturating_add(1),
+    ] {
+        let is = begins(events.as_slice(), text.as_slice(), room, rt.alloc());
+        holds_at(&rt, u32::try_from(room).unwrap_or(u32::MAX), is);
+    }
+    Ok(())
+}

@@ -4,3 +4,4 @@ pub mod Keys
 pub mod Names
 pub mod Refusals
 pub mod Rows
+pub mod Subcommand

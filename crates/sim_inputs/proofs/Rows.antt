@@ -1,8 +1,8 @@
 -- The definitions at command lines and configurations that are written out, computed.
-use Rattle.std.specs.Prelude.{◌≡◌, ℕ, true, false, List, [], ◌∷◌, Option, Some, None, option_map, pos, codes, refl}
+use Rattle.std.specs.Prelude.{◌≡◌, ℕ, true, false, List, [], ◌∷◌, Some, None, option_map, pos, codes, refl}
 use Rattle.std.proofs.Common.{sym, ap, ◌∙◌}
 use Rattle.std.proofs.lemmas.Option.{same_Some}
-use Rattle.clap.specs.Words.{Row, Text, fault_of, first_of, subcommand_of}
+use Rattle.clap.specs.Words.{Text, fault_of, first_of, subcommand_of}
 use Rattle.clap.specs.declared.error.kind.ErrorKind.TheVariants.{ArgumentConflict, UnknownArgument}
 use Rattle.clap.proofs.OnLiterals.{clap_on_literals}
 use Rattle.toml.specs.Data.{Data, integer, no_members, member}
@@ -61,6 +61,41 @@ twice : fault_of smtsim (codes "smtsim" ∷ codes "step" ∷ codes "--show" ∷ 
     ≡ ArgumentConflict ∷ []
 unfolding clap_on_literals
 twice = refl
+
+-- `run` with a trace that is written, and `check` with one that is read.
+abbrev run_words : List Text
+run_words = codes "smtsim" ∷ codes "run" ∷ codes "--trace" ∷ codes "t" ∷ codes "a" ∷ []
+
+run_is_taken : fault_of smtsim run_words ≡ []
+unfolding clap_on_literals
+run_is_taken = refl
+
+kept_is : option_map (λ p. first_of (codes "trace") p.1) (subcommand_of smtsim run_words) ≡ Some (Some (codes "t"))
+unfolding clap_on_literals
+kept_is = refl
+
+abbrev check_words : List Text
+check_words = codes "smtsim" ∷ codes "check" ∷ codes "a" ∷ codes "--records" ∷ codes "t" ∷ []
+
+check_is_taken : fault_of smtsim check_words ≡ []
+unfolding clap_on_literals
+check_is_taken = refl
+
+trace_is : option_map (λ p. first_of (codes "TRACE") p.1) (subcommand_of smtsim check_words) ≡ Some (Some (codes "t"))
+unfolding clap_on_literals
+trace_is = refl
+
+-- `schedule` makes no trace, and `step` no two.
+no_trace : fault_of smtsim (codes "smtsim" ∷ codes "schedule" ∷ codes "--trace" ∷ codes "a" ∷ codes "b" ∷ [])
+    ≡ UnknownArgument ∷ []
+unfolding clap_on_literals
+no_trace = refl
+
+two_traces : fault_of smtsim (codes "smtsim" ∷ codes "step" ∷ codes "--trace" ∷ codes "t" ∷ codes "--trace"
+    ∷ codes "u" ∷ codes "a" ∷ codes "b" ∷ [])
+    ≡ ArgumentConflict ∷ []
+unfolding clap_on_literals
+two_traces = refl
 
 -- A document of one key, and one that is cut.
 one_key : parse_document (codes "harts = 2") ≡ Some (member (codes "harts") (integer (pos 2)) no_members)

@@ -16,7 +16,7 @@ use Rattle.sim_inputs.specs.{declared.line.WordsRefused.TheVariants.Refused}
 use Rattle.sim_inputs.specs.{declared.line.WordsRefused.TheVariants.Memory}
 use Rattle.sim_inputs.specs.declared.line.Line.TheVariants as lines
 
--- An argument that names a file and must be there: the image, the script, and the order.
+-- An argument that names a file and must be there: the image, the script, the trace, and the order.
 abbrev pub file_rule : Text → Rule
 file_rule name = record (new_rule name) { required = true }
 
@@ -33,6 +33,9 @@ image_rule = file_rule (codes "IMAGE")
 abbrev pub script_rule : Rule
 script_rule = file_rule (codes "SCRIPT")
 
+abbrev pub trace_rule : Rule
+trace_rule = file_rule (codes "TRACE")
+
 abbrev pub order_rule : Rule
 order_rule = file_rule (codes "ORDER")
 
@@ -45,35 +48,59 @@ records_rule = flag_rule (codes "records")
 abbrev pub show_rule : Rule
 show_rule = flag_rule (codes "show")
 
--- The subcommand `step IMAGE SCRIPT`, with the options `--config FILE`, `--records` and `--show`.
+abbrev pub kept_rule : Rule
+kept_rule = file_option_rule (codes "trace")
+
+-- A command begins with the files that it reads: the image, and for most of them one more.
+abbrev pub image_command : Text → App
+image_command name = with_rule (new_app name) image_rule
+
+-- The options of each command that prints a report: `--config FILE` and `--records`.
+abbrev pub with_report_options : App → App
+with_report_options app = with_rule (with_rule app config_rule) records_rule
+
+-- `step IMAGE SCRIPT`, with the options of a report, `--show` and `--trace FILE`.
 abbrev pub step_command : App
-step_command =
-    with_rule
-    (with_rule
-    (with_rule (with_rule (with_rule (new_app (codes "step")) image_rule) script_rule)
-    config_rule) records_rule) show_rule
+step_command = let files = with_rule (image_command (codes "step")) script_rule in
+    with_rule (with_rule (with_report_options files) show_rule) kept_rule
 
--- The subcommand `plain IMAGE ORDER`, with the options `--config FILE` and `--records`.
+-- `run IMAGE`, with the options of a report and `--trace FILE`.
+abbrev pub run_command : App
+run_command = with_rule (with_report_options (image_command (codes "run"))) kept_rule
+
+-- `check IMAGE TRACE`, with the options of a report.
+abbrev pub check_command : App
+check_command = with_report_options (with_rule (image_command (codes "check")) trace_rule)
+
+-- `plain IMAGE ORDER`, with the options of a report.
 abbrev pub plain_command : App
-plain_command =
-    with_rule
-    (with_rule (with_rule (with_rule (new_app (codes "plain")) image_rule) order_rule)
-    config_rule) records_rule
+plain_command = with_report_options (with_rule (image_command (codes "plain")) order_rule)
 
--- The subcommand `list IMAGE`, with the option `--config FILE`.
+-- `schedule IMAGE ORDER`, with the option `--config FILE`.
+abbrev pub schedule_command : App
+schedule_command = with_rule (with_rule (image_command (codes "schedule")) order_rule) config_rule
+
+-- `list IMAGE`, with the option `--config FILE`.
 abbrev pub list_command : App
-list_command = with_rule (with_rule (new_app (codes "list")) image_rule) config_rule
+list_command = with_rule (image_command (codes "list")) config_rule
 
--- The whole command line: one of the three subcommands must be there. `clap` adds `--help` and
+-- The whole command line: one of the six subcommands must be there. `clap` adds `--help` and
 -- `help`.
 abbrev pub top : App
 top = let app =
     new_app (codes "smtsim") in record app { top = record app.top { subcommand_required = true } }
 
+-- The first three run a core or check what one has done.
+abbrev pub with_core_commands : App → App
+with_core_commands app =
+    with_subcommand
+    (with_subcommand (with_subcommand app step_command.top) run_command.top) check_command.top
+
 abbrev pub smtsim : App
 smtsim =
-    with_subcommand (with_subcommand (with_subcommand top step_command.top) plain_command.top)
-    list_command.top
+    with_subcommand
+    (with_subcommand (with_subcommand (with_core_commands top) plain_command.top)
+    schedule_command.top) list_command.top
 
 -- What `clap` is told: an argument and a command as data, neither of them for the commands below
 -- too.
@@ -92,16 +119,31 @@ is_flag_set name rows =
 
 -- A subcommand of this name, with what was found for its arguments and options, is the line.
 abbrev pub IsLineOf : Text → List Row → Line → Type 0
-IsLineOf name rows (lines.Step image script config records show) = (name ≡ codes "step")
+IsLineOf name rows (lines.Step image script config records show trace) = (name ≡ codes "step")
     × (first_of (codes "IMAGE") rows ≡ Some image.now)
     × (first_of (codes "SCRIPT") rows ≡ Some script.now)
     × (first_of (codes "config") rows ≡ option_map (λ file. file.now) config)
     × (is_flag_set (codes "records") rows ≡ records) × (is_flag_set (codes "show") rows ≡ show)
+    × (first_of (codes "trace") rows ≡ option_map (λ file. file.now) trace)
+IsLineOf name rows (lines.Run image config records trace) = (name ≡ codes "run")
+    × (first_of (codes "IMAGE") rows ≡ Some image.now)
+    × (first_of (codes "config") rows ≡ option_map (λ file. file.now) config)
+    × (is_flag_set (codes "records") rows ≡ records)
+    × (first_of (codes "trace") rows ≡ option_map (λ file. file.now) trace)
+IsLineOf name rows (lines.Check image trace config records) = (name ≡ codes "check")
+    × (first_of (codes "IMAGE") rows ≡ Some image.now)
+    × (first_of (codes "TRACE") rows ≡ Some trace.now)
+    × (first_of (codes "config") rows ≡ option_map (λ file. file.now) config)
+    × (is_flag_set (codes "records") rows ≡ records)
 IsLineOf name rows (lines.Plain image order config records) = (name ≡ codes "plain")
     × (first_of (codes "IMAGE") rows ≡ Some image.now)
     × (first_of (codes "ORDER") rows ≡ Some order.now)
     × (first_of (codes "config") rows ≡ option_map (λ file. file.now) config)
     × (is_flag_set (codes "records") rows ≡ records)
+IsLineOf name rows (lines.Schedule image order config) = (name ≡ codes "schedule")
+    × (first_of (codes "IMAGE") rows ≡ Some image.now)
+    × (first_of (codes "ORDER") rows ≡ Some order.now)
+    × (first_of (codes "config") rows ≡ option_map (λ file. file.now) config)
 IsLineOf name rows (lines.List image config) = (name ≡ codes "list")
     × (first_of (codes "IMAGE") rows ≡ Some image.now)
     × (first_of (codes "config") rows ≡ option_map (λ file. file.now) config)
@@ -133,18 +175,36 @@ IsRefusalOf kind (Help text) = kind ≡ DisplayHelp
 IsRefusalOf kind Refused = (kind ≢ DisplayHelp) × (kind ≢ OutOfMemory)
 IsRefusalOf kind Memory = Unit {0}
 
--- The files that a line names: the configuration, the image, and the script or the order.
+-- The files that a line names: the configuration; the image; the script, the trace that is checked
+-- or the order; and the file that the trace is written to.
 abbrev pub config_of : Line → Option Text
-config_of (lines.Step image script config records show) = option_map (λ file. file.now) config
+config_of (lines.Step image script config records show trace) = option_map (λ file. file.now) config
+config_of (lines.Run image config records trace) = option_map (λ file. file.now) config
+config_of (lines.Check image trace config records) = option_map (λ file. file.now) config
 config_of (lines.Plain image order config records) = option_map (λ file. file.now) config
+config_of (lines.Schedule image order config) = option_map (λ file. file.now) config
 config_of (lines.List image config) = option_map (λ file. file.now) config
 
 abbrev pub image_of : Line → Text
-image_of (lines.Step image script config records show) = image.now
+image_of (lines.Step image script config records show trace) = image.now
+image_of (lines.Run image config records trace) = image.now
+image_of (lines.Check image trace config records) = image.now
 image_of (lines.Plain image order config records) = image.now
+image_of (lines.Schedule image order config) = image.now
 image_of (lines.List image config) = image.now
 
 abbrev pub second_of : Line → Option Text
-second_of (lines.Step image script config records show) = Some script.now
+second_of (lines.Step image script config records show trace) = Some script.now
+second_of (lines.Run image config records trace) = None
+second_of (lines.Check image trace config records) = Some trace.now
 second_of (lines.Plain image order config records) = Some order.now
+second_of (lines.Schedule image order config) = Some order.now
 second_of (lines.List image config) = None
+
+abbrev pub kept_of : Line → Option Text
+kept_of (lines.Step image script config records show trace) = option_map (λ file. file.now) trace
+kept_of (lines.Run image config records trace) = option_map (λ file. file.now) trace
+kept_of (lines.Check image trace config records) = None
+kept_of (lines.Plain image order config records) = None
+kept_of (lines.Schedule image order config) = None
+kept_of (lines.List image config) = None

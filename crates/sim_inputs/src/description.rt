@@ -1,8 +1,11 @@
 ghost use Rattle.std.specs.Prelude.{◌≡◌, IfOk};
-ghost use Rattle.clap.specs.Words.{app_of};
+ghost use Rattle.clap.specs.Words.{App, app_of};
 ghost use Rattle.sim_inputs.specs.CommandLine.{IsArgument, IsCommand, config_rule, file_rule};
-ghost use Rattle.sim_inputs.specs.CommandLine.{flag_rule, image_rule, list_command, plain_command};
-ghost use Rattle.sim_inputs.specs.CommandLine.{records_rule, smtsim, step_command};
+ghost use Rattle.sim_inputs.specs.CommandLine.{flag_rule, image_rule, kept_rule};
+ghost use Rattle.sim_inputs.specs.CommandLine.{check_command, list_command, plain_command};
+ghost use Rattle.sim_inputs.specs.CommandLine.{run_command, schedule_command, step_command};
+ghost use Rattle.sim_inputs.specs.CommandLine.{order_rule, smtsim, with_core_commands};
+ghost use Rattle.sim_inputs.specs.CommandLine.{with_report_options};
 
 use clap::{Arg, ArgAction, Command};
 use std::alloc::{AllocError, Global};
@@ -20,7 +23,23 @@ A script has words apart by spaces or newlines, each an ask of an actor:
 Actors are 0 to 15, and harts 0 to 7. Where *n stands behind a word, n from 1
 to 100000, the word is asked n times, as in F0*4.";
 
-/// How an order is written, for the help of `plain_command`.
+/// How a trace is written, for the help of `check_command`.
+const TRACE_FORM: &str = "\
+A trace has the line smt-trace 1, then one for each event, the oldest first:
+  F actor hart number pc word predicted       fetch
+  D actor number                              decode
+  R actor number register                     rename
+  I actor number                              issue
+  C actor number value next address data out  complete
+  X actor number                              drop
+  T actor number value next address data out  retire
+One space stands between two fields, a newline ends each line, and - is none.
+Pcs, words, values, addresses and data are eight hexadecimal digits in lower
+case, out is two, and the data of a retirement are two for each byte written.
+next is p and a pc, e and a status of eight digits, or s and a cause. All other
+fields are decimal.";
+
+/// How an order is written, for the help of `plain_command` and of `schedule_command`.
 const ORDER_FORM: &str = "\
 An order has words apart by spaces or newlines. Each is the number of a hart,
 0 to 255, which makes the next step: one whole instruction.";
@@ -41,23 +60,31 @@ A configuration is a TOML file. Its keys, with what holds where one is absent:
 pub fn describe<'a>(alloc: Global) -> Result<Command<'a>, AllocError>
     ensures { IfOk result (λ c. app_of c ≡ smtsim) }
 {
-    let step = describe_step(alloc)?;
-    let plain = describe_plain(alloc)?;
-    let list = describe_list(alloc)?;
-    Command::new(alloc, "smtsim")
+    let command = Command::new(alloc, "smtsim")
         .about("Simulate a simultaneous multithreading core whose harts run one RV32IMA program")
         .after_help(CONFIGURATION_FORM)
-        .subcommand_required(true)
-        .subcommand(step)?
-        .subcommand(plain)?
-        .subcommand(list)
+        .subcommand_required(true);
+    add_core_commands(command, alloc)?
+        .subcommand(describe_plain(alloc)?)?
+        .subcommand(describe_schedule(alloc)?)?
+        .subcommand(describe_list(alloc)?)
+}
+
+/// Adds the subcommands that run a core, or check what one has done.
+fn add_core_commands<'a>(command: Command<'a>, alloc: Global) -> Result<Command<'a>, AllocError>
+    ensures { IfOk result (λ c. app_of c ≡ with_core_commands (app_of command.entry)) }
+{
+    command
+        .subcommand(describe_step(alloc)?)?
+        .subcommand(describe_run(alloc)?)?
+        .subcommand(describe_check(alloc)?)
 }
 
 /// The subcommand `step_command`.
 fn describe_step<'a>(alloc: Global) -> Result<Command<'a>, AllocError>
     ensures { IfOk result (IsCommand step_command) }
 {
-    Command::new(alloc, "step")
+    let files = Command::new(alloc, "step")
         .about("Make a script's asks of the core in order, and print a report")
         .after_help(SCRIPT_FORM)
         .arg(image_argument(alloc))?
@@ -65,23 +92,56 @@ fn describe_step<'a>(alloc: Global) -> Result<Command<'a>, AllocError>
             alloc,
             "SCRIPT",
             "The script: what the actors are asked to do",
-        ))?
-        .arg(config_option(alloc))?
-        .arg(records_flag(alloc))?
-        .arg(flag(alloc, "show", "Print the core's tables, after the asks"))
+        ))?;
+    add_report_options(files, alloc)?
+        .arg(flag(alloc, "show", "Print the core's tables, after the asks"))?
+        .arg(trace_option(alloc))
+}
+
+/// The subcommand `run_command`.
+fn describe_run<'a>(alloc: Global) -> Result<Command<'a>, AllocError>
+    ensures { IfOk result (IsCommand run_command) }
+{
+    let files = Command::new(alloc, "run")
+        .about("Run the core, with a thread for each actor, and print a report")
+        .arg(image_argument(alloc))?;
+    add_report_options(files, alloc)?.arg(trace_option(alloc))
+}
+
+/// The subcommand `check_command`.
+fn describe_check<'a>(alloc: Global) -> Result<Command<'a>, AllocError>
+    ensures { IfOk result (IsCommand check_command) }
+{
+    let files = Command::new(alloc, "check")
+        .about("Check that a trace is a history of the core, and print its report")
+        .after_help(TRACE_FORM)
+        .arg(image_argument(alloc))?
+        .arg(file_argument(alloc, "TRACE", "The trace: the events of a history"))?;
+    add_report_options(files, alloc)
 }
 
 /// The subcommand `plain_command`.
 fn describe_plain<'a>(alloc: Global) -> Result<Command<'a>, AllocError>
     ensures { IfOk result (IsCommand plain_command) }
 {
-    Command::new(alloc, "plain")
+    let files = Command::new(alloc, "plain")
         .about("Run the plain machine in an order of harts, and print a report")
         .after_help(ORDER_FORM)
         .arg(image_argument(alloc))?
-        .arg(file_argument(alloc, "ORDER", "The order: which hart makes each step"))?
-        .arg(config_option(alloc))?
-        .arg(records_flag(alloc))
+        .arg(order_argument(alloc))?;
+    add_report_options(files, alloc)
+}
+
+/// The subcommand `schedule_command`.
+fn describe_schedule<'a>(alloc: Global) -> Result<Command<'a>, AllocError>
+    ensures { IfOk result (IsCommand schedule_command) }
+{
+    Command::new(alloc, "schedule")
+        .about("Print the script that makes the core retire in an order of harts")
+        .after_help(ORDER_FORM)
+        .arg(image_argument(alloc))?
+        .arg(order_argument(alloc))?
+        .arg(config_option(alloc))
 }
 
 /// The subcommand `list_command`.
@@ -94,11 +154,30 @@ fn describe_list<'a>(alloc: Global) -> Result<Command<'a>, AllocError>
         .arg(config_option(alloc))
 }
 
+/// Adds the options that each subcommand that prints a report has.
+fn add_report_options<'a>(command: Command<'a>, alloc: Global) -> Result<Command<'a>, AllocError>
+    ensures { (app : App) → IsCommand app command.entry
+        → IfOk result (IsCommand (with_report_options app)) }
+{
+    command.arg(config_option(alloc))?.arg(flag(
+        alloc,
+        "records",
+        "Print a record of each retirement, before the report",
+    ))
+}
+
 /// The image, which each subcommand names.
 fn image_argument<'a>(alloc: Global) -> Arg<'a>
     ensures { IsArgument image_rule result }
 {
     file_argument(alloc, "IMAGE", "The program: an ELF file of RV32IMA")
+}
+
+/// The order of harts of the plain machine.
+fn order_argument<'a>(alloc: Global) -> Arg<'a>
+    ensures { IsArgument order_rule result }
+{
+    file_argument(alloc, "ORDER", "The order: which hart makes each step")
 }
 
 /// An argument that names a file and must be there.
@@ -118,15 +197,14 @@ fn config_option<'a>(alloc: Global) -> Arg<'a>
         .help("The configuration, a TOML file: see smtsim --help")
 }
 
-/// The option for the records before a report.
-fn records_flag<'a>(alloc: Global) -> Arg<'a>
-    ensures { IsArgument records_rule result }
+/// The option that names the file of the trace.
+fn trace_option<'a>(alloc: Global) -> Arg<'a>
+    ensures { IsArgument kept_rule result }
 {
-    flag(
-        alloc,
-        "records",
-        "Print a record of each retirement, before the report",
-    )
+    Arg::new(alloc, "trace")
+        .long("trace")
+        .value_name("FILE")
+        .help("The file that the history is written to")
 }
 
 /// An option that is given or not.

@@ -33,8 +33,17 @@ fn line_in<'a>(matches: &ArgMatches<'a>) -> Option<Line<'a>>
     if let Some(step) = matches.subcommand_matches("step") {
         return step_line(step);
     }
+    if let Some(run) = matches.subcommand_matches("run") {
+        return run_line(run);
+    }
+    if let Some(check) = matches.subcommand_matches("check") {
+        return check_line(check);
+    }
     if let Some(plain) = matches.subcommand_matches("plain") {
         return plain_line(plain);
+    }
+    if let Some(schedule) = matches.subcommand_matches("schedule") {
+        return schedule_line(schedule);
     }
     let Some(list) = matches.subcommand_matches("list") else {
         return None;
@@ -60,6 +69,44 @@ fn step_line<'a>(step: &ArgMatches<'a>) -> Option<Line<'a>>
         config: step.get_str("config"),
         records: is_set(step, "records"),
         show: is_set(step, "show"),
+        trace: step.get_str("trace"),
+    })
+}
+
+/// The line of the subcommand `run`.
+fn run_line<'a>(run: &ArgMatches<'a>) -> Option<Line<'a>>
+    ensures held { IfSome result (IsLineOf (codes "run") (rows_of (found_of run.now))) }
+    ensures none { IfNone result
+        ((line : AnyLine) → IsLineOf (codes "run") (rows_of (found_of run.now)) line → ⊥) }
+{
+    let Some(image) = run.get_str("IMAGE") else {
+        return None;
+    };
+    Some(Line::Run {
+        image,
+        config: run.get_str("config"),
+        records: is_set(run, "records"),
+        trace: run.get_str("trace"),
+    })
+}
+
+/// The line of the subcommand `check`.
+fn check_line<'a>(check: &ArgMatches<'a>) -> Option<Line<'a>>
+    ensures held { IfSome result (IsLineOf (codes "check") (rows_of (found_of check.now))) }
+    ensures none { IfNone result
+        ((line : AnyLine) → IsLineOf (codes "check") (rows_of (found_of check.now)) line → ⊥) }
+{
+    let Some(image) = check.get_str("IMAGE") else {
+        return None;
+    };
+    let Some(trace) = check.get_str("TRACE") else {
+        return None;
+    };
+    Some(Line::Check {
+        image,
+        trace,
+        config: check.get_str("config"),
+        records: is_set(check, "records"),
     })
 }
 
@@ -80,6 +127,26 @@ fn plain_line<'a>(plain: &ArgMatches<'a>) -> Option<Line<'a>>
         order,
         config: plain.get_str("config"),
         records: is_set(plain, "records"),
+    })
+}
+
+/// The line of the subcommand `schedule`.
+fn schedule_line<'a>(schedule: &ArgMatches<'a>) -> Option<Line<'a>>
+    ensures held { IfSome result (IsLineOf (codes "schedule") (rows_of (found_of schedule.now))) }
+    ensures none { IfNone result
+        ((line : AnyLine) → IsLineOf (codes "schedule") (rows_of (found_of schedule.now)) line
+        → ⊥) }
+{
+    let Some(image) = schedule.get_str("IMAGE") else {
+        return None;
+    };
+    let Some(order) = schedule.get_str("ORDER") else {
+        return None;
+    };
+    Some(Line::Schedule {
+        image,
+        order,
+        config: schedule.get_str("config"),
     })
 }
 

@@ -27,7 +27,7 @@ lacks_two letter actor hart high small few =
     (All-cons (λ b. b ≢ 42) 46 _ (omega arith) (lacks_decimal 42 hart (omega arith) (omega arith))))
 
 -- an action's text has no asterisk
-lacks_asterisk : (a : Action) → IsInRange a → Lacks 42 (action_text a)
+pub lacks_asterisk : (a : Action) → IsInRange a → Lacks 42 (action_text a)
 lacks_asterisk (action.Fetch actor) h = lacks_one 70 actor (omega arith) h
 lacks_asterisk (action.Decode actor hart) h = lacks_two 68 actor hart (omega arith) h.0 h.1
 lacks_asterisk (action.Rename actor hart) h = lacks_two 82 actor hart (omega arith) h.0 h.1

@@ -1,2 +1,4 @@
 pub mod Script
 pub mod Order
+pub mod Lines
+pub mod Unambiguous

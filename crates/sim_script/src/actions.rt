@@ -17,3 +17,13 @@ pub struct Word {
     pub action: Action,
     pub repeat: u32,
 }
+
+/// A fetch by actor 0, made once.
+impl Default for Word {
+    fn default() -> Self {
+        Word {
+            action: Action::Fetch { actor: 0 },
+            repeat: 1,
+        }
+    }
+}

@@ -1,7 +1,7 @@
 -- Refusals of a run of the plain machine, from those of the image, the order and the run; and what such a line comes
 -- to.
-use Rattle.std.specs.Prelude.{◌≡◌, ℕ, Bool, List, ◌++◌, Option, Result, Ok, Err, length}
-use Rattle.std.proofs.Common.{refl, subst}
+use Rattle.std.specs.Prelude.{◌≡◌, ℕ, Bool, List, ◌++◌, Option, Ok, Err, length}
+use Rattle.std.proofs.Common.{refl}
 use mathlib.Core.Logic.{inl, inr}
 use Rattle.std.specs.Io.KnownBytes.{Appends}
 use Rattle.elf_image.specs.{Image.ProgramImage, Loaded.IsImageOf}
@@ -11,10 +11,10 @@ use Rattle.sim_script.specs.Order.{IsOrder}
 use Rattle.sim_inputs.specs.declared.settings.Settings.{Settings}
 use Rattle.simulator.specs.declared.refused.Refused.{Refused}
 use Rattle.simulator.specs.declared.refused.Refused.TheVariants.{Image, Config, Script, Order, Step, Memory, File}
-use Rattle.simulator.specs.declared.refused.Refused.TheVariants.{Output}
+use Rattle.simulator.specs.declared.refused.Refused.TheVariants.{Output, Thread, Trace, Event, NoUnit, Limit}
 use Rattle.simulator.specs.Refusals.{Read, OfFile, PassesAll, IsImageRefusal}
 use Rattle.simulator.specs.PlainRefusals.{ArePlainInputsRefusedFor, IsOrdering, IsOrderRefusal, IsRunRefusal}
-use Rattle.simulator.specs.{PlainTold.IsPlainReported, PlainTold.plain_text, Report.records_text}
+use Rattle.simulator.specs.{PlainTold.IsPlainReported, Report.records_text}
 use Rattle.simulator.specs.{Report.plain_report_text, Report.status_number}
 
 pub image_refusal : (image : Read) (settings : Settings) (order : Read) (reason : Refused)
@@ -24,7 +24,12 @@ image_refusal image settings order Config is = absurd is
 image_refusal image settings order (Script number) is = absurd is
 image_refusal image settings order (Order index) is = absurd is
 image_refusal image settings order (Step index why) is = absurd is
+image_refusal image settings order (Trace at rule) is = absurd is
+image_refusal image settings order (Event index rule) is = absurd is
+image_refusal image settings order (NoUnit kind) is = absurd is
+image_refusal image settings order (Limit least) is = absurd is
 image_refusal image settings order Memory is = tt
+image_refusal image settings order Thread is = absurd is
 image_refusal image settings order File is = inl is
 image_refusal image settings order Output is = absurd is
 
@@ -36,7 +41,12 @@ order_refusal image settings order Config passes is = absurd is
 order_refusal image settings order (Script number) passes is = absurd is
 order_refusal image settings order (Order index) passes is = (passes, is)
 order_refusal image settings order (Step index why) passes is = absurd is
+order_refusal image settings order (Trace at rule) passes is = absurd is
+order_refusal image settings order (Event index rule) passes is = absurd is
+order_refusal image settings order (NoUnit kind) passes is = absurd is
+order_refusal image settings order (Limit least) passes is = absurd is
 order_refusal image settings order Memory passes is = tt
+order_refusal image settings order Thread passes is = absurd is
 order_refusal image settings order File passes is = inr (passes, is)
 order_refusal image settings order Output passes is = absurd is
 
@@ -56,7 +66,12 @@ run_refusal image settings order program harts (Script number) passes loaded rea
 run_refusal image settings order program harts (Order index) passes loaded read listed same is = absurd is
 run_refusal image settings order program harts (Step index why) passes loaded read listed same is =
     (passes, record { program = program; is_image = loaded; harts = harts; is_order = read; stops = rw same at is })
+run_refusal image settings order program harts (Trace at rule) passes loaded read listed same is = absurd is
+run_refusal image settings order program harts (Event index rule) passes loaded read listed same is = absurd is
+run_refusal image settings order program harts (NoUnit kind) passes loaded read listed same is = absurd is
+run_refusal image settings order program harts (Limit least) passes loaded read listed same is = absurd is
 run_refusal image settings order program harts Memory passes loaded read listed same is = tt
+run_refusal image settings order program harts Thread passes loaded read listed same is = absurd is
 run_refusal image settings order program harts File passes loaded read listed same is = absurd is
 run_refusal image settings order program harts Output passes loaded read listed same is = absurd is
 

@@ -1,6 +1,7 @@
 -- Refusals of the steps, from those of the image, the configuration and the script; and refusals of a line, from those
 -- of its configuration and those of its image and script.
-use Rattle.std.specs.Prelude.{◌≡◌, ◌⊎◌, ℕ, true, false, ◌&&◌, List, [], Option, Some, None, IfErr, Result, Ok, Err}
+use Rattle.std.specs.Prelude.{◌≡◌, ◌⊎◌, ℕ, Bool, true, false, ◌&&◌, List, [], Option, Some, None, IfErr, Result}
+use Rattle.std.specs.Prelude.{Ok, Err}
 use Rattle.std.proofs.Common.{sym, subst, ◌∙◌, arith}
 use Rattle.std.proofs.lemmas.Bool.Decides.{nat_tests}
 use Rattle.sc_machine.specs.Steps.{are_harts}
@@ -13,11 +14,12 @@ use Rattle.sim_inputs.specs.{Configuration.IsConfiguration}
 use Rattle.sim_inputs.specs.declared.line.Line.TheVariants as lines
 use Rattle.simulator.specs.declared.refused.Refused.{Refused}
 use Rattle.simulator.specs.declared.refused.Refused.TheVariants.{Image, Config, Script, Order, Step, Memory, File}
-use Rattle.simulator.specs.declared.refused.Refused.TheVariants.{Output}
+use Rattle.simulator.specs.declared.refused.Refused.TheVariants.{Output, Thread, Trace, Event, NoUnit, Limit}
 use Rattle.simulator.specs.Refusals.{Read, OfFile, PassesAll, AreAccepted, AreRefused, IsImageRefusal, IsConfigRefusal}
 use Rattle.simulator.specs.Refusals.{IsScriptRefusal, AreInputsRefusedFor, IsAsking}
 use Rattle.simulator.specs.Lines.{IsLineRefusal, IsSettingsRefusal, IsRefusal, OfSettings, IsListed, HasEnded}
-use Rattle.simulator.specs.Lines.{IsReportedBy, IsStepLine}
+use Rattle.simulator.specs.{Lines.IsReportedBy, Lines.IsStepLine, Session.Prints}
+use Rattle.core_state.specs.View.{CoreView}
 
 -- What is refused of the image is refused of the steps; then what is of the sizes, and what is of the script.
 pub image_refusal : (image : Read) (settings : Settings) (script : Read) (reason : Refused)
@@ -28,7 +30,12 @@ image_refusal image settings script Config is = absurd is
 image_refusal image settings script (Script number) is = absurd is
 image_refusal image settings script (Order index) is = absurd is
 image_refusal image settings script (Step index why) is = absurd is
+image_refusal image settings script (Trace at rule) is = absurd is
+image_refusal image settings script (Event index rule) is = absurd is
+image_refusal image settings script (NoUnit kind) is = absurd is
+image_refusal image settings script (Limit least) is = absurd is
 image_refusal image settings script Memory is = tt
+image_refusal image settings script Thread is = absurd is
 image_refusal image settings script File is = inl is
 image_refusal image settings script Output is = absurd is
 
@@ -40,7 +47,12 @@ sizes_refusal image settings script Config passes is = (passes, is)
 sizes_refusal image settings script (Script number) passes is = absurd is
 sizes_refusal image settings script (Order index) passes is = absurd is
 sizes_refusal image settings script (Step index why) passes is = absurd is
+sizes_refusal image settings script (Trace at rule) passes is = absurd is
+sizes_refusal image settings script (Event index rule) passes is = absurd is
+sizes_refusal image settings script (NoUnit kind) passes is = absurd is
+sizes_refusal image settings script (Limit least) passes is = absurd is
 sizes_refusal image settings script Memory passes is = tt
+sizes_refusal image settings script Thread passes is = absurd is
 sizes_refusal image settings script File passes is = absurd is
 sizes_refusal image settings script Output passes is = absurd is
 
@@ -52,7 +64,12 @@ script_refusal image settings script Config passes accepted is = absurd is
 script_refusal image settings script (Script number) passes accepted is = ((passes, accepted), is)
 script_refusal image settings script (Order index) passes accepted is = absurd is
 script_refusal image settings script (Step index why) passes accepted is = absurd is
+script_refusal image settings script (Trace at rule) passes accepted is = absurd is
+script_refusal image settings script (Event index rule) passes accepted is = absurd is
+script_refusal image settings script (NoUnit kind) passes accepted is = absurd is
+script_refusal image settings script (Limit least) passes accepted is = absurd is
 script_refusal image settings script Memory passes accepted is = tt
+script_refusal image settings script Thread passes accepted is = absurd is
 script_refusal image settings script File passes accepted is = inr ((passes, accepted), is)
 script_refusal image settings script Output passes accepted is = absurd is
 
@@ -94,21 +111,133 @@ pub line_refusal : (line : Line) (config : Read) (settings : Settings)
     → IsRefusal line config image script reason
 line_refusal line (Err why) settings is image script reason because = absurd is
 line_refusal line (Ok text) settings is image script (Image number) because = (settings, is, because)
-line_refusal (lines.Step a b c records show) (Ok text) settings is image script Config because =
+line_refusal (lines.Step a b c records show trace) (Ok text) settings is image script Config because =
     absurd (never_refused text settings is because.1)
+line_refusal (lines.Run a c records trace) (Ok text) settings is image script Config because = elim because.1 [
+  | inl refused ↦ absurd (never_refused text settings is refused)
+  | inr lacks ↦ inr (settings, is, (because.0, lacks.1))
+]
+line_refusal (lines.Check a b c records) (Ok text) settings is image script Config because =
+    inr (settings, is, because)
 line_refusal (lines.Plain a b c records) (Ok text) settings is image script Config because =
     absurd (never_without_harts text settings is because.2)
+line_refusal (lines.Schedule a b c) (Ok text) settings is image script Config because =
+    absurd (never_refused text settings is (λ program. because.1.refused))
 line_refusal (lines.List a c) (Ok text) settings is image script Config because = absurd because
 line_refusal line (Ok text) settings is image script (Script number) because = (settings, is, because)
 line_refusal line (Ok text) settings is image script (Order index) because = (settings, is, because)
 line_refusal line (Ok text) settings is image script (Step index why) because = (settings, is, because)
+line_refusal line (Ok text) settings is image script (Trace at rule) because = (settings, is, because)
+line_refusal line (Ok text) settings is image script (Event index rule) because = (settings, is, because)
+line_refusal line (Ok text) settings is image script (NoUnit kind) because = (settings, is, because)
+line_refusal line (Ok text) settings is image script (Limit least) because = (settings, is, because)
 line_refusal line (Ok text) settings is image script Memory because = tt
+line_refusal line (Ok text) settings is image script Thread because = (settings, is, because)
 line_refusal line (Ok text) settings is image script File because = inr (settings, is, because)
 line_refusal line (Ok text) settings is image script Output because = (settings, is, because)
 
--- A flush changes nothing of what was written.
+-- What is refused of the configuration is refused of the line.
+pub settings_refusal : (line : Line) (config image second : Read) (reason : Refused) → IsSettingsRefusal config reason
+    → IsRefusal line config image second reason
+settings_refusal line config image second (Image number) is = absurd is
+settings_refusal line config image second Config is = inl is
+settings_refusal line config image second (Script number) is = absurd is
+settings_refusal line config image second (Order index) is = absurd is
+settings_refusal line config image second (Step index why) is = absurd is
+settings_refusal line config image second (Trace at rule) is = absurd is
+settings_refusal line config image second (Event index rule) is = absurd is
+settings_refusal line config image second (NoUnit kind) is = absurd is
+settings_refusal line config image second (Limit least) is = absurd is
+settings_refusal line config image second Memory is = tt
+settings_refusal line config image second Thread is = absurd is
+settings_refusal line config image second File is = inl is
+settings_refusal line config image second Output is = absurd is
+
+-- A flush changes nothing of what was written: by one call, by several, and by a line.
 pub kept : (old mid new : Option (List ℕ)) (text : List ℕ) → Appends old mid text → Keeps mid new → Appends old new text
 kept None mid new text written flushed = tt
 kept (Some xs) None new text written flushed = absurd written
 kept (Some xs) (Some ys) None text written flushed = absurd flushed
 kept (Some xs) (Some ys) (Some zs) text written flushed = flushed ∙ written
+
+prints_kept : (old mid new : Option (List ℕ)) (P : List ℕ → Type 0) → Prints old mid P → Keeps mid new
+    → Prints old new P
+prints_kept old mid new P printed flushed = (printed.0, printed.1, kept old mid new printed.0 printed.2 flushed)
+
+report_kept : (line : Line) (settings : Settings) (image second : Read) (Kept : Bool → CoreView → Type 0)
+    (old mid new : Option (List ℕ)) (status : ℕ) → Keeps mid new
+    → IsReportedBy line settings image second Kept old mid status
+    → IsReportedBy line settings image second Kept old new status
+report_kept (lines.Step a b c records show trace) settings image second Kept old mid new status flushed is = record {
+  core = is.core;
+  is_image = is.is_image;
+  setup = is.setup;
+  limit = is.limit;
+  shown = is.shown;
+  kept = is.kept;
+  printed = prints_kept old mid new _ is.printed flushed;
+  harts = is.harts;
+}
+report_kept (lines.Run a c records trace) settings image second Kept old mid new status flushed is = record {
+  manned = is.manned;
+  core = is.core;
+  is_image = is.is_image;
+  setup = is.setup;
+  limit = is.limit;
+  shown = is.shown;
+  kept = is.kept;
+  printed = prints_kept old mid new _ is.printed flushed;
+  harts = is.harts;
+}
+report_kept (lines.Check a b c records) settings image second Kept old mid new status flushed is = record {
+  events = is.events;
+  is_trace = is.is_trace;
+  core = is.core;
+  is_image = is.is_image;
+  setup = is.setup;
+  limit = is.limit;
+  past = is.past;
+  accepted = is.accepted;
+  shown = is.shown;
+  printed = prints_kept old mid new _ is.printed flushed;
+  harts = is.harts;
+}
+report_kept (lines.Plain a b c records) settings image second Kept old mid new status flushed is = record {
+  program = is.program;
+  is_image = is.is_image;
+  harts = is.harts;
+  is_order = is.is_order;
+  ran = is.ran;
+  runs = is.runs;
+  printed = kept old mid new _ is.printed flushed;
+  stands = is.stands;
+}
+report_kept (lines.Schedule a b c) settings image second Kept old mid new status flushed is =
+    (prints_kept old mid new _ is.0 flushed, is.1)
+report_kept (lines.List a c) settings image second Kept old mid new status flushed is = tt
+
+listing_kept : (image : Read) (ram : ℕ) (old mid new : Option (List ℕ)) → Keeps mid new
+    → OfFile image (λ file. IsListed file ram old mid) → OfFile image (λ file. IsListed file ram old new)
+listing_kept (Ok file) ram old mid new flushed is =
+    record { image = is.image; is_image = is.is_image; written = kept old mid new _ is.written flushed }
+listing_kept (Err why) ram old mid new flushed is = absurd is
+
+of_settings : (config : Read) (settings : Settings) (P : Settings → Type 0)
+    → OfFile config (λ text. IsConfiguration text settings) → P settings → OfSettings config P
+of_settings (Ok text) settings P is holds = (settings, is, holds)
+of_settings (Err why) settings P is holds = absurd is
+
+-- What a line has come to when all that it prints is flushed.
+pub ended : (line : Line) (config image second : Read) (settings : Settings) (Kept : Bool → CoreView → Type 0)
+    (old mid new : Option (List ℕ)) (status : ℕ) → OfFile config (λ text. IsConfiguration text settings)
+    → HasEnded line settings image second Kept old mid status → Keeps mid new
+    → OfSettings config (λ settings. HasEnded line settings image second Kept old new status)
+ended line config image second settings Kept old mid new status is has flushed =
+    of_settings config settings (λ settings. HasEnded line settings image second Kept old new status) is (record {
+      passed = has.passed;
+      accepted = has.accepted;
+      asks = has.asks;
+      zero = has.zero;
+      listed = λ lists. listing_kept image settings.ram old mid new flushed (has.listed lists);
+      reported = report_kept line settings image second Kept old mid new status flushed has.reported;
+    })

@@ -7,8 +7,8 @@ use Rattle.plain_run.specs.Orders.{IsStoppedAt}
 use Rattle.sim_script.specs.Order.{IsOrder, IsFirstNoHart}
 use Rattle.sim_inputs.specs.{declared.settings.Settings.Settings}
 use Rattle.simulator.specs.{declared.refused.Refused.Refused}
-use Rattle.simulator.specs.declared.refused.Refused.TheVariants.{Image, Config, Script, Order}
-use Rattle.simulator.specs.declared.refused.Refused.TheVariants.{Step, Memory, File, Output}
+use Rattle.simulator.specs.declared.refused.Refused.TheVariants.{Image, Config, Order, Step}
+use Rattle.simulator.specs.declared.refused.Refused.TheVariants.{Memory, File, Output}
 use Rattle.simulator.specs.declared.refused.Unread.TheVariants as unread
 use Rattle.simulator.specs.Refusals.{Read, OfFile, IsFirstFailed, PassesAll}
 
@@ -34,7 +34,6 @@ ArePlainInputsRefusedFor image settings order (Image number) =
 ArePlainInputsRefusedFor image settings order Config =
     OfFile image (λ file. PassesAll file settings.ram) × IsOrdering order
     × (are_harts settings.config.harts ≡ false)
-ArePlainInputsRefusedFor image settings order (Script number) = ⊥
 ArePlainInputsRefusedFor image settings order (Order index) =
     OfFile image (λ file. PassesAll file settings.ram)
     × OfFile order (λ text. IsFirstNoHart text index)
@@ -46,6 +45,7 @@ ArePlainInputsRefusedFor image settings order File = (image ≡ Err unread.File)
     ⊎ (OfFile image (λ file. PassesAll file settings.ram) × (order ≡ Err unread.File))
 ArePlainInputsRefusedFor image settings order Output =
     OfFile image (λ file. PassesAll file settings.ram) × IsOrdering order
+ArePlainInputsRefusedFor image settings order _ = ⊥
 
 -- The parts of it: what the reading of an order answers, and its run on an image.
 abbrev pub IsOrderRefusal : Read → Refused → Type 0

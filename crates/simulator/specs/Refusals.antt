@@ -15,7 +15,8 @@ use Rattle.sim_inputs.specs.{declared.settings.Settings.Settings}
 use Rattle.sim_inputs.specs.declared.line.WordsRefused.TheVariants as words
 use Rattle.simulator.specs.{declared.refused.Refused.Refused, declared.refused.Unread.Unread}
 use Rattle.simulator.specs.declared.refused.Refused.TheVariants.{Image, Config, Script, Order}
-use Rattle.simulator.specs.declared.refused.Refused.TheVariants.{Step, Memory, File, Output}
+use Rattle.simulator.specs.declared.refused.Refused.TheVariants.{Step, Trace, Event, NoUnit, Limit}
+use Rattle.simulator.specs.declared.refused.Refused.TheVariants.{Memory, Thread, File, Output}
 use Rattle.simulator.specs.declared.refused.Unread.TheVariants as unread
 
 -- A file as it was read: its text, or why there is none.
@@ -83,12 +84,11 @@ AreInputsRefusedFor image settings script Config =
     OfFile image (λ file. PassesAll file settings.ram) × AreRefused settings
 AreInputsRefusedFor image settings script (Script number) =
     AreReadyFor image settings × OfFile script (λ text. IsFirstMisspelled text number)
-AreInputsRefusedFor image settings script (Order index) = ⊥
-AreInputsRefusedFor image settings script (Step index why) = ⊥
 AreInputsRefusedFor image settings script Memory = Unit {0}
 AreInputsRefusedFor image settings script File =
     (image ≡ Err unread.File) ⊎ (AreReadyFor image settings × (script ≡ Err unread.File))
 AreInputsRefusedFor image settings script Output = AreReadyFor image settings × IsAsking script
+AreInputsRefusedFor image settings script _ = ⊥
 
 -- The parts of it: what the loading of an image answers, the making of a core, and the reading of a
 -- script.
@@ -109,14 +109,20 @@ IsScriptRefusal script Memory = Unit {0}
 IsScriptRefusal script File = script ≡ Err unread.File
 IsScriptRefusal script _ = ⊥
 
--- The number of the exit status: 2 for an input, 5 for memory, files and the output.
+-- The number of the exit status: 2 for an input, 4 for a trace, 5 for memory, threads, files and
+-- the output.
 abbrev pub exit_status_of : Refused → ℕ
 exit_status_of (Image number) = 2
 exit_status_of Config = 2
 exit_status_of (Script number) = 2
 exit_status_of (Order index) = 2
 exit_status_of (Step index why) = 2
+exit_status_of (Trace line rule) = 4
+exit_status_of (Event index rule) = 4
+exit_status_of (NoUnit kind) = 2
+exit_status_of (Limit least) = 2
 exit_status_of Memory = 5
+exit_status_of Thread = 5
 exit_status_of File = 5
 exit_status_of Output = 5
 

@@ -9,6 +9,7 @@ use Rattle.smt_model.specs.{Account.open_job_count, Memory.status, Memory.output
 use Rattle.core_state.specs.{Setup.setup_of, View.CoreView}
 use Rattle.core_lock.specs.Shown.{Shown}
 use Rattle.sim_inputs.specs.declared.settings.Settings.{Settings}
+use Rattle.events.specs.{Sinking.HasPut, Trace.trace_text}
 use Rattle.simulator.specs.{Refusals.Read, Refusals.OfFile, Session.AreAsked, Session.Prints}
 use Rattle.simulator.specs.Report.{records_text, report_text, status_number}
 
@@ -43,24 +44,33 @@ HasTold core with_records with_tables old new exit_status =
     Prints old new (IsAccount core with_records with_tables)
     × (exit_status ≡ status_number (statuses_of core))
 
--- The lines of all that a script asks for, and then what is printed of a core.
+-- The lines of all that a script has asked of a core, and then what is printed of it.
 pub record IsWhole (core : CoreView) (script : Read) (with_records with_tables : Bool)
     (text : List ℕ) : Type 0 where
   pub asks : List ℕ
   pub account : List ℕ
-  pub are_asked : OfFile script (λ words. AreAsked words asks)
+  pub are_asked : OfFile script (λ words. AreAsked words core asks)
   pub is_account : IsAccount core with_records with_tables account
   pub both : text ≡ asks ++ account
 
--- There is a core of this image and these settings, one of those that may be shown. What was
--- printed are the lines of the script's asks, and then what is printed of this core; the exit
--- status is that of its harts.
+-- Where the trace of a core is wanted, a sink took all of it, and hasn't failed; else nothing went
+-- into the sink. A sink says of its values what was put and whether it has failed.
+abbrev pub IsKept : {S : Type 0} → (S → Option (List ℕ)) → (S → Bool) → S → S → Bool → CoreView
+    → Type 0
+IsKept written has_failed old new true core =
+    HasPut written has_failed old new (trace_text (reverse core.past))
+IsKept written has_failed old new false core = new ≡ old
+
+-- There is a core of this image and these settings, one of those that may be shown. Its trace is
+-- kept where that is wanted. What was printed are its own answers to the script's asks, and then
+-- what is printed of it; the exit status is that of its harts.
 pub record IsReported (settings : Settings) (image script : Read) (with_records with_tables : Bool)
-    (old new : Option (List ℕ)) (exit_status : ℕ) : Type 0 where
+    (Kept : CoreView → Type 0) (old new : Option (List ℕ)) (exit_status : ℕ) : Type 0 where
   pub core : CoreView
   pub is_image : OfFile image (λ file. IsImageOf file settings.ram core.setup.image)
   pub setup : core.setup ≡ setup_of core.setup.image settings.config
   pub limit : core.limit ≡ settings.limit
   pub shown : Shown core
+  pub kept : Kept core
   pub printed : Prints old new (IsWhole core script with_records with_tables)
   pub harts : exit_status ≡ status_number (statuses_of core)

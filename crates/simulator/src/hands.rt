@@ -1,8 +1,6 @@
 ghost use Rattle.std.specs.Prelude.{◌≡◌, Some, None, replicate, slice_index_or, slice_set};
-ghost use Rattle.simulator.specs.Session.{Keeps, is_job};
 
-use core_lock::Said;
-use smt_core::{Done, work};
+use smt_core::Done;
 use std::mem;
 
 /// What each actor, 0 to 15, holds: a job that it has worked and not handed back.
@@ -32,20 +30,6 @@ impl Hands {
             abandon(mem::replace(&mut self.held[usize::from(actor)], Some(done)));
         } else {
             done.abandon();
-        }
-    }
-
-    /// Has actor `actor` work a job that came, and hold what was done. Tells whether one came.
-    pub fn keep(&mut self, actor: u8, said: Said) -> bool
-        ensures came { result ≡ is_job said }
-        ensures kept { Keeps actor said self.old.held self.new.held }
-    {
-        match said {
-            Said::Job(job, _) => {
-                self.put(actor, work(job));
-                true
-            }
-            Said::Event(_) | Said::Idle | Said::Stranger | Said::Full => false,
         }
     }
 

@@ -22,6 +22,7 @@ use std::io::Write;
 /// Refused are, in this order, the image, the first word of the order that is no number, and the
 /// first step that the machine doesn't make; then nothing is printed. `Output` is answered where
 /// `out` failed.
+#[inline(never)]
 pub fn run_and_report<W: Write>(
     image: Result<&[u8], Unread>,
     settings: &Settings,
@@ -58,7 +59,7 @@ pub fn run_and_report<W: Write>(
 }
 
 /// The harts of the order that a file holds.
-fn read_harts(file: Result<&[u8], Unread>, alloc: Global) -> Result<Vec<u8>, Refused>
+pub(crate) fn read_harts(file: Result<&[u8], Unread>, alloc: Global) -> Result<Vec<u8>, Refused>
     ensures order { IfOk result
         (λ harts. OfFile (as_read file.entry) (λ text. IsOrder text harts.items)) }
     ensures refused { IfErr result (IsOrderRefusal (as_read file.entry)) }

@@ -7,6 +7,8 @@ ghost use Rattle.simulator.specs.Refusals.{as_read, says_harts, words_refused, I
 use crate::files::read_file;
 use crate::performing::{Inputs, perform};
 use crate::refused::{Refused, Unread, refuse};
+use crate::trace_file::TraceFile;
+use actors::Gate;
 use sim_inputs::{Line, WordsRefused, read_words};
 use smt_core::Predict;
 use std::alloc::{AllocError, Global};
@@ -15,39 +17,54 @@ use std::io;
 use std::io::{ErrorKind, Write};
 use std::rt::Files;
 use std::sync::Wait;
+use std::thread::Threads;
 
 /// Does all that the program does with its words, its own name first, and answers its exit status:
 /// what the words ask for is printed on `out`, and why it isn't on `err`. 0 for help, 2 for a wrong
 /// command line, 5 for want of memory and where `out` fails; else that of what is performed. Words
-/// that are no text are a wrong command line.
-pub fn run<S: Files + Wait, P: Predict, W: Write + Drop, E: Write>(
+/// that are no text are a wrong command line. A trace is written to the file that the words name.
+pub fn run<
+    S: Files + Threads + Wait + Sync,
+    G: Gate + Sync,
+    P: Predict + Copy + Send,
+    W: Write + Drop,
+    E: Write,
+>(
     system: &S,
     words: io::Result<Args>,
-    predict: &mut P,
+    gate: &G,
+    predict: P,
     out: io::Result<W>,
     err: &mut E,
     alloc: Global,
 ) -> u8
-    ensures known { IsTrue (says_harts result) ⊎ (result ≡ 2) ⊎ (result ≡ 5) }
+    ensures known { IsTrue (says_harts result) ⊎ (result ≡ 2) ⊎ (result ≡ 4) ⊎ (result ≡ 5) }
     ensures unopened { IfErr out (λ error. result ≡ 5) }
     ensures unread { IfOk out (λ opened. IfErr words
         (λ error. IsWordsStatus (words_refused (error_kind error)) result)) }
 {
     match out {
-        Ok(mut out) => answer_words(system, words, predict, &mut out, err, alloc),
+        Ok(mut out) => answer_words(system, words, gate, predict, &mut out, err, alloc),
         Err(_) => refuse(Refused::Memory, err),
     }
 }
 
-fn answer_words<S: Files + Wait, P: Predict, W: Write, E: Write>(
+fn answer_words<
+    S: Files + Threads + Wait + Sync,
+    G: Gate + Sync,
+    P: Predict + Copy + Send,
+    W: Write,
+    E: Write,
+>(
     system: &S,
     words: io::Result<Args>,
-    predict: &mut P,
+    gate: &G,
+    predict: P,
     out: &mut W,
     err: &mut E,
     alloc: Global,
 ) -> u8
-    ensures known { IsTrue (says_harts result) ⊎ (result ≡ 2) ⊎ (result ≡ 5) }
+    ensures known { IsTrue (says_harts result) ⊎ (result ≡ 2) ⊎ (result ≡ 4) ⊎ (result ≡ 5) }
     ensures unread { IfErr words
         (λ error. IsWordsStatus (words_refused (error_kind error)) result) }
 {
@@ -55,7 +72,7 @@ fn answer_words<S: Files + Wait, P: Predict, W: Write, E: Write>(
         Ok(words) => words,
         Err(error) => return refuse_words(unread_words(&error), out, err),
     };
-    match collect_and_answer(system, words, predict, out, err, alloc) {
+    match collect_and_answer(system, words, gate, predict, out, err, alloc) {
         Ok(status) => status,
         Err(AllocError) => refuse(Refused::Memory, err),
     }
@@ -72,21 +89,28 @@ fn unread_words(error: &io::Error) -> WordsRefused
 }
 
 /// Answers words that are all texts. Fails only where there is no memory to hold them.
-fn collect_and_answer<S: Files + Wait, P: Predict, W: Write, E: Write>(
+fn collect_and_answer<
+    S: Files + Threads + Wait + Sync,
+    G: Gate + Sync,
+    P: Predict + Copy + Send,
+    W: Write,
+    E: Write,
+>(
     system: &S,
     words: Args,
-    predict: &mut P,
+    gate: &G,
+    predict: P,
     out: &mut W,
     err: &mut E,
     alloc: Global,
 ) -> Result<u8, AllocError>
     ensures { IfOk result
-        (λ status. IsTrue (says_harts status) ⊎ (status ≡ 2) ⊎ (status ≡ 5)) }
+        (λ status. IsTrue (says_harts status) ⊎ (status ≡ 2) ⊎ (status ≡ 4) ⊎ (status ≡ 5)) }
 {
     let words = collect(words, alloc)?;
     let texts = texts(words.as_slice(), alloc)?;
     match read_words(texts.as_slice(), alloc) {
-        Ok(line) => Ok(read_and_perform(system, &line, predict, out, err, alloc)),
+        Ok(line) => Ok(read_and_perform(system, &line, gate, predict, out, err, alloc)),
         Err(refused) => Ok(refuse_words(refused, out, err)),
     }
 }
@@ -109,7 +133,7 @@ fn texts<'a>(words: &'a [String], alloc: Global) -> Result<Vec<&'a str>, AllocEr
 
 /// Prints the help that was asked for, or says on one line why nothing is done.
 fn refuse_words<W: Write, E: Write>(refused: WordsRefused, out: &mut W, err: &mut E) -> u8
-    ensures known { IsTrue (says_harts result) ⊎ (result ≡ 2) ⊎ (result ≡ 5) }
+    ensures known { IsTrue (says_harts result) ⊎ (result ≡ 2) ⊎ (result ≡ 4) ⊎ (result ≡ 5) }
     ensures status { IsWordsStatus refused result }
 {
     match refused {
@@ -133,15 +157,14 @@ fn print<W: Write>(text: &str, out: &mut W) -> io::Result<()>
 }
 
 /// Reads the files that a line names, and performs it.
-fn read_and_perform<S: Files + Wait, P: Predict, W: Write, E: Write>(
-    system: &S,
-    line: &Line<'_>,
-    predict: &mut P,
-    out: &mut W,
-    err: &mut E,
-    alloc: Global,
-) -> u8
-    ensures { IsTrue (says_harts result) ⊎ (result ≡ 2) ⊎ (result ≡ 5) }
+fn read_and_perform<
+    S: Files + Threads + Wait + Sync,
+    G: Gate + Sync,
+    P: Predict + Copy + Send,
+    W: Write,
+    E: Write,
+>(system: &S, line: &Line<'_>, gate: &G, predict: P, out: &mut W, err: &mut E, alloc: Global) -> u8
+    ensures { IsTrue (says_harts result) ⊎ (result ≡ 2) ⊎ (result ≡ 4) ⊎ (result ≡ 5) }
 {
     let config = read_named(system, line.config(), alloc);
     let image = read_file(system, line.image(), alloc);
@@ -151,7 +174,10 @@ fn read_and_perform<S: Files + Wait, P: Predict, W: Write, E: Write>(
         image: lent(&image),
         second: lent(&second),
     };
-    perform(system, line, &inputs, predict, out, err, alloc)
+    let mut trace = TraceFile::new(system, line.kept());
+    perform(
+        system, line, &inputs, gate, predict, &mut trace, out, err, alloc,
+    )
 }
 
 /// The bytes of a file that the line names; none where it names none.

@@ -1,7 +1,9 @@
 ghost use Rattle.std.specs.Prelude.{◌≡◌, false};
 ghost use Rattle.simulator.specs.Refusals.{exit_status_of, refusal_of, says_harts};
 
+use rv_decode::UnitKind;
 use sc_machine::Stopped;
+use schedules::unit_name;
 use std::io::Write;
 use thiserror::Error;
 
@@ -24,19 +26,37 @@ pub enum Refused {
     /// make.
     #[error("order {index} refused {}", .why.number())]
     Step { index: usize, why: Stopped },
+    /// This line of the trace, from 1, is the first that breaks a rule of its text, and the rule,
+    /// 1 to 6, the first that it breaks.
+    #[error("trace line {line} refused {rule}")]
+    Trace { line: usize, rule: u8 },
+    /// This event of the trace, from 0, is the first that isn't allowed, and the rule the first
+    /// that it breaks.
+    #[error("event {index} refused rule {rule}")]
+    Event { index: u32, rule: u8 },
+    /// No actor is a unit of this kind, and a schedule needs one.
+    #[error("no {} unit", unit_name(.0))]
+    NoUnit(UnitKind),
+    /// The limit is below this number of events, which a schedule needs.
+    #[error("limit below {0}")]
+    Limit(u64),
     /// There isn't enough memory.
     #[error("memory")]
     Memory,
+    /// A thread couldn't be started.
+    #[error("thread")]
+    Thread,
     /// A file can't be read.
     #[error("file")]
     File,
-    /// The output took no more.
+    /// An output took no more: the standard output, or the file of a trace.
     #[error("file")]
     Output,
 }
 
 impl Refused {
-    /// The exit status of the program: 2 for an input, 5 for memory, files and the output.
+    /// The exit status of the program: 2 for an input, 4 for a trace, 5 for memory, threads, files
+    /// and the output.
     pub fn exit_status(self) -> u8
         ensures status { result ≡ exit_status_of self }
         ensures apart { says_harts result ≡ false }
@@ -44,7 +64,9 @@ impl Refused {
         match self {
             Refused::Image(_) | Refused::Config => 2,
             Refused::Script(_) | Refused::Order(_) | Refused::Step { .. } => 2,
-            Refused::Memory | Refused::File | Refused::Output => 5,
+            Refused::NoUnit(_) | Refused::Limit(_) => 2,
+            Refused::Trace { .. } | Refused::Event { .. } => 4,
+            Refused::Memory | Refused::Thread | Refused::File | Refused::Output => 5,
         }
     }
 }

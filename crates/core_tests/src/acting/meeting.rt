@@ -1,28 +1,24 @@
 //! Actors work side by side: a gate holds each until the others have come.
 
-use super::{MANY_TURNS, image_of};
-use actors::{Gate, Point, StaticPredictor, run};
-use arrayvec::ArrayVec;
+use crate::files::file_of;
+use actors::{Gate, Point, StaticPredictor};
 use board::BoardView;
 use core_lock::Finished;
 use events::Event;
-use smt_core::{Config, Role};
+use sim_inputs::read_config;
+use simulator::run_bytes;
 use std::alloc::Global;
 use std::sync::Wait;
 use std::sync::atomic::{AtomicBool, AtomicU64, Ordering};
 use std::thread;
 use std::thread::Threads;
 
-/// An actor of each role, and a second arithmetic unit.
-static ROLES: [Role; 7] = [
-    Role::Fetch,
-    Role::Front,
-    Role::Retire,
-    Role::Alu,
-    Role::Alu,
-    Role::Mul,
-    Role::Mem,
-];
+/// Two harts, an actor of each role, and a second arithmetic unit.
+const CONFIG: &[u8] = b"harts = 2
+ram = 8192
+limit = 1000
+actors = [\"fetch\", \"front\", \"retire\", \"alu\", \"alu\", \"mul\", \"mem\"]
+";
 
 /// All seven actors, and the two arithmetic units, as bits.
 const ALL: u64 = 0b111_1111;
@@ -90,32 +86,14 @@ fn completions(finished: &Finished, unit: u8) -> u32 {
 }
 
 fn met_in_a_run<R: Threads + Wait + Sync>(rt: &R, alloc: Global) -> Option<Met> {
-    let image = image_of(&[NOP; 4], alloc)?;
-    let mut roles = ArrayVec::new();
-    for role in &ROLES {
-        let _ = roles.try_push(*role);
-    }
-    let config = Config {
-        harts: 2,
-        extra: 64,
-        queue: 16,
-        roles,
-    };
+    let file = file_of(&[NOP; 4], 0, alloc).ok()?;
+    let settings = read_config(CONFIG, alloc).ok()?;
     let gate = Meeting {
         at_turn: AtomicU64::new(0),
         at_job: AtomicU64::new(0),
         gave_up: AtomicBool::new(false),
     };
-    let ran = run(
-        rt,
-        &image,
-        config,
-        1000,
-        MANY_TURNS,
-        &gate,
-        StaticPredictor,
-        alloc,
-    );
+    let ran = run_bytes(rt, &file, &settings, &gate, StaticPredictor, alloc);
     let finished = ran.ok()?;
     Some(Met {
         gave_up: gate.gave_up.load(Ordering::SeqCst),

@@ -1,5 +1,5 @@
-//! What a script leaves of its core and of the lock round it: passes that have counted what their
-//! actors made, and a line for each ask, in the script's order.
+//! What a script leaves of its core: passes that count what their actors made, and a line for each
+//! ask, in the script's order.
 
 use super::printing::{ASTRAY, RUNS, Row};
 use super::{Run, text};
@@ -12,23 +12,22 @@ use simulator::{Finished, StaticPredictor, step_bytes};
 use smt_core::Predict;
 use std::alloc::Global;
 use std::process::Abort;
-use std::sync::Wait;
 
-/// A core without its lock, and the lines of the asks.
+/// A core, and the lines of the asks.
 #[derive(Drop)]
 struct Left {
     finished: Finished,
     lines: Vec<u8>,
 }
 
-fn left_by<P: Predict, R: Wait>(rt: &R, run: &Run, predict: &mut P, alloc: Global) -> Option<Left> {
+fn left_by<P: Predict>(run: &Run, predict: &mut P, alloc: Global) -> Option<Left> {
     let Ok(file) = file_of(run.words, 0, alloc) else {
         return None;
     };
     let settings = read_config(run.config, alloc).ok()?;
     let script = run.script.as_bytes();
     let mut lines = Vec::new(alloc);
-    let made = step_bytes(rt, &file, &settings, script, predict, &mut lines, alloc);
+    let made = step_bytes(&file, &settings, script, predict, &mut lines, alloc);
     let finished = made.ok()?;
     Some(Left { finished, lines })
 }
@@ -179,9 +178,9 @@ fn follows(rt: &impl Abort, script: &str, lines: &str) {
     }
 }
 
-/// Asserts what a lock owes of a run, and that each ask was made.
-fn keeps<P: Predict, R: Wait + Abort>(rt: &R, row: &Row, predict: &mut P, alloc: Global) {
-    let Some(left) = left_by(rt, &row.run, predict, alloc) else {
+/// Asserts what is owed of a run, and that each ask was made.
+fn keeps<P: Predict>(rt: &impl Abort, row: &Row, predict: &mut P, alloc: Global) {
+    let Some(left) = left_by(&row.run, predict, alloc) else {
         return shows(rt, row.name, "a refusal", false);
     };
     shows(rt, row.name, "a stranger's pass", left.finished.told);

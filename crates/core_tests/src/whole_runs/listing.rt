@@ -9,6 +9,7 @@ use simulator::{Inputs, StaticPredictor};
 use std::alloc::Global;
 use std::process::Abort;
 use std::sync::Wait;
+use std::thread::Threads;
 
 pub(super) const LIST: Line<'static> = Line::List {
     image: "image",
@@ -16,7 +17,13 @@ pub(super) const LIST: Line<'static> = Line::List {
 };
 
 /// Asserts that words with so many zeros behind them are listed as this text.
-fn lists<R: Wait + Abort>(rt: &R, words: &[u32], zeros: u8, lines: &str, alloc: Global) {
+fn lists<R: Threads + Wait + Abort + Sync>(
+    rt: &R,
+    words: &[u32],
+    zeros: u8,
+    lines: &str,
+    alloc: Global,
+) {
     let Ok(file) = file_of(words, zeros, alloc) else {
         return shows(rt, "a list", "no memory", false);
     };
@@ -26,7 +33,7 @@ fn lists<R: Wait + Abort>(rt: &R, words: &[u32], zeros: u8, lines: &str, alloc: 
         second: Ok(b""),
     };
     let mut out = Vec::new(alloc);
-    let Told { status, err } = performed(rt, &LIST, &inputs, &mut StaticPredictor, &mut out, alloc);
+    let Told { status, err } = performed(rt, &LIST, &inputs, StaticPredictor, &mut out, alloc);
     let is = status == 0 && err.is_empty() && text(&out) == lines;
     ends(rt, "a list", status, text(&out), is);
 }

@@ -9,6 +9,7 @@ use simulator::{Inputs, StaticPredictor, Unread};
 use std::alloc::Global;
 use std::process::Abort;
 use std::sync::Wait;
+use std::thread::Threads;
 
 /// A program's words, run in an order; what is printed, what is written to standard error, and the
 /// exit status.
@@ -130,7 +131,7 @@ fn bytes_of(order: Result<&'static str, Unread>) -> Result<&'static [u8], Unread
 }
 
 /// Asserts that a row's line prints its texts and answers its exit status.
-fn prints<R: Wait + Abort>(rt: &R, row: &Row, alloc: Global) {
+fn prints<R: Threads + Wait + Abort + Sync>(rt: &R, row: &Row, alloc: Global) {
     let Ok(file) = file_of(row.words, 0, alloc) else {
         return shows(rt, row.prints, "no memory", false);
     };
@@ -146,7 +147,7 @@ fn prints<R: Wait + Abort>(rt: &R, row: &Row, alloc: Global) {
         records: row.records,
     };
     let mut out = Vec::new(alloc);
-    let Told { status, err } = performed(rt, &line, &inputs, &mut StaticPredictor, &mut out, alloc);
+    let Told { status, err } = performed(rt, &line, &inputs, StaticPredictor, &mut out, alloc);
     let is = status == row.status && text(&out) == row.prints && text(&err) == row.faults;
     ends(rt, row.faults, status, text(&out), is);
 }

@@ -9,9 +9,10 @@ use smt_core::Predict;
 use std::alloc::Global;
 use std::process::Abort;
 use std::sync::Wait;
+use std::thread::Threads;
 
 /// The configuration of one hart and one actor, which is an arithmetic unit.
-const SINGLE: &[u8] = b"actors = [\"alu\"]\n";
+pub(super) const SINGLE: &[u8] = b"actors = [\"alu\"]\n";
 
 /// Eight harts and sixteen actors.
 const SIXTEEN: &[u8] = b"harts = 8
@@ -299,7 +300,12 @@ lent 0
 ];
 
 /// Asserts that a run prints what its row says, and ends so.
-fn prints<P: Predict, R: Wait + Abort>(rt: &R, row: &Row, predict: &mut P, alloc: Global) {
+fn prints<P: Predict + Copy + Send, R: Threads + Wait + Abort + Sync>(
+    rt: &R,
+    row: &Row,
+    predict: P,
+    alloc: Global,
+) {
     let Some(Printed { status, out }) = outcome(rt, &row.run, predict, alloc) else {
         return shows(rt, row.name, "another line or no memory", false);
     };
@@ -310,7 +316,7 @@ fn prints<P: Predict, R: Wait + Abort>(rt: &R, row: &Row, predict: &mut P, alloc
 #[test]
 fn each_run_prints_what_its_rules_say(rt: HostRuntime) {
     for row in &RUNS {
-        prints(&rt, row, &mut StaticPredictor, rt.alloc());
+        prints(&rt, row, StaticPredictor, rt.alloc());
     }
 }
 
@@ -338,7 +344,7 @@ output -
 
 #[test]
 fn a_predictor_that_is_always_wrong_changes_no_end(rt: HostRuntime) {
-    prints(&rt, &ASTRAY, &mut Always(0), rt.alloc());
+    prints(&rt, &ASTRAY, Always(0), rt.alloc());
 }
 
 /// Three fetches into a history of three events, and one more.
@@ -389,9 +395,9 @@ struct Full {
     same: bool,
 }
 
-fn full_and_three<R: Wait>(rt: &R, alloc: Global) -> Option<Full> {
-    let three = outcome(rt, &FULL[0], &mut StaticPredictor, alloc)?;
-    let Printed { status, out } = outcome(rt, &FULL[1], &mut StaticPredictor, alloc)?;
+fn full_and_three<R: Threads + Wait + Sync>(rt: &R, alloc: Global) -> Option<Full> {
+    let three = outcome(rt, &FULL[0], StaticPredictor, alloc)?;
+    let Printed { status, out } = outcome(rt, &FULL[1], StaticPredictor, alloc)?;
     let same = is_same(text(&out), text(&three.out), FULL_PRINTS);
     Some(Full { status, same })
 }

@@ -11,6 +11,7 @@ use std::io;
 use std::io::Write;
 use std::process::Abort;
 use std::sync::Wait;
+use std::thread::Threads;
 
 /// A file as it was read.
 type File = Result<&'static [u8], Unread>;
@@ -158,7 +159,12 @@ fn line_of(list: bool) -> Line<'static> {
 }
 
 /// Asserts that inputs with this image are refused so, with nothing printed.
-fn tells<R: Wait + Abort>(rt: &R, refusal: &Refusal, image: Result<&[u8], Unread>, alloc: Global) {
+fn tells<R: Threads + Wait + Abort + Sync>(
+    rt: &R,
+    refusal: &Refusal,
+    image: Result<&[u8], Unread>,
+    alloc: Global,
+) {
     let inputs = Inputs {
         config: refusal.config,
         image,
@@ -166,12 +172,12 @@ fn tells<R: Wait + Abort>(rt: &R, refusal: &Refusal, image: Result<&[u8], Unread
     };
     let line = line_of(refusal.list);
     let mut out = Vec::new(alloc);
-    let Told { status, err } = performed(rt, &line, &inputs, &mut StaticPredictor, &mut out, alloc);
+    let Told { status, err } = performed(rt, &line, &inputs, StaticPredictor, &mut out, alloc);
     let is = status == refusal.status && out.is_empty() && text(&err) == refusal.told;
     ends(rt, refusal.told, status, text(&err), is);
 }
 
-fn refuses<R: Wait + Abort>(rt: &R, refusal: &Refusal, alloc: Global) {
+fn refuses<R: Threads + Wait + Abort + Sync>(rt: &R, refusal: &Refusal, alloc: Global) {
     match refusal.image {
         Ok(Part { headers, length }) => {
             let file = file_with(headers);
@@ -190,7 +196,7 @@ fn inputs_are_refused_by_name_and_number(rt: HostRuntime) {
 
 /// An output that takes nothing.
 #[derive(Drop)]
-struct Broken;
+pub(super) struct Broken;
 
 impl Write for Broken {
     fn write(&mut self, _bytes: &[u8]) -> io::Result<usize> {
@@ -203,21 +209,14 @@ impl Write for Broken {
 }
 
 /// Asserts that it is told that the output failed.
-fn fails<R: Wait + Abort>(rt: &R, list: bool, alloc: Global) {
+fn fails<R: Threads + Wait + Abort + Sync>(rt: &R, list: bool, alloc: Global) {
     let inputs = Inputs {
         config: SINGLE,
         image: Ok(&FIRST),
         second: FETCH,
     };
     let line = line_of(list);
-    let Told { status, err } = performed(
-        rt,
-        &line,
-        &inputs,
-        &mut StaticPredictor,
-        &mut Broken,
-        alloc,
-    );
+    let Told { status, err } = performed(rt, &line, &inputs, StaticPredictor, &mut Broken, alloc);
     let is = status == 5 && text(&err) == "smtsim: file\n";
     ends(rt, "a broken output", status, text(&err), is);
 }

@@ -1,13 +1,22 @@
-//! Printing: the text of events goes out in pieces. No function here takes memory.
+//! Printing: the text of events goes out in pieces of many lines. No function here takes memory.
 
-ghost use Rattle.std.specs.Prelude.{◌≡◌, ◌++◌, false, OnOk, OnErr};
+ghost use Rattle.std.specs.Prelude.{◌≡◌, ◌+◌, ◌≤◌, ◌++◌, false, length, OnOk, OnErr};
+ghost use Rattle.arrayvec.specs.ArrayString.{array_string_len};
 ghost use Rattle.events.specs.Line.{line_of};
-ghost use Rattle.events.specs.Sinking.{HasPut, HasBroken};
+ghost use Rattle.events.specs.Sinking.{HasPut, HasPutBut, HasBroken};
 ghost use Rattle.events.specs.Trace.{ended, trace_text};
 
 use crate::event::Event;
 use crate::print::print_event;
 use crate::sink::{Broken, Sink};
+use arrayvec::ArrayString;
+use text_fields::push_ascii;
+
+/// Whole lines that are held back, to go out together: a put may be a call of the system.
+type Piece = ArrayString<4096>;
+
+/// The room that any line takes, with the newline that ends it.
+const LONGEST: usize = 65;
 
 /// Puts the text of these events into a sink that hasn't failed, in pieces. It ends at the first
 /// put that fails, and puts nothing after it.
@@ -18,35 +27,39 @@ pub fn print_trace<S: Sink>(events: &[Event], sink: &mut S) -> Result<(), Broken
     ensures broken { OnErr result
         (HasBroken S.written S.has_failed S.puts sink.old sink.new (trace_text events.now)) }
 {
-    put_line(b"smt-trace 1", sink)?;
+    let mut piece = Piece::new();
+    push_line(&mut piece, "smt-trace 1");
     for event in events {
-        put_event(event, sink)?;
+        make_room(&mut piece, sink)?;
+        push_line(&mut piece, print_event(event).as_str());
     }
+    put_all(piece.as_str().as_bytes(), sink)
+}
+
+// Puts the lines that are held back, where another might not fit beside them.
+fn make_room<S: Sink>(piece: &mut Piece, sink: &mut S) -> Result<(), Broken>
+    requires { S.has_failed sink.old ≡ false }
+    ensures room { OnOk result (array_string_len piece.new + 65 ≤ 4096) }
+    ensures held { OnOk result
+        (HasPutBut S.written S.has_failed sink.old sink.new piece.old.bytes piece.new.bytes) }
+    ensures broken { OnErr result
+        (HasBroken S.written S.has_failed S.puts sink.old sink.new piece.old.bytes) }
+{
+    if piece.remaining_capacity() >= LONGEST {
+        return Ok(());
+    }
+    put_all(piece.as_str().as_bytes(), sink)?;
+    piece.clear();
     Ok(())
 }
 
-// The line of an event, ended.
-fn put_event<S: Sink>(event: &Event, sink: &mut S) -> Result<(), Broken>
-    requires { S.has_failed sink.old ≡ false }
-    ensures printed { OnOk result
-        (HasPut S.written S.has_failed sink.old sink.new (ended (line_of event.now))) }
-    ensures broken { OnErr result
-        (HasBroken S.written S.has_failed S.puts sink.old sink.new
-        (ended (line_of event.now))) }
+// Appends a line and the newline that ends it.
+fn push_line(piece: &mut Piece, line: &str)
+    requires { array_string_len piece.old + length line.now + 1 ≤ 4096 }
+    ensures spelled { piece.new.bytes ≡ piece.old.bytes ++ ended line.now }
 {
-    put_line(print_event(event).as_bytes(), sink)
-}
-
-// A line and the newline that ends it.
-fn put_line<S: Sink>(line: &[u8], sink: &mut S) -> Result<(), Broken>
-    requires { S.has_failed sink.old ≡ false }
-    ensures printed { OnOk result
-        (HasPut S.written S.has_failed sink.old sink.new (ended line.now)) }
-    ensures broken { OnErr result
-        (HasBroken S.written S.has_failed S.puts sink.old sink.new (ended line.now)) }
-{
-    put_all(line, sink)?;
-    put_all(b"\n", sink)
+    piece.push_str(line);
+    push_ascii(piece, b'\n');
 }
 
 // All these bytes, in as many pieces as the sink takes.

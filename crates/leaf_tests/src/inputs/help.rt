@@ -10,18 +10,33 @@ use std::test::Fail;
 const COLUMNS: usize = 80;
 
 /// The words that ask for help, and what it tells; a bar stands between two of those.
-static HELPS: [(&str, &str); 4] = [
+static HELPS: [(&str, &str); 7] = [
     (
         "smtsim --help",
-        "Usage: smtsim <COMMAND>|step|plain|list|harts|extra|queue|ram|limit|turns|actors",
+        "Usage: smtsim <COMMAND>|step|run|check|plain|schedule|list|\
+harts|extra|queue|ram|limit|turns|actors",
     ),
     (
         "smtsim step --help",
-        "Usage: smtsim step [OPTIONS] <IMAGE> <SCRIPT>|--config <FILE>|--records|--show",
+        "Usage: smtsim step [OPTIONS] <IMAGE> <SCRIPT>|--config <FILE>|--records|--show|\
+--trace <FILE>",
+    ),
+    (
+        "smtsim run --help",
+        "Usage: smtsim run [OPTIONS] <IMAGE>|--config <FILE>|--records|--trace <FILE>",
+    ),
+    (
+        "smtsim check --help",
+        "Usage: smtsim check [OPTIONS] <IMAGE> <TRACE>|--config <FILE>|--records|smt-trace 1|\
+F actor hart number pc word predicted|T actor number value next address data out",
     ),
     (
         "smtsim plain --help",
         "Usage: smtsim plain [OPTIONS] <IMAGE> <ORDER>|--config <FILE>|--records|0 to 255",
+    ),
+    (
+        "smtsim schedule --help",
+        "Usage: smtsim schedule [OPTIONS] <IMAGE> <ORDER>|--config <FILE>|0 to 255",
     ),
     (
         "smtsim list --help",

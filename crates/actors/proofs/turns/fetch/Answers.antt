@@ -1,5 +1,4 @@
-use Rattle.std.proofs.Common.{rules}
 use Rattle.actors.proofs.turns.fetch.Goals as goal
 
 pub returns-clause-asked : goal.returns-clause-asked
-returns-clause-asked g c = search rules
+returns-clause-asked g c = c.make.ensures.asked

@@ -1,5 +1,4 @@
 use Rattle.std.proofs.Common.{◌≡◌, ◌+◌, ◌∙◌, ap, arith, rules}
-use Rattle.smt_model.specs.Account.{event_count}
 use Rattle.core_lock.specs.Passes.{made_from}
 use Rattle.core_lock.proofs.Counting.{own_and_greater, none_from_16}
 use Rattle.core_lock.proofs.held.deal.Goals as goal
@@ -8,28 +7,25 @@ pub split_off-part-requires-clause-has_amount : goal.split_off-part-requires-cla
 split_off-part-requires-clause-has_amount g c =
     let past = c.args.core.now.past in
     let k = c.args.actor in
-    let count : c.tally_of-count.result.count ≡ event_count k past =
-    c.tally_of-count.ensures.count ∙ ap (event_count k) c.history.ensures.events in
+    let count = (c.tally_at-count.ensures past c.requires.tallies).counts in
     omega (arith, count, c.requires.amount, own_and_greater k past)
 
 pub split_off-part-requires-clause-left_backed : goal.split_off-part-requires-clause-left_backed
 split_off-part-requires-clause-left_backed g c = λ last_one.
     let past = c.args.core.now.past in
     let k = c.args.actor in
-    let count : c.tally_of-count.result.count ≡ event_count k past =
-    c.tally_of-count.ensures.count ∙ ap (event_count k) c.history.ensures.events in
+    let count = (c.tally_at-count.ensures past c.requires.tallies).counts in
     let fifteen : k + 1 ≡ 16 = omega (arith, last_one, c.requires.parts) in
     let none_left : made_from (k + 1) past ≡ 0 =
     ap (λ n. made_from n past) fifteen
-    ∙ none_from_16 c.args.core.now.setup past c.history.ensures.legal c.history.ensures.actors in
+    ∙ none_from_16 c.args.core.now.setup past c.history-events.ensures.legal c.history-events.ensures.actors in
     omega (arith, count, c.requires.amount, own_and_greater k past, none_left)
 
 pub returns-clause-amount : goal.returns-clause-amount
 returns-clause-amount g c =
     let past = c.args.core.now.past in
     let k = c.args.actor in
-    let count : c.tally_of-count.result.count ≡ event_count k past =
-    c.tally_of-count.ensures.count ∙ ap (event_count k) c.history.ensures.events in
+    let count = (c.tally_at-count.ensures past c.requires.tallies).counts in
     omega (arith, count, c.requires.amount, own_and_greater k past, c.split_off-part.ensures.amount_left)
 
 pub returns-clause-count : goal.returns-clause-count

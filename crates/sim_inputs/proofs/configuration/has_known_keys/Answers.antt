@@ -1,4 +1,4 @@
-use Rattle.std.proofs.Common.{rules, tests, ◌∙◌}
+use Rattle.std.proofs.Common.{rules, tests}
 use Rattle.std.proofs.{lemmas.Iterator.cases_from_all, lemmas.Iterator.Consumers.YieldsList-from_rest}
 use Rattle.sim_inputs.proofs.Keys.{IsKnown, all_known}
 use Rattle.sim_inputs.proofs.configuration.has_known_keys.Goals as goal

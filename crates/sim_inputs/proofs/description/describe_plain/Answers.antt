@@ -1,5 +1,4 @@
-use Rattle.std.proofs.Common.{codes, ◌≡◌}
-use Rattle.std.proofs.lemmas.Result.{IfOk-weaker}
+use Rattle.std.proofs.Common.{codes}
 use Rattle.clap.specs.Words.{new_app}
 use Rattle.sim_inputs.specs.CommandLine.{IsCommand}
 use Rattle.sim_inputs.proofs.Described.{one_more}
@@ -12,6 +11,5 @@ returns c =
       local = rw (c.after_help.ensures, c.about.ensures) c.new.ensures.local;
     } in
     let image = one_more _ _ _ _ _ begins c.image_argument.ensures c.in_ok-arg.ensures in
-    let order = one_more _ _ _ _ _ image c.file_argument.ensures c.in_ok-arg-2.ensures in
-    let config = one_more _ _ _ _ _ order c.config_option.ensures c.in_ok-arg-3.ensures in
-    IfOk-weaker c.arg-4.result _ _ (λ made. one_more _ _ _ made _ config c.records_flag.ensures) c.arg-4.ensures
+    let order = one_more _ _ _ _ _ image c.order_argument.ensures c.in_ok-files.ensures in
+    c.add_report_options.ensures _ order

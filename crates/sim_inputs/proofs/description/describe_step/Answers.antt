@@ -1,4 +1,4 @@
-use Rattle.std.proofs.Common.{codes, ◌≡◌}
+use Rattle.std.proofs.Common.{codes}
 use Rattle.std.proofs.lemmas.Result.{IfOk-weaker}
 use Rattle.clap.specs.Words.{new_app}
 use Rattle.sim_inputs.specs.CommandLine.{IsCommand}
@@ -12,7 +12,7 @@ returns c =
       local = rw (c.after_help.ensures, c.about.ensures) c.new.ensures.local;
     } in
     let image = one_more _ _ _ _ _ begins c.image_argument.ensures c.in_ok-arg.ensures in
-    let script = one_more _ _ _ _ _ image c.file_argument.ensures c.in_ok-arg-2.ensures in
-    let config = one_more _ _ _ _ _ script c.config_option.ensures c.in_ok-arg-3.ensures in
-    let records = one_more _ _ _ _ _ config c.records_flag.ensures c.in_ok-arg-4.ensures in
-    IfOk-weaker c.arg-5.result _ _ (λ made. one_more _ _ _ made _ records c.flag.ensures) c.arg-5.ensures
+    let script = one_more _ _ _ _ _ image c.file_argument.ensures c.in_ok-files.ensures in
+    let reporting = c.in_ok-add_report_options.ensures _ script in
+    let show = one_more _ _ _ _ _ reporting c.flag.ensures c.in_ok-arg-2.ensures in
+    IfOk-weaker c.arg-4.result _ _ (λ made. one_more _ _ _ made _ show c.trace_option.ensures) c.arg-4.ensures

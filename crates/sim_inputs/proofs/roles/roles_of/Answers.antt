@@ -1,4 +1,4 @@
-use Rattle.std.proofs.Common.{◌≡◌, arith}
+use Rattle.std.proofs.Common.{arith}
 use Rattle.std.proofs.lemmas.Bool.Decides.{nat_tests}
 use Rattle.sim_inputs.proofs.Names.{length_named, value_named}
 use Rattle.sim_inputs.proofs.roles.roles_of.Goals as goal

@@ -1,9 +1,9 @@
 use Rattle.std.proofs.Common.{codes, refl}
-use Rattle.sim_inputs.proofs.Found.{list_no_image, option_row, row_value}
+use Rattle.sim_inputs.proofs.Found.{no_image, option_row, row_value}
 use Rattle.sim_inputs.proofs.words.list_line.Goals as goal
 
 pub returns-in_default-clause-none : goal.returns-in_default-clause-none
-returns-in_default-clause-none c = list_no_image c.args.list.now c.in_default.ensures
+returns-in_default-clause-none c = no_image c.args.list.now c.in_default.ensures (codes "list")
 
 pub returns-clause-held : goal.returns-clause-held
 returns-clause-held c = (

@@ -1,9 +1,9 @@
 use Rattle.std.proofs.Common.{codes, refl, sym}
-use Rattle.sim_inputs.proofs.Found.{option_row, plain_no_image, plain_no_order, row_value}
+use Rattle.sim_inputs.proofs.Found.{no_image, plain_no_order, option_row, row_value}
 use Rattle.sim_inputs.proofs.words.plain_line.Goals as goal
 
 pub returns-in_default-clause-none : goal.returns-in_default-clause-none
-returns-in_default-clause-none c = plain_no_image c.args.plain.now c.in_default.ensures
+returns-in_default-clause-none c = no_image c.args.plain.now c.in_default.ensures (codes "plain")
 
 pub returns-in_default-get_str-clause-none : goal.returns-in_default-get_str-clause-none
 returns-in_default-get_str-clause-none c = plain_no_order c.args.plain.now c.in_default-get_str.ensures

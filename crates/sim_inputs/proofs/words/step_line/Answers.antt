@@ -1,9 +1,9 @@
 use Rattle.std.proofs.Common.{codes, refl, sym}
-use Rattle.sim_inputs.proofs.Found.{option_row, step_no_image, step_no_script, row_value}
+use Rattle.sim_inputs.proofs.Found.{no_image, step_no_script, option_row, row_value}
 use Rattle.sim_inputs.proofs.words.step_line.Goals as goal
 
 pub returns-in_default-clause-none : goal.returns-in_default-clause-none
-returns-in_default-clause-none c = step_no_image c.args.step.now c.in_default.ensures
+returns-in_default-clause-none c = no_image c.args.step.now c.in_default.ensures (codes "step")
 
 pub returns-in_default-get_str-clause-none : goal.returns-in_default-get_str-clause-none
 returns-in_default-get_str-clause-none c = step_no_script c.args.step.now c.in_default-get_str.ensures
@@ -16,4 +16,5 @@ returns-clause-held c = (
   option_row c.args.step.now (codes "config") _ c.get_str-3.ensures,
   sym c.is_set.ensures,
   sym c.is_set-2.ensures,
+  option_row c.args.step.now (codes "trace") _ c.get_str-4.ensures,
 )

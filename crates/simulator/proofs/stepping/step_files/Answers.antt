@@ -1,5 +1,5 @@
-use Rattle.std.proofs.lemmas.Result.{IfErr-weaker, on_ok_weaker}
-use Rattle.simulator.specs.Refusals.{as_read}
+use Rattle.std.proofs.Common.{sym, subst}
+use Rattle.simulator.specs.{Refusals.as_read, Refusals.OfFile, Session.AreAskedWith, Session.Prints}
 use Rattle.simulator.proofs.{Sessions.of_script, Refusing.image_refusal, Refusing.sizes_refusal}
 use Rattle.simulator.proofs.{Refusing.script_refusal, Refusing.output_refusal}
 use Rattle.simulator.proofs.stepping.step_files.Goals as goal
@@ -21,16 +21,19 @@ returns-in-Err-read_words-clause-refused g c =
     c.in-Ok.ensures.passed
     c.in-Ok-make_core.ensures.accepted c.in-Err-read_words.ensures.refused
 
-pub returns-clause-refused : goal.returns-clause-refused
-returns-clause-refused g c =
-    IfErr-weaker c.step_core.result _ _
-    (λ reason is. output_refusal (as_read c.args.image) c.args.settings.now (as_read c.args.script)
-    c.in-Ok-read_words.words.items reason c.in-Ok.ensures.passed c.in-Ok-make_core.ensures.accepted
-    c.in-Ok-read_words.ensures.script is)
-    c.step_core.ensures.refused
+pub returns-in-Err-ask_core-clause-refused : goal.returns-in-Err-ask_core-clause-refused
+returns-in-Err-ask_core-clause-refused g c =
+    output_refusal (as_read c.args.image) c.args.settings.now (as_read c.args.script) c.in-Ok-read_words.words.items
+    c.in-Err-ask_core.refused c.in-Ok.ensures.passed c.in-Ok-make_core.ensures.accepted
+    c.in-Ok-read_words.ensures.script c.in-Err-ask_core.ensures.refused
 
 pub returns-clause-asked : goal.returns-clause-asked
 returns-clause-asked g c =
-    let made = rw c.as_slice.ensures.value at c.step_core.ensures.asked in
-    on_ok_weaker c.step_core.result (λ p. of_script (as_read c.args.script) _ _ _ c.in-Ok-read_words.ensures.script p)
-    made
+    let made = rw c.as_slice.ensures.value at c.in-Ok-ask_core.ensures.asked in
+    subst
+    (λ core. Prints (g.W.Write.contents c.args.out.now) (g.W.Write.contents c.ask_core.new.out)
+    (λ text. OfFile (as_read c.args.script)
+    (λ script. AreAskedWith g.P.Predict.predicts c.args.predict.now c.ask_core.new.predict script core text)))
+    (sym c.finish.ensures.core)
+    (of_script g.P.Predict.predicts (as_read c.args.script) c.in-Ok-read_words.words.items _ _ _ _ _ _
+    c.in-Ok-read_words.ensures.script c.in-Ok-make_core.ensures.unasked made)

@@ -1,0 +1,5 @@
+pub mod Asks
+pub mod Turns
+pub mod Schedules
+pub mod Refusals
+pub mod Names

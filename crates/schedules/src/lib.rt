@@ -1,0 +1,17 @@
+//! The script of an order of harts: by it a core retires, in this order, what the plain machine
+//! does in this order.
+//!
+//! Read in this order: `refused` (why there is none), `making` (the run, the units and the room
+//! that it takes), `units` (which actors do the work), `schedule` (its lines, and how they are written),
+//! `laws` (what its asks come to).
+#![tactic(auto)]
+
+pub mod laws;
+mod making;
+mod refused;
+mod schedule;
+mod units;
+
+pub use making::make_schedule;
+pub use refused::{ScheduleRefused, unit_name};
+pub use schedule::Schedule;

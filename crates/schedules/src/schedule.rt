@@ -1,0 +1,101 @@
+//! The lines of a schedule, and how they are written.
+
+ghost use Rattle.std.specs.Prelude.{◌≡◌, ◌+◌, ◌≤◌, ◌++◌, flat_map, OnOk};
+ghost use Rattle.std.specs.Io.KnownBytes.{Appends};
+ghost use Rattle.arrayvec.specs.ArrayVec.{array_vec_len};
+ghost use Rattle.sim_script.specs.Lines.{line_text};
+ghost use Rattle.schedules.specs.Turns.{turn_words, turn_lines, unit_words, once};
+
+use crate::units::Units;
+use arrayvec::ArrayVec;
+use sim_script::{Action, Word, write_line};
+use std::io;
+use std::io::Write;
+use std::marker::Model;
+
+/// The words of a turn: four that each has, a unit of each kind, and a fetch.
+type Turn = ArrayVec<Word, 7>;
+
+/// The script of an order of harts. A clause sees its text: a line with a fetch for each hart, and
+/// a line for each turn.
+#[derive(Drop)]
+pub struct Schedule<'a> {
+    pub(crate) harts: u8,
+    pub(crate) units: Units,
+    pub(crate) order: &'a [u8],
+}
+
+impl<'a> Model for Schedule<'a> {
+    ghost use Rattle.std.specs.Prelude.{ℕ, List};
+
+    ghost Value = { List ℕ };
+
+    ghost use Rattle.schedules.specs.Turns.{schedule_text};
+
+    ghost view = { λ s. schedule_text s.harts s.units s.order.now };
+}
+
+impl Schedule<'_> {
+    /// Writes the script. Where it answers Ok, it has written exactly its text.
+    pub fn write<W: Write>(&self, out: &mut W) -> io::Result<()>
+        ensures { OnOk result (Appends (W.contents out.old) (W.contents out.new) self.now) }
+    {
+        let fetches = Word {
+            action: Action::Fetch { actor: 0 },
+            repeat: u32::from(self.harts),
+        };
+        write_line(&[fetches], out)?;
+        write_turns(self.units, self.order, out)
+    }
+}
+
+/// Writes a line for each turn of an order.
+fn write_turns<W: Write>(units: Units, order: &[u8], out: &mut W) -> io::Result<()>
+    ensures { OnOk result (Appends (W.contents out.old) (W.contents out.new)
+        (flat_map line_text (turn_lines units order.now))) }
+{
+    for hart in order {
+        write_turn(units, *hart, out)?;
+    }
+    Ok(())
+}
+
+fn write_turn<W: Write>(units: Units, hart: u8, out: &mut W) -> io::Result<()>
+    ensures { OnOk result (Appends (W.contents out.old) (W.contents out.new)
+        (line_text (turn_words units hart))) }
+{
+    write_line(turn(units, hart).as_slice(), out)
+}
+
+/// The turn of a hart: its instruction is decoded, renamed, offered to a unit of each kind, and
+/// retired; then one more is fetched.
+fn turn(units: Units, hart: u8) -> Turn
+    ensures { result.items ≡ turn_words units hart }
+{
+    let mut words = Turn::new();
+    words.push(once(Action::Decode { actor: 0, hart }));
+    words.push(once(Action::Rename { actor: 0, hart }));
+    push_unit(&mut words, units.alu);
+    push_unit(&mut words, units.mul);
+    push_unit(&mut words, units.mem);
+    words.push(once(Action::Retire { actor: 0, hart }));
+    words.push(once(Action::Fetch { actor: 0 }));
+    words
+}
+
+/// A unit issues and completes, where there is one.
+fn push_unit(words: &mut Turn, unit: Option<u8>)
+    requires { array_vec_len words.old + 1 ≤ 7 }
+    ensures items { words.new.items ≡ words.old.items ++ unit_words unit }
+    ensures length { array_vec_len words.new ≤ array_vec_len words.old + 1 }
+{
+    if let Some(actor) = unit {
+        words.push(once(Action::Unit { actor }));
+    }
+}
+
+fn once(action: Action) -> Word
+    ensures { result ≡ once action }
+{
+    Word { action, repeat: 1 }
+}

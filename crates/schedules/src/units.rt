@@ -1,0 +1,90 @@
+//! Which actors do the work of a schedule.
+
+ghost use Rattle.std.specs.Prelude.{◌≡◌, ◌≤◌, ◌<◌, length, position, All, IfSome, IfNone};
+ghost use Rattle.rv_decode.specs.Registers.{same_unit};
+ghost use Rattle.numbers.specs.Sizes.{most_actors};
+ghost use Rattle.smt_model.specs.{Basics.holds_of, Setup.unit_of_role};
+ghost use Rattle.smt_laws.specs.Scripts.{unit_of_kind};
+ghost use Rattle.schedules.specs.Refusals.{unit_of_record, IsServed, IsFirstUnserved};
+ghost use Rattle.schedules.specs.Turns.{AreUnits};
+
+use events::Record;
+use rv_decode::{Op, UnitKind};
+use smt_model::Role;
+
+/// The first actor that is a unit of each kind, where there is one.
+#[derive(Clone, Copy, Debug, PartialEq, Eq, Drop)]
+pub struct Units {
+    pub alu: Option<u8>,
+    pub mul: Option<u8>,
+    pub mem: Option<u8>,
+}
+
+impl Units {
+    /// The units among the actors of these roles.
+    pub fn of(roles: &[Role]) -> Units
+        requires { length roles.now ≤ most_actors }
+        ensures { AreUnits roles.now result }
+    {
+        Units {
+            alu: first_unit(roles, UnitKind::Alu),
+            mul: first_unit(roles, UnitKind::Mul),
+            mem: first_unit(roles, UnitKind::Mem),
+        }
+    }
+}
+
+/// The kind of unit that the first of these records needs for which there is none among the actors
+/// of these roles.
+pub fn missing_unit(roles: &[Role], records: &[Record]) -> Option<UnitKind>
+    requires { length roles.now ≤ most_actors }
+    ensures missing { IfSome result (IsFirstUnserved roles.now records.now) }
+    ensures served { IfNone result (All (IsServed roles.now) records.now) }
+{
+    for record in records {
+        let kind = unit_of_record(record);
+        if first_unit(roles, kind).is_none() {
+            return Some(kind);
+        }
+    }
+    None
+}
+
+/// The kind of unit that executes a record's instruction.
+fn unit_of_record(retired: &Record) -> UnitKind
+    ensures { result ≡ unit_of_record retired.now }
+{
+    Op::of_word(retired.word).unit()
+}
+
+/// The first actor that is a unit of this kind.
+fn first_unit(roles: &[Role], kind: UnitKind) -> Option<u8>
+    requires { length roles.now ≤ most_actors }
+    ensures { result ≡ unit_of_kind roles.now kind }
+{
+    match place_of_unit(roles, kind) {
+        Some(actor) => Some(actor as u8),
+        None => None,
+    }
+}
+
+/// Where the first role stands that is of such a unit.
+fn place_of_unit(roles: &[Role], kind: UnitKind) -> Option<usize>
+    ensures place { result
+        ≡ position (λ role. holds_of (λ u. same_unit u kind) (unit_of_role role)) roles.now }
+    ensures inside { IfSome result (λ place. place < length roles.now) }
+{
+    roles.iter().position(|role| is_unit(*role, kind))
+}
+
+/// Whether an actor of this role is a unit of this kind.
+fn is_unit(role: Role, kind: UnitKind) -> bool
+    ensures { result ≡ holds_of (λ u. same_unit u kind) (unit_of_role role) }
+{
+    match role {
+        Role::Fetch | Role::Front | Role::Retire => false,
+        Role::Alu => kind == UnitKind::Alu,
+        Role::Mul => kind == UnitKind::Mul,
+        Role::Mem => kind == UnitKind::Mem,
+    }
+}
