@@ -85,9 +85,12 @@ class Proof:
     """A crate that is being proved, in a folder of its own. The program itself is also built, and run for its help."""
 
     def __init__(self, name, below, jobs, log):
-        self.name, self.room = name, tempfile.mkdtemp(prefix="smtsim-build-", dir=f"{ROOT}/crates/{PROGRAM}/out")
-        for file in ("crates.txt", "HANDLES"):
-            shutil.copy(f"{ROOT}/{file}", self.room)
+        self.name, self.jobs = name, jobs
+        self.room = tempfile.mkdtemp(prefix="smtsim-build-", dir=f"{ROOT}/crates/{PROGRAM}/out")
+        shutil.copy(f"{ROOT}/HANDLES", self.room)
+        # `rt` wants a folder for each crate that the file lists.
+        with open(f"{ROOT}/crates.txt", encoding="utf-8") as all_lines, open(f"{self.room}/crates.txt", "w", encoding="utf-8") as lines:
+            lines.writelines(it for it in all_lines if it.partition(":")[0] in (name, *below))
         for other in below:
             leave = shutil.ignore_patterns("incremental", "must-fail")
             shutil.copytree(f"{ROOT}/crates/{other}", f"{self.room}/crates/{other}", copy_function=os.link, ignore=leave)
@@ -135,10 +138,13 @@ def build(needed, log):
         while len(progress.done) < len(needed):
             ready = [it for it in needed if it not in running and it not in progress.done]
             ready = [it for it in ready if all(used in progress.done for used in needed[it])]
-            for name in sorted(ready, key=lambda it: -longest[it])[: most - len(running)]:
-                # A crate that is alone gets the processors that the others don't use.
-                jobs = most if len(ready) + len(running) == 1 else 1
-                running[name] = Proof(name, all_below(name, needed), jobs, log)
+            ready.sort(key=lambda it: -longest[it])
+            for at, name in enumerate(ready):
+                idle = most - sum(proof.jobs for proof in running.values())
+                if idle > 0:
+                    # A crate gets the processors too that no other waits for.
+                    jobs = max(1, idle // (len(ready) - at))
+                    running[name] = Proof(name, all_below(name, needed), jobs, log)
             time.sleep(0.2)
             for name, proof in list(running.items()):
                 is_proved = proof.ended()

@@ -1,4 +1,3 @@
-pub mod Agreement
 pub mod Views
 pub mod Steps
 pub mod Following

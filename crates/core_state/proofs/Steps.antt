@@ -2,11 +2,9 @@
 pub mod Invariant
 pub mod Asked
 pub mod NoAnswer
-pub mod SameOp
 pub mod Fetch
 pub mod Decode
 pub mod Rename
 pub mod Issue
 pub mod Complete
 pub mod Retire
-pub mod Squash

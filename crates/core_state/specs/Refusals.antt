@@ -9,7 +9,7 @@ use Rattle.retire_squash.specs.declared.active.Stage.{Stage}
 use Rattle.retire_squash.specs.declared.active.Stage.TheVariants as stage
 use Rattle.smt_model.specs.{Basics.holds_of, Jobs.job, Jobs.unit_of_actor, Picture.Picture}
 use Rattle.smt_model.specs.{Registers.is_unclaimed, Setup.Setup, Setup.registers_of}
-use Rattle.core_state.specs.{Agree.IsEntry, Agree.IsOpenJob, declared.slot.OpenJob.OpenJob}
+use Rattle.core_parts.specs.{Agree.IsEntry, Agree.IsOpenJob, declared.slot.OpenJob.OpenJob}
 
 -- Nothing is taken, or a free register.
 abbrev pub is_free_or_none : Setup → List Event → Option ℕ → Bool

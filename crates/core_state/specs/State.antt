@@ -4,7 +4,8 @@ use Rattle.numbers.specs.Sizes.{most_events}
 use Rattle.events.specs.declared.event.Event.{Event}
 use Rattle.smt_model.specs.{Account.records, Fates.fetches, Fetching.last_fetched, Memory.output}
 use Rattle.smt_model.specs.{Picture.picture, Rules.is_legal, Setup.Setup}
-use Rattle.core_state.specs.{Agree.PartsAgree, Setup.setup_of, Setup.accepts, View.CoreView}
+use Rattle.core_parts.specs.{Agree.PartsAgree}
+use Rattle.core_state.specs.{Setup.setup_of, Setup.accepts, View.CoreView}
 use Rattle.core_state.specs.{declared.state.State.TheInside.Inside}
 
 abbrev pub past_of : Inside → List Event

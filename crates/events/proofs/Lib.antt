@@ -7,3 +7,5 @@ pub mod ReadBack
 pub mod ReadOnly
 pub mod SinkLaws
 pub mod TraceLaws
+pub mod FieldCounts
+pub mod NextTaken

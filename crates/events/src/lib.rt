@@ -19,7 +19,7 @@ pub use effect::{Cause, Effect, EffectFields, Next, Outcome, OutcomeFields, Reco
 pub use event::{Event, Phys, Seq};
 pub use history::{Full, History};
 pub use kind::EventKind;
-pub use print::{Line, print_event, print_record};
+pub use print::{Line, print_event, print_record, push_event, push_record};
 pub use read::{Rule, read_event_line};
 pub use sink::{Broken, Over, Sink};
 pub use trace::{Trace, TraceRefused, print_trace, read_trace};

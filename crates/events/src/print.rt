@@ -9,27 +9,47 @@ ghost use Rattle.events.specs.Line.{after_space, next_text, address_text, datum_
 ghost use Rattle.events.specs.Line.{effect_text, step_text, line_of, record_text_of};
 
 use crate::effect::{Effect, Next, Outcome, Record, Written};
-use crate::event::{Event, Seq};
+use crate::event::{Event, Phys, Seq};
 use arrayvec::ArrayString;
-use itoa::Integer;
 use text_fields::{
-    push_ascii, push_dash, push_decimal, push_hex, push_optional_decimal, push_optional_hex,
+    push_ascii, push_dash, push_hex, push_number, push_optional_hex, push_small_number,
 };
 
 /// Room for any line that is printed here, without its newline.
 pub type Line = ArrayString<64>;
 
-fn push_decimal_field<I: Integer>(line: &mut Line, value: I)
-    requires { array_string_len line.old + 1 + I.MAX_STR_LEN ≤ 64 }
-    ensures spelled { line.new.bytes ≡ line.old.bytes ++ after_space (I.text value) }
-    ensures length { array_string_len line.new ≤ array_string_len line.old + 1 + I.MAX_STR_LEN }
+fn push_small_field<const N: usize>(line: &mut ArrayString<N>, value: u8)
+    requires { array_string_len line.old + 4 ≤ N }
+    ensures spelled { line.new.bytes ≡ line.old.bytes ++ after_space (decimal value) }
+    ensures length { array_string_len line.new ≤ array_string_len line.old + 4 }
 {
     push_ascii(line, b' ');
-    push_decimal(line, value);
+    push_small_number(line, value);
 }
 
-fn push_word_field(line: &mut Line, value: u32)
-    requires { array_string_len line.old + 9 ≤ 64 }
+fn push_number_field<const N: usize>(line: &mut ArrayString<N>, value: u32)
+    requires { array_string_len line.old + 11 ≤ N }
+    ensures spelled { line.new.bytes ≡ line.old.bytes ++ after_space (decimal value) }
+    ensures length { array_string_len line.new ≤ array_string_len line.old + 11 }
+{
+    push_ascii(line, b' ');
+    push_number(line, value);
+}
+
+fn push_optional_number_field<const N: usize>(line: &mut ArrayString<N>, value: Option<Phys>)
+    requires { array_string_len line.old + 11 ≤ N }
+    ensures spelled { line.new.bytes ≡ line.old.bytes ++ after_space (optional decimal value) }
+    ensures length { array_string_len line.new ≤ array_string_len line.old + 11 }
+{
+    push_ascii(line, b' ');
+    match value {
+        None => push_dash(line),
+        Some(number) => push_number(line, u32::from(number)),
+    }
+}
+
+fn push_word_field<const N: usize>(line: &mut ArrayString<N>, value: u32)
+    requires { array_string_len line.old + 9 ≤ N }
     ensures spelled { line.new.bytes ≡ line.old.bytes ++ after_space (hex 8 value) }
     ensures length { array_string_len line.new ≤ array_string_len line.old + 9 }
 {
@@ -37,8 +57,8 @@ fn push_word_field(line: &mut Line, value: u32)
     push_hex(line, value, 8);
 }
 
-fn push_optional_word_field(line: &mut Line, value: Option<u32>)
-    requires { array_string_len line.old + 9 ≤ 64 }
+fn push_optional_word_field<const N: usize>(line: &mut ArrayString<N>, value: Option<u32>)
+    requires { array_string_len line.old + 9 ≤ N }
     ensures spelled { line.new.bytes ≡ line.old.bytes ++ after_space (optional (hex 8) value) }
     ensures length { array_string_len line.new ≤ array_string_len line.old + 9 }
 {
@@ -46,8 +66,8 @@ fn push_optional_word_field(line: &mut Line, value: Option<u32>)
     push_optional_hex(line, value, 8);
 }
 
-fn push_optional_byte_field(line: &mut Line, value: Option<u8>)
-    requires { array_string_len line.old + 3 ≤ 64 }
+fn push_optional_byte_field<const N: usize>(line: &mut ArrayString<N>, value: Option<u8>)
+    requires { array_string_len line.old + 3 ≤ N }
     ensures spelled { line.new.bytes ≡ line.old.bytes ++ after_space (optional (hex 2) value) }
     ensures length { array_string_len line.new ≤ array_string_len line.old + 3 }
 {
@@ -55,8 +75,8 @@ fn push_optional_byte_field(line: &mut Line, value: Option<u8>)
     push_optional_hex(line, value.map(u32::from), 2);
 }
 
-fn push_next_field(line: &mut Line, next: Next)
-    requires { array_string_len line.old + 10 ≤ 64 }
+fn push_next_field<const N: usize>(line: &mut ArrayString<N>, next: Next)
+    requires { array_string_len line.old + 10 ≤ N }
     ensures spelled { line.new.bytes ≡ line.old.bytes ++ after_space (next_text next) }
     ensures length { array_string_len line.new ≤ array_string_len line.old + 10 }
 {
@@ -72,13 +92,13 @@ fn push_next_field(line: &mut Line, next: Next)
         }
         Next::Stopped(cause) => {
             push_ascii(line, b's');
-            push_decimal(line, cause);
+            push_small_number(line, cause);
         }
     }
 }
 
-fn push_write_fields(line: &mut Line, write: Option<Written>)
-    requires room { array_string_len line.old + 18 ≤ 64 }
+fn push_write_fields<const N: usize>(line: &mut ArrayString<N>, write: Option<Written>)
+    requires room { array_string_len line.old + 18 ≤ N }
     requires sized { IfSome write HasWidth }
     ensures spelled { line.new.bytes ≡ line.old.bytes ++ after_space (address_text write)
         ++ after_space (datum_text write) }
@@ -99,9 +119,10 @@ fn push_write_fields(line: &mut Line, write: Option<Written>)
     }
 }
 
-fn push_outcome(line: &mut Line, outcome: &Outcome)
-    requires { array_string_len line.old + 40 ≤ 64 }
+fn push_outcome<const N: usize>(line: &mut ArrayString<N>, outcome: &Outcome)
+    requires { array_string_len line.old + 40 ≤ N }
     ensures spelled { line.new.bytes ≡ line.old.bytes ++ outcome_text outcome.now }
+    ensures length { array_string_len line.new ≤ array_string_len line.old + 40 }
 {
     push_optional_word_field(line, outcome.value());
     push_next_field(line, outcome.next());
@@ -110,9 +131,10 @@ fn push_outcome(line: &mut Line, outcome: &Outcome)
     push_optional_byte_field(line, outcome.out());
 }
 
-fn push_effect(line: &mut Line, effect: &Effect)
-    requires { array_string_len line.old + 40 ≤ 64 }
+fn push_effect<const N: usize>(line: &mut ArrayString<N>, effect: &Effect)
+    requires { array_string_len line.old + 40 ≤ N }
     ensures spelled { line.new.bytes ≡ line.old.bytes ++ effect_text effect.now }
+    ensures length { array_string_len line.new ≤ array_string_len line.old + 40 }
 {
     push_optional_word_field(line, effect.value());
     push_next_field(line, effect.next());
@@ -121,37 +143,76 @@ fn push_effect(line: &mut Line, effect: &Effect)
 }
 
 // A line that begins with the letter of an event, its actor and the instruction that it moves on.
-fn step_line(letter: u8, actor: u8, seq: Seq) -> Line
-    requires { letter < 128 }
-    ensures spelled { result.bytes ≡ step_text (letter ∷ []) actor seq }
-    ensures length { array_string_len result ≤ 16 }
+fn push_step<const N: usize>(line: &mut ArrayString<N>, letter: u8, actor: u8, seq: Seq)
+    requires ascii { letter < 128 }
+    requires room { array_string_len line.old + 16 ≤ N }
+    ensures spelled { line.new.bytes ≡ line.old.bytes ++ step_text (letter ∷ []) actor seq }
+    ensures length { array_string_len line.new ≤ array_string_len line.old + 16 }
 {
-    let mut line = Line::new();
-    push_ascii(&mut line, letter);
-    push_decimal_field(&mut line, actor);
-    push_decimal_field(&mut line, seq);
-    line
+    push_ascii(line, letter);
+    push_small_field(line, actor);
+    push_number_field(line, seq);
 }
 
-fn print_fetch(actor: u8, hart: u8, seq: Seq, pc: u32, word: Option<u32>, predicted: u32) -> Line
-    ensures { result.bytes ≡ line_of (Event.Fetch actor hart seq pc word predicted) }
+fn push_fetch<const N: usize>(
+    line: &mut ArrayString<N>,
+    actor: u8,
+    hart: u8,
+    seq: Seq,
+    pc: u32,
+    word: Option<u32>,
+    predicted: u32,
+)
+    requires { array_string_len line.old + 64 ≤ N }
+    ensures spelled { line.new.bytes ≡ line.old.bytes
+        ++ line_of (Event.Fetch actor hart seq pc word predicted) }
+    ensures length { array_string_len line.new ≤ array_string_len line.old + 64 }
 {
-    let mut line = Line::new();
-    push_ascii(&mut line, b'F');
-    push_decimal_field(&mut line, actor);
-    push_decimal_field(&mut line, hart);
-    push_decimal_field(&mut line, seq);
-    push_word_field(&mut line, pc);
-    push_optional_word_field(&mut line, word);
-    push_word_field(&mut line, predicted);
-    line
+    push_ascii(line, b'F');
+    push_small_field(line, actor);
+    push_small_field(line, hart);
+    push_number_field(line, seq);
+    push_word_field(line, pc);
+    push_optional_word_field(line, word);
+    push_word_field(line, predicted);
 }
 
-/// The line of an event, without its newline.
-pub fn print_event(event: &Event) -> Line
-    ensures { result.bytes ≡ line_of event.now }
+fn push_rename<const N: usize>(line: &mut ArrayString<N>, actor: u8, seq: Seq, phys: Option<Phys>)
+    requires { array_string_len line.old + 64 ≤ N }
+    ensures spelled { line.new.bytes ≡ line.old.bytes ++ line_of (Event.Rename actor seq phys) }
+    ensures length { array_string_len line.new ≤ array_string_len line.old + 64 }
 {
-    match *event {
+    push_step(line, b'R', actor, seq);
+    push_optional_number_field(line, phys);
+}
+
+fn push_complete<const N: usize>(line: &mut ArrayString<N>, actor: u8, seq: Seq, outcome: &Outcome)
+    requires { array_string_len line.old + 64 ≤ N }
+    ensures spelled { line.new.bytes ≡ line.old.bytes
+        ++ line_of (Event.Complete actor seq outcome.now) }
+    ensures length { array_string_len line.new ≤ array_string_len line.old + 64 }
+{
+    push_step(line, b'C', actor, seq);
+    push_outcome(line, outcome);
+}
+
+fn push_retire<const N: usize>(line: &mut ArrayString<N>, actor: u8, seq: Seq, effect: &Effect)
+    requires { array_string_len line.old + 64 ≤ N }
+    ensures spelled { line.new.bytes ≡ line.old.bytes
+        ++ line_of (Event.Retire actor seq effect.now) }
+    ensures length { array_string_len line.new ≤ array_string_len line.old + 64 }
+{
+    push_step(line, b'T', actor, seq);
+    push_effect(line, effect);
+}
+
+/// Appends the line of an event, without its newline.
+pub fn push_event<const N: usize>(line: &mut ArrayString<N>, event: &Event)
+    requires { array_string_len line.old + 64 ≤ N }
+    ensures spelled { line.new.bytes ≡ line.old.bytes ++ line_of event.now }
+    ensures length { array_string_len line.new ≤ array_string_len line.old + 64 }
+{
+    match event {
         Event::Fetch {
             actor,
             hart,
@@ -159,31 +220,39 @@ pub fn print_event(event: &Event) -> Line
             pc,
             word,
             predicted,
-        } => print_fetch(actor, hart, seq, pc, word, predicted),
-        Event::Decode { actor, seq } => step_line(b'D', actor, seq),
-        Event::Rename { actor, seq, phys } => {
-            let mut line = step_line(b'R', actor, seq);
-            push_ascii(&mut line, b' ');
-            push_optional_decimal(&mut line, phys);
-            line
-        }
-        Event::Issue { actor, seq } => step_line(b'I', actor, seq),
+        } => push_fetch(line, *actor, *hart, *seq, *pc, *word, *predicted),
+        Event::Decode { actor, seq } => push_step(line, b'D', *actor, *seq),
+        Event::Rename { actor, seq, phys } => push_rename(line, *actor, *seq, *phys),
+        Event::Issue { actor, seq } => push_step(line, b'I', *actor, *seq),
         Event::Complete {
             actor,
             seq,
             outcome,
-        } => {
-            let mut line = step_line(b'C', actor, seq);
-            push_outcome(&mut line, &outcome);
-            line
-        }
-        Event::Drop { actor, seq } => step_line(b'X', actor, seq),
-        Event::Retire { actor, seq, effect } => {
-            let mut line = step_line(b'T', actor, seq);
-            push_effect(&mut line, &effect);
-            line
-        }
+        } => push_complete(line, *actor, *seq, outcome),
+        Event::Drop { actor, seq } => push_step(line, b'X', *actor, *seq),
+        Event::Retire { actor, seq, effect } => push_retire(line, *actor, *seq, effect),
     }
+}
+
+/// The line of an event, without its newline.
+pub fn print_event(event: &Event) -> Line
+    ensures { result.bytes ≡ line_of event.now }
+{
+    let mut line = Line::new();
+    push_event(&mut line, event);
+    line
+}
+
+/// Appends the line of a record, without its newline.
+pub fn push_record<const N: usize>(line: &mut ArrayString<N>, record: &Record)
+    requires { array_string_len line.old + 64 ≤ N }
+    ensures spelled { line.new.bytes ≡ line.old.bytes ++ record_text_of record.now }
+    ensures length { array_string_len line.new ≤ array_string_len line.old + 64 }
+{
+    push_small_number(line, record.hart);
+    push_word_field(line, record.pc);
+    push_optional_word_field(line, record.word);
+    push_effect(line, &record.effect);
 }
 
 /// The line of a record, without its newline.
@@ -191,9 +260,6 @@ pub fn print_record(record: &Record) -> Line
     ensures { result.bytes ≡ record_text_of record.now }
 {
     let mut line = Line::new();
-    push_decimal(&mut line, record.hart);
-    push_word_field(&mut line, record.pc);
-    push_optional_word_field(&mut line, record.word);
-    push_effect(&mut line, &record.effect);
+    push_record(&mut line, record);
     line
 }

@@ -1,19 +1,24 @@
 //! Reading: the event of a line.
 
-ghost use Rattle.std.specs.Prelude.{◌≡◌, ◌<◌, IfOk, IfSome};
+ghost use Rattle.std.specs.Prelude.{◌≡◌, ◌<◌, ◌==◌, IfOk, IfErr, IfSome, Err, if◌then◌else◌};
+ghost use Rattle.text_fields.specs.Splitting.{field, field_count};
+ghost use Rattle.text_fields.specs.Taking.{IsTaken};
+ghost use Rattle.events.specs.Kind.{fields_after};
+ghost use Rattle.events.specs.declared.read.Rule.TheVariants.{FieldCount};
 ghost use Rattle.text_fields.specs.Reading.{decimal_field, hex_field, optional_field};
 ghost use Rattle.events.specs.Width.{HasWidth, IsWidth};
 ghost use Rattle.events.specs.Reading.{rule_number, next_field, pc_field, ended_of, stopped_of};
 ghost use Rattle.events.specs.Reading.{sized_field, write_fields, outcome_of, effect_of, fetch_of};
 ghost use Rattle.events.specs.Reading.{decode_of, rename_of, issue_of, complete_of, drop_of};
 ghost use Rattle.events.specs.Reading.{retire_of, event_fields, kind_named, event_of};
+ghost use Rattle.events.specs.Reading.{of_fields};
 
 use crate::effect::{Effect, EffectFields, Next, Outcome, OutcomeFields, Written};
 use crate::event::{Event, Phys, Seq};
 use crate::kind::EventKind;
 use text_fields::{
     FieldError, field_count, read_decimal, read_hex, read_optional_decimal, read_optional_hex,
-    split_field,
+    split_field, take_decimal, take_hex, take_optional_hex,
 };
 use thiserror::Error;
 
@@ -43,16 +48,32 @@ impl Rule {
     }
 }
 
-fn read_actor(text: &[u8]) -> Result<u8, FieldError>
-    ensures { result ≡ decimal_field 15 text.now }
+// The first field as an actor, and the text of the others.
+#[inline]
+fn take_actor(text: &[u8]) -> Result<(u8, &[u8]), FieldError>
+    ensures taken { IfOk result (λ p. IsTaken (decimal_field 15) text.now p.0 p.1.now) }
+    ensures refused { IfErr result (λ error. decimal_field 15 (field 32 text.now) ≡ Err error) }
 {
-    Ok(read_decimal(text, 15)? as u8)
+    let (actor, others) = take_decimal(text, 15)?;
+    Ok((actor as u8, others))
 }
 
-fn read_hart(text: &[u8]) -> Result<u8, FieldError>
-    ensures { result ≡ decimal_field 7 text.now }
+#[inline]
+fn take_hart(text: &[u8]) -> Result<(u8, &[u8]), FieldError>
+    ensures taken { IfOk result (λ p. IsTaken (decimal_field 7) text.now p.0 p.1.now) }
+    ensures refused { IfErr result (λ error. decimal_field 7 (field 32 text.now) ≡ Err error) }
 {
-    Ok(read_decimal(text, 7)? as u8)
+    let (hart, others) = take_decimal(text, 7)?;
+    Ok((hart as u8, others))
+}
+
+#[inline]
+fn take_seq(text: &[u8]) -> Result<(Seq, &[u8]), FieldError>
+    ensures taken { IfOk result (λ p. IsTaken (decimal_field 16777215) text.now p.0 p.1.now) }
+    ensures refused { IfErr result
+        (λ error. decimal_field 16777215 (field 32 text.now) ≡ Err error) }
+{
+    take_decimal(text, 16_777_215)
 }
 
 fn read_seq(text: &[u8]) -> Result<Seq, FieldError>
@@ -89,9 +110,9 @@ fn read_optional_byte(text: &[u8]) -> Result<Option<u8>, FieldError>
 fn read_decode(fields: &[u8]) -> Result<Event, FieldError>
     ensures { result ≡ decode_of fields.now }
 {
-    let (actor, seq) = split_field(fields, b' ');
+    let (actor, seq) = take_actor(fields)?;
     Ok(Event::Decode {
-        actor: read_actor(actor)?,
+        actor,
         seq: read_seq(seq)?,
     })
 }
@@ -100,11 +121,11 @@ fn read_decode(fields: &[u8]) -> Result<Event, FieldError>
 fn read_rename(fields: &[u8]) -> Result<Event, FieldError>
     ensures { result ≡ rename_of fields.now }
 {
-    let (actor, fields) = split_field(fields, b' ');
-    let (seq, phys) = split_field(fields, b' ');
+    let (actor, fields) = take_actor(fields)?;
+    let (seq, phys) = take_seq(fields)?;
     Ok(Event::Rename {
-        actor: read_actor(actor)?,
-        seq: read_seq(seq)?,
+        actor,
+        seq,
         phys: read_phys(phys)?,
     })
 }
@@ -113,9 +134,9 @@ fn read_rename(fields: &[u8]) -> Result<Event, FieldError>
 fn read_issue(fields: &[u8]) -> Result<Event, FieldError>
     ensures { result ≡ issue_of fields.now }
 {
-    let (actor, seq) = split_field(fields, b' ');
+    let (actor, seq) = take_actor(fields)?;
     Ok(Event::Issue {
-        actor: read_actor(actor)?,
+        actor,
         seq: read_seq(seq)?,
     })
 }
@@ -124,9 +145,9 @@ fn read_issue(fields: &[u8]) -> Result<Event, FieldError>
 fn read_drop(fields: &[u8]) -> Result<Event, FieldError>
     ensures { result ≡ drop_of fields.now }
 {
-    let (actor, seq) = split_field(fields, b' ');
+    let (actor, seq) = take_actor(fields)?;
     Ok(Event::Drop {
-        actor: read_actor(actor)?,
+        actor,
         seq: read_seq(seq)?,
     })
 }
@@ -135,17 +156,17 @@ fn read_drop(fields: &[u8]) -> Result<Event, FieldError>
 fn read_fetch(fields: &[u8]) -> Result<Event, FieldError>
     ensures { result ≡ fetch_of fields.now }
 {
-    let (actor, fields) = split_field(fields, b' ');
-    let (hart, fields) = split_field(fields, b' ');
-    let (seq, fields) = split_field(fields, b' ');
-    let (pc, fields) = split_field(fields, b' ');
-    let (word, predicted) = split_field(fields, b' ');
+    let (actor, fields) = take_actor(fields)?;
+    let (hart, fields) = take_hart(fields)?;
+    let (seq, fields) = take_seq(fields)?;
+    let (pc, fields) = take_hex(fields, 8)?;
+    let (word, predicted) = take_optional_hex(fields, 8)?;
     Ok(Event::Fetch {
-        actor: read_actor(actor)?,
-        hart: read_hart(hart)?,
-        seq: read_seq(seq)?,
-        pc: read_hex(pc, 8)?,
-        word: read_optional_word(word)?,
+        actor,
+        hart,
+        seq,
+        pc,
+        word,
         predicted: read_hex(predicted, 8)?,
     })
 }
@@ -183,6 +204,22 @@ fn read_next(text: &[u8]) -> Result<Next, FieldError>
         Some(b'e') => read_ended(&text[1..]),
         Some(b's') => read_stopped(&text[1..]),
         _ => Err(FieldError::Misspelled),
+    }
+}
+
+// What comes next as the first field, and the text of the others.
+#[inline]
+fn take_next(text: &[u8]) -> Result<(Next, &[u8]), FieldError>
+    ensures taken { IfOk result (λ p. IsTaken next_field text.now p.0 p.1.now) }
+    ensures refused { IfErr result (λ error. next_field (field 32 text.now) ≡ Err error) }
+{
+    if text.is_empty() || text[0] != b'p' {
+        let (first, others) = split_field(text, b' ');
+        return Ok((read_next(first)?, others));
+    }
+    match take_hex(&text[1..], 8) {
+        Ok((pc, others)) => Ok((Next::Pc(pc), others)),
+        Err(error) => Err(error),
     }
 }
 
@@ -228,15 +265,15 @@ fn read_write(address: &[u8], datum: &[u8]) -> Result<Option<Written>, FieldErro
 fn read_outcome(fields: &[u8]) -> Result<Outcome, FieldError>
     ensures { result ≡ outcome_of fields.now }
 {
-    let (value, fields) = split_field(fields, b' ');
-    let (next, fields) = split_field(fields, b' ');
-    let (addr, fields) = split_field(fields, b' ');
-    let (datum, out) = split_field(fields, b' ');
+    let (value, fields) = take_optional_hex(fields, 8)?;
+    let (next, fields) = take_next(fields)?;
+    let (addr, fields) = take_optional_hex(fields, 8)?;
+    let (datum, out) = take_optional_hex(fields, 8)?;
     Ok(Outcome::new(OutcomeFields {
-        value: read_optional_word(value)?,
-        next: read_next(next)?,
-        addr: read_optional_word(addr)?,
-        datum: read_optional_word(datum)?,
+        value,
+        next,
+        addr,
+        datum,
         out: read_optional_byte(out)?,
     }))
 }
@@ -245,13 +282,13 @@ fn read_outcome(fields: &[u8]) -> Result<Outcome, FieldError>
 fn read_effect(fields: &[u8]) -> Result<Effect, FieldError>
     ensures { result ≡ effect_of fields.now }
 {
-    let (value, fields) = split_field(fields, b' ');
-    let (next, fields) = split_field(fields, b' ');
+    let (value, fields) = take_optional_hex(fields, 8)?;
+    let (next, fields) = take_next(fields)?;
     let (address, fields) = split_field(fields, b' ');
     let (datum, out) = split_field(fields, b' ');
     Ok(Effect::new(EffectFields {
-        value: read_optional_word(value)?,
-        next: read_next(next)?,
+        value,
+        next,
         write: read_write(address, datum)?,
         out: read_optional_byte(out)?,
     }))
@@ -261,11 +298,11 @@ fn read_effect(fields: &[u8]) -> Result<Effect, FieldError>
 fn read_complete(fields: &[u8]) -> Result<Event, FieldError>
     ensures { result ≡ complete_of fields.now }
 {
-    let (actor, fields) = split_field(fields, b' ');
-    let (seq, outcome) = split_field(fields, b' ');
+    let (actor, fields) = take_actor(fields)?;
+    let (seq, outcome) = take_seq(fields)?;
     Ok(Event::Complete {
-        actor: read_actor(actor)?,
-        seq: read_seq(seq)?,
+        actor,
+        seq,
         outcome: read_outcome(outcome)?,
     })
 }
@@ -274,11 +311,11 @@ fn read_complete(fields: &[u8]) -> Result<Event, FieldError>
 fn read_retire(fields: &[u8]) -> Result<Event, FieldError>
     ensures { result ≡ retire_of fields.now }
 {
-    let (actor, fields) = split_field(fields, b' ');
-    let (seq, effect) = split_field(fields, b' ');
+    let (actor, fields) = take_actor(fields)?;
+    let (seq, effect) = take_seq(fields)?;
     Ok(Event::Retire {
-        actor: read_actor(actor)?,
-        seq: read_seq(seq)?,
+        actor,
+        seq,
         effect: read_effect(effect)?,
     })
 }
@@ -316,11 +353,20 @@ pub fn read_event_line(line: &[u8]) -> Result<Event, Rule>
     let Some(kind) = kind_named(letter) else {
         return Err(Rule::UnknownLetter);
     };
-    if field_count(fields, b' ') != kind.fields_after() {
-        return Err(Rule::FieldCount);
-    }
     match read_fields(kind, fields) {
         Ok(event) => Ok(event),
-        Err(error) => Err(Rule::Field(error)),
+        Err(error) => Err(broken_rule(kind, fields, error)),
     }
+}
+
+// The rule that a line breaks whose fields are refused: it may have more or fewer than its kind.
+#[cold]
+fn broken_rule(kind: EventKind, fields: &[u8], error: FieldError) -> Rule
+    ensures { Err result ≡ (if field_count 32 fields.now == fields_after kind
+        then of_fields (Err error) else Err FieldCount) }
+{
+    if field_count(fields, b' ') != kind.fields_after() {
+        return Rule::FieldCount;
+    }
+    Rule::Field(error)
 }

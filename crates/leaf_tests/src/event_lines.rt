@@ -1,7 +1,8 @@
 use crate::rows::holds;
+use arrayvec::ArrayString;
 use events::{
     Effect, EffectFields, Event, EventKind, History, Next, Outcome, OutcomeFields, Record, Written,
-    print_event, print_record, read_event_line,
+    print_event, print_record, push_event, push_record, read_event_line,
 };
 use std::alloc::Global;
 
@@ -214,6 +215,33 @@ fn prints_the_record_of_a_byte_store(rt: HostRuntime) {
         }),
     };
     assert!(rt; print_record(&record).as_str() == "0 80000014 007300a3 - p80000018 80001001 aa -");
+}
+
+#[test]
+fn prints_an_event_and_a_record_behind_a_text(rt: HostRuntime) {
+    let mut text = ArrayString::<160>::new();
+    text.push_str("done ");
+    push_event(
+        &mut text,
+        &Event::Decode {
+            actor: 4,
+            seq: 70_605,
+        },
+    );
+    text.push_str(", ");
+    let record = Record {
+        hart: 1,
+        pc: 0x8000_0014,
+        word: None,
+        effect: Effect::new(EffectFields {
+            value: Some(5),
+            next: BEHIND,
+            write: None,
+            out: None,
+        }),
+    };
+    push_record(&mut text, &record);
+    assert!(rt; text.as_str() == "done D 4 70605, 1 80000014 - 00000005 p80000018 - - -");
 }
 
 /// The first three issues.

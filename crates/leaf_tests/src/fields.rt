@@ -1,9 +1,10 @@
 use crate::rows::holds;
 use arrayvec::ArrayString;
 use text_fields::{
-    FieldError, field_count, push_ascii, push_dash, push_decimal, push_hex, push_optional_decimal,
-    push_optional_hex, read_decimal, read_hex, read_optional_decimal, read_optional_hex,
-    read_signed_decimal, split_field,
+    FieldError, field_count, push_ascii, push_dash, push_decimal, push_hex, push_number,
+    push_optional_decimal, push_optional_hex, push_small_number, read_decimal, read_hex,
+    read_optional_decimal, read_optional_hex, read_signed_decimal, split_field, take_decimal,
+    take_hex, take_optional_hex,
 };
 
 #[test]
@@ -21,6 +22,43 @@ fn prints_one_field_after_the_other(rt: HostRuntime) {
     push_hex(&mut text, 7, 4);
     push_hex(&mut text, 0x80001, 5);
     assert!(rt; text.as_str() == "0 4294967295,-2048 80000018 ab000780001");
+}
+
+/// Numbers of every length.
+static NUMBERS: [(u32, &str); 14] = [
+    (0, "0"),
+    (9, "9"),
+    (10, "10"),
+    (99, "99"),
+    (100, "100"),
+    (503, "503"),
+    (1000, "1000"),
+    (9999, "9999"),
+    (10_000, "10000"),
+    (70_605, "70605"),
+    (16_777_215, "16777215"),
+    (99_999_999, "99999999"),
+    (100_000_000, "100000000"),
+    (u32::MAX, "4294967295"),
+];
+
+#[test]
+fn prints_numbers_of_every_length(rt: HostRuntime) {
+    for (number, want) in &NUMBERS {
+        let mut text = ArrayString::<10>::new();
+        push_number(&mut text, *number);
+        holds(&rt, want, text.as_str() == *want);
+    }
+}
+
+#[test]
+fn prints_numbers_of_one_byte(rt: HostRuntime) {
+    let mut text = ArrayString::<12>::new();
+    push_small_number(&mut text, 7);
+    push_small_number(&mut text, 15);
+    push_small_number(&mut text, 100);
+    push_small_number(&mut text, 255);
+    assert!(rt; text.as_str() == "715100255");
 }
 
 #[test]
@@ -151,5 +189,61 @@ fn cuts_a_text_at_its_first_separator(rt: HostRuntime) {
         let (first, others) = split_field(text, b' ');
         holds(&rt, cut.text, first == cut.first.as_bytes());
         holds(&rt, cut.text, others == cut.others.as_bytes());
+    }
+}
+
+/// A text, the number of its first field, and the text of the others.
+type Taken<N> = (&'static str, Result<(N, &'static [u8]), FieldError>);
+
+/// Numbers up to 15.
+static TAKEN_DECIMAL: [Taken<u32>; 9] = [
+    ("0 5 5", Ok((0, b"5 5"))),
+    ("15 5", Ok((15, b"5"))),
+    ("15 ", Ok((15, b""))),
+    ("15", Ok((15, b""))),
+    ("16 5", Err(FieldError::OutOfRange)),
+    ("99999999999999999999999 5", Err(FieldError::OutOfRange)),
+    ("05 5", Err(FieldError::Misspelled)),
+    (" 5", Err(FieldError::Misspelled)),
+    ("5a 5", Err(FieldError::Misspelled)),
+];
+
+#[test]
+fn takes_a_decimal_number_from_the_front(rt: HostRuntime) {
+    for (text, want) in &TAKEN_DECIMAL {
+        holds(&rt, text, take_decimal(text.as_bytes(), 15) == *want);
+    }
+}
+
+/// Numbers of two digits.
+static TAKEN_HEX: [Taken<u32>; 6] = [
+    ("af 5", Ok((0xaf, b"5"))),
+    ("af", Ok((0xaf, b""))),
+    ("af5 5", Err(FieldError::Misspelled)),
+    ("a 5", Err(FieldError::Misspelled)),
+    ("aF 5", Err(FieldError::Misspelled)),
+    ("- 5", Err(FieldError::Misspelled)),
+];
+
+#[test]
+fn takes_a_hexadecimal_number_from_the_front(rt: HostRuntime) {
+    for (text, want) in &TAKEN_HEX {
+        holds(&rt, text, take_hex(text.as_bytes(), 2) == *want);
+    }
+}
+
+/// Numbers of two digits, or none.
+static TAKEN_OPTIONAL: [Taken<Option<u32>>; 5] = [
+    ("- - 5", Ok((None, b"- 5"))),
+    ("-", Ok((None, b""))),
+    ("0a -", Ok((Some(10), b"-"))),
+    ("-- 5", Err(FieldError::Misspelled)),
+    ("", Err(FieldError::Misspelled)),
+];
+
+#[test]
+fn takes_a_dash_as_no_number_from_the_front(rt: HostRuntime) {
+    for (text, want) in &TAKEN_OPTIONAL {
+        holds(&rt, text, take_optional_hex(text.as_bytes(), 2) == *want);
     }
 }

@@ -27,7 +27,7 @@ use std::alloc::Global;
 /// unit; and a limit below six events for each word of the order and one for each hart.
 ///
 /// That a core which is asked by it retires the order is a law of the crate that steps scripts:
-/// `schedules_are_retired` of `simulator::retiring`.
+/// `schedules_are_retired` of `sim_laws::retiring`.
 pub fn make_schedule<'a>(
     image: &Image,
     config: &Config,

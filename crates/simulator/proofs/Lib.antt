@@ -1,16 +1,3 @@
-pub mod Appending
-pub mod CheckTelling
-pub mod ReadWhole
-pub mod RecordLines
-pub mod OneImage
-pub mod PlainTelling
 pub mod Printing
+pub mod ReadWhole
 pub mod Refusing
-pub mod Replying
-pub mod Retired
-pub mod RunTelling
-pub mod ScheduleTelling
-pub mod Scripted
-pub mod Sessions
-pub mod Telling
-pub mod WordLines

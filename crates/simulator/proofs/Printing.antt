@@ -4,9 +4,9 @@ use Rattle.std.proofs.Common.{subst}
 use Rattle.core_state.specs.Setup.{setup_of}
 use Rattle.smt_model.specs.{Setup.is_accepted, Rules.is_legal}
 use Rattle.sim_inputs.specs.declared.settings.Settings.{Settings}
-use Rattle.simulator.specs.declared.refused.Refused.TheVariants.{Output}
-use Rattle.simulator.specs.Refusals.{Read, OfFile, PassesAll}
-use Rattle.simulator.specs.{CheckRefusals.AreCheckInputsRefusedFor, CheckTold.IsCheckReported}
+use Rattle.sim_report.specs.declared.refused.Refused.TheVariants.{Output}
+use Rattle.sim_report.specs.Refusals.{Read, OfFile, PassesAll}
+use Rattle.sim_commands.specs.{CheckRefusals.AreCheckInputsRefusedFor, CheckTold.IsCheckReported}
 
 -- Of two claims on what a call answers comes a third.
 pub with_both : {A E : Type 0} (r : Result A E) (P R : Type 0) (Q : A → Type 0) → OnOk r P → IfOk r Q

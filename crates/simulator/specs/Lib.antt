@@ -1,16 +1,2 @@
-pub mod Refusals
-pub mod PlainRefusals
-pub mod Report
 pub mod ProgressLine
-pub mod Listing
-pub mod Session
-pub mod Replies
-pub mod Retiring
-pub mod Told
-pub mod PlainTold
-pub mod RunTold
-pub mod CheckRefusals
-pub mod CheckTold
-pub mod ScheduleTold
-pub mod ScheduleRefusals
 pub mod Lines

@@ -8,19 +8,20 @@ use Rattle.sim_inputs.specs.{declared.line.Line.Line, declared.settings.Settings
 use Rattle.sim_inputs.specs.{Configuration.IsConfiguration}
 use Rattle.sim_inputs.specs.declared.line.Line.TheVariants as lines
 use Rattle.sim_script.specs.{declared.actions.Word.Word, Script.IsScript}
-use Rattle.simulator.specs.{declared.refused.Refused.Refused, Listing.listing_text}
-use Rattle.simulator.specs.declared.refused.Refused.TheVariants.{Image, Config, Memory, File}
-use Rattle.simulator.specs.declared.refused.Refused.TheVariants.{Output}
-use Rattle.simulator.specs.declared.refused.Unread.TheVariants as unread
-use Rattle.simulator.specs.Refusals.{Read, OfFile, IsFirstFailed, PassesAll, AreAccepted}
-use Rattle.simulator.specs.{Refusals.AreInputsRefusedFor, Told.IsReported}
-use Rattle.simulator.specs.{Session.AreAsked, Session.Prints}
-use Rattle.simulator.specs.RunTold.{AreRunInputsRefusedFor, IsRunReported, LackARole}
-use Rattle.simulator.specs.CheckRefusals.{AreCheckInputsRefusedFor, AreTooMany}
-use Rattle.simulator.specs.{CheckTold.IsCheckReported}
-use Rattle.simulator.specs.{PlainRefusals.ArePlainInputsRefusedFor, PlainTold.IsPlainReported}
-use Rattle.simulator.specs.ScheduleRefusals.{AreScheduleInputsRefusedFor}
-use Rattle.simulator.specs.ScheduleTold.{IsScheduled}
+use Rattle.sim_report.specs.{declared.refused.Refused.Refused, Listing.listing_text}
+use Rattle.sim_report.specs.declared.refused.Refused.TheVariants.{Image, Config, Memory, File}
+use Rattle.sim_report.specs.declared.refused.Refused.TheVariants.{Output}
+use Rattle.sim_report.specs.declared.refused.Unread.TheVariants as unread
+use Rattle.sim_report.specs.Refusals.{Read, OfFile, IsFirstFailed, PassesAll, AreAccepted}
+use Rattle.sim_report.specs.{Refusals.AreInputsRefusedFor}
+use Rattle.sim_commands.specs.{Told.IsReported}
+use Rattle.sim_session.specs.{Session.AreAsked, Session.Prints}
+use Rattle.sim_commands.specs.RunTold.{AreRunInputsRefusedFor, IsRunReported, LackARole}
+use Rattle.sim_commands.specs.CheckRefusals.{AreCheckInputsRefusedFor, AreTooMany}
+use Rattle.sim_commands.specs.{CheckTold.IsCheckReported}
+use Rattle.sim_commands.specs.{PlainRefusals.ArePlainInputsRefusedFor, PlainTold.IsPlainReported}
+use Rattle.sim_commands.specs.ScheduleRefusals.{AreScheduleInputsRefusedFor}
+use Rattle.sim_commands.specs.ScheduleTold.{IsScheduled}
 
 -- The line asks for a script's steps; it asks for a listing.
 abbrev pub IsStepLine : Line → Type 0

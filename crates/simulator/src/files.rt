@@ -1,8 +1,8 @@
 ghost use Rattle.std.specs.Prelude.{◌≡◌, ◌≤◌, ◌<◌, ◌^◌, IfOk, IfSome, vec_len};
 ghost use Rattle.std.specs.IoError.{error_kind};
-ghost use Rattle.simulator.specs.Refusals.{why_unread};
+ghost use Rattle.sim_report.specs.Refusals.{why_unread};
 
-use crate::refused::Unread;
+use sim_report::Unread;
 use std::alloc::Global;
 use std::fs;
 use std::io::{Error, ErrorKind, Read};

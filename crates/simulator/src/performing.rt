@@ -1,26 +1,25 @@
 ghost use Rattle.std.specs.Prelude.{◌≡◌, IsTrue, OnOk, IfOk, IfErr, Err, ◌⊎◌, List, true, false};
 ghost use Rattle.sim_script.specs.declared.actions.Word.{Word as AnyWord};
 ghost use Rattle.sim_script.specs.Script.{IsScript};
-ghost use Rattle.simulator.specs.declared.refused.Refused.{Refused as AnyRefused};
-ghost use Rattle.simulator.specs.declared.refused.Refused.TheVariants.{Output};
-ghost use Rattle.simulator.specs.Refusals.{as_read, OfFile, PassesAll, AreAccepted};
-ghost use Rattle.simulator.specs.Refusals.{exit_status_of, refusal_of, says_harts};
+ghost use Rattle.sim_report.specs.declared.refused.Refused.{Refused as AnyRefused};
+ghost use Rattle.sim_report.specs.declared.refused.Refused.TheVariants.{Output};
+ghost use Rattle.sim_report.specs.Refusals.{as_read, OfFile, PassesAll, AreAccepted};
+ghost use Rattle.sim_report.specs.Refusals.{exit_status_of, refusal_of, says_harts};
 ghost use Rattle.sim_inputs.specs.Configuration.{IsConfiguration};
 ghost use Rattle.simulator.specs.Lines.{IsStepLine, IsList, IsListed, IsListRefusal, IsLineRefusal};
 ghost use Rattle.simulator.specs.Lines.{IsRefusal, IsSettingsRefusal, OfSettings, HasEnded};
 ghost use Rattle.simulator.specs.Lines.{IsReportedBy, IsUnreported, wants_trace};
-ghost use Rattle.simulator.specs.Told.{IsKept};
+ghost use Rattle.sim_commands.specs.Told.{IsKept};
 
-use crate::checking::check_and_report;
-use crate::core_lines::{Wanted, step_and_report, thread_and_report};
-use crate::listing::list;
-use crate::plain::run_and_report;
-use crate::refused::{Refused, Unread, refuse};
-use crate::scheduling::schedule_and_print;
-use crate::stepping::read_image;
+use crate::refusal::refuse;
 use actors::Gate;
 use events::Sink;
+use sim_commands::{
+    Wanted, check_and_report, read_image, run_and_report, schedule_and_print, step_and_report,
+    thread_and_report,
+};
 use sim_inputs::{ConfigRefused, Line, Settings, read_config};
+use sim_report::{Refused, Unread, list};
 use smt_core::Predict;
 use std::alloc::Global;
 use std::io::Write;

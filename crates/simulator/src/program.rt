@@ -2,14 +2,15 @@ ghost use Rattle.std.specs.Prelude.{◌≡◌, ◌⊎◌, ◌≤◌, ◌^◌, Is
 ghost use Rattle.std.specs.Prelude.{[], IsOkAnd, vec_len};
 ghost use Rattle.std.specs.Io.KnownBytes.{Appends};
 ghost use Rattle.std.specs.IoError.{error_kind};
-ghost use Rattle.simulator.specs.Refusals.{as_read, says_harts, words_refused, IsWordsStatus};
+ghost use Rattle.sim_report.specs.Refusals.{as_read, says_harts, words_refused, IsWordsStatus};
 
 use crate::files::read_file;
 use crate::performing::{Inputs, perform};
-use crate::refused::{Refused, Unread, refuse};
+use crate::refusal::refuse;
 use crate::trace_file::TraceFile;
 use actors::Gate;
 use sim_inputs::{Line, WordsRefused, read_words};
+use sim_report::{Refused, Unread};
 use smt_core::Predict;
 use std::alloc::{AllocError, Global};
 use std::env::Args;

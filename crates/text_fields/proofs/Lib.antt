@@ -1,8 +1,11 @@
 pub mod DecimalLaws
 pub mod DecimalLemmas
+pub mod DigitLemmas
 pub mod HexLaws
 pub mod HexLemmas
 pub mod LacksLaws
 pub mod OptionalLaws
+pub mod PairLemmas
 pub mod SignedLaws
 pub mod SplittingLaws
+pub mod TakingLemmas

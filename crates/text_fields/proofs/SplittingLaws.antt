@@ -6,7 +6,7 @@ use Rattle.std.proofs.{lemmas.Bool.Decides.nat_tests, lemmas.List.Sums.sum_by-co
 use Rattle.std.specs.List.{position_or_len}
 use Rattle.text_fields.specs.Splitting.{field, field_count, Lacks, rest}
 
-field-empty : (s : ℕ) → field s [] ≡ []
+pub field-empty : (s : ℕ) → field s [] ≡ []
 unfolding field
 field-empty s = refl
 
@@ -19,11 +19,11 @@ unfolding field_count
 count-empty s = refl
 
 -- what one more byte in front does: a separator, or another
-field-separator : (s c : ℕ) (cs : List ℕ) → (c == s) ≡ true → field s (c ∷ cs) ≡ []
+pub field-separator : (s c : ℕ) (cs : List ℕ) → (c == s) ≡ true → field s (c ∷ cs) ≡ []
 unfolding field
 field-separator s c cs is = rw is refl
 
-rest-separator : (s c : ℕ) (cs : List ℕ) → (c == s) ≡ true → rest s (c ∷ cs) ≡ cs
+pub rest-separator : (s c : ℕ) (cs : List ℕ) → (c == s) ≡ true → rest s (c ∷ cs) ≡ cs
 unfolding rest
 rest-separator s c cs is = rw is refl
 
@@ -31,14 +31,14 @@ count-separator : (s c : ℕ) (cs : List ℕ) → (c == s) ≡ true → field_co
 unfolding field_count
 count-separator s c cs is = rw (sum_by-cons, is) (omega arith)
 
-field-other : (s c : ℕ) (cs : List ℕ) → (c == s) ≡ false → field s (c ∷ cs) ≡ c ∷ field s cs
+pub field-other : (s c : ℕ) (cs : List ℕ) → (c == s) ≡ false → field s (c ∷ cs) ≡ c ∷ field s cs
 unfolding field
 field-other s c cs is =
     let end : ℕ = position_or_len (λ byte. byte == s) cs in
     let more : 1 + end ≡ suc end = omega arith in
     rw (is, more) refl
 
-rest-other : (s c : ℕ) (cs : List ℕ) → (c == s) ≡ false → rest s (c ∷ cs) ≡ rest s cs
+pub rest-other : (s c : ℕ) (cs : List ℕ) → (c == s) ≡ false → rest s (c ∷ cs) ≡ rest s cs
 unfolding rest
 rest-other s c cs is =
     let end : ℕ = position_or_len (λ byte. byte == s) cs in

@@ -1,19 +1,24 @@
 //! Fields of text: decimal and hexadecimal numbers, printed and read, and a text split into its
 //! fields.
 //!
-//! Read in this order: `print`, `split`, `read`, `laws` (the one is the other's inverse).
+//! Read in this order: `pairs`, `print`, `split`, `read`, `take`, `laws` (the one is the other's
+//! inverse).
 #![tactic(auto)]
 
 pub mod laws;
+mod pairs;
 pub mod print;
 pub mod read;
 pub mod split;
+pub mod take;
 
 pub use print::{
-    push_ascii, push_dash, push_decimal, push_hex, push_optional_decimal, push_optional_hex,
+    push_ascii, push_dash, push_decimal, push_hex, push_number, push_optional_decimal,
+    push_optional_hex, push_small_number,
 };
 pub use read::{
     FieldError, read_decimal, read_hex, read_optional_decimal, read_optional_hex,
     read_signed_decimal,
 };
 pub use split::{field_count, split_field};
+pub use take::{take_decimal, take_hex, take_optional_hex};

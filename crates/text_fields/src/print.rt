@@ -1,12 +1,15 @@
 //! Printing: each function appends one field to a text of fixed room, and takes no memory.
 
-ghost use Rattle.std.specs.Prelude.{◌≡◌, ◌+◌, ◌≤◌, ◌++◌, ◌∷◌, [], ◌<◌, false};
-ghost use Rattle.std.specs.Fmt.{digit_glyph};
+ghost use Rattle.std.specs.Prelude.{◌≡◌, ◌+◌, ◌/◌, ◌%◌, ◌≤◌, ◌++◌, ◌∷◌, [], ◌<◌, false};
+ghost use Rattle.std.specs.Prelude.{length, IsAscii};
+ghost use Rattle.std.specs.Fmt.{decimal, digit_glyph};
 ghost use Rattle.arrayvec.specs.ArrayString.{array_string_len};
-ghost use Rattle.text_fields.specs.Spelling.{hex, hex_digit, dash, optional};
+ghost use Rattle.text_fields.specs.Spelling.{hex, hex_digit, dash, optional, four};
 
+use crate::pairs::{high_digit, low_digit, ones, tens};
 use arrayvec::ArrayString;
 use itoa::{Buffer, Integer};
+use std::str::from_utf8_unchecked;
 
 /// Appends a decimal number, without leading zeros, and with a minus sign where it is below 0.
 ///
@@ -19,6 +22,85 @@ pub fn push_decimal<const N: usize, I: Integer>(text: &mut ArrayString<N>, value
     text.push_str(Buffer::new().format(value));
 }
 
+// Appends the four digits of a number below 10,000, those that are 0 too.
+fn push_four<const N: usize>(text: &mut ArrayString<N>, value: u32)
+    requires small { value < 10000 }
+    requires room { array_string_len text.old + 4 ≤ N }
+    ensures spelled { text.new.bytes ≡ text.old.bytes ++ four value }
+    ensures length { array_string_len text.new ≡ array_string_len text.old + 4 }
+{
+    let front = (value / 100) as u8;
+    let back = (value % 100) as u8;
+    push_bytes(text, &[tens(front), ones(front), tens(back), ones(back)]);
+}
+
+// Appends a number below 1000.
+fn push_three<const N: usize>(text: &mut ArrayString<N>, value: u32)
+    requires small { value < 1000 }
+    requires room { array_string_len text.old + 3 ≤ N }
+    ensures spelled { text.new.bytes ≡ text.old.bytes ++ decimal value }
+    ensures length { array_string_len text.new ≤ array_string_len text.old + 3 }
+{
+    if value < 10 {
+        push_bytes(text, &[b'0' + value as u8]);
+    } else if value < 100 {
+        push_bytes(text, &[tens(value as u8), ones(value as u8)]);
+    } else {
+        let back = (value % 100) as u8;
+        push_bytes(text, &[b'0' + (value / 100) as u8, tens(back), ones(back)]);
+    }
+}
+
+// Appends a number below 10,000.
+fn push_short<const N: usize>(text: &mut ArrayString<N>, value: u32)
+    requires small { value < 10000 }
+    requires room { array_string_len text.old + 4 ≤ N }
+    ensures spelled { text.new.bytes ≡ text.old.bytes ++ decimal value }
+    ensures length { array_string_len text.new ≤ array_string_len text.old + 4 }
+{
+    if value < 1000 {
+        push_three(text, value);
+    } else {
+        push_four(text, value);
+    }
+}
+
+/// Appends a decimal number of one byte as `push_decimal` does, in fewer steps.
+pub fn push_small_number<const N: usize>(text: &mut ArrayString<N>, value: u8)
+    requires { array_string_len text.old + 3 ≤ N }
+    ensures spelled { text.new.bytes ≡ text.old.bytes ++ decimal value }
+    ensures length { array_string_len text.new ≤ array_string_len text.old + 3 }
+{
+    push_three(text, u32::from(value));
+}
+
+/// Appends a decimal number of four bytes as `push_decimal` does, in fewer steps.
+pub fn push_number<const N: usize>(text: &mut ArrayString<N>, value: u32)
+    requires { array_string_len text.old + 10 ≤ N }
+    ensures spelled { text.new.bytes ≡ text.old.bytes ++ decimal value }
+    ensures length { array_string_len text.new ≤ array_string_len text.old + 10 }
+{
+    if value < 10_000 {
+        push_short(text, value);
+    } else if value < 100_000_000 {
+        push_short(text, value / 10_000);
+        push_four(text, value % 10_000);
+    } else {
+        push_decimal(text, value);
+    }
+}
+
+// Appends ASCII characters.
+#[inline(always)]
+fn push_bytes<const N: usize>(text: &mut ArrayString<N>, bytes: &[u8])
+    requires ascii { IsAscii bytes.now }
+    requires room { array_string_len text.old + length bytes.now ≤ N }
+    ensures spelled { text.new.bytes ≡ text.old.bytes ++ bytes.now }
+    ensures length { array_string_len text.new ≡ array_string_len text.old + length bytes.now }
+{
+    text.push_str(unsafe { from_utf8_unchecked(bytes) });
+}
+
 /// Appends an ASCII character.
 pub fn push_ascii<const N: usize>(text: &mut ArrayString<N>, byte: u8)
     requires ascii { byte < 128 }
@@ -26,7 +108,7 @@ pub fn push_ascii<const N: usize>(text: &mut ArrayString<N>, byte: u8)
     ensures spelled { text.new.bytes ≡ text.old.bytes ++ byte ∷ [] }
     ensures length { array_string_len text.new ≡ array_string_len text.old + 1 }
 {
-    text.push(char::from(byte));
+    push_bytes(text, &[byte]);
 }
 
 fn glyph(digit: u8) -> u8
@@ -56,6 +138,55 @@ pub fn push_hex<const N: usize>(text: &mut ArrayString<N>, value: u32, count: us
     ensures spelled { text.new.bytes ≡ text.old.bytes ++ hex count value }
     ensures length { array_string_len text.new ≡ array_string_len text.old + count }
 {
+    match count {
+        8 => push_word(text, value),
+        2 => push_byte(text, value),
+        _ => push_digits(text, value, count),
+    }
+}
+
+// Appends the eight digits of a number.
+fn push_word<const N: usize>(text: &mut ArrayString<N>, value: u32)
+    requires { array_string_len text.old + 8 ≤ N }
+    ensures spelled { text.new.bytes ≡ text.old.bytes ++ hex 8 value }
+    ensures length { array_string_len text.new ≡ array_string_len text.old + 8 }
+{
+    let first = (value / 0x100_0000) as u8;
+    let second = (value / 0x1_0000 % 256) as u8;
+    let third = (value / 0x100 % 256) as u8;
+    let last = (value % 256) as u8;
+    push_bytes(
+        text,
+        &[
+            high_digit(first),
+            low_digit(first),
+            high_digit(second),
+            low_digit(second),
+            high_digit(third),
+            low_digit(third),
+            high_digit(last),
+            low_digit(last),
+        ],
+    );
+}
+
+// Appends the two lowest digits of a number.
+fn push_byte<const N: usize>(text: &mut ArrayString<N>, value: u32)
+    requires { array_string_len text.old + 2 ≤ N }
+    ensures spelled { text.new.bytes ≡ text.old.bytes ++ hex 2 value }
+    ensures length { array_string_len text.new ≡ array_string_len text.old + 2 }
+{
+    let last = (value % 256) as u8;
+    push_bytes(text, &[high_digit(last), low_digit(last)]);
+}
+
+// Appends the digits one by one.
+fn push_digits<const N: usize>(text: &mut ArrayString<N>, value: u32, count: usize)
+    requires places { count ≤ 8 }
+    requires room { array_string_len text.old + count ≤ N }
+    ensures spelled { text.new.bytes ≡ text.old.bytes ++ hex count value }
+    ensures length { array_string_len text.new ≡ array_string_len text.old + count }
+{
     for place in (0..count).rev() {
         push_ascii(text, hex_digit(value, place));
     }
@@ -67,7 +198,7 @@ pub fn push_dash<const N: usize>(text: &mut ArrayString<N>)
     ensures spelled { text.new.bytes ≡ text.old.bytes ++ dash }
     ensures length { array_string_len text.new ≡ array_string_len text.old + 1 }
 {
-    text.push('-');
+    text.push_str("-");
 }
 
 /// Appends a decimal number as `push_decimal` does, or a dash where there is none.

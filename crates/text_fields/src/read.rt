@@ -1,10 +1,12 @@
 //! Reading: each function takes one whole field of a text.
 
-ghost use Rattle.std.specs.Prelude.{◌≡◌, ◌^◌, ◌≤◌, ◌<◌, length, true, Some, None, IfOk, IfSome};
+ghost use Rattle.std.specs.Prelude.{◌≡◌, ◌^◌, ◌≤◌, ◌<◌, ◌==◌, ◌&&◌, ◌||◌, not, nat_lt, length};
+ghost use Rattle.std.specs.Prelude.{true, false, slice_index, IfOk, IfSome, IfNone, if◌then◌else◌};
 ghost use Rattle.std.specs.List.{list_all};
 ghost use Rattle.std.specs.Char.{is_ascii_digit};
-ghost use Rattle.text_fields.specs.Reading.{is_number, is_dash, is_hex_digit, hex_digit_value};
-ghost use Rattle.text_fields.specs.Reading.{hex_after, decimal_after, decimal_field, signed_field};
+ghost use Rattle.text_fields.specs.declared.read.FieldError.TheVariants.{Misspelled, OutOfRange};
+ghost use Rattle.text_fields.specs.Reading.{is_dash, is_hex_digit, hex_digit_value};
+ghost use Rattle.text_fields.specs.Reading.{hex_after, decimal_field, signed_field};
 ghost use Rattle.text_fields.specs.Reading.{hex_field, optional_field};
 
 use thiserror::Error;
@@ -24,29 +26,24 @@ fn are_digits(text: &[u8]) -> bool
     text.iter().all(|byte| byte.is_ascii_digit())
 }
 
-fn is_number(text: &[u8]) -> bool
-    ensures { result ≡ is_number text.now }
+// Whether the text has a first byte that can begin a number: no zero before others.
+#[inline]
+fn begins_well(text: &[u8]) -> bool
+    ensures { result ≡ (nat_lt 0 (length text.now)
+        && (length text.now == 1 || not (slice_index text.now 0 == 48))) }
 {
-    if text.is_empty() || text.len() > 1 && text[0] == b'0' {
-        return false;
-    }
-    are_digits(text)
+    !text.is_empty() && (text.len() == 1 || text[0] != b'0')
 }
 
-// The number that digits write, where it is at most `max`.
-fn number_up_to(digits: &[u8], max: u32) -> Option<u32>
-    requires { list_all is_ascii_digit digits.now ≡ true }
-    ensures fits { decimal_after 0 digits.now ≤ max → result ≡ Some (decimal_after 0 digits.now) }
-    ensures large { max < decimal_after 0 digits.now → result ≡ None }
+// Why a text that begins well is refused whose first digits write a number above the limit.
+#[cold]
+fn refusal_above(text: &[u8]) -> FieldError
+    ensures { result ≡ (if list_all is_ascii_digit text.now then OutOfRange else Misspelled) }
 {
-    let mut value = 0u64;
-    for digit in digits {
-        value = value * 10 + u64::from(digit - b'0');
-        if value > u64::from(max) {
-            return None;
-        }
+    if are_digits(text) {
+        return FieldError::OutOfRange;
     }
-    Some(value as u32)
+    FieldError::Misspelled
 }
 
 /// A decimal number of at most `max`.
@@ -58,10 +55,20 @@ pub fn read_decimal(text: &[u8], max: u32) -> Result<u32, FieldError>
     ensures field { result ≡ decimal_field max text.now }
     ensures within { IfOk result (λ value. value ≤ max) }
 {
-    if !is_number(text) {
+    if !begins_well(text) {
         return Err(FieldError::Misspelled);
     }
-    number_up_to(text, max).ok_or(FieldError::OutOfRange)
+    let mut value = 0u64;
+    for digit in text {
+        if !digit.is_ascii_digit() {
+            return Err(FieldError::Misspelled);
+        }
+        value = value * 10 + u64::from(digit - b'0');
+        if value > u64::from(max) {
+            return Err(refusal_above(text));
+        }
+    }
+    Ok(value as u32)
 }
 
 /// A decimal number from `-bound` to `bound - 1`, where `bound` is 1 to 2^31.
@@ -82,36 +89,37 @@ pub fn read_signed_decimal(text: &[u8], bound: u32) -> Result<i32, FieldError>
     }
 }
 
-fn are_hex_digits(text: &[u8]) -> bool
-    ensures { result ≡ list_all is_hex_digit text.now }
+// The number that a hexadecimal digit stands for.
+#[inline]
+fn hex_digit_value(digit: u8) -> Option<u32>
+    ensures digit { IfSome result (λ value. is_hex_digit digit ≡ true) }
+    ensures value { IfSome result (λ value. value ≡ hex_digit_value digit) }
+    ensures small { IfSome result (λ value. value < 16) }
+    ensures other { IfNone result (is_hex_digit digit ≡ false) }
 {
-    text.iter().all(|byte| byte.is_ascii_digit() || (b'a' <= *byte && *byte <= b'f'))
+    if digit.is_ascii_digit() {
+        return Some(u32::from(digit - b'0'));
+    }
+    if b'a' <= digit && digit <= b'f' {
+        return Some(u32::from(digit - (b'a' - 10)));
+    }
+    None
 }
 
-fn hex_digit_value(digit: u8) -> u32
-    requires { is_hex_digit digit ≡ true }
-    ensures value { result ≡ hex_digit_value digit }
-    ensures small { result < 16 }
-{
-    u32::from(if digit <= b'9' {
-        digit - b'0'
-    } else {
-        digit - (b'a' - 10)
-    })
-}
-
-// The number that up to eight hexadecimal digits write.
-fn hex_value(digits: &[u8]) -> u32
-    requires hex { list_all is_hex_digit digits.now ≡ true }
-    requires short { length digits.now ≤ 8 }
-    ensures value { result ≡ hex_after 0 digits.now }
-    ensures small { result < 16 ^ length digits.now }
+// The number that up to eight bytes write, where they are hexadecimal digits.
+#[inline]
+pub(crate) fn hex_number(digits: &[u8]) -> Option<u32>
+    requires { length digits.now ≤ 8 }
+    ensures all { IfSome result (λ value. list_all is_hex_digit digits.now ≡ true) }
+    ensures value { IfSome result (λ value. value ≡ hex_after 0 digits.now) }
+    ensures small { IfSome result (λ value. value < 16 ^ length digits.now) }
+    ensures other { IfNone result (list_all is_hex_digit digits.now ≡ false) }
 {
     let mut value = 0;
     for digit in digits {
-        value = value * 16 + hex_digit_value(*digit);
+        value = value * 16 + hex_digit_value(*digit)?;
     }
-    value
+    Some(value)
 }
 
 /// A number of exactly `count` lower-case hexadecimal digits, 0 to 8. What is anything else is
@@ -122,10 +130,10 @@ pub fn read_hex(text: &[u8], count: usize) -> Result<u32, FieldError>
     ensures field { result ≡ hex_field count text.now }
     ensures small { IfOk result (λ value. value < 16 ^ count) }
 {
-    if text.len() != count || !are_hex_digits(text) {
+    if text.len() != count {
         return Err(FieldError::Misspelled);
     }
-    Ok(hex_value(text))
+    hex_number(text).ok_or(FieldError::Misspelled)
 }
 
 fn is_dash(text: &[u8]) -> bool

@@ -9,9 +9,10 @@ use Rattle.smt_model.specs.Fates.{fate, is, is_live, stage, Renamed, Squashed}
 use Rattle.smt_model.specs.Rules.{refused}
 use Rattle.smt_model.proofs.Allowed.{complete_allowed, issue_allowed}
 use Rattle.smt_model.proofs.Fates.Moves.{decode_was, rename_was, retire_was, fetch_number}
-use Rattle.core_state.specs.{Place.IsThere, Place.IsPlaced, Place.active_at}
-use Rattle.core_state.specs.{Answers.fetched_at, declared.place.Place.Place, declared.point.FetchPoint.FetchPoint}
-use Rattle.core_state.specs.declared.place.Place.TheVariants as place
+use Rattle.core_parts.specs.{Place.IsThere, Place.IsPlaced, Place.active_at}
+use Rattle.core_state.specs.{Answers.fetched_at}
+use Rattle.core_parts.specs.{declared.place.Place.Place, declared.point.FetchPoint.FetchPoint}
+use Rattle.core_parts.specs.declared.place.Place.TheVariants as place
 
 module _ (setup : Setup) (past : List Event) (actor s : ℕ) where
   pub decode_live : refused setup past (Decode actor s) ≡ None → is_live (fate past s) ≡ true

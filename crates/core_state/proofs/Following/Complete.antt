@@ -14,11 +14,14 @@ use Rattle.smt_model.specs.{Exec.Computed, Faults.checked, Outcomes.outcome_of, 
 use Rattle.smt_model.specs.{Jobs.is_actor, Jobs.job, Setup.Setup}
 use Rattle.smt_model.specs.Fates.{Fate, fate, fetching, is, is_in_flight, Squashed}
 use Rattle.smt_model.specs.Rules.{first_failing, refused, of_fetched, outcome_now}
-use Rattle.core_state.specs.Agree.{IsActive, PartsAgree}
-use Rattle.core_state.specs.{Complete.IsSameJob, Refusals.IsJobWith, Refusals.open_view}
+use Rattle.core_parts.specs.Agree.{IsActive, PartsAgree}
+use Rattle.core_parts.specs.{Complete.IsSameJob}
+use Rattle.core_state.specs.{Refusals.IsJobWith, Refusals.open_view}
 use Rattle.core_state.specs.{State.IsCore, State.view_of, View.CoreView}
-use Rattle.core_state.specs.{declared.slot.OpenJob.OpenJob, declared.state.State.TheInside.Inside}
-use Rattle.core_state.proofs.{Agreement.Harts.stage_flies, Following.Place.parts_agree, Following.Place.is_legal_view}
+use Rattle.core_parts.specs.{declared.slot.OpenJob.OpenJob}
+use Rattle.core_state.specs.{declared.state.State.TheInside.Inside}
+use Rattle.core_parts.proofs.{Agreement.Harts.stage_flies}
+use Rattle.core_state.proofs.{Following.Place.parts_agree, Following.Place.is_legal_view}
 use Rattle.core_state.proofs.Following.Tests.{refused-is, holds, fails}
 use Rattle.core_state.proofs.Steps.Complete.{Job.job_hart_there, Job.job_squashed, Memory.says_now}
 

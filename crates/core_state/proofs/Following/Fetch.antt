@@ -7,7 +7,8 @@ use Rattle.smt_model.specs.{Basics.same_number, Setup.Setup, Jobs.is_actor, Fate
 use Rattle.smt_model.specs.Fetching.{choice, fetch_pc}
 use Rattle.smt_model.specs.Rules.{first_failing, refused}
 use Rattle.smt_model.proofs.{Fates.Choosing.chosen, Fates.Moves.same_number-is}
-use Rattle.core_state.specs.{Fetch.next_hart, State.IsCore, State.past_of, State.setup_in, State.view_of}
+use Rattle.core_parts.specs.{Fetch.next_hart}
+use Rattle.core_state.specs.{State.IsCore, State.past_of, State.setup_in, State.view_of}
 use Rattle.core_state.specs.{View.CoreView, declared.state.State.TheInside.Inside}
 use Rattle.core_state.proofs.{Following.Tests.refused-is, Following.Tests.holds, Following.Tests.fails}
 use Rattle.core_state.proofs.{Steps.Fetch.Rules.choice-is}

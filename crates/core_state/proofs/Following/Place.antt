@@ -8,17 +8,17 @@ use Rattle.std.proofs.{lemmas.Bool.Decides.nat_tests, lemmas.Option.none-some, l
 use Rattle.events.specs.declared.event.Event.{Event}
 use Rattle.retire_squash.specs.declared.active.Active.{Active}
 use Rattle.smt_model.specs.{Basics.holds_of, Basics.or_else, Setup.Setup, Picture.picture, Rules.is_legal}
-use Rattle.core_state.proofs.Agreement.Harts.{stage_flies}
+use Rattle.core_parts.proofs.Agreement.Harts.{stage_flies}
 use Rattle.smt_model.specs.Fates.{Fate, Completed, fate, is, is_of, is_live, is_in_flight, stage, InDecode, InRename}
 use Rattle.smt_model.specs.Flights.{numbers, in_decode, in_rename}
 use Rattle.smt_model.proofs.Lists.{member, member-filter, filter-member}
 use Rattle.smt_model.proofs.{Fates.Choosing.hart_there, Fates.Moves.fate_at, Fates.Moves.stage_of}
 use Rattle.smt_model.proofs.Fates.Numbers.{numbers-of, numbers-member, known_fetched}
-use Rattle.core_state.specs.Agree.{IsActive, IsSlot, HartAgrees, PartsAgree}
+use Rattle.core_parts.specs.Agree.{IsActive, IsSlot, HartAgrees, PartsAgree}
 use Rattle.core_state.specs.{State.IsCore, State.past_of, State.setup_in, State.view_of, View.CoreView}
-use Rattle.core_state.specs.Place.{slot_in, place_in, IsThere, IsPlaced}
-use Rattle.core_state.specs.{declared.hart.HartState.HartState, declared.place.Place.Place, declared.slot.Slot.Slot}
-use Rattle.core_state.specs.declared.place.Place.TheVariants as place
+use Rattle.core_parts.specs.Place.{slot_in, place_in, IsThere, IsPlaced}
+use Rattle.core_parts.specs.{declared.hart.HartState.HartState, declared.place.Place.Place, declared.slot.Slot.Slot}
+use Rattle.core_parts.specs.declared.place.Place.TheVariants as place
 use Rattle.core_state.specs.{declared.state.State.TheInside.Inside}
 
 -- ---- Members

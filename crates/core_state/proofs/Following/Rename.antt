@@ -11,15 +11,15 @@ use Rattle.smt_model.specs.Fates.{fate, is, is_live, is_of, op_at, op_of_fetched
 use Rattle.smt_model.specs.Flights.{in_rename, flight, queue}
 use Rattle.smt_model.specs.Rules.{first_failing, refused, has_room, is_first, of_fetched}
 use Rattle.smt_model.proofs.Fates.Numbers.{at_hart}
-use Rattle.core_state.specs.{Agree.HartAgrees, Agree.PartsAgree, declared.hart.HartState.HartState}
-use Rattle.core_state.specs.Place.{IsPlaced, IsThere, rename_slot}
+use Rattle.core_parts.specs.{Agree.HartAgrees, Agree.PartsAgree, declared.hart.HartState.HartState}
+use Rattle.core_parts.specs.Place.{IsPlaced, IsThere, rename_slot}
 use Rattle.core_state.specs.Refusals.{is_free_or_none}
-use Rattle.core_state.specs.declared.parts.Parts.{Parts}
-use Rattle.core_state.specs.{declared.slot.Slot.Slot, declared.place.Place.Place}
-use Rattle.core_state.specs.declared.place.Place.TheVariants as place
+use Rattle.core_parts.specs.declared.parts.Parts.{Parts}
+use Rattle.core_parts.specs.{declared.slot.Slot.Slot, declared.place.Place.Place}
+use Rattle.core_parts.specs.declared.place.Place.TheVariants as place
 use Rattle.core_state.proofs.Following.Place.{flies_there, not_renamed_if_flying, not_renamed_if_gone}
 use Rattle.core_state.proofs.Following.Tests.{refused-is, holds, fails}
-use Rattle.core_state.proofs.Steps.Rename.Next.{counted}
+use Rattle.core_parts.proofs.Steps.Rename.Next.{counted}
 
 module _ (setup : Setup) (past : List Event) (actor s : ℕ) (taken : Option ℕ) where
   abbrev oldest : Bool

@@ -12,11 +12,12 @@ use Rattle.smt_model.specs.{Jobs.is_actor, Setup.Setup, Picture.Picture, Picture
 use Rattle.smt_model.specs.Fates.{fate, fetching, is, is_live, Completed}
 use Rattle.smt_model.specs.Rules.{first_failing, refused, is_first, of_fetched, effect_now}
 use Rattle.smt_model.proofs.{Fates.Numbers.at_hart, Fates.Moves.same_number-is}
-use Rattle.core_state.specs.{Agree.HartAgrees, Agree.IsActive, Agree.IsStage, Retirement.CanRetire}
-use Rattle.core_state.specs.{Place.IsPlaced, Place.IsThere, Place.active_at, Refusals.outcome_at}
+use Rattle.core_parts.specs.{Agree.HartAgrees, Agree.IsActive, Agree.IsStage, Retirement.CanRetire}
+use Rattle.core_parts.specs.{Place.IsPlaced, Place.IsThere, Place.active_at}
+use Rattle.core_state.specs.{Refusals.outcome_at}
 use Rattle.core_state.specs.{State.IsCore, State.view_of, View.CoreView}
-use Rattle.core_state.specs.{declared.hart.HartState.HartState, declared.place.Place.Place}
-use Rattle.core_state.specs.declared.place.Place.TheVariants as place
+use Rattle.core_parts.specs.{declared.hart.HartState.HartState, declared.place.Place.Place}
+use Rattle.core_parts.specs.declared.place.Place.TheVariants as place
 use Rattle.core_state.specs.{declared.state.State.TheInside.Inside}
 use Rattle.core_state.proofs.Following.Place.{not_completed_if_gone}
 use Rattle.core_state.proofs.Following.Tests.{refused-is, holds, fails}

@@ -1,6 +1,5 @@
 -- A job that is handed back: a completion or a drop.
 pub mod Rules
-pub mod Parts
 pub mod State
 pub mod Job
 pub mod Look

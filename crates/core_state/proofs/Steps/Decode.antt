@@ -1,4 +1,3 @@
 -- A decode.
 pub mod Rules
-pub mod Parts
 pub mod State

@@ -1,5 +1,3 @@
 -- A fetch.
 pub mod Rules
-pub mod Parts
 pub mod State
-pub mod Choice

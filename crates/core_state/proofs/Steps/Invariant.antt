@@ -8,8 +8,10 @@ use Rattle.events.specs.{declared.event.Event.Event}
 use Rattle.events.specs.declared.event.Event.TheVariants.{Fetch, Decode, Rename, Issue, Complete, Drop}
 use Rattle.smt_model.specs.{Account.records, Fates.fetches, Fetching.last_fetched, Memory.output, Picture.picture}
 use Rattle.smt_model.specs.{Rules.refused, Rules.is_legal}
-use Rattle.core_state.specs.{Agree.PartsAgree, Agree.KeepsSizes, State.IsCore, State.past_of, State.setup_in}
-use Rattle.core_state.specs.{declared.parts.Parts.Parts, declared.state.State.TheInside.Inside}
+use Rattle.core_parts.specs.{Agree.PartsAgree, Agree.KeepsSizes}
+use Rattle.core_state.specs.{State.IsCore, State.past_of, State.setup_in}
+use Rattle.core_parts.specs.{declared.parts.Parts.Parts}
+use Rattle.core_state.specs.{declared.state.State.TheInside.Inside}
 
 -- The newest event comes first in the past.
 pub past_push : (items : List Event) (e : Event) → reverse (items ++ e ∷ []) ≡ e ∷ reverse items

@@ -1,5 +1,3 @@
 -- An issue.
 pub mod Rules
-pub mod Parts
 pub mod State
-pub mod Next

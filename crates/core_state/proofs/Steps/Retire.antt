@@ -1,9 +1,5 @@
 -- A retirement.
 pub mod Rules
 pub mod Look
-pub mod Memory
-pub mod Parts
-pub mod Replay
 pub mod Writes
 pub mod State
-pub mod Halt

@@ -1,47 +1,17 @@
 -- The free list read out register by register: the free ones rising, each once.
 use Rattle.std.specs.Prelude.{◌≡◌, ℕ, zero, suc, ◌+◌, ◌<◌, ◌≤◌, ◌==◌, ◌&&◌, Bool, true, false, nat_lt, List, [], ◌∷◌}
-use Rattle.std.specs.Prelude.{◌++◌, length, filter}
-use native.Mathlib.Numerals.{unary_clauses}
+use Rattle.std.specs.Prelude.{◌++◌, filter}
 use Rattle.std.proofs.Common.{◌∙◌, refl, ap, subst, inl, inr, arith}
 use Rattle.std.proofs.{lemmas.Bool.cases_Bool, lemmas.Bool.cases_eq, lemmas.Bool.Decides.nat_tests}
-use Rattle.std.proofs.{lemmas.List.length_push}
 use Rattle.events.specs.declared.event.Event.{Event}
 use Rattle.smt_model.specs.{Basics.below, Basics.how_many, Picture.is_free, Registers.claims, Registers.is_unclaimed}
 use Rattle.smt_model.specs.{Rules.is_legal, Setup.Setup, Setup.registers_of}
-use Rattle.smt_model.proofs.{Registers.Counts.claims-once, Lists.filter-append, Lists.filter-same}
+use Rattle.smt_model.proofs.{Registers.Counts.claims-once, Lists.filter-append}
 use Rattle.free_list.specs.Flags.{holds}
-use Rattle.core_state.specs.{Listed.listed, View.CoreView, declared.state.State.TheInside.Inside}
+use Rattle.core_parts.specs.{Listed.listed}
+use Rattle.core_parts.proofs.Listing.{one_kept, one_lost, nothing_behind, listed_same}
+use Rattle.core_state.specs.{View.CoreView, declared.state.State.TheInside.Inside}
 use Rattle.core_state.specs.State.{IsCore, past_of, setup_in, view_of}
-
--- ---- Filters of the numbers below n
-
-pub below_next : (n : ℕ) → below (n + 1) ≡ below n ++ n ∷ []
-below_next n = simp unary_clauses refl
-
-one_kept : (t : ℕ → Bool) (n : ℕ) → t n ≡ true → filter t (n ∷ []) ≡ n ∷ []
-one_kept t n passes = rw passes refl
-
-one_lost : (t : ℕ → Bool) (n : ℕ) → t n ≡ false → filter t (n ∷ []) ≡ []
-one_lost t n fails = rw fails refl
-
-nothing_behind : (xs : List ℕ) → xs ++ [] ≡ xs
-nothing_behind [] = refl
-nothing_behind (x ∷ xs) = ap (λ ys. x ∷ ys) (nothing_behind xs)
-
--- No more than n pass.
-pub below_fits : (t : ℕ → Bool) (n : ℕ) → length (filter t (below n)) ≤ n
-below_fits t zero = omega arith
-below_fits t (suc n) =
-    let rest = below_fits t n in
-    let joined = ap length (filter-append t (below n) (n ∷ [])) in
-    let more = length_push (filter t (below n)) n in
-    elim (cases_Bool (t n)) [
-      | inl passes ↦ let kept = ap (λ ys. length (filter t (below n) ++ ys)) (one_kept t n passes) in omega arith
-      | inr fails ↦
-          let lost = ap (λ ys. length (filter t (below n) ++ ys)) (one_lost t n fails) in
-          let bare = ap length (nothing_behind (filter t (below n))) in
-          omega arith
-    ]
 
 -- ---- How often a number comes
 
@@ -116,18 +86,6 @@ exactly_once setup past legal fit p inside =
     let under : nat_lt p (registers_of setup) ≡ true = grind (arith, nat_tests) in
     let near : nat_lt p 512 ≡ true = grind (arith, nat_tests) in
     rw (often, near, under) (once_or_free (claims setup past p) (claims-once setup past legal p))
-
-pub listed_same : (p q : ℕ → Bool) → ((x : ℕ) → p x ≡ q x) → listed p ≡ listed q
-unfolding listed
-listed_same p q same = filter-same p q (below 512) (λ x m. same x)
-
--- The list is whole once all 512 have been looked at.
-pub listed_whole : (t : ℕ → Bool) (n : ℕ) (xs : List ℕ) → n ≡ 512 → xs ≡ filter t (below n) → xs ≡ listed t
-unfolding listed
-listed_whole t n xs all is = is ∙ ap (λ k. filter t (below k)) all
-
-pub listed_fits : (t : ℕ → Bool) (n : ℕ) (xs : List ℕ) → xs ≡ filter t (below n) → length xs ≤ n
-listed_fits t n xs is = rw is (below_fits t n)
 
 -- ---- The state's
 

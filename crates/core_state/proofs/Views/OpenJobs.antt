@@ -9,8 +9,10 @@ use Rattle.events.specs.declared.event.Event.TheVariants.{Fetch, Decode, Rename,
 use Rattle.smt_model.specs.{Account.open_job_count, Basics.below, Basics.how_many, Picture.Picture, Picture.picture}
 use Rattle.smt_model.specs.{Rules.is_legal, Jobs.job, Setup.Setup}
 use Rattle.smt_model.proofs.Allowed.{issue_allowed}
-use Rattle.core_state.specs.{Agree.HasOpenJob, State.IsCore, State.past_of, State.setup_in}
-use Rattle.core_state.specs.{declared.slot.OpenJob.OpenJob, declared.state.State.TheInside.Inside}
+use Rattle.core_parts.specs.{Agree.HasOpenJob}
+use Rattle.core_state.specs.{State.IsCore, State.past_of, State.setup_in}
+use Rattle.core_parts.specs.{declared.slot.OpenJob.OpenJob}
+use Rattle.core_state.specs.{declared.state.State.TheInside.Inside}
 use Rattle.core_state.proofs.Steps.NoAnswer.{core_sizes}
 
 -- ---- An actor that isn't one has no job

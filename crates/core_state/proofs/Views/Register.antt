@@ -7,7 +7,8 @@ use Rattle.smt_model.specs.{Account.committed_value, Picture.is_free, Registers.
 use Rattle.smt_model.proofs.{Registers.Claims.IsRegister, Registers.Claims.committed_claimed}
 use Rattle.smt_model.proofs.{Registers.Counts.committed-range}
 use Rattle.core_state.specs.State.{IsCore, past_of, setup_in, view_of}
-use Rattle.core_state.specs.{View.CoreView, declared.hart.HartState.HartState, declared.state.State.TheInside.Inside}
+use Rattle.core_state.specs.{View.CoreView, declared.state.State.TheInside.Inside}
+use Rattle.core_parts.specs.{declared.hart.HartState.HartState}
 use Rattle.core_state.proofs.Steps.Complete.State.{registers}
 
 -- What the clause of `register` says.

@@ -7,13 +7,13 @@ ghost use Rattle.events.specs.declared.event.Event.TheVariants.{Retire};
 ghost use Rattle.smt_model.specs.Fates.{fate, is_live, is_of};
 ghost use Rattle.smt_model.specs.Picture.{picture};
 ghost use Rattle.smt_model.specs.Rules.{refused};
-ghost use Rattle.core_state.specs.Agree.{IsActive, IsEntry};
+ghost use Rattle.core_parts.specs.Agree.{IsActive, IsEntry};
 ghost use Rattle.core_state.specs.Answers.{IsJobOf};
 ghost use Rattle.core_state.specs.View.{CoreView, grown};
 
 use super::State;
 use crate::log::{append, put_out};
-use crate::point::FetchPoint;
+use core_parts::FetchPoint;
 use events::{Effect, Event, Outcome, Record};
 use exec_units::Job;
 use issue_queue::Entry;

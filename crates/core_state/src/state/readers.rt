@@ -12,14 +12,13 @@ ghost use Rattle.smt_model.specs.Picture.{is_free};
 ghost use Rattle.smt_model.specs.Registers.{claims};
 ghost use Rattle.smt_model.specs.Rules.{is_legal};
 ghost use Rattle.smt_model.specs.Setup.{registers_of};
-ghost use Rattle.core_state.specs.Listed.{listed};
+ghost use Rattle.core_parts.specs.Listed.{listed};
 ghost use Rattle.core_state.specs.Setup.{setup_of};
 
 use super::State;
-use crate::issue::count_jobs;
-use crate::parts::{registers_in, value_of};
 use crate::sizes::is_same_config;
 use arrayvec::ArrayVec;
+use core_parts::{count_jobs, registers_in, value_of};
 use elf_image::Image;
 use events::{Event, Record};
 use numbers::sizes::MOST_REGISTERS;

@@ -4,8 +4,8 @@ ghost use Rattle.std.specs.Prelude.{◌≡◌, ℕ, ◌<◌, IfSome, IfNone, len
 ghost use Rattle.smt_model.specs.Fates.{fate, is_live};
 ghost use Rattle.smt_model.specs.Picture.{picture};
 ghost use Rattle.smt_model.specs.Rules.{refused, first_failing};
-ghost use Rattle.core_state.specs.Agree.{HartAgrees};
-ghost use Rattle.core_state.specs.Place.{IsPlaced};
+ghost use Rattle.core_parts.specs.Agree.{HartAgrees};
+ghost use Rattle.core_parts.specs.Place.{IsPlaced};
 
 mod complete;
 mod decode;
@@ -16,9 +16,7 @@ mod retire;
 mod same;
 
 use super::State;
-use crate::hart::HartState;
-use crate::place::Place;
-use crate::point::FetchPoint;
+use core_parts::{FetchPoint, HartState, Place};
 use events::Event;
 use numbers::Seq;
 

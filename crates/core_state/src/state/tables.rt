@@ -1,10 +1,7 @@
 //! The core's tables: what each of its parts holds, in lines for people to read.
 
 use super::State;
-use crate::hart::HartState;
-use crate::issue::count_jobs;
-use crate::parts::{registers_in, value_of};
-use crate::slot::{OpenJob, Slot};
+use core_parts::{HartState, OpenJob, Slot, count_jobs, registers_in, value_of};
 use free_list::FreeList;
 use issue_queue::Entry;
 use numbers::sizes::MOST_REGISTERS;

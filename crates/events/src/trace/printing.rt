@@ -7,7 +7,7 @@ ghost use Rattle.events.specs.Sinking.{HasPut, HasPutBut, HasBroken};
 ghost use Rattle.events.specs.Trace.{ended, trace_text};
 
 use crate::event::Event;
-use crate::print::print_event;
+use crate::print::push_event;
 use crate::sink::{Broken, Sink};
 use arrayvec::ArrayString;
 use text_fields::push_ascii;
@@ -31,7 +31,8 @@ pub fn print_trace<S: Sink>(events: &[Event], sink: &mut S) -> Result<(), Broken
     push_line(&mut piece, "smt-trace 1");
     for event in events {
         make_room(&mut piece, sink)?;
-        push_line(&mut piece, print_event(event).as_str());
+        push_event(&mut piece, event);
+        push_ascii(&mut piece, b'\n');
     }
     put_all(piece.as_str().as_bytes(), sink)
 }

@@ -12,8 +12,8 @@ ghost use Rattle.events.specs.Trace.{ended, header, trace_text, Breaks, BreaksHe
 use crate::event::Event;
 use crate::read::read_event_line;
 use crate::trace::Trace;
+use memchr::memchr;
 use std::alloc::{AllocFailed, Global};
-use text_fields::split_field;
 use thiserror::Error;
 
 /// Why a text is no trace.
@@ -113,9 +113,6 @@ fn split_line(text: &[u8]) -> Option<(&[u8], &[u8])>
     ensures ended { IfSome result (λ p. (field_count 10 text.now == 1) ≡ false) }
     ensures cut { IfNone result ((field_count 10 text.now == 1) ≡ true) }
 {
-    let (line, rest) = split_field(text, b'\n');
-    if line.len() == text.len() {
-        return None;
-    }
-    Some((line, rest))
+    let end = memchr(b'\n', text)?;
+    Some((&text[..end], &text[end + 1..]))
 }

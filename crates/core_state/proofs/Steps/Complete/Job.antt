@@ -1,7 +1,7 @@
 -- A job that is handed back: it is the one that its actor has opened, and its instruction is in flight or was squashed.
-use Rattle.std.specs.Prelude.{◌≡◌, ℕ, ◌<◌, ◌≤◌, ◌==◌, ◌||◌, true, false, List, [], ◌∷◌, length, map, find, Option, Some}
-use Rattle.std.specs.Prelude.{None, IfSome, IfNone, slice_index_or}
-use Rattle.std.specs.List.{AllByRecursion, list_any}
+use Rattle.std.specs.Prelude.{◌≡◌, ℕ, ◌<◌, ◌≤◌, ◌==◌, ◌||◌, true, false, List, [], ◌∷◌, length, Option, Some}
+use Rattle.std.specs.Prelude.{None, slice_index_or}
+use Rattle.std.specs.List.{list_any}
 use Rattle.std.proofs.Common.{◌∙◌, refl, sym, ap, subst, inl, inr, arith}
 use Rattle.std.proofs.{lemmas.Bool.cases_Bool, lemmas.Bool.cases_lt, lemmas.Bool.false≢true}
 use Rattle.std.proofs.{lemmas.Bool.Decides.nat_tests, lemmas.List.get_or_past, lemmas.Option.none-some}
@@ -9,15 +9,15 @@ use Rattle.std.proofs.{lemmas.Option.same_Some}
 use Rattle.rv_decode.specs.Decode.{op_of_word}
 use Rattle.events.specs.declared.event.Event.{Event}
 use Rattle.exec_units.specs.Job.{JobView}
-use Rattle.retire_squash.specs.declared.active.Active.{Active}
 use Rattle.smt_model.specs.{Basics.holds_of, Setup.Setup, Kinds.first_source, Kinds.second_source, Flights.flight}
 use Rattle.smt_model.specs.{Flights.numbers, Picture.Picture, Picture.picture, Registers.operand, Rules.is_legal}
 use Rattle.smt_model.specs.Fates.{fetching, fate, is, is_in_flight, is_of, Squashed}
 use Rattle.smt_model.proofs.{Fates.Choosing.hart_there, Lists.member, Lists.filter-member, Fates.Numbers.numbers-member}
 use Rattle.smt_model.proofs.{Fates.Sound.sound}
-use Rattle.core_state.specs.Agree.{IsActive, IsOpenJob, HasOpenJob, JobsAgree, HartAgrees, PartsAgree}
-use Rattle.core_state.specs.{Answers.IsJobOf, Answers.IsStrange, Complete.IsSameJob, declared.hart.HartState.HartState}
-use Rattle.core_state.specs.{declared.parts.Parts.Parts, declared.slot.OpenJob.OpenJob}
+use Rattle.core_parts.specs.Agree.{IsOpenJob, HasOpenJob, JobsAgree}
+use Rattle.core_state.specs.{Answers.IsJobOf, Answers.IsStrange}
+use Rattle.core_parts.specs.{Complete.IsSameJob}
+use Rattle.core_parts.specs.{declared.slot.OpenJob.OpenJob}
 
 member_any : (n : ℕ) (xs : List ℕ) → member n xs ≡ list_any (λ s. s == n) xs
 member_any n [] = refl
@@ -103,41 +103,3 @@ module _ (setup : Setup) (past : List Event) where
             absurd (false≢true (sym gone ∙ sym (member_any x.seq (flight past x.hart)) ∙ there))
         | inr still ↦ grind (arith, nat_tests)
       ]
-
--- ---- Finding a member
-
-found : (P : Active → Type 0) (s : ℕ) (xs : List Active) (a : Active) → AllByRecursion P xs
-    → find (λ x. x.seq == s) xs ≡ Some a → P a × (a.seq ≡ s)
-found P s [] a all is = absurd (none-some a is)
-found P s (x ∷ xs) a all is = elim (cases_Bool (x.seq == s)) [
-  | inl t ↦
-      let same : x ≡ a = same_Some x a (rw t at is) in
-      let number : x.seq ≡ s = grind (arith, nat_tests) in
-      (subst P same all.0, ap (λ y. y.seq) (sym same) ∙ number)
-  | inr f ↦ found P s xs a all.1 (rw f at is)
-]
-
-not_found : (s : ℕ) (xs : List Active) → find (λ x. x.seq == s) xs ≡ None
-    → list_any (λ n. n == s) (map (λ a. a.seq) xs) ≡ false
-not_found s [] is = refl
-not_found s (x ∷ xs) is = elim (cases_Bool (x.seq == s)) [
-  | inl t ↦ absurd (none-some x (sym (rw t at is)))
-  | inr f ↦ rw f (not_found s xs (rw f at is))
-]
-
--- In a hart's active list.
-module _ (h s : ℕ) (x : HartState) (parts : Parts) (inside : h < length parts.harts.items)
-    (at : x ≡ slice_index_or parts.harts.items h x) where
-  hart_of_parts : (p : Picture) → PartsAgree p parts → HartAgrees p h x
-  hart_of_parts p agrees = subst (HartAgrees p h) (sym at) (agrees.harts h x inside)
-
-  pub in_flight_some : (r : Option Active) → r ≡ find (λ y. y.seq == s) x.active
-      → IfSome r (λ a. (p : Picture) → PartsAgree p parts → IsActive p h a × (a.seq ≡ s))
-  in_flight_some None is = tt
-  in_flight_some (Some a) is = λ p agrees. found (IsActive p h) s x.active a (hart_of_parts p agrees).actives (sym is)
-
-  pub in_flight_none : (r : Option Active) → r ≡ find (λ y. y.seq == s) x.active
-      → IfNone r ((p : Picture) → PartsAgree p parts → list_any (λ n. n == s) (p.flight h) ≡ false)
-  in_flight_none None is =
-      λ p agrees. ap (list_any (λ n. n == s)) (sym (hart_of_parts p agrees).active) ∙ not_found s x.active (sym is)
-  in_flight_none (Some a) is = tt

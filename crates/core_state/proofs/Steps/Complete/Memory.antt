@@ -9,10 +9,11 @@ use Rattle.smt_model.specs.{Fates.op_of_fetched, Picture.picture, Rules.outcome_
 use Rattle.load_store.specs.{Looks.seen, Queues.queues_of}
 use Rattle.memory_effects.specs.{Histories.HasMemory, Stores.stores_at}
 use Rattle.memory_effects.proofs.Forwarding.{sees_first_look}
-use Rattle.core_state.specs.{Agree.IsOpenJob, Agree.PartsAgree, Complete.IsSameJob}
-use Rattle.core_state.specs.{declared.hart.HartState.HartState, declared.parts.Parts.Parts}
-use Rattle.core_state.specs.{declared.slot.OpenJob.OpenJob}
-use Rattle.core_state.proofs.{Agreement.Queues.queues_are, Steps.Complete.Look.looks_right}
+use Rattle.core_parts.specs.{Agree.IsOpenJob, Agree.PartsAgree, Complete.IsSameJob}
+use Rattle.core_parts.specs.{declared.hart.HartState.HartState, declared.parts.Parts.Parts}
+use Rattle.core_parts.specs.{declared.slot.OpenJob.OpenJob}
+use Rattle.core_parts.proofs.{Agreement.Queues.queues_are}
+use Rattle.core_state.proofs.{Steps.Complete.Look.looks_right}
 
 -- The first of some harts.
 first_hart : (harts : List HartState) (h : ℕ) → h < length harts → HartState

@@ -16,9 +16,9 @@ use Rattle.smt_model.specs.Fates.{fetching, fate, is, is_of, mispredicts, op_of_
 use Rattle.smt_model.specs.Rules.{outcome_now, refused, is_legal}
 use Rattle.smt_model.proofs.{Allowed.complete_allows, Allowed.drop_allows, Fates.Moves.same_number-self}
 use Rattle.smt_model.proofs.{Steps.Complete.steps-Complete, Steps.Misprediction.steps-Misprediction, Fates.Sound.sound}
-use Rattle.core_state.specs.{Agree.IsActive, Agree.IsOpenJob, Complete.IsFinish}
-use Rattle.core_state.specs.{declared.slot.OpenJob.OpenJob}
-use Rattle.core_state.proofs.Agreement.Harts.{stage_flies}
+use Rattle.core_parts.specs.{Agree.IsActive, Agree.IsOpenJob, Complete.IsFinish}
+use Rattle.core_parts.specs.{declared.slot.OpenJob.OpenJob}
+use Rattle.core_parts.proofs.Agreement.Harts.{stage_flies}
 
 -- ---- The outcome
 

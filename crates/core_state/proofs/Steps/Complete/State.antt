@@ -13,14 +13,16 @@ use Rattle.smt_model.specs.{Bytes.read, Exec.Computed, Faults.checked, Outcomes.
 use Rattle.smt_model.specs.{Basics.holds_of, Setup.registers_of, Setup.are_core_sizes, Fates.is_of, Picture.Picture}
 use Rattle.smt_model.specs.{Picture.picture, Rules.refused, Steps.IsDrop}
 use Rattle.smt_model.proofs.{Fates.Choosing.hart_there, Steps.Drop.steps-Drop}
-use Rattle.core_state.specs.Agree.{PartsAgree, KeepsSizes, From, IsActive, IsOpenJob}
-use Rattle.core_state.specs.{Answers.IsJobOf, Answers.IsStrange, Complete.IsSameJob, Complete.IsFinish, View.CoreView}
-use Rattle.core_state.specs.{declared.parts.Parts.Parts, declared.slot.OpenJob.OpenJob}
+use Rattle.core_parts.specs.Agree.{PartsAgree, KeepsSizes, From, IsActive, IsOpenJob}
+use Rattle.core_state.specs.{Answers.IsJobOf, Answers.IsStrange, View.CoreView}
+use Rattle.core_parts.specs.{Complete.IsSameJob, Complete.IsFinish}
+use Rattle.core_parts.specs.{declared.parts.Parts.Parts, declared.slot.OpenJob.OpenJob}
 use Rattle.core_state.specs.{declared.state.State.TheInside.Inside}
 use Rattle.core_state.specs.State.{IsCore, past_of, setup_in, view_of}
 use Rattle.core_state.proofs.{Steps.Invariant.core_grown, Steps.Invariant.quiet_complete, Steps.Invariant.quiet_drop}
 use Rattle.core_state.proofs.{Steps.Complete.Rules.finishes, Steps.Complete.Rules.may_complete}
-use Rattle.core_state.proofs.{Agreement.Queues.has_place, Steps.Complete.Rules.may_drop}
+use Rattle.core_parts.proofs.{Agreement.Queues.has_place}
+use Rattle.core_state.proofs.{Steps.Complete.Rules.may_drop}
 use Rattle.core_state.proofs.{Steps.Complete.Memory.says_now}
 use Rattle.core_state.proofs.Steps.Complete.Job.{open_job, is_job, stranger, job_hart_there, job_squashed}
 

@@ -11,8 +11,9 @@ use Rattle.smt_model.specs.Fates.{fate, is, is_of, InDecode}
 use Rattle.smt_model.proofs.{Allowed.decode_allowed, Allowed.decode_allows, Fates.Choosing.hart_there}
 use Rattle.smt_model.proofs.{Lists.first-member, Lists.member-filter, Fates.Moves.same_number-is, Fates.Numbers.at_hart}
 use Rattle.smt_model.proofs.{Fates.Numbers.numbers-of, Steps.Decode.steps-Decode}
-use Rattle.core_state.specs.{Agree.PartsAgree, Agree.From, Answers.AllowsNone, Decode.CanDecode, Decode.Decodes}
-use Rattle.core_state.specs.{declared.parts.Parts.Parts}
+use Rattle.core_parts.specs.{Agree.PartsAgree, Agree.From, Decode.CanDecode, Decode.Decodes}
+use Rattle.core_state.specs.{Answers.AllowsNone}
+use Rattle.core_parts.specs.{declared.parts.Parts.Parts}
 use Rattle.core_state.proofs.Steps.Asked.{some_of, same_self}
 
 -- The oldest in hart h's decode latch is one of the hart, and in decode.

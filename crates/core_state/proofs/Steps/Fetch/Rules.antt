@@ -15,10 +15,11 @@ use Rattle.smt_model.specs.Fetching.{is_after, turn, may_fetch, last_fetched, ch
 use Rattle.smt_model.proofs.{Allowed.fetch_allowed, Allowed.fetch_allows, Fates.Choosing.fetch_chosen}
 use Rattle.smt_model.proofs.{Registers.Claims.member-below, Fates.Moves.same_number-is, Steps.Fetch.steps-Fetch}
 use Rattle.smt_model.proofs.Lists.{member, member-append, member-behind, member-filter, filter-same}
-use Rattle.core_state.specs.Agree.{HartAgrees, EachAgrees, PartsAgree, From}
-use Rattle.core_state.specs.{Answers.AllowsNone, Answers.CanFetch, declared.hart.HartState.HartState}
-use Rattle.core_state.specs.{declared.parts.Parts.Parts, declared.point.FetchPoint.FetchPoint, declared.slot.Slot.Slot}
-use Rattle.core_state.specs.Fetch.{has_room, may_fetch_at, count_at, next_hart, Fetches}
+use Rattle.core_parts.specs.Agree.{HartAgrees, EachAgrees, PartsAgree, From}
+use Rattle.core_state.specs.{Answers.AllowsNone, Answers.CanFetch}
+use Rattle.core_parts.specs.{declared.hart.HartState.HartState}
+use Rattle.core_parts.specs.{declared.parts.Parts.Parts, declared.point.FetchPoint.FetchPoint, declared.slot.Slot.Slot}
+use Rattle.core_parts.specs.Fetch.{has_room, may_fetch_at, count_at, next_hart, Fetches}
 use Rattle.core_state.proofs.Steps.Asked.{some_of, same_self}
 
 -- ---- The choice over the parts is the history's

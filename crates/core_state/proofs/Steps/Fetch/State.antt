@@ -9,11 +9,12 @@ use Rattle.events.specs.declared.event.Event.TheVariants.{Fetch, Decode, Rename,
 use Rattle.smt_model.specs.{Fates.fetches, Fetching.choice, Picture.Picture, Picture.picture, Rules.refused}
 use Rattle.smt_model.specs.{Jobs.is_actor, Steps.IsFetch}
 use Rattle.smt_model.proofs.Steps.Fetch.{steps-Fetch}
-use Rattle.core_state.specs.Agree.{HartAgrees, PartsAgree, From, KeepsSizes}
-use Rattle.core_state.specs.{Answers.CanFetch, Answers.fetched_at, View.CoreView, declared.hart.HartState.HartState}
-use Rattle.core_state.specs.{declared.parts.Parts.Parts, declared.point.FetchPoint.FetchPoint, declared.slot.Slot.Slot}
+use Rattle.core_parts.specs.Agree.{HartAgrees, PartsAgree, From, KeepsSizes}
+use Rattle.core_state.specs.{Answers.CanFetch, Answers.fetched_at, View.CoreView}
+use Rattle.core_parts.specs.{declared.hart.HartState.HartState}
+use Rattle.core_parts.specs.{declared.parts.Parts.Parts, declared.point.FetchPoint.FetchPoint, declared.slot.Slot.Slot}
 use Rattle.core_state.specs.{declared.state.State.TheInside.Inside}
-use Rattle.core_state.specs.Fetch.{next_hart, slot_at, Fetches, fetched_of}
+use Rattle.core_parts.specs.Fetch.{next_hart, slot_at, Fetches, fetched_of}
 use Rattle.core_state.specs.State.{IsCore, view_of, past_of, setup_in}
 use Rattle.core_state.proofs.Steps.Fetch.Rules.{choice-is, fetch_can, fetch_from, CannotFetch}
 use Rattle.core_state.proofs.{Steps.Invariant.core_fetched, Views.Viewed.actor_in, Views.Viewed.short_in}

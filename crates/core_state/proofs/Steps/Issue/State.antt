@@ -12,15 +12,17 @@ use Rattle.issue_queue.specs.{Entry.has_values, declared.entry.Entry.Entry}
 use Rattle.smt_model.specs.{declared.config.Role.Role, Asks.answers, Asks.AskIssue, Picture.Picture, Picture.picture}
 use Rattle.smt_model.specs.{Rules.refused, Jobs.is_actor, Jobs.unit_of_actor, Setup.Setup, Setup.unit_of_role}
 use Rattle.smt_model.proofs.Fates.Choosing.{hart_there}
-use Rattle.core_state.specs.Agree.{PartsAgree, IsEntry, IsOpenJob, KeepsSizes, From}
+use Rattle.core_parts.specs.Agree.{PartsAgree, IsEntry, IsOpenJob, KeepsSizes, From}
 use Rattle.core_state.specs.{Answers.AllowsNone, Answers.IsJobOf, State.IsCore, State.past_of, State.setup_in}
-use Rattle.core_state.specs.{declared.parts.Parts.Parts, declared.state.State.TheInside.Inside}
-use Rattle.core_state.specs.Issuing.{CanIssue, IsIssuing, job_of, open_job_of}
+use Rattle.core_parts.specs.{declared.parts.Parts.Parts}
+use Rattle.core_state.specs.{declared.state.State.TheInside.Inside}
+use Rattle.core_parts.specs.Issuing.{CanIssue, IsIssuing, job_of, open_job_of}
 use Rattle.core_state.specs.{State.view_of, View.CoreView}
 use Rattle.smt_model.proofs.Allowed.{issue_allowed}
-use Rattle.core_state.proofs.{Steps.Invariant.core_grown, Steps.Invariant.quiet_issue, Steps.Issue.Next.ready_known}
+use Rattle.core_state.proofs.{Steps.Invariant.core_grown, Steps.Invariant.quiet_issue}
+use Rattle.core_parts.proofs.{Steps.Issue.Next.ready_known}
 use Rattle.core_state.proofs.{Steps.Invariant.past_push, Steps.NoAnswer.allows_none, Steps.NoAnswer.core_sizes}
-use Rattle.core_state.proofs.{Steps.Issue.Parts.job_issued}
+use Rattle.core_parts.proofs.{Steps.Issue.Parts.job_issued}
 use Rattle.core_state.proofs.Steps.Issue.Rules.{issue_may, issue_can, issue_unit, issuing, entry_of_hart}
 
 -- ---- The actor's unit

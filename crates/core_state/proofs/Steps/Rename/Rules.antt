@@ -18,7 +18,7 @@ use Rattle.smt_model.proofs.{Fates.Moves.same_number-self, Fates.Numbers.at_hart
 use Rattle.smt_model.proofs.{Fates.Numbers.numbers-of, Fates.Order.in_order, Registers.Namings.same_truth-is}
 use Rattle.smt_model.proofs.{Registers.Namings.in_range, Registers.Namings.taken, Fates.Choosing.hart_there}
 use Rattle.smt_model.proofs.{Steps.RenameMap.mapped_claimed, Steps.Rename.steps-Rename}
-use Rattle.core_state.specs.Renaming.{CanRename, IsRenaming}
+use Rattle.core_parts.specs.Renaming.{CanRename, IsRenaming}
 
 -- ---- From the picture to the rules
 

@@ -8,9 +8,12 @@ use Rattle.events.specs.declared.event.Event.TheVariants.{Fetch, Decode, Rename,
 use Rattle.smt_model.specs.{Asks.answers, Asks.AskRename, Fates.is_of, Picture.Picture, Picture.picture, Rules.refused}
 use Rattle.smt_model.specs.{Jobs.is_actor}
 use Rattle.smt_model.proofs.{Allowed.rename_allowed, Fates.Choosing.hart_there}
-use Rattle.core_state.specs.{Agree.PartsAgree, Agree.KeepsSizes, Agree.From, Answers.AllowsNone, Answers.IsLeastFree}
-use Rattle.core_state.specs.{Renaming.CanRename, Renaming.IsRenaming, Renaming.IsLeastIn, State.IsCore, State.past_of}
-use Rattle.core_state.specs.{State.setup_in, declared.parts.Parts.Parts, declared.state.State.TheInside.Inside}
+use Rattle.core_parts.specs.{Agree.PartsAgree, Agree.KeepsSizes, Agree.From}
+use Rattle.core_state.specs.{Answers.AllowsNone, Answers.IsLeastFree}
+use Rattle.core_parts.specs.{Renaming.CanRename, Renaming.IsRenaming, Renaming.IsLeastIn}
+use Rattle.core_state.specs.{State.IsCore, State.past_of}
+use Rattle.core_state.specs.{State.setup_in, declared.state.State.TheInside.Inside}
+use Rattle.core_parts.specs.{declared.parts.Parts.Parts}
 use Rattle.core_state.specs.{State.view_of, View.CoreView}
 use Rattle.core_state.proofs.{Steps.Invariant.core_grown, Steps.Invariant.quiet_rename, Steps.NoAnswer.allows_none, Steps.NoAnswer.core_sizes}
 use Rattle.core_state.proofs.Steps.Rename.Rules.{decoded, rename_may, rename_can, renaming}

@@ -16,11 +16,13 @@ use Rattle.smt_model.specs.{Effects.effect_of}
 use Rattle.smt_model.specs.{Bytes.read, Reservations.holds_word, Registers.operand, Fates.op_of_fetched}
 use Rattle.smt_model.specs.{Memory.byte_at, Memory.reserved, Kinds.first_source, Kinds.second_source}
 use Rattle.shared_memory.specs.Contents.{Contents, byte_of, reserved_of}
-use Rattle.core_state.specs.Accesses.{CanWrite}
+use Rattle.core_parts.specs.Accesses.{CanWrite}
 use Rattle.smt_model.proofs.Steps.Retire.{records-Retire}
-use Rattle.core_state.specs.{Agree.PartsAgree, Agree.KeepsSizes, Agree.From, Answers.AllowsNone, View.CoreView}
-use Rattle.core_state.specs.{declared.parts.Parts.Parts, declared.state.State.TheInside.Inside}
-use Rattle.core_state.specs.Retirement.{CanRetire, NoneCanRetire, Retires}
+use Rattle.core_parts.specs.{Agree.PartsAgree, Agree.KeepsSizes, Agree.From}
+use Rattle.core_state.specs.{Answers.AllowsNone, View.CoreView}
+use Rattle.core_parts.specs.{declared.parts.Parts.Parts}
+use Rattle.core_state.specs.{declared.state.State.TheInside.Inside}
+use Rattle.core_parts.specs.Retirement.{CanRetire, NoneCanRetire, Retires}
 use Rattle.core_state.specs.State.{IsCore, past_of, setup_in, view_of}
 use Rattle.retire_squash.specs.declared.active.Stage.{Stage}
 use Rattle.retire_squash.specs.declared.active.Stage.TheVariants as stages
@@ -28,12 +30,13 @@ use Rattle.smt_model.specs.{Basics.holds_of, Comparisons.same_effect, Fates.Comp
 use Rattle.smt_model.specs.{Flights.flight}
 use Rattle.smt_model.proofs.{Allowed.retire_allowed, Allowed.RetireAllowed, Fates.Choosing.hart_there}
 use Rattle.smt_model.proofs.{Fates.Moves.fate_at, Fates.Moves.stage_of, Fates.Numbers.first_of_hart}
-use Rattle.core_state.specs.Agree.{IsActive, IsStage}
+use Rattle.core_parts.specs.Agree.{IsActive, IsStage}
 use Rattle.core_state.proofs.Following.Sameness.{same_effect-is}
 use Rattle.core_state.proofs.Steps.Invariant.{core_retired}
 use Rattle.core_state.proofs.Steps.Retire.Look.{fetched_of, retires_now, effect-same}
 use Rattle.core_state.proofs.{Steps.Retire.Writes.can_write, Steps.Complete.Look.says_with_look}
-use Rattle.core_state.proofs.{Steps.Complete.Look.checked-address, Agreement.Queues.has_place}
+use Rattle.core_state.proofs.{Steps.Complete.Look.checked-address}
+use Rattle.core_parts.proofs.{Agreement.Queues.has_place}
 use Rattle.core_state.proofs.Steps.Retire.Rules.{retires_by, is_its_own, none_completed}
 
 registers_fit : (i : Inside) → IsCore i → registers_of (setup_in i) ≤ 512

@@ -5,13 +5,13 @@ ghost use Rattle.smt_model.specs.Comparisons.{same_outcome};
 ghost use Rattle.smt_model.specs.Jobs.{is_actor, job};
 ghost use Rattle.smt_model.specs.Picture.{picture};
 ghost use Rattle.smt_model.specs.Rules.{refused};
-ghost use Rattle.core_state.specs.Agree.{HasOpenJob};
+ghost use Rattle.core_parts.specs.Agree.{HasOpenJob};
 ghost use Rattle.core_state.specs.Refusals.{IsJobWith, open_view};
 ghost use Rattle.exec_units.specs.Job.{outcome_of_job};
 
 use super::same::is_same_outcome;
-use crate::slot::OpenJob;
 use crate::state::State;
+use core_parts::OpenJob;
 use events::{Event, Outcome, OutcomeFields};
 use exec_units::{Job, work};
 use numbers::Seq;

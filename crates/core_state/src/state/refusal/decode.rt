@@ -3,8 +3,8 @@ ghost use Rattle.events.specs.declared.event.Event.TheVariants.{Decode};
 ghost use Rattle.smt_model.specs.Rules.{refused, is_first};
 
 use super::first_failing;
-use crate::slot::Slot;
 use crate::state::State;
+use core_parts::Slot;
 use numbers::Seq;
 use numbers::sizes::LATCH_ROOM;
 

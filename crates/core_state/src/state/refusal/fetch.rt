@@ -6,9 +6,8 @@ ghost use Rattle.smt_model.specs.Rules.{refused};
 
 use super::first_failing;
 use super::same::is_same_number;
-use crate::fetch::choose;
-use crate::point::FetchPoint;
 use crate::state::State;
+use core_parts::{FetchPoint, choose};
 use numbers::Seq;
 
 impl State {

@@ -10,8 +10,8 @@ ghost use Rattle.smt_model.specs.Rules.{refused};
 ghost use Rattle.core_state.specs.Refusals.{idle_unit, IsEntryOf};
 
 use super::first_failing;
-use crate::issue::unit_of;
 use crate::state::State;
+use core_parts::unit_of;
 use issue_queue::Entry;
 use numbers::Seq;
 use rv_decode::{Op, UnitKind};

@@ -1,5 +1,5 @@
 use Rattle.std.proofs.Common.{rules}
-use Rattle.simulator.specs.Refusals.{as_read}
+use Rattle.sim_report.specs.Refusals.{as_read}
 use Rattle.simulator.proofs.Printing.{with_both, check_printing}
 use Rattle.simulator.proofs.performing.answer.Goals as goal
 

@@ -1,5 +1,5 @@
-use Rattle.simulator.specs.Refusals.{as_read}
-use Rattle.simulator.specs.declared.refused.Refused.TheVariants.{Output}
+use Rattle.sim_report.specs.Refusals.{as_read}
+use Rattle.sim_report.specs.declared.refused.Refused.TheVariants.{Output}
 use Rattle.simulator.proofs.Refusing.{line_refusal, settings_refusal, ended}
 use Rattle.simulator.proofs.performing.configure_and_answer.Goals as goal
 

@@ -1,7 +1,8 @@
 -- An allowed event finds its instruction.
 use Rattle.std.proofs.Common.{◌≡◌, ◌∙◌, None, sym, ap, subst}
 use Rattle.smt_model.specs.Rules.{refused}
-use Rattle.core_state.specs.{View.grown, declared.point.FetchPoint.FetchPoint}
+use Rattle.core_state.specs.{View.grown}
+use Rattle.core_parts.specs.{declared.point.FetchPoint.FetchPoint}
 use Rattle.core_state.proofs.Following.Apply.{decode_live, rename_live, fetch_at}
 use Rattle.core_state.proofs.state.State.apply.Goals as goal
 

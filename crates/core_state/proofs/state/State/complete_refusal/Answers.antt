@@ -1,7 +1,7 @@
 -- The tests of the parts are the rules of a completion.
 use Rattle.std.proofs.Common.{◌∙◌, true, false, sym, ap}
 use Rattle.smt_model.specs.Comparisons.{same_outcome}
-use Rattle.core_state.proofs.Agreement.Queues.{has_place}
+use Rattle.core_parts.proofs.Agreement.Queues.{has_place}
 use Rattle.core_state.proofs.Following.Complete.{no_actor, no_job, squashed, tells, lent_it, hart_inside, gone_by}
 use Rattle.core_state.proofs.Following.Complete.{flies_by, says_by, is_none_by}
 use Rattle.core_state.proofs.state.State.complete_refusal.Goals as goal

@@ -1,7 +1,7 @@
 -- The tests of the parts are the rules of a decode.
 use Rattle.std.proofs.Common.{◌∙◌, sym, ap, map, nat_lt}
 use Rattle.smt_model.specs.Rules.{is_first}
-use Rattle.core_state.specs.declared.slot.Slot.{Slot}
+use Rattle.core_parts.specs.declared.slot.Slot.{Slot}
 use Rattle.core_state.proofs.Following.Decode.{no_actor, gone, placed_elsewhere, there}
 use Rattle.core_state.proofs.state.State.decode_refusal.Goals as goal
 

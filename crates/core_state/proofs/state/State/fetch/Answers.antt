@@ -1,7 +1,7 @@
 -- The parts take the fetch, and the state is a core's after it.
 use Rattle.std.proofs.Common.{◌∙◌, ap, arith}
 use Rattle.events.specs.declared.event.Event.TheVariants.{Fetch}
-use Rattle.core_state.specs.declared.slot.Slot.{Slot}
+use Rattle.core_parts.specs.declared.slot.Slot.{Slot}
 use Rattle.core_state.proofs.Steps.Fetch.State.{fetched_is, fetch_starts, fetch_core, fetched_few}
 use Rattle.core_state.proofs.Views.Viewed.{short_in}
 use Rattle.core_state.proofs.state.State.fetch.Goals as goal

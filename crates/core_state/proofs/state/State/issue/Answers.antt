@@ -2,7 +2,8 @@ use Rattle.std.specs.Prelude.{◌≡◌, ◌≤◌, length, List, None}
 use Rattle.std.proofs.Common.{◌∙◌, subst}
 use Rattle.events.specs.{declared.event.Event.TheVariants.Issue}
 use Rattle.smt_model.specs.{declared.config.Role.Role, Asks.AskIssue, Picture.picture, Rules.refused}
-use Rattle.core_state.specs.{Agree.IsEntry, Answers.AllowsNone, State.setup_in, State.past_of, View.CoreView}
+use Rattle.core_parts.specs.{Agree.IsEntry}
+use Rattle.core_state.specs.{Answers.AllowsNone, State.setup_in, State.past_of, View.CoreView}
 use Rattle.core_state.proofs.Steps.Issue.State.{issues_now, no_role, unit_now, issue_allowed_now, same_actor}
 use Rattle.core_state.proofs.Steps.Issue.State.{no_unit, nothing_to_issue}
 use Rattle.core_state.proofs.state.State.issue.Goals as goal

@@ -2,7 +2,7 @@
 use Rattle.std.proofs.Common.{◌∙◌, ◌||◌, count_by, sym, ap, map, nat_lt, not}
 use Rattle.retire_squash.specs.declared.active.Active.{Active}
 use Rattle.smt_model.specs.{Rules.is_first, Kinds.kind_of, Kinds.is_loading, Kinds.is_storing}
-use Rattle.core_state.specs.declared.slot.Slot.{Slot}
+use Rattle.core_parts.specs.declared.slot.Slot.{Slot}
 use Rattle.core_state.proofs.{Following.Place.parts_agree, Following.Place.queue_size, Following.Tests.not_full}
 use Rattle.core_state.proofs.Following.Rename.{no_actor, gone, placed_elsewhere, there}
 use Rattle.core_state.proofs.state.State.rename_refusal.Goals as goal

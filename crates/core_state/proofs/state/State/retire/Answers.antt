@@ -1,7 +1,8 @@
 use Rattle.std.specs.Prelude.{◌≡◌, ℕ, ◌==◌, ◌&&◌, Bool, true}
 use Rattle.std.proofs.Common.{◌∙◌, sym, subst, arith}
 use Rattle.smt_model.specs.Picture.{picture}
-use Rattle.core_state.specs.{Agree.IsActive, State.past_of, State.setup_in, View.CoreView}
+use Rattle.core_parts.specs.{Agree.IsActive}
+use Rattle.core_state.specs.{State.past_of, State.setup_in, View.CoreView}
 use Rattle.std.proofs.lemmas.Bool.Decides.{nat_tests}
 use Rattle.core_state.proofs.Steps.Retire.Rules.{no_actor_retires}
 use Rattle.core_state.proofs.Steps.Retire.State.{finds_in, allowed_in, its_own_in, none_in}

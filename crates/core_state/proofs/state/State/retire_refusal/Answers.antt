@@ -4,7 +4,7 @@ use Rattle.retire_squash.specs.declared.active.Active.{Active}
 use Rattle.smt_model.specs.{Rules.is_first, Comparisons.same_effect}
 use Rattle.core_state.proofs.Following.Retire.{no_actor, gone, placed_elsewhere, waits, not_oldest, can_retire, tells}
 use Rattle.core_state.proofs.Following.Retire.{effect_view}
-use Rattle.core_state.proofs.Agreement.Queues.{has_place}
+use Rattle.core_parts.proofs.Agreement.Queues.{has_place}
 use Rattle.core_state.proofs.Following.Place.{hart_inside}
 use Rattle.core_state.proofs.state.State.retire_refusal.Goals as goal
 

@@ -1,4 +1,4 @@
-use Rattle.std.proofs.Common.{◌≡◌, ◌+◌, List, ◌++◌, drop, get_or, subst, take, ◌∙◌, ap}
+use Rattle.std.proofs.Common.{◌≡◌, ◌+◌, List, [], ◌∷◌, ◌++◌, append_assoc, drop, get_or, subst, take, ◌∙◌, ap}
 use Rattle.std.proofs.{lemmas.List.take_all, lemmas.Result.on_ok_weaker}
 use Rattle.events.specs.{declared.event.Event.Event, Line.line_of, Sinking.HasBroken, Sinking.HasPut, Sinking.HasPutBut}
 use Rattle.events.specs.Trace.{ended, event_lines, header, trace_text}
@@ -33,10 +33,11 @@ loop-event-preserved g c =
     let i = c.loop-event.event-index in
     let item = c.event-item.result in
     let held = c.make_room.new.piece.bytes in
-    let line : c.push_line-in-loop-event.new.piece.bytes ≡ held ++ ended (line_of (get_or events i item)) =
-    c.push_line-in-loop-event.ensures.spelled
-    ∙ ap (λ bytes. held ++ ended bytes)
-    (c.as_str.ensures.value ∙ c.print_event.ensures ∙ ap line_of c.event-item.is) in
+    let line : c.push_ascii.new.text.bytes ≡ held ++ ended (line_of (get_or events i item)) =
+    c.push_ascii.ensures.spelled
+    ∙ ap (λ bytes. bytes ++ 10 ∷ []) c.push_event.ensures.spelled
+    ∙ append_assoc held _ (10 ∷ [])
+    ∙ ap (λ event. held ++ ended (line_of event)) c.event-item.is in
     rw (trace_text-more events i item c.loop-event-test.true, line)
     (HasPutBut-more g.S.Sink.written g.S.Sink.has_failed _ _ (trace_text (take i events)) held
     (ended (line_of (get_or events i item)))
@@ -46,7 +47,7 @@ loop-event-preserved g c =
 pub returns-clause-printed : goal.returns-clause-printed
 returns-clause-printed g c =
     let events = c.args.events.now in
-    let is : c.as_bytes.result.now ≡ c.loop-event.piece.bytes = c.as_bytes.ensures.value ∙ c.as_str-2.ensures.value in
+    let is : c.as_bytes.result.now ≡ c.loop-event.piece.bytes = c.as_bytes.ensures.value ∙ c.as_str.ensures.value in
     let all =
     subst
     (λ (es : List Event). HasPutBut g.S.Sink.written g.S.Sink.has_failed c.args.sink.now c.loop-event.sink
@@ -60,7 +61,7 @@ returns-clause-printed g c =
 pub returns-clause-broken : goal.returns-clause-broken
 returns-clause-broken g c =
     let events = c.args.events.now in
-    let is : c.as_bytes.result.now ≡ c.loop-event.piece.bytes = c.as_bytes.ensures.value ∙ c.as_str-2.ensures.value in
+    let is : c.as_bytes.result.now ≡ c.loop-event.piece.bytes = c.as_bytes.ensures.value ∙ c.as_str.ensures.value in
     let all =
     subst
     (λ (es : List Event). HasPutBut g.S.Sink.written g.S.Sink.has_failed c.args.sink.now c.loop-event.sink

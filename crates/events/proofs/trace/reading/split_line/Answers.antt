@@ -1,20 +1,13 @@
-use Rattle.std.proofs.Common.{◌≢◌, length, ap, arith}
-use Rattle.text_fields.specs.Splitting.{field}
-use Rattle.events.proofs.LineEnds.{not_one, parts_ended, two_or_more, whole_cut}
+use Rattle.events.proofs.LineEnds.{newline_found, newline_missing, not_one}
 use Rattle.events.proofs.trace.reading.split_line.Goals as goal
 
-pub returns-then-line-text-clause-cut : goal.returns-then-line-text-clause-cut
-returns-then-line-text-clause-cut c = whole_cut c.args.text.now (omega (arith, ap length c.split_field.ensures.first))
+pub returns-in_err-end-clause-cut : goal.returns-in_err-end-clause-cut
+returns-in_err-end-clause-cut c =
+    rw c.from_residual.ensures (newline_missing c.args.text.now c.in_err-end.ensures)
 
-pub returns-clause-parts : goal.returns-clause-parts
-returns-clause-parts c =
-    let other : length (field 10 c.args.text.now) ≢ length c.args.text.now =
-    λ same. absurd (omega (arith, same, ap length c.split_field.ensures.first)) in
-    rw (c.split_field.ensures.first, c.split_field.ensures.others)
-    (parts_ended c.args.text.now (two_or_more c.args.text.now other))
+pub returns-clause-first : goal.returns-clause-first
+returns-clause-first c = (newline_found c.args.text.now c.in_ok-end.end c.in_ok-end.ensures).0
 
 pub returns-clause-ended : goal.returns-clause-ended
 returns-clause-ended c =
-    let other : length (field 10 c.args.text.now) ≢ length c.args.text.now =
-    λ same. absurd (omega (arith, same, ap length c.split_field.ensures.first)) in
-    not_one c.args.text.now (two_or_more c.args.text.now other)
+    not_one c.args.text.now (newline_found c.args.text.now c.in_ok-end.end c.in_ok-end.ensures).1

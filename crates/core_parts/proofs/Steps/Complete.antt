@@ -1,0 +1,3 @@
+-- A job that is handed back: a completion or a drop.
+pub mod Parts
+pub mod Member

@@ -1,0 +1,2 @@
+-- A decode.
+pub mod Parts

@@ -1,0 +1,3 @@
+-- A fetch.
+pub mod Parts
+pub mod Choice

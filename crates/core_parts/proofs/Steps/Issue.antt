@@ -1,0 +1,3 @@
+-- An issue.
+pub mod Parts
+pub mod Next

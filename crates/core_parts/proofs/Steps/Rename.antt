@@ -1,0 +1,4 @@
+-- A rename.
+pub mod Parts
+pub mod Accesses
+pub mod Next

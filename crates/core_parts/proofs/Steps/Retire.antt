@@ -1,0 +1,5 @@
+-- A retirement.
+pub mod Memory
+pub mod Parts
+pub mod Replay
+pub mod Halt

@@ -1,0 +1,24 @@
+-- The hart that decodes agrees with the picture after it, and so does all that it leaves.
+use Rattle.std.proofs.Common.{◌<◌, length, refl, ap, subst, sym}
+use Rattle.smt_model.specs.Steps.{IsDecode}
+use Rattle.core_parts.specs.Accesses.{accesses_of}
+use Rattle.core_parts.proofs.{Agreement.Harts.each_set, Agreement.Queues.accesses_still, Agreement.Rest.rest_kept}
+use Rattle.core_parts.proofs.{Steps.Decode.Parts.keeps_rest}
+use Rattle.core_parts.proofs.{Steps.Decode.Parts.own_decode, Steps.Decode.Parts.other_decode}
+use Rattle.core_parts.proofs.parts.Parts.decode.Goals as goal
+
+pub returns-clause-agrees : goal.returns-clause-agrees
+returns-clause-agrees c = λ p q agrees n step.
+    let h = c.from.result in
+    let same = sym c.from.ensures in
+    let here = subst (λ k. IsDecode p q k n) same step in
+    let inside = subst (λ k. k < length c.args.self.now.harts.items) same c.requires.step.inside in
+    let x = c.index_mut.result.now in
+    let y = c.decode.new.self in
+    rest_kept p q c.args.self.now _ (keeps_rest p q h n here) agrees
+    (each_set p q c.args.self.now.harts.items h x y inside c.index_mut.ensures.value
+    (own_decode p q h n x y here c.decode.ensures) (λ g other z. other_decode p q h n g z other here) agrees.harts)
+    refl refl refl refl
+    (accesses_still c.args.self.now.harts.items h x y c.args.self.now.accesses inside c.index_mut.ensures.value
+    (ap accesses_of c.decode.ensures.active) agrees.accesses)
+    refl

@@ -1,0 +1,22 @@
+-- The hart that fetches agrees with the picture after it, and so does all that it leaves.
+use Rattle.std.proofs.Common.{refl, ap}
+use Rattle.core_parts.specs.Accesses.{accesses_of}
+use Rattle.core_parts.proofs.{Agreement.Harts.each_set, Agreement.Queues.accesses_still, Agreement.Rest.rest_kept}
+use Rattle.core_parts.proofs.{Steps.Fetch.Parts.keeps_rest}
+use Rattle.core_parts.proofs.{Steps.Fetch.Parts.own_fetch, Steps.Fetch.Parts.other_fetch}
+use Rattle.core_parts.proofs.parts.Parts.fetch.Goals as goal
+
+pub returns-clause-agrees : goal.returns-clause-agrees
+returns-clause-agrees c = λ p q agrees step.
+    let h = c.args.hart in
+    let slot = c.args.slot in
+    let x = c.index_mut.result.now in
+    let y = c.fetch.new.self in
+    rest_kept p q c.args.self.now _ (keeps_rest p q h slot step) agrees
+    (each_set p q c.args.self.now.harts.items h x y c.requires.step.inside c.index_mut.ensures.value
+    (own_fetch p q h slot x y c.requires.op step c.fetch.ensures)
+    (λ g other z. other_fetch p q h slot g z other step) agrees.harts)
+    refl refl refl refl
+    (accesses_still c.args.self.now.harts.items h x y c.args.self.now.accesses c.requires.step.inside
+    c.index_mut.ensures.value (ap accesses_of c.fetch.ensures.active) agrees.accesses)
+    refl

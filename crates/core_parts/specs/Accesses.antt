@@ -1,0 +1,115 @@
+-- The loads and stores of each hart that are in flight: those of its active list, in order. And
+-- memory: the bytes and reservations of a picture.
+use Rattle.std.specs.Prelude.{◌≡◌, ℕ, ◌<◌, ◌≤◌, Bool, List, map, filter, length, Option, Some, None}
+use Rattle.std.specs.Prelude.{option_and_then, if◌then◌else◌, slice_index_or}
+use Rattle.numbers.specs.Sizes.{most_harts}
+use Rattle.rv_decode.specs.declared.op.Op.{Op}
+use Rattle.events.specs.declared.effect.Written.{Written}
+use Rattle.elf_image.specs.Image.{ProgramImage}
+use Rattle.retire_squash.specs.{declared.active.Active.Active, declared.active.Stage.Stage}
+use Rattle.retire_squash.specs.declared.active.Stage.TheVariants as stage
+use Rattle.smt_model.specs.{Basics.or_zero, Faults.write_fault, Fates.is, Fates.Completed}
+use Rattle.smt_model.specs.{Looks.stored_by, Picture.Picture, Steps.op_in}
+use Rattle.smt_model.specs.Kinds.{Kind, Loading, Storing, kind_of, is_loading, is_storing}
+use Rattle.shared_memory.specs.Contents.{Contents, IsSize, byte_of, reserved_of}
+use Rattle.load_store.specs.{Queues.Queues, Queues.queues_of, declared.store.Store.Store}
+use Rattle.load_store.specs.Queues.{with_load, with_store, with_resolved, without_load}
+use Rattle.load_store.specs.Queues.{without_store}
+use Rattle.core_parts.specs.declared.hart.HartState.{HartState}
+
+-- ---- In the parts' words
+
+abbrev pub is_load : Active → Bool
+is_load a = is_loading (kind_of a.op)
+
+abbrev pub is_store : Active → Bool
+is_store a = is_storing (kind_of a.op)
+
+-- What a store will write: once it has completed, what its completion names.
+abbrev pub write_at : Op → Stage → Option Written
+write_at op stage.Renamed = None
+write_at op stage.Issued = None
+write_at op (stage.Completed outcome) = stored_by op outcome
+
+abbrev pub store_of : Active → Store
+store_of a = record { seq = a.seq; write = write_at a.op a.stage }
+
+-- The loads and the stores of an active list.
+abbrev pub accesses_of : List Active → Queues
+accesses_of xs =
+    record {
+      loads = map (λ a. a.seq) (filter is_load xs);
+      stores = map store_of (filter is_store xs);
+    }
+
+-- Each hart's queues are the loads and stores of its active list; there is a place for each hart.
+pub record AccessesAgree (harts : List HartState) (accesses : List Queues) : Type 0 where
+  pub places : length harts ≤ most_harts
+  pub each : (h : ℕ) (d : HartState) → h < length harts
+      → queues_of accesses h ≡ accesses_of (slice_index_or harts h d).active
+
+-- ---- In the history's words
+
+abbrev pub is_load_in : Picture → ℕ → Bool
+is_load_in p s = is_loading (kind_of (op_in p s))
+
+abbrev pub is_store_in : Picture → ℕ → Bool
+is_store_in p s = is_storing (kind_of (op_in p s))
+
+abbrev pub write_in : Picture → ℕ → Option Written
+write_in p s = if is (p.fate s) Completed
+    then option_and_then (stored_by (op_in p s)) (p.completion s) else None
+
+abbrev pub store_in : Picture → ℕ → Store
+store_in p s = record { seq = s; write = write_in p s }
+
+-- The loads and the stores of hart h that are in flight.
+abbrev pub queues_in : Picture → ℕ → Queues
+queues_in p h =
+    record {
+      loads = filter (is_load_in p) (p.flight h);
+      stores = map (store_in p) (filter (is_store_in p) (p.flight h));
+    }
+
+-- Memory has each byte and each hart's reservation.
+pub record MemoryAgrees (p : Picture) (m : Contents) : Type 0 where
+  pub byte : (addr : ℕ) → byte_of m addr ≡ p.byte addr
+  pub reserved : (h : ℕ) → reserved_of m h ≡ p.reserved h
+
+-- ---- What a step makes of a hart's queues
+
+-- With an instruction that is renamed: a load or a store, not yet resolved, or neither.
+abbrev pub with_kind : Kind → ℕ → Queues → Queues
+with_kind Loading seq q = with_load seq q
+with_kind Storing seq q = with_store seq q
+with_kind _ seq q = q
+
+abbrev pub with_access : Op → ℕ → Queues → Queues
+with_access op seq q = with_kind (kind_of op) seq q
+
+-- With what the store of this number will write, where it names a write.
+abbrev pub with_write : ℕ → Option Written → Queues → Queues
+with_write seq None q = q
+with_write seq (Some w) q = with_resolved seq w q
+
+-- Without the oldest instruction, which was a load, a store or neither.
+abbrev pub without_kind : Kind → Queues → Queues
+without_kind Loading q = without_load q
+without_kind Storing q = without_store q
+without_kind _ q = q
+
+abbrev pub without_access : Op → Queues → Queues
+without_access op q = without_kind (kind_of op) q
+
+-- ---- What retirement does with memory
+
+-- The address that a completed instruction names, 0 where it names none.
+abbrev pub address_at : Stage → ℕ
+address_at stage.Renamed = 0
+address_at stage.Issued = 0
+address_at (stage.Completed outcome) = or_zero outcome.addr
+
+-- The write is of a size that a store has, and has no fault.
+pub record CanWrite (image : ProgramImage) (w : Written) : Type 0 where
+  pub size : IsSize w.n
+  pub no_fault : write_fault image w.addr w.n ≡ None

@@ -1,0 +1,53 @@
+ghost use Rattle.std.specs.Prelude.{◌≡◌, ◌<◌};
+ghost use Rattle.numbers.specs.Sizes.{most_harts};
+ghost use Rattle.core_parts.specs.Fetch.{has_room};
+ghost use Rattle.core_parts.specs.First.{IsNew};
+
+use crate::slot::Slot;
+use arrayvec::ArrayVec;
+use numbers::sizes::LATCH_ROOM;
+use rename_map::HartMaps;
+use retire_squash::ActiveList;
+use smt_model::Status;
+
+/// What a hart has of its own.
+#[derive(Drop)]
+pub struct HartState {
+    /// Fetched instructions, in order.
+    pub decode_latch: ArrayVec<Slot, LATCH_ROOM>,
+    /// Decoded instructions, in order.
+    pub rename_latch: ArrayVec<Slot, LATCH_ROOM>,
+    /// Renamed instructions that are neither retired nor squashed, in order.
+    pub active: ActiveList,
+    pub maps: HartMaps,
+    /// How many of its instructions are in decode, rename and the issue queue (ICOUNT; Tullsen and
+    /// others, ISCA 1996).
+    pub icount: u32,
+    pub fetch_pc: u32,
+    pub status: Status,
+}
+
+impl HartState {
+    /// Hart `hart` as it begins, at the entry of the program.
+    pub(crate) fn new(hart: u8, entry: u32) -> Self
+        requires { hart < most_harts }
+        ensures { IsNew hart entry result }
+    {
+        HartState {
+            decode_latch: ArrayVec::new(),
+            rename_latch: ArrayVec::new(),
+            active: ActiveList::new(),
+            maps: HartMaps::new(hart),
+            icount: 0,
+            fetch_pc: entry,
+            status: Status::Going,
+        }
+    }
+
+    /// Whether the hart may be fetched: it is going and its decode latch has room.
+    pub(crate) fn may_fetch(&self) -> bool
+        ensures { result ≡ has_room self.now }
+    {
+        matches!(self.status, Status::Going) && !self.decode_latch.is_full()
+    }
+}

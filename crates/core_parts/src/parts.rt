@@ -1,0 +1,166 @@
+ghost use Rattle.std.specs.Prelude.{◌≡◌, ℕ, ◌<◌, ◌≤◌, ◌==◌, ◌||◌, Bool, false, List, Option, Some};
+ghost use Rattle.std.specs.Prelude.{None, length, IfOk, IfSome, slice_index_or, slice_set};
+ghost use Rattle.numbers.specs.Sizes.{most_harts, most_extra, most_queued, most_registers};
+ghost use Rattle.free_list.specs.Flags.{holds};
+ghost use Rattle.smt_model.specs.Basics.{same_number};
+ghost use Rattle.smt_model.specs.Setup.{first_number};
+ghost use Rattle.core_parts.specs.Agree.{IsFilled};
+ghost use Rattle.core_parts.specs.First.{BeginsAs, first_values};
+ghost use Rattle.core_parts.specs.Listed.{listed};
+
+use crate::hart::HartState;
+use crate::slot::OpenJob;
+use arrayvec::ArrayVec;
+use elf_image::Image;
+use free_list::FreeList;
+use issue_queue::IssueQueue;
+use load_store::LoadStore;
+use numbers::sizes::{MOST_ACTORS, MOST_REGISTERS};
+use numbers::{Phys, Reg, first_register};
+use shared_memory::Memory;
+use std::alloc::{AllocError, Global};
+
+/// The parts of the core that its steps move instructions through.
+#[derive(Drop)]
+pub struct Parts {
+    pub harts: Vec<HartState>,
+    pub queue: IssueQueue,
+    pub free: FreeList,
+    /// The number in each physical register, where it has one.
+    pub values: [Option<u32>; MOST_REGISTERS],
+    /// The job that each actor has.
+    pub jobs: [Option<OpenJob>; MOST_ACTORS],
+    /// Each hart's loads and stores in flight.
+    pub accesses: LoadStore,
+    /// The bytes and the reservations, as the retired instructions leave them.
+    pub memory: Memory,
+}
+
+impl Parts {
+    /// The parts of a core before its first event: every hart is at the image's entry, memory is
+    /// the image's, and the extra registers are free.
+    pub fn new(
+        harts: u8,
+        extra: u16,
+        queue: u8,
+        image: &Image,
+        alloc: Global,
+    ) -> Result<Parts, AllocError>
+        requires harts_fit { harts ≤ most_harts }
+        requires extra_fit { extra ≤ most_extra }
+        requires queue_fits { queue ≤ most_queued }
+        ensures begins { IfOk result (BeginsAs harts extra image.now) }
+        ensures harts { IfOk result (λ parts. length parts.harts.items ≡ harts) }
+        ensures queue { IfOk result (λ parts. parts.queue.size ≡ queue) }
+        ensures image { IfOk result (λ parts. parts.memory.image ≡ image.now) }
+    {
+        let entry = image.entry();
+        let mut each = Vec::with_capacity(alloc, usize::from(harts))?;
+        let mut values = [None; MOST_REGISTERS];
+        for hart in 0..harts {
+            each.push(HartState::new(hart, entry))?;
+            set_first_values(&mut values, hart, harts);
+        }
+        Ok(Parts {
+            harts: each,
+            queue: IssueQueue::new(queue),
+            free: FreeList::new(harts, extra),
+            values,
+            jobs: [None; MOST_ACTORS],
+            accesses: LoadStore::new(),
+            memory: Memory::new(image, alloc)?,
+        })
+    }
+
+    /// Puts an instruction's number into its register, if it has both, and hands it to the entries
+    /// that wait for it. A register that is given none holds none.
+    pub(crate) fn fill(&mut self, register: Option<Phys>, value: Option<u32>)
+        ensures { IsFilled register value self.old self.new }
+    {
+        let Some(register) = register else {
+            return;
+        };
+        set_value(&mut self.values, register, value);
+        if let Some(value) = value {
+            self.queue.wake(register, value);
+        }
+    }
+}
+
+/// Writes what hart `hart`'s registers 1 to 31 hold at the start: x10 its number, x11 how many
+/// harts there are, others 0.
+fn set_first_values(values: &mut [Option<u32>; MOST_REGISTERS], hart: u8, harts: u8)
+    requires { hart < most_harts }
+    ensures { (x : ℕ) (d : Option ℕ) → x < most_registers
+        → slice_index_or values.new x d ≡ first_values harts hart x
+        (slice_index_or values.old x d) }
+{
+    for register in 1..32 {
+        let place = first_register(hart, register);
+        values[usize::from(place)] = Some(first_number(register, hart, harts));
+    }
+}
+
+/// What hart `hart`'s register `register` holds at the start.
+fn first_number(register: Reg, hart: u8, harts: u8) -> u32
+    ensures { result ≡ first_number harts hart register }
+{
+    match register {
+        10 => u32::from(hart),
+        11 => u32::from(harts),
+        _ => 0,
+    }
+}
+
+/// The number in a physical register, where it has one.
+pub fn value_of(values: &[Option<u32>; MOST_REGISTERS], register: Phys) -> Option<u32>
+    ensures { result ≡ slice_index_or values.now register None }
+{
+    match values.get(usize::from(register)) {
+        Some(value) => *value,
+        None => None,
+    }
+}
+
+/// Puts a number into a physical register, or takes it away. There is no register from 512 on, and
+/// then nothing changes.
+fn set_value(values: &mut [Option<u32>; MOST_REGISTERS], register: Phys, value: Option<u32>)
+    ensures { values.new ≡ slice_set values.old register value }
+{
+    let place = usize::from(register);
+    if place < MOST_REGISTERS {
+        values[place] = value;
+    }
+}
+
+/// Gives an actor a job, or takes it away. There is no actor from 16 on, and then nothing changes.
+pub(crate) fn set_job(jobs: &mut [Option<OpenJob>; MOST_ACTORS], actor: usize, job: Option<OpenJob>)
+    ensures { jobs.new ≡ slice_set jobs.old actor job }
+{
+    if actor < MOST_ACTORS {
+        jobs[actor] = job;
+    }
+}
+
+/// Puts an instruction's register back among the free ones.
+pub(crate) fn give_back(free: &mut FreeList, register: Option<Phys>)
+    requires { IfSome register (λ r. (r < most_registers) × (holds free.old r ≡ false)) }
+    ensures { (x : ℕ) → holds free.new x ≡ (holds free.old x || same_number register (Some x)) }
+{
+    if let Some(register) = register {
+        free.give(register);
+    }
+}
+
+/// The registers of a free list, rising.
+pub fn registers_in(free: &FreeList) -> ArrayVec<Phys, MOST_REGISTERS>
+    ensures { result.items ≡ listed (λ x. holds free.now x) }
+{
+    let mut registers = ArrayVec::new();
+    for register in 0..MOST_REGISTERS as Phys {
+        if free.holds(register) {
+            registers.push(register);
+        }
+    }
+    registers
+}

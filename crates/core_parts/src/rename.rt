@@ -1,0 +1,192 @@
+ghost use Rattle.std.specs.Prelude.{◌≡◌, ℕ, ◌<◌, ◌&&◌, Option, not, count_by, length, IfSome};
+ghost use Rattle.std.specs.Prelude.{IfNone};
+ghost use Rattle.numbers.specs.Sizes.{most_in_flight, most_registers};
+ghost use Rattle.free_list.specs.Flags.{holds};
+ghost use Rattle.issue_queue.specs.declared.entry.Source.{Source};
+ghost use Rattle.rename_map.specs.Maps.{lookup, IsWritable};
+ghost use Rattle.retire_squash.specs.Active.{Above};
+ghost use Rattle.rv_decode.specs.Table.{OpInRange};
+ghost use Rattle.smt_model.specs.Basics.{first, or_zero};
+ghost use Rattle.smt_model.specs.Kinds.{destination, kind_of, is_loading, is_storing};
+ghost use Rattle.smt_model.specs.Picture.{Picture};
+ghost use Rattle.smt_model.specs.Steps.{renamed_map, is_register_taken};
+ghost use Rattle.core_parts.specs.Agree.{PartsAgree, KeepsSizes, From};
+ghost use Rattle.core_parts.specs.Renaming.{CanRename, IsLeastIn, IsRenaming, CanEnter, HasRenamed};
+ghost use Rattle.core_parts.specs.Renaming.{has_full_memory_queue, source_in, emptied};
+
+use crate::accesses::add_access;
+use crate::hart::HartState;
+use crate::parts::Parts;
+use crate::slot::Slot;
+use free_list::FreeList;
+use issue_queue::{Entry, Source};
+use numbers::sizes::{MOST_ACCESSES, MOST_REGISTERS};
+use numbers::{Phys, Reg, Seq};
+use rename_map::HartMaps;
+use retire_squash::{Active, Stage};
+use rv_decode::Op;
+
+impl Parts {
+    /// What a rename of hart `hart` takes: the number of its oldest decoded instruction, and the
+    /// least free register where that one writes a register. None where there is no such
+    /// instruction, no room, register or hart.
+    pub fn next_to_rename(&self, hart: u8) -> Option<(Seq, Option<Phys>)>
+        ensures inside { IfSome result (λ r. hart < length self.now.harts.items) }
+        ensures some { IfSome result (λ r. (p : Picture) → PartsAgree p self.now
+            → CanRename p self.now.queue.size hart r.0 r.1) }
+        ensures least { IfSome result
+            (λ r. (p : Picture) → PartsAgree p self.now → IsLeastIn p r.1) }
+        ensures none { IfNone result
+            ((p : Picture) → PartsAgree p self.now → hart < length self.now.harts.items
+            → (n : ℕ) (taken : Option ℕ) → CanRename p self.now.queue.size hart n taken → ⊥) }
+    {
+        let slot = self.harts.get(usize::from(hart))?.next_to_rename()?;
+        if self.queue.is_full() {
+            return None;
+        }
+        if !slot.op.writes_register() {
+            return Some((slot.seq, None));
+        }
+        let register = self.free.least()?;
+        Some((slot.seq, Some(register)))
+    }
+
+    /// Moves hart `hart`'s oldest decoded instruction into the active list and the queue, with the
+    /// register `phys` where it writes one. Its sources are looked up before its own register
+    /// enters the map.
+    pub fn rename(&mut self, hart: u8, phys: Option<Phys>)
+        requires step { From self.old hart (λ p q. IsRenaming p q self.old.queue.size hart phys) }
+        ensures agrees { (p q : Picture) → PartsAgree p self.old
+            → IsRenaming p q self.old.queue.size hart phys → PartsAgree q self.new }
+        ensures sizes { KeepsSizes self.old self.new }
+    {
+        let state = &self.harts[usize::from(hart)];
+        let slot = state.rename_latch[0];
+        let sources = [
+            source(&state.maps, &self.values, slot.op.rs1()),
+            source(&state.maps, &self.values, slot.op.rs2()),
+        ];
+        self.queue.insert(Entry {
+            seq: slot.seq,
+            hart,
+            op: slot.op,
+            pc: slot.pc,
+            sources,
+        });
+        take(&mut self.free, &mut self.values, phys);
+        add_access(&mut self.accesses, hart, slot.op, slot.seq);
+        self.harts[usize::from(hart)].rename(slot, phys);
+    }
+}
+
+/// What an instruction reads from its register `register` now: 0 for x0 or none, else the number
+/// that the map leads to, or the physical register to wait for.
+fn source(maps: &HartMaps, values: &[Option<u32>; MOST_REGISTERS], register: Option<Reg>) -> Source
+    requires below { IfSome register (λ r. r < 32) }
+    requires mapped { (r : ℕ) → 0 < r → r < 32 → lookup maps.now r < most_registers }
+    ensures { result ≡ source_in values.now maps.now (or_zero register) }
+{
+    match register {
+        None | Some(0) => Source::Value(0),
+        Some(register) => {
+            let phys = maps.lookup(register);
+            match values[usize::from(phys)] {
+                Some(value) => Source::Value(value),
+                None => Source::Waits(phys),
+            }
+        }
+    }
+}
+
+/// An instruction is given this register, if any: it is no longer free, and has no number yet.
+fn take(free: &mut FreeList, values: &mut [Option<u32>; MOST_REGISTERS], register: Option<Phys>)
+    requires { IfSome register (λ x. x < most_registers) }
+    ensures free { (x : ℕ)
+        → holds free.new x ≡ (holds free.old x && not (is_register_taken register x)) }
+    ensures values { values.new ≡ emptied register values.old }
+{
+    if let Some(register) = register {
+        free.take_this(register);
+        values[usize::from(register)] = None;
+    }
+}
+
+impl HartState {
+    /// The oldest decoded instruction, where the active list has room for it, and for another load
+    /// or store where it is one.
+    fn next_to_rename(&self) -> Option<Slot>
+        ensures some { IfSome result (CanEnter self.now) }
+        ensures none { IfNone result ((slot : Slot) → CanEnter self.now slot → ⊥) }
+    {
+        let slot = *self.rename_latch.first()?;
+        if self.active.is_full() || has_full_memory_queue(self.active.items(), slot.op) {
+            return None;
+        }
+        Some(slot)
+    }
+
+    /// Moves `slot`, the oldest decoded instruction, into the active list, and its register into
+    /// the map.
+    fn rename(&mut self, slot: Slot, phys: Option<Phys>)
+        requires oldest { first self.old.rename_latch.items ≡ Some slot }
+        requires room { length self.old.active < most_in_flight }
+        requires younger { Above slot.seq self.old.active }
+        requires in_range { OpInRange slot.op }
+        requires writes { IfSome phys (λ x. 0 < destination slot.op) }
+        ensures { HasRenamed slot phys self.old self.new }
+    {
+        self.rename_latch.remove(0);
+        let rd = slot.op.destination();
+        self.active.append(Active {
+            seq: slot.seq,
+            rd,
+            phys,
+            op: slot.op,
+            pc: slot.pc,
+            word: slot.word,
+            predicted: slot.predicted,
+            stage: Stage::Renamed,
+        });
+        enter(&mut self.maps, rd, phys);
+    }
+}
+
+/// The register `rd` is in `phys` from now on, where an instruction writes it.
+fn enter(maps: &mut HartMaps, rd: Reg, phys: Option<Phys>)
+    requires { IfSome phys (λ x. IsWritable rd) }
+    ensures speculative { (r : ℕ) → 0 < r → r < 32
+        → lookup maps.new r ≡ renamed_map rd phys r (lookup maps.old r) }
+    ensures committed { maps.new.committed ≡ maps.old.committed }
+{
+    if let Some(phys) = phys {
+        maps.rename(rd, phys);
+    }
+}
+
+/// Whether as many loads are in flight as may be and another comes, or as many stores.
+fn has_full_memory_queue(active: &[Active], op: Op) -> bool
+    ensures { result ≡ has_full_memory_queue op active.now }
+{
+    (op.kind().is_loading() && loads(active) >= MOST_ACCESSES)
+        || (op.kind().is_storing() && stores(active) >= MOST_ACCESSES)
+}
+
+/// How many of these are loads.
+pub fn loads(active: &[Active]) -> usize
+    ensures { result ≡ count_by (λ x. is_loading (kind_of x.op)) active.now }
+{
+    active
+        .iter()
+        .filter(|one| one.op.kind().is_loading())
+        .count()
+}
+
+/// How many of these are stores.
+pub fn stores(active: &[Active]) -> usize
+    ensures { result ≡ count_by (λ x. is_storing (kind_of x.op)) active.now }
+{
+    active
+        .iter()
+        .filter(|one| one.op.kind().is_storing())
+        .count()
+}

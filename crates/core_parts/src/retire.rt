@@ -1,0 +1,154 @@
+ghost use Rattle.std.specs.Prelude.{◌≡◌, ℕ, ◌<◌, IfSome, IfNone, length};
+ghost use Rattle.rename_map.specs.Maps.{IsWritable};
+ghost use Rattle.smt_model.specs.Picture.{Picture};
+ghost use Rattle.core_parts.specs.Accesses.{CanWrite};
+ghost use Rattle.core_parts.specs.Agree.{PartsAgree, KeepsSizes, From};
+ghost use Rattle.core_parts.specs.Retirement.{CanRetire, NoneCanRetire, Retires};
+ghost use Rattle.core_parts.specs.Retirement.{Commits, Replays, Ends, Leaves, HasCommitted, HasLeft};
+ghost use Rattle.core_parts.specs.Retirement.{first_value, is_replay};
+
+use crate::accesses::remove_access;
+use crate::hart::HartState;
+use crate::memory::{address_at, commit_access};
+use crate::parts::{Parts, give_back};
+use events::{EffectFields, Next, OutcomeFields};
+use numbers::{Phys, Reg};
+use retire_squash::{Active, Stage};
+use smt_model::Status;
+
+/// Whether it is a load that reads another number as it retires than it did as it completed.
+fn is_replay(active: &Active, effect: EffectFields) -> bool
+    ensures { result ≡ is_replay active.now effect }
+{
+    active.op.kind().is_loading() && first_value(active.stage) != effect.value
+}
+
+/// The number that a completion gave its register.
+fn first_value(stage: Stage) -> Option<u32>
+    ensures { result ≡ first_value stage }
+{
+    match stage {
+        Stage::Completed(outcome) => outcome.value,
+        Stage::Renamed | Stage::Issued => None,
+    }
+}
+
+impl Parts {
+    /// Hart `hart`'s oldest instruction in flight and its outcome, where it is completed. None
+    /// where it isn't, where there is none, and where there is no such hart.
+    pub fn next_to_retire(&self, hart: u8) -> Option<(Active, OutcomeFields)>
+        ensures inside { IfSome result (λ r. hart < length self.now.harts.items) }
+        ensures some { IfSome result
+            (λ r. (p : Picture) → PartsAgree p self.now → CanRetire p hart r.0 r.1) }
+        ensures none { IfNone result (hart < length self.now.harts.items → (p : Picture)
+            → PartsAgree p self.now → NoneCanRetire p hart) }
+    {
+        let active = self.harts.get(usize::from(hart))?.active.head()?;
+        match active.stage {
+            Stage::Completed(outcome) => Some((active, outcome)),
+            Stage::Renamed | Stage::Issued => None,
+        }
+    }
+
+    /// Retires hart `hart`'s oldest instruction in flight, `active`, with this effect: it commits,
+    /// or ends or stops its hart.
+    pub fn retire(&mut self, hart: u8, active: Active, effect: EffectFields)
+        requires step { From self.old hart (λ p q. Retires p q hart active effect) }
+        requires write { IfSome effect.write (CanWrite self.old.memory.image) }
+        ensures agrees { (p q : Picture) → PartsAgree p self.old → Retires p q hart active effect
+            → PartsAgree q self.new }
+        ensures sizes { KeepsSizes self.old self.new }
+    {
+        match effect.next {
+            Next::Pc(pc) => {
+                if is_replay(&active, effect) {
+                    self.replay(hart, active, effect, pc);
+                } else {
+                    let on = self.harts[usize::from(hart)].fetch_pc;
+                    self.commit(hart, active, effect, on);
+                }
+            }
+            Next::Ended(status) => self.halt(hart, active, Status::Ended(status)),
+            Next::Stopped(cause) => self.halt(hart, active, Status::Stopped(cause)),
+        }
+    }
+
+    /// A load that reads another number now than it did as it completed: all younger ones are
+    /// squashed, then it commits with the number of now, and its hart is fetched from `pc`.
+    fn replay(&mut self, hart: u8, active: Active, effect: EffectFields, pc: u32)
+        requires step { From self.old hart (λ p q. Replays p q hart active effect pc) }
+        requires write { IfSome effect.write (CanWrite self.old.memory.image) }
+        ensures agrees { (p q : Picture) → PartsAgree p self.old
+            → Replays p q hart active effect pc → PartsAgree q self.new }
+        ensures sizes { KeepsSizes self.old self.new }
+    {
+        self.squash(hart, active.seq);
+        self.commit(hart, active, effect, pc);
+    }
+
+    /// Its register becomes the committed one, and the one before becomes free. Memory is written
+    /// and its hart's reservation changes as its effect says; the hart is fetched from `pc`.
+    fn commit(&mut self, hart: u8, active: Active, effect: EffectFields, pc: u32)
+        requires step { From self.old hart (λ p q. Commits p q hart active effect pc) }
+        requires write { IfSome effect.write (CanWrite self.old.memory.image) }
+        ensures agrees { (p q : Picture) → PartsAgree p self.old
+            → Commits p q hart active effect pc → PartsAgree q self.new }
+        ensures sizes { KeepsSizes self.old self.new }
+    {
+        let replaced = self.harts[usize::from(hart)].commit(active.rd, active.phys, pc);
+        remove_access(&mut self.accesses, hart, active.op);
+        let addr = address_at(active.stage);
+        commit_access(&mut self.memory, hart, active.op, addr, effect.write);
+        give_back(&mut self.free, replaced);
+        self.fill(active.phys, effect.value);
+    }
+
+    /// Nothing is committed and memory stays: its own register becomes free, and all younger ones
+    /// are squashed.
+    fn halt(&mut self, hart: u8, active: Active, status: Status)
+        requires step { From self.old hart (λ p q. Ends p q hart active status) }
+        ensures agrees { (p q : Picture) → PartsAgree p self.old → Ends p q hart active status
+            → PartsAgree q self.new }
+        ensures sizes { KeepsSizes self.old self.new }
+    {
+        self.leave(hart, active, status);
+        self.squash(hart, active.seq);
+    }
+
+    /// Hart `hart` loses its oldest instruction, whose register becomes free, and stands like this
+    /// from now on.
+    fn leave(&mut self, hart: u8, active: Active, status: Status)
+        requires step { From self.old hart (λ p q. Leaves p q hart active status) }
+        ensures agrees { (p q : Picture) → PartsAgree p self.old → Leaves p q hart active status
+            → PartsAgree q self.new }
+        ensures sizes { KeepsSizes self.old self.new }
+    {
+        self.harts[usize::from(hart)].leave(status);
+        give_back(&mut self.free, active.phys);
+        remove_access(&mut self.accesses, hart, active.op);
+    }
+}
+
+impl HartState {
+    /// Its oldest instruction, which writes `rd`, leaves with its register `phys` as the committed
+    /// one, and it is fetched from `pc`. Answers the register that was committed before.
+    fn commit(&mut self, rd: Reg, phys: Option<Phys>, pc: u32) -> Option<Phys>
+        requires flies { 0 < length self.old.active }
+        requires writes { IfSome phys (λ register. IsWritable rd) }
+        ensures { HasCommitted self.old self.new rd phys pc result }
+    {
+        self.active.pop();
+        self.fetch_pc = pc;
+        let phys = phys?;
+        Some(self.maps.commit(rd, phys))
+    }
+
+    /// Its oldest instruction leaves, and it stands like this from now on.
+    fn leave(&mut self, status: Status)
+        requires { 0 < length self.old.active }
+        ensures { HasLeft self.old self.new status }
+    {
+        self.active.pop();
+        self.status = status;
+    }
+}

@@ -1,5 +1,0 @@
-use Rattle.std.proofs.Common.{rules}
-use Rattle.core_state.proofs.squash.map_again.Goals as goal
-
-pub returns-clause-speculative : goal.returns-clause-speculative
-returns-clause-speculative c = search rules

@@ -1,0 +1,7 @@
+pub mod CheckTelling
+pub mod PlainTelling
+pub mod RunTelling
+pub mod ScheduleTelling
+pub mod Telling
+pub mod InputsRefused
+pub mod ScriptsRead

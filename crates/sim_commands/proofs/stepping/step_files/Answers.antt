@@ -1,0 +1,42 @@
+use Rattle.std.proofs.Common.{refl, sym, subst}
+use Rattle.sim_report.specs.{Refusals.as_read, Refusals.OfFile}
+use Rattle.sim_session.specs.{Session.AreAskedWith, Session.Prints}
+use Rattle.sim_commands.proofs.ScriptsRead.{of_script}
+use Rattle.sim_commands.proofs.{InputsRefused.image_refusal, InputsRefused.sizes_refusal}
+use Rattle.sim_commands.proofs.{InputsRefused.script_refusal, InputsRefused.output_refusal}
+use Rattle.sim_report.specs.declared.refused.Refused.TheVariants.{Output}
+use Rattle.sim_commands.proofs.stepping.step_files.Goals as goal
+
+pub returns-in-Err-clause-refused : goal.returns-in-Err-clause-refused
+returns-in-Err-clause-refused g c =
+    image_refusal (as_read c.args.image) c.args.settings.now (as_read c.args.script) c.in-Err.refused
+    c.in-Err.ensures.refused
+
+pub returns-in-Err-make_core-clause-refused : goal.returns-in-Err-make_core-clause-refused
+returns-in-Err-make_core-clause-refused g c =
+    sizes_refusal (as_read c.args.image) c.args.settings.now (as_read c.args.script) c.in-Err-make_core.refused
+    c.in-Ok.ensures.passed
+    c.in-Err-make_core.ensures.refused
+
+pub returns-in-Err-read_words-clause-refused : goal.returns-in-Err-read_words-clause-refused
+returns-in-Err-read_words-clause-refused g c =
+    script_refusal (as_read c.args.image) c.args.settings.now (as_read c.args.script) c.in-Err-read_words.refused
+    c.in-Ok.ensures.passed
+    c.in-Ok-make_core.ensures.accepted c.in-Err-read_words.ensures.refused
+
+pub returns-in-Err-ask_core-clause-refused : goal.returns-in-Err-ask_core-clause-refused
+returns-in-Err-ask_core-clause-refused g c =
+    output_refusal (as_read c.args.image) c.args.settings.now (as_read c.args.script) c.in-Ok-read_words.words.items
+    Output c.in-Ok.ensures.passed c.in-Ok-make_core.ensures.accepted
+    c.in-Ok-read_words.ensures.script refl
+
+pub returns-clause-asked : goal.returns-clause-asked
+returns-clause-asked g c =
+    let made = rw c.as_slice.ensures.value at c.in-Ok-ask_core.ensures.asked in
+    subst
+    (λ core. Prints (g.W.Write.contents c.args.out.now) (g.W.Write.contents c.ask_core.new.out)
+    (λ text. OfFile (as_read c.args.script)
+    (λ script. AreAskedWith g.P.Predict.predicts c.args.predict.now c.ask_core.new.predict script core text)))
+    (sym c.finish.ensures.core)
+    (of_script g.P.Predict.predicts (as_read c.args.script) c.in-Ok-read_words.words.items _ _ _ _ _ _
+    c.in-Ok-read_words.ensures.script c.in-Ok-make_core.ensures.unasked made)

@@ -1,0 +1,8 @@
+pub mod Told
+pub mod PlainRefusals
+pub mod PlainTold
+pub mod RunTold
+pub mod CheckRefusals
+pub mod CheckTold
+pub mod ScheduleTold
+pub mod ScheduleRefusals

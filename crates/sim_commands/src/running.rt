@@ -1,0 +1,95 @@
+ghost use Rattle.std.specs.Prelude.{◌≡◌, IsTrue, Ok, Err, IfOk, IfErr, OnOk, length, sum};
+ghost use Rattle.elf_image.specs.Loaded.{IsImageOf};
+ghost use Rattle.core_state.specs.Setup.{setup_of};
+ghost use Rattle.core_lock.specs.Shown.{Shown};
+ghost use Rattle.sim_report.specs.Refusals.{as_read, OfFile, PassesAll, AreAccepted, refusal_of};
+ghost use Rattle.sim_commands.specs.RunTold.{AreRunInputsRefusedFor, LackARole, run_refusal};
+
+use crate::stepping::read_image;
+use actors::{Gate, RunRefused, run};
+use core_lock::Finished;
+use sim_inputs::Settings;
+use sim_report::{Refused, Unread};
+use smt_core::Predict;
+use std::alloc::Global;
+use std::sync::Wait;
+use std::thread::Threads;
+
+/// Runs the core of an image, with a thread for each actor of the configuration, until no hart is
+/// going or the history, the turns or the gate end it.
+///
+/// Refused are, in this order, the image, the sizes of the core, and a configuration without an
+/// actor of some role; want of memory and a thread that can't be started whenever they come.
+pub fn run_bytes<G: Gate + Sync, P: Predict + Copy + Send, R: Threads + Wait + Sync>(
+    rt: &R,
+    image: &[u8],
+    settings: &Settings,
+    gate: &G,
+    predict: P,
+    alloc: Global,
+) -> Result<Finished, Refused>
+    ensures refused { IfErr result (AreRunInputsRefusedFor (Ok image.now) settings.now) }
+    ensures passed { OnOk result (PassesAll image.now settings.now.ram) }
+    ensures accepted { OnOk result (AreAccepted settings.now) }
+    ensures manned { OnOk result (LackARole settings.now → ⊥) }
+    ensures image { IfOk result
+        (λ finished. IsImageOf image.now settings.now.ram finished.core.setup.image) }
+    ensures setup { IfOk result
+        (λ finished. finished.core.setup ≡ setup_of finished.core.setup.image settings.now.config) }
+    ensures limit { IfOk result (λ finished. finished.core.limit ≡ settings.now.limit) }
+    ensures own { IfOk result (λ finished. IsTrue finished.own) }
+    ensures counted { IfOk result (λ finished. sum finished.counts ≡ length finished.core.past) }
+    ensures shown { IfOk result (λ finished. Shown finished.core) }
+{
+    run_file(rt, Ok(image), settings, gate, predict, alloc)
+}
+
+/// The same, of a file as it was read.
+pub(crate) fn run_file<G: Gate + Sync, P: Predict + Copy + Send, R: Threads + Wait + Sync>(
+    rt: &R,
+    image: Result<&[u8], Unread>,
+    settings: &Settings,
+    gate: &G,
+    predict: P,
+    alloc: Global,
+) -> Result<Finished, Refused>
+    ensures unread { IfErr image.entry (λ why. result ≡ Err (refusal_of why)) }
+    ensures refused { IfErr result (AreRunInputsRefusedFor (as_read image.entry) settings.now) }
+    ensures passed { OnOk result
+        (OfFile (as_read image.entry) (λ file. PassesAll file settings.now.ram)) }
+    ensures accepted { OnOk result (AreAccepted settings.now) }
+    ensures manned { OnOk result (LackARole settings.now → ⊥) }
+    ensures image { IfOk result (λ finished. OfFile (as_read image.entry)
+        (λ file. IsImageOf file settings.now.ram finished.core.setup.image)) }
+    ensures setup { IfOk result
+        (λ finished. finished.core.setup ≡ setup_of finished.core.setup.image settings.now.config) }
+    ensures limit { IfOk result (λ finished. finished.core.limit ≡ settings.now.limit) }
+    ensures own { IfOk result (λ finished. IsTrue finished.own) }
+    ensures counted { IfOk result (λ finished. sum finished.counts ≡ length finished.core.past) }
+    ensures shown { IfOk result (λ finished. Shown finished.core) }
+{
+    let image = match read_image(image, settings, alloc) {
+        Ok(image) => image,
+        Err(refused) => return Err(refused),
+    };
+    let config = settings.config.copied();
+    let (limit, turns) = (settings.limit, settings.turns);
+    gate.begin(limit);
+    let ran = run(rt, &image, config, limit, turns, gate, predict, alloc);
+    gate.rest();
+    match ran {
+        Ok(finished) => Ok(finished),
+        Err(why) => Err(refused_run(why)),
+    }
+}
+
+/// What a line is refused for whose run is refused.
+fn refused_run(why: RunRefused) -> Refused
+    ensures { result ≡ run_refusal why }
+{
+    match why {
+        RunRefused::Config | RunRefused::Roles => Refused::Config,
+        RunRefused::Memory => Refused::Memory,
+        RunRefused::Thread => Refused::Thread,
+    }
+}

@@ -1,0 +1,4 @@
+pub mod Replying
+pub mod Scripted
+pub mod Retired
+pub mod OneImage

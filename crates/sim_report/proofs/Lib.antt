@@ -1,0 +1,3 @@
+pub mod Appending
+pub mod RecordLines
+pub mod WordLines

@@ -1,0 +1,11 @@
+use Rattle.std.proofs.Common.{rules}
+use Rattle.sim_session.proofs.answers.write_completion.Goals as goal
+
+pub returns-in-Done : goal.returns-in-Done
+returns-in-Done g c = search rules
+
+pub returns-in-Full : goal.returns-in-Full
+returns-in-Full g c = search rules
+
+pub returns-in-Stranger : goal.returns-in-Stranger
+returns-in-Stranger g c = search rules

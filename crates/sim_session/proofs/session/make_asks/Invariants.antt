@@ -1,0 +1,10 @@
+use Rattle.std.specs.Prelude.{take}
+use Rattle.sim_session.specs.Session.{AreMade, Exchanges, actions_of}
+use Rattle.sim_session.proofs.session.make_asks.Given as goal
+
+-- the words so far were made
+abbrev pub invariant-loop-word : goal.invariant-loop-word
+invariant-loop-word g l =
+    Exchanges g.P.Predict.predicts l.fn.session.core l.session.core l.fn.predict l.predict
+    (g.W.Write.contents l.fn.out) (g.W.Write.contents l.out)
+    (AreMade (actions_of (take l.word-index l.words)) l.fn.session.hands.held l.session.hands.held)

@@ -1,0 +1,10 @@
+use Rattle.std.specs.Prelude.{replicate}
+use Rattle.sim_session.specs.Session.{AreMade, Exchanges}
+use Rattle.sim_session.proofs.session.repeat_action.Given as goal
+
+-- the action was made so often
+abbrev pub invariant-loop-turn : goal.invariant-loop-turn
+invariant-loop-turn g l =
+    Exchanges g.P.Predict.predicts l.fn.session.core l.session.core l.fn.predict l.predict
+    (g.W.Write.contents l.fn.out) (g.W.Write.contents l.out)
+    (AreMade (replicate l.turn l.word.action) l.fn.session.hands.held l.session.hands.held)

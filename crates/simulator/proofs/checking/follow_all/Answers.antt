@@ -1,5 +1,0 @@
-use Rattle.std.proofs.Common.{rules}
-use Rattle.simulator.proofs.checking.follow_all.Goals as goal
-
-pub returns-in-Err-Event-clause-refused : goal.returns-in-Err-Event-clause-refused
-returns-in-Err-Event-clause-refused c = search rules

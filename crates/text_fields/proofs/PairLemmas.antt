@@ -1,0 +1,101 @@
+-- The table of the digits of each byte.
+
+use Rattle.std.proofs.Common.{◌≡◌, ℕ, zero, suc, ◌+◌, ◌*◌, ◌/◌, ◌%◌, ◌^◌, ◌<◌, false, List, [], ◌∷◌, get_or, refl, ◌∙◌, ap, arith}
+use Rattle.std.proofs.lemmas.Bool.Decides.{nat_tests}
+use Rattle.std.specs.Fmt.{digit_glyph}
+use Rattle.text_fields.specs.Spelling.{hex, hex_digit}
+use Rattle.text_fields.specs.declared.pairs.TheConstants.{DECIMALS, PAIRS}
+
+-- the digits of `count` bytes from n on
+table : ℕ → ℕ → List ℕ
+table zero n = []
+table (suc count) n = digit_glyph false (n / 16) ∷ digit_glyph false (n % 16) ∷ table count (n + 1)
+
+table_at : (count n i : ℕ) → i < count →
+    (get_or (table count n) (2 * i) 0 ≡ digit_glyph false ((n + i) / 16))
+    × (get_or (table count n) (2 * i + 1) 0 ≡ digit_glyph false ((n + i) % 16))
+unfolding table
+table_at zero n i within = absurd (omega arith)
+table_at (suc count) n zero within =
+    let same : n ≡ n + 0 = omega arith in
+    (ap (λ m. digit_glyph false (m / 16)) same, ap (λ m. digit_glyph false (m % 16)) same)
+table_at (suc count) n (suc i) within =
+    let high : 2 * suc i ≡ suc (suc (2 * i)) = omega arith in
+    let low : 2 * suc i + 1 ≡ suc (suc (2 * i + 1)) = omega arith in
+    let same : n + suc i ≡ n + 1 + i = omega arith in
+    rw (low, high, same) (table_at count (n + 1) i (omega arith))
+
+is_table : PAIRS ≡ table 256 0
+unfolding table
+is_table = refl
+
+pub high_at : (n : ℕ) → n < 256 → get_or PAIRS (2 * n) 0 ≡ digit_glyph false (n / 16)
+high_at n within =
+    let same : 0 + n ≡ n = omega arith in
+    rw is_table ((table_at 256 0 n within).0 ∙ ap (λ m. digit_glyph false (m / 16)) same)
+
+pub low_at : (n : ℕ) → n < 256 → get_or PAIRS (2 * n + 1) 0 ≡ digit_glyph false (n % 16)
+low_at n within =
+    let same : 0 + n ≡ n = omega arith in
+    rw is_table ((table_at 256 0 n within).1 ∙ ap (λ m. digit_glyph false (m % 16)) same)
+
+decimals : ℕ → ℕ → List ℕ
+decimals zero n = []
+decimals (suc count) n = (48 + n / 10) ∷ (48 + n % 10) ∷ decimals count (n + 1)
+
+decimals_at : (count n i : ℕ) → i < count →
+    (get_or (decimals count n) (2 * i) 0 ≡ 48 + (n + i) / 10)
+    × (get_or (decimals count n) (2 * i + 1) 0 ≡ 48 + (n + i) % 10)
+unfolding decimals
+decimals_at zero n i within = absurd (omega arith)
+decimals_at (suc count) n zero within =
+    let same : n ≡ n + 0 = omega arith in
+    (ap (λ m. 48 + m / 10) same, ap (λ m. 48 + m % 10) same)
+decimals_at (suc count) n (suc i) within =
+    let high : 2 * suc i ≡ suc (suc (2 * i)) = omega arith in
+    let low : 2 * suc i + 1 ≡ suc (suc (2 * i + 1)) = omega arith in
+    let same : n + suc i ≡ n + 1 + i = omega arith in
+    rw (low, high, same) (decimals_at count (n + 1) i (omega arith))
+
+are_decimals : DECIMALS ≡ decimals 100 0
+unfolding decimals
+are_decimals = refl
+
+pub tens_at : (n : ℕ) → n < 100 → get_or DECIMALS (2 * n) 0 ≡ 48 + n / 10
+tens_at n within =
+    let same : 0 + n ≡ n = omega arith in
+    rw are_decimals ((decimals_at 100 0 n within).0 ∙ ap (λ m. 48 + m / 10) same)
+
+pub ones_at : (n : ℕ) → n < 100 → get_or DECIMALS (2 * n + 1) 0 ≡ 48 + n % 10
+ones_at n within =
+    let same : 0 + n ≡ n = omega arith in
+    rw are_decimals ((decimals_at 100 0 n within).1 ∙ ap (λ m. 48 + m % 10) same)
+
+pub glyph_small : (d : ℕ) → d < 16 → digit_glyph false d < 128
+glyph_small d within = grind (arith, nat_tests)
+
+same_eight : (a b c d e f g h i j k l m n o p : ℕ) → a ≡ i → b ≡ j → c ≡ k → d ≡ l → e ≡ m → f ≡ n → g ≡ o → h ≡ p →
+    a ∷ b ∷ c ∷ d ∷ e ∷ f ∷ g ∷ h ∷ [] ≡ i ∷ j ∷ k ∷ l ∷ m ∷ n ∷ o ∷ p ∷ []
+same_eight a b c d e f g h i j k l m n o p q r s t u v w x = rw (q, r, s, t, u, v, w, x) refl
+
+same_glyph : (a d e : ℕ) → a ≡ digit_glyph false d → d ≡ e → a ≡ digit_glyph false e
+same_glyph a d e is same = is ∙ ap (λ x. digit_glyph false x) same
+
+-- the digits of a number are those of its four bytes
+pub word_digits : (value a b c d e f g h : ℕ) → value < 2 ^ 32 →
+    a ≡ digit_glyph false (value / 16777216 / 16) → b ≡ digit_glyph false (value / 16777216 % 16) →
+    c ≡ digit_glyph false (value / 65536 % 256 / 16) → d ≡ digit_glyph false (value / 65536 % 256 % 16) →
+    e ≡ digit_glyph false (value / 256 % 256 / 16) → f ≡ digit_glyph false (value / 256 % 256 % 16) →
+    g ≡ digit_glyph false (value % 256 / 16) → h ≡ digit_glyph false (value % 256 % 16) →
+    a ∷ b ∷ c ∷ d ∷ e ∷ f ∷ g ∷ h ∷ [] ≡ hex 8 value
+word_digits value a b c d e f g h small pa pb pc pd pe pf pg ph =
+    same_eight a b c d e f g h (hex_digit 7 value) (hex_digit 6 value) (hex_digit 5 value) (hex_digit 4 value)
+    (hex_digit 3 value) (hex_digit 2 value) (hex_digit 1 value) (hex_digit 0 value)
+    (same_glyph a (value / 16777216 / 16) (value / 16 ^ 7 % 16) pa (omega arith))
+    (same_glyph b (value / 16777216 % 16) (value / 16 ^ 6 % 16) pb (omega arith))
+    (same_glyph c (value / 65536 % 256 / 16) (value / 16 ^ 5 % 16) pc (omega arith))
+    (same_glyph d (value / 65536 % 256 % 16) (value / 16 ^ 4 % 16) pd (omega arith))
+    (same_glyph e (value / 256 % 256 / 16) (value / 16 ^ 3 % 16) pe (omega arith))
+    (same_glyph f (value / 256 % 256 % 16) (value / 16 ^ 2 % 16) pf (omega arith))
+    (same_glyph g (value % 256 / 16) (value / 16 ^ 1 % 16) pg (omega arith))
+    (same_glyph h (value % 256 % 16) (value / 16 ^ 0 % 16) ph (omega arith))

@@ -1,0 +1,108 @@
+//! Taking: each function reads the first field of a text whose fields stand apart by spaces, and
+//! hands on the text of the others. A field that is as it should be is passed over once.
+
+ghost use Rattle.std.specs.Prelude.{◌≡◌, ◌≤◌, ◌==◌, ◌&&◌, nat_lt, length, slice_index, IfOk, IfErr};
+ghost use Rattle.std.specs.Prelude.{IfSome};
+ghost use Rattle.text_fields.specs.Reading.{decimal_field, hex_field, optional_field};
+ghost use Rattle.text_fields.specs.Taking.{IsTaken};
+ghost use Rattle.text_fields.specs.Splitting.{field};
+
+use crate::read::{FieldError, hex_number, read_decimal, read_hex, read_optional_hex};
+use crate::split::split_field;
+
+// Whether the first of several digits is a zero.
+#[inline]
+fn begins_with_zero(text: &[u8], digits: usize) -> bool
+    requires { digits ≤ length text.now }
+    ensures { result ≡ (nat_lt 1 digits && slice_index text.now 0 == 48) }
+{
+    digits > 1 && text[0] == b'0'
+}
+
+// The number of a first field with no fault that a space ends, and the text behind that space.
+#[inline]
+fn plain_decimal(text: &[u8], max: u32) -> Option<(u32, &[u8])>
+    ensures taken { IfSome result (λ p. IsTaken (decimal_field max) text.now p.0 p.1.now) }
+    ensures within { IfSome result (λ p. p.0 ≤ max) }
+{
+    let mut value = 0u64;
+    for (place, byte) in text.iter().enumerate() {
+        if *byte == b' ' {
+            if place == 0 || begins_with_zero(text, place) {
+                return None;
+            }
+            return Some((value as u32, &text[place + 1..]));
+        }
+        if !byte.is_ascii_digit() {
+            return None;
+        }
+        value = value * 10 + u64::from(byte - b'0');
+        if value > u64::from(max) {
+            return None;
+        }
+    }
+    None
+}
+
+/// The first field as `read_decimal` reads it, and the text of the others, which is empty where
+/// there are none.
+#[inline]
+pub fn take_decimal(text: &[u8], max: u32) -> Result<(u32, &[u8]), FieldError>
+    ensures taken { IfOk result (λ p. IsTaken (decimal_field max) text.now p.0 p.1.now) }
+    ensures within { IfOk result (λ p. p.0 ≤ max) }
+    ensures refused { IfErr result (λ error. decimal_field max (field 32 text.now) ≡ Err error) }
+{
+    if let Some(taken) = plain_decimal(text, max) {
+        return Ok(taken);
+    }
+    let (first, others) = split_field(text, b' ');
+    Ok((read_decimal(first, max)?, others))
+}
+
+// The number of a first field with no fault that a space ends, and the text behind that space.
+#[inline]
+fn plain_hex(text: &[u8], count: usize) -> Option<(u32, &[u8])>
+    requires { count ≤ 8 }
+    ensures { IfSome result (λ p. IsTaken (hex_field count) text.now p.0 p.1.now) }
+{
+    if text.len() <= count || text[count] != b' ' {
+        return None;
+    }
+    let value = hex_number(&text[..count])?;
+    Some((value, &text[count + 1..]))
+}
+
+/// The first field as `read_hex` reads it, and the text of the others, which is empty where there
+/// are none.
+#[inline]
+pub fn take_hex(text: &[u8], count: usize) -> Result<(u32, &[u8]), FieldError>
+    requires { count ≤ 8 }
+    ensures taken { IfOk result (λ p. IsTaken (hex_field count) text.now p.0 p.1.now) }
+    ensures refused { IfErr result (λ error. hex_field count (field 32 text.now) ≡ Err error) }
+{
+    if let Some(taken) = plain_hex(text, count) {
+        return Ok(taken);
+    }
+    let (first, others) = split_field(text, b' ');
+    Ok((read_hex(first, count)?, others))
+}
+
+/// The first field as `read_optional_hex` reads it, and the text of the others, which is empty
+/// where there are none.
+#[inline]
+pub fn take_optional_hex(text: &[u8], count: usize) -> Result<(Option<u32>, &[u8]), FieldError>
+    requires { count ≤ 8 }
+    ensures taken { IfOk result
+        (λ p. IsTaken (optional_field (hex_field count)) text.now p.0 p.1.now) }
+    ensures refused { IfErr result
+        (λ error. optional_field (hex_field count) (field 32 text.now) ≡ Err error) }
+{
+    if text.len() > 1 && text[0] == b'-' && text[1] == b' ' {
+        return Ok((None, &text[2..]));
+    }
+    if let Some((value, others)) = plain_hex(text, count) {
+        return Ok((Some(value), others));
+    }
+    let (first, others) = split_field(text, b' ');
+    Ok((read_optional_hex(first, count)?, others))
+}
