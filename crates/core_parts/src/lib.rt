@@ -27,7 +27,6 @@ pub use fetch::choose;
 pub use hart::HartState;
 pub use issue::{count_jobs, unit_of};
 pub use parts::{Parts, registers_in, value_of};
-pub use place::Place;
 pub use point::FetchPoint;
 pub use rename::{loads, stores};
 pub use slot::{OpenJob, Slot};

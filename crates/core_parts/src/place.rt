@@ -1,9 +1,9 @@
 //! Where an instruction is, by its number alone.
 
-ghost use Rattle.std.specs.Prelude.{◌≡◌, ◌≤◌, ℕ, ◌<◌, ◌==◌, Some, None, IfSome, IfNone, length, find};
-ghost use Rattle.std.specs.Prelude.{slice_index_or};
+ghost use Rattle.std.specs.Prelude.{◌≡◌, ◌≤◌, ℕ, ◌<◌, Some, None, IfSome, IfNone, length};
+ghost use Rattle.std.specs.Prelude.{slice_index_or, is_some, true};
 ghost use Rattle.numbers.specs.Sizes.{most_harts};
-ghost use Rattle.core_parts.specs.Place.{place_in, is_decode_latch, rename_slot, active_at};
+ghost use Rattle.core_parts.specs.Place.{slot_in, member_in};
 
 use crate::hart::HartState;
 use crate::parts::Parts;
@@ -11,81 +11,64 @@ use crate::slot::Slot;
 use numbers::Seq;
 use retire_squash::Active;
 
-/// A place of a hart, and how an instruction stands there.
-#[derive(Clone, Copy, Drop)]
-pub enum Place {
-    DecodeLatch(Slot),
-    RenameLatch(Slot),
-    ActiveList(Active),
-}
-
-impl Place {
-    /// Whether it is in a decode latch.
-    pub fn is_decode_latch(self) -> bool
-        ensures { result ≡ is_decode_latch self }
-    {
-        matches!(self, Place::DecodeLatch(_))
-    }
-
-    /// The slot of a rename latch, where it is in one.
-    pub fn rename_slot(self) -> Option<Slot>
-        ensures { result ≡ rename_slot self }
-    {
-        match self {
-            Place::RenameLatch(slot) => Some(slot),
-            Place::DecodeLatch(_) | Place::ActiveList(_) => None,
-        }
-    }
-
-    /// The member of an active list, where it is one.
-    pub fn active(self) -> Option<Active>
-        ensures { result ≡ active_at self }
-    {
-        match self {
-            Place::ActiveList(active) => Some(active),
-            Place::DecodeLatch(_) | Place::RenameLatch(_) => None,
-        }
-    }
-}
-
 impl Parts {
-    /// The hart and the place of the instruction of number `seq`, where it is in a latch or in
-    /// flight.
-    pub fn place_of(&self, seq: Seq) -> Option<(u8, Place)>
+    /// The hart in whose decode latch the instruction of number `seq` is.
+    pub fn in_decode_latch(&self, seq: Seq) -> Option<u8>
         requires { length self.now.harts.items ≤ most_harts }
-        ensures inside { IfSome result (λ r. r.0 < length self.now.harts.items) }
-        ensures some { IfSome result
-            (λ r. (d : HartState) → place_in (slice_index_or self.now.harts.items r.0 d) seq
-            ≡ Some r.1) }
+        ensures inside { IfSome result (λ h. h < length self.now.harts.items) }
+        ensures some { IfSome result (λ h. (d : HartState) →
+            is_some (slot_in (slice_index_or self.now.harts.items h d).decode_latch.items seq)
+            ≡ true) }
         ensures none { IfNone result ((h : ℕ) (d : HartState) → h < length self.now.harts.items
-            → place_in (slice_index_or self.now.harts.items h d) seq ≡ None) }
+            → slot_in (slice_index_or self.now.harts.items h d).decode_latch.items seq ≡ None) }
     {
         for (hart, state) in self.harts.iter().enumerate() {
-            if let Some(place) = state.place_of(seq) {
-                return Some((hart as u8, place));
+            if slot_of(&state.decode_latch, seq).is_some() {
+                return Some(hart as u8);
+            }
+        }
+        None
+    }
+
+    /// The hart in whose rename latch the instruction of number `seq` is, and how it stands there.
+    pub fn in_rename_latch(&self, seq: Seq) -> Option<(u8, Slot)>
+        requires { length self.now.harts.items ≤ most_harts }
+        ensures inside { IfSome result (λ r. r.0 < length self.now.harts.items) }
+        ensures some { IfSome result (λ r. (d : HartState) →
+            slot_in (slice_index_or self.now.harts.items r.0 d).rename_latch.items seq
+            ≡ Some r.1) }
+        ensures none { IfNone result ((h : ℕ) (d : HartState) → h < length self.now.harts.items
+            → slot_in (slice_index_or self.now.harts.items h d).rename_latch.items seq ≡ None) }
+    {
+        for (hart, state) in self.harts.iter().enumerate() {
+            if let Some(slot) = slot_of(&state.rename_latch, seq) {
+                return Some((hart as u8, slot));
+            }
+        }
+        None
+    }
+
+    /// The hart that has the instruction of number `seq` in flight, and how it stands there.
+    pub fn in_active_list(&self, seq: Seq) -> Option<(u8, Active)>
+        requires { length self.now.harts.items ≤ most_harts }
+        ensures inside { IfSome result (λ r. r.0 < length self.now.harts.items) }
+        ensures some { IfSome result (λ r. (d : HartState) →
+            member_in (slice_index_or self.now.harts.items r.0 d).active seq ≡ Some r.1) }
+        ensures none { IfNone result ((h : ℕ) (d : HartState) → h < length self.now.harts.items
+            → member_in (slice_index_or self.now.harts.items h d).active seq ≡ None) }
+    {
+        for (hart, state) in self.harts.iter().enumerate() {
+            if let Some(active) = state.active.find(seq) {
+                return Some((hart as u8, active));
             }
         }
         None
     }
 }
 
-impl HartState {
-    fn place_of(&self, seq: Seq) -> Option<Place>
-        ensures { result ≡ place_in self.now seq }
-    {
-        if let Some(slot) = slot_of(&self.decode_latch, seq) {
-            return Some(Place::DecodeLatch(slot));
-        }
-        if let Some(slot) = slot_of(&self.rename_latch, seq) {
-            return Some(Place::RenameLatch(slot));
-        }
-        self.active.find(seq).map(Place::ActiveList)
-    }
-}
-
 /// The one of these that is the instruction of number `seq`.
 fn slot_of(slots: &[Slot], seq: Seq) -> Option<Slot>
-    ensures { result ≡ find (λ x. x.seq == seq) slots.now }
+    ensures { result ≡ slot_in slots.now seq }
 {
     slots.iter().copied().find(|slot| slot.seq == seq)
 }

@@ -115,13 +115,11 @@ fn checked(row: &Row, alloc: Global) -> Option<Option<(u32, u8)>> {
     }
 }
 
-/// How many of a row's events a core follows, with room for as many as there are, and what it
-/// answers to the one behind them, which is the last once more where it follows all.
-fn followed(row: &Row, alloc: Global) -> Option<(usize, Followed)> {
-    let events = trace_with(row, alloc)?;
-    let image = first_image(alloc)?;
-    let mut core = Core::new(&image, config(1, 64, 16, 1), 18, alloc).ok()?;
-    for event in events.as_slice() {
+/// How many of these events a core follows, and what it answers to the one behind them, which is the
+/// last once more where it follows all. (With the core in the same function the proof costs far
+/// more, since each early answer has to drop it.)
+fn followed_by(core: &mut Core, events: &[Event]) -> Option<(usize, Followed)> {
+    for event in events {
         let answer = core.follow(event);
         if answer != Followed::Done {
             return Some((core.history().len(), answer));
@@ -129,6 +127,14 @@ fn followed(row: &Row, alloc: Global) -> Option<(usize, Followed)> {
     }
     let last = *events.last()?;
     Some((core.history().len(), core.follow(&last)))
+}
+
+/// The same of a row's events, by a core with room for as many as there are.
+fn followed(row: &Row, alloc: Global) -> Option<(usize, Followed)> {
+    let events = trace_with(row, alloc)?;
+    let image = first_image(alloc)?;
+    let mut core = Core::new(&image, config(1, 64, 16, 1), 18, alloc).ok()?;
+    followed_by(&mut core, events.as_slice())
 }
 
 #[test]

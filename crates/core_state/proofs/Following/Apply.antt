@@ -1,40 +1,30 @@
 -- An event that may come next finds its instruction where the code looks for it.
 use Rattle.std.specs.Prelude.{◌≡◌, ℕ, true, false, List, Option, Some, None}
 use Rattle.std.proofs.Common.{◌∙◌, sym, ap, arith}
-use Rattle.std.proofs.{lemmas.Bool.false≢true, lemmas.Bool.Decides.nat_tests, lemmas.Option.none-some}
+use Rattle.std.proofs.{lemmas.Bool.false≢true, lemmas.Bool.Decides.nat_tests}
 use Rattle.events.specs.{declared.effect.Effect.Effect, declared.effect.Outcome.Outcome, declared.event.Event.Event}
 use Rattle.events.specs.declared.event.Event.TheVariants.{Fetch, Decode, Rename, Issue, Complete, Retire}
 use Rattle.smt_model.specs.{Basics.same_number, Jobs.is_actor, Jobs.job, Setup.Setup}
-use Rattle.smt_model.specs.Fates.{fate, is, is_live, stage, Renamed, Squashed}
+use Rattle.smt_model.specs.Fates.{fate, is, is_in_flight, InDecode, InRename, Renamed, Squashed}
 use Rattle.smt_model.specs.Rules.{refused}
-use Rattle.smt_model.proofs.Allowed.{complete_allowed, issue_allowed}
-use Rattle.smt_model.proofs.Fates.Moves.{decode_was, rename_was, retire_was, fetch_number}
-use Rattle.core_parts.specs.{Place.IsThere, Place.IsPlaced, Place.active_at}
+use Rattle.smt_model.proofs.Allowed.{complete_allowed, decode_allowed, issue_allowed, rename_allowed, retire_allowed}
+use Rattle.smt_model.proofs.Fates.Moves.{fetch_number}
 use Rattle.core_state.specs.{Answers.fetched_at}
-use Rattle.core_parts.specs.{declared.place.Place.Place, declared.point.FetchPoint.FetchPoint}
-use Rattle.core_parts.specs.declared.place.Place.TheVariants as place
+use Rattle.core_parts.specs.declared.point.FetchPoint.{FetchPoint}
 
 module _ (setup : Setup) (past : List Event) (actor s : ℕ) where
-  pub decode_live : refused setup past (Decode actor s) ≡ None → is_live (fate past s) ≡ true
-  decode_live ok = let at = decode_was setup past actor s ok in grind (arith, nat_tests)
+  pub decode_waits : refused setup past (Decode actor s) ≡ None → is (fate past s) InDecode ≡ false → ⊥
+  decode_waits ok none = false≢true (sym none ∙ (decode_allowed setup past actor s ok).fated)
 
-  pub rename_live : (taken : Option ℕ) → refused setup past (Rename actor s taken) ≡ None
-      → is_live (fate past s) ≡ true
-  rename_live taken ok = let at = rename_was setup past actor s taken ok in grind (arith, nat_tests)
+  pub rename_waits : (taken : Option ℕ) → refused setup past (Rename actor s taken) ≡ None
+      → is (fate past s) InRename ≡ false → ⊥
+  rename_waits taken ok none = false≢true (sym none ∙ (rename_allowed setup past actor s taken ok).fated)
 
-  pub retire_live : (effect : Effect) → refused setup past (Retire actor s effect) ≡ None
-      → is_live (fate past s) ≡ true
-  retire_live effect ok = let at = retire_was setup past actor s effect ok in grind (arith, nat_tests)
-
-  in_active : (h : ℕ) (at : Place) → IsThere setup past h s at → stage (fate past s) ≡ 5 → active_at at ≡ None → ⊥
-  in_active h (place.DecodeLatch x) is_it five none = let one = ap stage is_it.0 in omega arith
-  in_active h (place.RenameLatch x) is_it five none = let two = ap stage is_it.0 in omega arith
-  in_active h (place.ActiveList x) is_it five none = none-some x (sym none)
-
-  pub retire_active : (effect : Effect) (h : ℕ) (at : Place) → refused setup past (Retire actor s effect) ≡ None
-      → IsPlaced setup past h s at → active_at at ≡ None → ⊥
-  retire_active effect h at ok placed none =
-      in_active h at placed.there (retire_was setup past actor s effect ok) none
+  pub retire_flies : (effect : Effect) → refused setup past (Retire actor s effect) ≡ None
+      → is_in_flight (fate past s) ≡ false → ⊥
+  retire_flies effect ok none =
+      let done = (retire_allowed setup past actor s effect ok).fated in
+      grind (arith, nat_tests, none, done)
 
   pub complete_actor : (outcome : Outcome) → refused setup past (Complete actor s outcome) ≡ None
       → is_actor setup actor ≡ true

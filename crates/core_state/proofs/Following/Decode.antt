@@ -1,17 +1,14 @@
 -- Which rule a decode breaks.
 use Rattle.std.specs.Prelude.{◌≡◌, ℕ, Bool, true, false, nat_lt, List, [], ◌∷◌, length, map, Some}
 use Rattle.std.proofs.Common.{◌∙◌, refl, sym, ap}
-use Rattle.std.proofs.{lemmas.Bool.false≢true, lemmas.List.length-map}
+use Rattle.std.proofs.lemmas.List.{length-map}
 use Rattle.events.specs.{declared.event.Event.Event, declared.event.Event.TheVariants.Decode}
 use Rattle.smt_model.specs.{Picture.picture, Setup.Setup, Jobs.is_actor}
-use Rattle.smt_model.specs.Fates.{fate, is, is_live, InDecode}
+use Rattle.smt_model.specs.Fates.{fate, is, InDecode}
 use Rattle.smt_model.specs.Flights.{in_decode, in_rename}
 use Rattle.smt_model.specs.Rules.{first_failing, refused, is_first, of_fetched}
 use Rattle.smt_model.proofs.Fates.Numbers.{at_hart}
-use Rattle.core_parts.specs.{Agree.HartAgrees, Place.IsPlaced, Place.IsThere, Place.is_decode_latch, declared.hart.HartState.HartState}
-use Rattle.core_parts.specs.{declared.place.Place.Place}
-use Rattle.core_parts.specs.declared.place.Place.TheVariants as place
-use Rattle.core_state.proofs.Following.Place.{flies_there, not_decoded_if_flying, not_decoded_if_gone}
+use Rattle.core_parts.specs.{Agree.HartAgrees, Place.InDecodeLatch, declared.hart.HartState.HartState}
 use Rattle.core_state.proofs.Following.Tests.{refused-is, holds, fails, asks}
 
 module _ (setup : Setup) (past : List Event) (actor s : ℕ) where
@@ -37,32 +34,12 @@ module _ (setup : Setup) (past : List Event) (actor s : ℕ) where
       ∙ (holds 1 (is_actor setup actor) behind_actor one
       ∙ fails 2 (is (fate past s) InDecode) behind_fate elsewhere)
 
-  -- Where the parts have it somewhere else, and where they haven't got it.
-  elsewhere : (h : ℕ) (at : Place) → IsThere setup past h s at → is_decode_latch at ≡ false
-      → is (fate past s) InDecode ≡ false
-  elsewhere h (place.DecodeLatch x) is other = absurd (false≢true (sym other))
-  elsewhere h (place.RenameLatch x) is other = rw is.0 refl
-  elsewhere h (place.ActiveList x) is other =
-      not_decoded_if_flying (fate past s) (flies_there setup past h s x is)
-
-  pub placed_elsewhere : is_actor setup actor ≡ true → (h : ℕ) (at : Place) → IsPlaced setup past h s at
-      → is_decode_latch at ≡ false → refused setup past (Decode actor s) ≡ Some 2
-  placed_elsewhere one h at is other = not_there one (elsewhere h at is.there other)
-
-  pub gone : is_actor setup actor ≡ true → is_live (fate past s) ≡ false → refused setup past (Decode actor s) ≡ Some 2
-  gone one dead = not_there one (not_decoded_if_gone (fate past s) dead)
-
-  fate_here : (h : ℕ) (at : Place) → IsThere setup past h s at → is_decode_latch at ≡ true → fate past s ≡ InDecode
-  fate_here h (place.DecodeLatch x) is here = is.0
-  fate_here h (place.RenameLatch x) is here = absurd (false≢true here)
-  fate_here h (place.ActiveList x) is here = absurd (false≢true here)
-
-  pub there : (h : ℕ) (at : Place) (x : HartState) (a b : Bool) → is_actor setup actor ≡ true
-      → IsPlaced setup past h s at → is_decode_latch at ≡ true → HartAgrees (picture setup past) h x
+  pub there : (h : ℕ) (x : HartState) (a b : Bool) → is_actor setup actor ≡ true
+      → InDecodeLatch setup past h s → HartAgrees (picture setup past) h x
       → a ≡ is_first s (map (λ z. z.seq) x.decode_latch.items) → b ≡ nat_lt (length x.rename_latch.items) 8
       → refused setup past (Decode actor s) ≡ first_failing ((3, a) ∷ (4, b) ∷ [])
-  there h at x a b one placed here agrees a_is b_is =
-      let fated = fate_here h at placed.there here in
+  there h x a b one placed agrees a_is b_is =
+      let fated = placed.fated in
       let first_is : oldest ≡ a =
       at_hart past (λ g. is_first s (in_decode past g)) h s placed.of_hart
       ∙ (ap (is_first s) (sym agrees.decode_latch) ∙ sym a_is) in

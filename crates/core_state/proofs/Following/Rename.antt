@@ -1,23 +1,20 @@
 -- Which rule a rename breaks.
 use Rattle.std.specs.Prelude.{◌≡◌, ℕ, ◌||◌, Bool, true, false, not, nat_lt, List, [], ◌∷◌, length, map}
-use Rattle.std.specs.Prelude.{count_by, Option, Some, None, is_some}
+use Rattle.std.specs.Prelude.{count_by, Option, Some, is_some}
 use Rattle.std.proofs.Common.{◌∙◌, refl, sym, ap}
 use Rattle.std.proofs.{lemmas.List.length-map}
-use Rattle.std.proofs.{lemmas.Option.none-some, lemmas.Option.same_Some}
 use Rattle.events.specs.{declared.event.Event.Event, declared.event.Event.TheVariants.Rename}
 use Rattle.smt_model.specs.{Picture.picture, Setup.Setup, Jobs.is_actor, Basics.same_truth, Basics.how_many}
 use Rattle.smt_model.specs.Kinds.{Kind, kind_of, is_loading, is_storing, writes_register}
-use Rattle.smt_model.specs.Fates.{fate, is, is_live, is_of, op_at, op_of_fetched, InRename}
+use Rattle.smt_model.specs.Fates.{fate, is, is_of, op_at, op_of_fetched, InRename}
 use Rattle.smt_model.specs.Flights.{in_rename, flight, queue}
 use Rattle.smt_model.specs.Rules.{first_failing, refused, has_room, is_first, of_fetched}
 use Rattle.smt_model.proofs.Fates.Numbers.{at_hart}
 use Rattle.core_parts.specs.{Agree.HartAgrees, Agree.PartsAgree, declared.hart.HartState.HartState}
-use Rattle.core_parts.specs.Place.{IsPlaced, IsThere, rename_slot}
+use Rattle.core_parts.specs.Place.{InRenameLatch}
 use Rattle.core_state.specs.Refusals.{is_free_or_none}
 use Rattle.core_parts.specs.declared.parts.Parts.{Parts}
-use Rattle.core_parts.specs.{declared.slot.Slot.Slot, declared.place.Place.Place}
-use Rattle.core_parts.specs.declared.place.Place.TheVariants as place
-use Rattle.core_state.proofs.Following.Place.{flies_there, not_renamed_if_flying, not_renamed_if_gone}
+use Rattle.core_parts.specs.declared.slot.Slot.{Slot}
 use Rattle.core_state.proofs.Following.Tests.{refused-is, holds, fails}
 use Rattle.core_parts.proofs.Steps.Rename.Next.{counted}
 
@@ -41,39 +38,20 @@ module _ (setup : Setup) (past : List Event) (actor s : ℕ) (taken : Option ℕ
   pub no_actor : is_actor setup actor ≡ false → refused setup past (Rename actor s taken) ≡ Some 1
   no_actor none = refused-is setup past (Rename actor s taken) ∙ fails 1 (is_actor setup actor) behind_actor none
 
-  not_there : is_actor setup actor ≡ true → is (fate past s) InRename ≡ false
+  pub not_there : is_actor setup actor ≡ true → is (fate past s) InRename ≡ false
       → refused setup past (Rename actor s taken) ≡ Some 2
   not_there one elsewhere =
       refused-is setup past (Rename actor s taken)
       ∙ (holds 1 (is_actor setup actor) behind_actor one
       ∙ fails 2 (is (fate past s) InRename) behind_fate elsewhere)
 
-  pub gone : is_actor setup actor ≡ true → is_live (fate past s) ≡ false
-      → refused setup past (Rename actor s taken) ≡ Some 2
-  gone one dead = not_there one (not_renamed_if_gone (fate past s) dead)
-
-  elsewhere : (h : ℕ) (at : Place) → IsThere setup past h s at → rename_slot at ≡ None
-      → is (fate past s) InRename ≡ false
-  elsewhere h (place.DecodeLatch x) is other = rw is.0 refl
-  elsewhere h (place.RenameLatch x) is other = absurd (none-some x (sym other))
-  elsewhere h (place.ActiveList x) is other =
-      not_renamed_if_flying (fate past s) (flies_there setup past h s x is)
-
-  pub placed_elsewhere : is_actor setup actor ≡ true → (h : ℕ) (at : Place) → IsPlaced setup past h s at
-      → rename_slot at ≡ None → refused setup past (Rename actor s taken) ≡ Some 2
-  placed_elsewhere one h at placed other = not_there one (elsewhere h at placed.there other)
-
   -- What the slot says of it.
-  fate_here : (h : ℕ) (at : Place) (slot : Slot) → IsThere setup past h s at → rename_slot at ≡ Some slot
+  fate_here : (h : ℕ) (slot : Slot) → InRenameLatch setup past h s slot
       → (fate past s ≡ InRename) × (op_at past s ≡ slot.op)
-  fate_here h (place.DecodeLatch x) slot is here = absurd (none-some slot here)
-  fate_here h (place.RenameLatch x) slot is here =
-      let same : x ≡ slot = same_Some x slot here in (
-        is.0,
-        ap (op_at past) (sym is.1.1)
-            ∙ (ap op_of_fetched is.1.0.fetched ∙ (sym is.1.0.op ∙ ap (λ (y : Slot). y.op) same)),
-      )
-  fate_here h (place.ActiveList x) slot is here = absurd (none-some slot here)
+  fate_here h slot here = (
+    here.fated,
+    ap (op_at past) (sym here.number) ∙ (ap op_of_fetched here.slot.fetched ∙ sym here.slot.op),
+  )
 
   -- The room for one more of a kind.
   room_is : (test : Kind → Bool) (h : ℕ) (x : HartState) (slot : Slot) (b : Bool)
@@ -104,15 +82,15 @@ module _ (setup : Setup) (past : List Event) (actor s : ℕ) (taken : Option ℕ
     pub named : f ≡ same_truth (is_some taken) (writes_register slot.op)
     pub free : g ≡ is_free_or_none setup past taken
 
-  pub there : (h : ℕ) (at : Place) (slot : Slot) (x : HartState) (parts : Parts) (a b c d e f g : Bool)
-      → is_actor setup actor ≡ true → IsPlaced setup past h s at → rename_slot at ≡ Some slot
+  pub there : (h : ℕ) (slot : Slot) (x : HartState) (parts : Parts) (a b c d e f g : Bool)
+      → is_actor setup actor ≡ true → InRenameLatch setup past h s slot
       → HartAgrees (picture setup past) h x → PartsAgree (picture setup past) parts → parts.queue.size ≡ setup.queue
       → Tests x parts slot a b c d e f g
       → refused setup past (Rename actor s taken)
       ≡ first_failing ((3, a) ∷ (4, b) ∷ (5, c) ∷ (6, d) ∷ (7, e) ∷ (8, f) ∷ (9, g) ∷ [])
-  there h at slot x parts a b c d e f g one placed here agrees all size tests =
+  there h slot x parts a b c d e f g one placed agrees all size tests =
       let of_h = placed.of_hart in
-      let is_here = fate_here h at slot placed.there here in
+      let is_here = fate_here h slot placed in
       let a_is : oldest ≡ a =
       at_hart past (λ k. is_first s (in_rename past k)) h s of_h
       ∙ (ap (is_first s) (sym agrees.rename_latch) ∙ sym tests.oldest) in

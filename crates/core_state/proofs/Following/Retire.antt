@@ -1,27 +1,27 @@
 -- Which rule a retirement breaks.
 use Rattle.std.specs.Prelude.{◌≡◌, ℕ, Bool, true, false, List, [], ◌∷◌, map, Some, None}
-use Rattle.std.proofs.Common.{◌∙◌, refl, sym, ap, subst}
-use Rattle.std.proofs.{lemmas.Option.none-some}
-use Rattle.std.proofs.{lemmas.Option.same_Some}
+use Rattle.std.proofs.Common.{◌∙◌, refl, sym, ap, subst, arith}
+use Rattle.std.proofs.{lemmas.Option.none-some, lemmas.Bool.Decides.nat_tests}
 use Rattle.events.specs.{declared.effect.Effect.Effect, declared.effect.Outcome.Outcome, declared.event.Event.Event}
 use Rattle.events.specs.declared.event.Event.TheVariants.{Retire}
 use Rattle.retire_squash.specs.{declared.active.Active.Active, declared.active.Stage.Stage}
 use Rattle.retire_squash.specs.declared.active.Stage.TheVariants as stages
 use Rattle.smt_model.specs.{Basics.holds_of, Basics.first, Comparisons.same_effect}
 use Rattle.smt_model.specs.{Jobs.is_actor, Setup.Setup, Picture.Picture, Picture.picture, Flights.flight}
-use Rattle.smt_model.specs.Fates.{fate, fetching, is, is_live, Completed}
+use Rattle.smt_model.specs.Fates.{Fate, fate, fetching, is, is_in_flight, Completed}
 use Rattle.smt_model.specs.Rules.{first_failing, refused, is_first, of_fetched, effect_now}
 use Rattle.smt_model.proofs.{Fates.Numbers.at_hart, Fates.Moves.same_number-is}
 use Rattle.core_parts.specs.{Agree.HartAgrees, Agree.IsActive, Agree.IsStage, Retirement.CanRetire}
-use Rattle.core_parts.specs.{Place.IsPlaced, Place.IsThere, Place.active_at}
+use Rattle.core_parts.specs.Place.{InActiveList}
 use Rattle.core_state.specs.{Refusals.outcome_at}
 use Rattle.core_state.specs.{State.IsCore, State.view_of, View.CoreView}
-use Rattle.core_parts.specs.{declared.hart.HartState.HartState, declared.place.Place.Place}
-use Rattle.core_parts.specs.declared.place.Place.TheVariants as place
+use Rattle.core_parts.specs.declared.hart.HartState.{HartState}
 use Rattle.core_state.specs.{declared.state.State.TheInside.Inside}
-use Rattle.core_state.proofs.Following.Place.{not_completed_if_gone}
 use Rattle.core_state.proofs.Following.Tests.{refused-is, holds, fails}
 use Rattle.core_state.proofs.Steps.Retire.{Look.fetched_of, State.Effects, State.effect_in}
+
+not_completed_if_gone : (f : Fate) → is_in_flight f ≡ false → is f Completed ≡ false
+not_completed_if_gone f gone = grind (arith, nat_tests)
 
 -- What a stage says of a fate.
 not_completed : (p : Picture) (s : ℕ) (at : Stage) → IsStage p s at → outcome_at at ≡ None
@@ -59,31 +59,13 @@ module _ (setup : Setup) (past : List Event) (actor s : ℕ) (effect : Effect) w
       ∙ (holds 1 (is_actor setup actor) behind_actor one
       ∙ fails 2 (is (fate past s) Completed) behind_fate elsewhere)
 
-  pub gone : is_actor setup actor ≡ true → is_live (fate past s) ≡ false
+  pub gone : is_actor setup actor ≡ true → is_in_flight (fate past s) ≡ false
       → refused setup past (Retire actor s effect) ≡ Some 2
-  gone one dead = not_there one (not_completed_if_gone (fate past s) dead)
+  gone one none = not_there one (not_completed_if_gone (fate past s) none)
 
-  elsewhere : (h : ℕ) (at : Place) → IsThere setup past h s at → active_at at ≡ None
-      → is (fate past s) Completed ≡ false
-  elsewhere h (place.DecodeLatch x) is_it other = rw is_it.0 refl
-  elsewhere h (place.RenameLatch x) is_it other = rw is_it.0 refl
-  elsewhere h (place.ActiveList x) is_it other = absurd (none-some x (sym other))
-
-  pub placed_elsewhere : is_actor setup actor ≡ true → (h : ℕ) (at : Place) → IsPlaced setup past h s at
-      → active_at at ≡ None → refused setup past (Retire actor s effect) ≡ Some 2
-  placed_elsewhere one h at placed other = not_there one (elsewhere h at placed.there other)
-
-  pub active_here : (h : ℕ) (at : Place) (x : Active) → IsThere setup past h s at → active_at at ≡ Some x
-      → IsActive (picture setup past) h x × (x.seq ≡ s)
-  active_here h (place.DecodeLatch y) x is_it here = absurd (none-some x here)
-  active_here h (place.RenameLatch y) x is_it here = absurd (none-some x here)
-  active_here h (place.ActiveList y) x is_it here =
-      subst (λ z. IsActive (picture setup past) h z × (z.seq ≡ s)) (same_Some y x here) is_it
-
-  module _ (h : ℕ) (at : Place) (x : Active) (placed : IsPlaced setup past h s at) (here : active_at at ≡ Some x)
-      (one : is_actor setup actor ≡ true) where
+  module _ (h : ℕ) (x : Active) (placed : InActiveList setup past h s x) (one : is_actor setup actor ≡ true) where
     stands : IsActive (picture setup past) h x × (x.seq ≡ s)
-    stands = active_here h at x placed.there here
+    stands = (placed.active, placed.number)
 
     pub waits : outcome_at x.stage ≡ None → refused setup past (Retire actor s effect) ≡ Some 2
     waits none =

@@ -4,7 +4,7 @@
 ghost use Rattle.std.specs.Prelude.{◌≡◌, ◌<◌, length, None, true};
 ghost use Rattle.events.specs.declared.event.Event.TheVariants.{Decode, Rename, Issue, Complete};
 ghost use Rattle.events.specs.declared.event.Event.TheVariants.{Retire};
-ghost use Rattle.smt_model.specs.Fates.{fate, is_live, is_of};
+ghost use Rattle.smt_model.specs.Fates.{is_of};
 ghost use Rattle.smt_model.specs.Picture.{picture};
 ghost use Rattle.smt_model.specs.Rules.{refused};
 ghost use Rattle.core_parts.specs.Agree.{IsActive, IsEntry};
@@ -38,14 +38,8 @@ impl State {
             } => {
                 self.fetch(actor, FetchPoint { hart, pc, word }, predicted);
             }
-            Event::Decode { actor, seq } => {
-                let hart = self.hart_of(seq);
-                self.write_decode(actor, hart, seq);
-            }
-            Event::Rename { actor, seq, phys } => {
-                let hart = self.hart_of(seq);
-                self.write_rename(actor, hart, seq, phys);
-            }
+            Event::Decode { actor, seq } => self.apply_decode(actor, seq),
+            Event::Rename { actor, seq, phys } => self.apply_rename(actor, seq, phys),
             Event::Issue { actor, seq } => self.apply_issue(actor, seq),
             Event::Complete {
                 actor,
@@ -57,6 +51,28 @@ impl State {
             }
             Event::Retire { actor, seq, effect } => self.apply_retirement(actor, seq, effect),
         }
+    }
+
+    fn apply_decode(&mut self, actor: u8, seq: Seq)
+        requires room { length self.old.past < self.old.limit }
+        requires allowed { refused self.old.setup self.old.past (Decode actor seq) ≡ None }
+        ensures { self.new ≡ grown (Decode actor seq) self.old }
+    {
+        let Some(hart) = self.in_decode_latch(seq) else {
+            unreachable!();
+        };
+        self.write_decode(actor, hart, seq);
+    }
+
+    fn apply_rename(&mut self, actor: u8, seq: Seq, phys: Option<Phys>)
+        requires room { length self.old.past < self.old.limit }
+        requires allowed { refused self.old.setup self.old.past (Rename actor seq phys) ≡ None }
+        ensures { self.new ≡ grown (Rename actor seq phys) self.old }
+    {
+        let Some((hart, _)) = self.in_rename_latch(seq) else {
+            unreachable!();
+        };
+        self.write_rename(actor, hart, seq, phys);
     }
 
     fn apply_issue(&mut self, actor: u8, seq: Seq)
@@ -91,24 +107,10 @@ impl State {
         requires allowed { refused self.old.setup self.old.past (Retire actor seq effect) ≡ None }
         ensures { self.new ≡ grown (Retire actor seq effect) self.old }
     {
-        let Some((hart, place)) = self.place_of(seq) else {
-            unreachable!();
-        };
-        let Some(active) = place.active() else {
+        let Some((hart, active)) = self.in_active_list(seq) else {
             unreachable!();
         };
         self.write_retire(actor, hart, active, effect);
-    }
-
-    /// The hart of an instruction that is in a latch or in flight.
-    fn hart_of(&self, seq: Seq) -> u8
-        requires { is_live (fate self.now.past seq) ≡ true }
-        ensures { is_of self.now.past result seq ≡ true }
-    {
-        match self.place_of(seq) {
-            Some((hart, _)) => hart,
-            None => unreachable!(),
-        }
     }
 
     /// Writes the decode of instruction `seq` of hart `hart`, which may come next.

@@ -1,11 +1,11 @@
 //! Which rule a given event breaks, if it breaks one.
 
 ghost use Rattle.std.specs.Prelude.{◌≡◌, ℕ, ◌<◌, IfSome, IfNone, length, false};
-ghost use Rattle.smt_model.specs.Fates.{fate, is_live};
+ghost use Rattle.smt_model.specs.Fates.{fate, is, is_in_flight, InDecode, InRename};
 ghost use Rattle.smt_model.specs.Picture.{picture};
 ghost use Rattle.smt_model.specs.Rules.{refused, first_failing};
 ghost use Rattle.core_parts.specs.Agree.{HartAgrees};
-ghost use Rattle.core_parts.specs.Place.{IsPlaced};
+ghost use Rattle.core_parts.specs.Place.{InDecodeLatch, InRenameLatch, InActiveList};
 
 mod complete;
 mod decode;
@@ -16,9 +16,10 @@ mod retire;
 mod same;
 
 use super::State;
-use core_parts::{FetchPoint, HartState, Place};
+use core_parts::{FetchPoint, HartState, Slot};
 use events::Event;
 use numbers::Seq;
+use retire_squash::Active;
 
 impl State {
     /// The number of the first rule that an event would break if it came next. None where it may
@@ -48,13 +49,30 @@ impl State {
         }
     }
 
-    /// The hart and the place of the instruction of number `seq`, where it is in a latch or in
-    /// flight.
-    pub(super) fn place_of(&self, seq: Seq) -> Option<(u8, Place)>
-        ensures placed { IfSome result (λ r. IsPlaced self.now.setup self.now.past r.0 seq r.1) }
-        ensures nowhere { IfNone result (is_live (fate self.now.past seq) ≡ false) }
+    /// The hart in whose decode latch the instruction of number `seq` is.
+    pub(super) fn in_decode_latch(&self, seq: Seq) -> Option<u8>
+        ensures there { IfSome result (λ h. InDecodeLatch self.now.setup self.now.past h seq) }
+        ensures nowhere { IfNone result (is (fate self.now.past seq) InDecode ≡ false) }
     {
-        self.parts.place_of(seq)
+        self.parts.in_decode_latch(seq)
+    }
+
+    /// The hart in whose rename latch the instruction of number `seq` is, and how it stands there.
+    pub(super) fn in_rename_latch(&self, seq: Seq) -> Option<(u8, Slot)>
+        ensures there { IfSome result
+            (λ r. InRenameLatch self.now.setup self.now.past r.0 seq r.1) }
+        ensures nowhere { IfNone result (is (fate self.now.past seq) InRename ≡ false) }
+    {
+        self.parts.in_rename_latch(seq)
+    }
+
+    /// The hart that has the instruction of number `seq` in flight, and how it stands there.
+    pub(super) fn in_active_list(&self, seq: Seq) -> Option<(u8, Active)>
+        ensures there { IfSome result
+            (λ r. InActiveList self.now.setup self.now.past r.0 seq r.1) }
+        ensures nowhere { IfNone result (is_in_flight (fate self.now.past seq) ≡ false) }
+    {
+        self.parts.in_active_list(seq)
     }
 
     /// What hart `hart` has of its own.

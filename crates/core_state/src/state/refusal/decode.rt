@@ -16,12 +16,9 @@ impl State {
         if !self.has_actor(actor) {
             return Some(1);
         }
-        let Some((hart, place)) = self.place_of(seq) else {
+        let Some(hart) = self.in_decode_latch(seq) else {
             return Some(2);
         };
-        if !place.is_decode_latch() {
-            return Some(2);
-        }
         let state = self.hart(hart);
         first_failing(&[
             (3, is_oldest(&state.decode_latch, seq)),

@@ -29,10 +29,7 @@ impl State {
         if !self.has_actor(actor) {
             return Some(1);
         }
-        let Some((hart, place)) = self.place_of(seq) else {
-            return Some(2);
-        };
-        let Some(slot) = place.rename_slot() else {
+        let Some((hart, slot)) = self.in_rename_latch(seq) else {
             return Some(2);
         };
         let state = self.hart(hart);

@@ -19,10 +19,7 @@ impl State {
         if !self.has_actor(actor) {
             return Some(1);
         }
-        let Some((hart, place)) = self.place_of(seq) else {
-            return Some(2);
-        };
-        let Some(active) = place.active() else {
+        let Some((hart, active)) = self.in_active_list(seq) else {
             return Some(2);
         };
         let Some(outcome) = outcome_at(active.stage) else {

@@ -4,7 +4,7 @@ use Rattle.retire_squash.specs.declared.active.Active.{Active}
 use Rattle.smt_model.specs.{Rules.is_first, Kinds.kind_of, Kinds.is_loading, Kinds.is_storing}
 use Rattle.core_parts.specs.declared.slot.Slot.{Slot}
 use Rattle.core_state.proofs.{Following.Place.parts_agree, Following.Place.queue_size, Following.Tests.not_full}
-use Rattle.core_state.proofs.Following.Rename.{no_actor, gone, placed_elsewhere, there}
+use Rattle.core_state.proofs.Following.Rename.{no_actor, not_there, there}
 use Rattle.core_state.proofs.state.State.rename_refusal.Goals as goal
 
 pub returns-then-not-has_actor : goal.returns-then-not-has_actor
@@ -14,27 +14,20 @@ returns-then-not-has_actor c =
 
 pub returns-in_default : goal.returns-in_default
 returns-in_default c =
-    sym (gone c.args.self.now.setup c.args.self.now.past c.args.actor c.args.seq c.args.phys
+    sym (not_there c.args.self.now.setup c.args.self.now.past c.args.actor c.args.seq c.args.phys
     (sym c.has_actor.ensures ∙ c.if-not-has_actor.false) c.in_default.ensures.nowhere)
-
-pub returns-in_default-rename_slot : goal.returns-in_default-rename_slot
-returns-in_default-rename_slot c =
-    sym (placed_elsewhere c.args.self.now.setup c.args.self.now.past c.args.actor c.args.seq c.args.phys
-    (sym c.has_actor.ensures ∙ c.if-not-has_actor.false) c.in-Some.hart c.in-Some.place c.in-Some.ensures.placed
-    (sym c.rename_slot.ensures ∙ c.in_default-rename_slot.is))
 
 pub returns : goal.returns
 returns c =
     let i = c.self.inside in
     let v = c.args.self.now in
     let x = c.hart-state.result.now in
-    let slot = c.in-Some-rename_slot.slot in
+    let slot = c.in-Some.slot in
     c.first_failing.ensures
-    ∙ sym (there v.setup v.past c.args.actor c.args.seq c.args.phys c.in-Some.hart c.in-Some.place slot x i.parts
+    ∙ sym (there v.setup v.past c.args.actor c.args.seq c.args.phys c.in-Some.hart slot x i.parts
     c.is_oldest.result (not c.is_full.result) (not c.is_full-2.result) c.has_load_room.result c.has_store_room.result
     c.is_fitting.result c.may_take.result
-    (sym c.has_actor.ensures ∙ c.if-not-has_actor.false) c.in-Some.ensures.placed
-    (sym c.rename_slot.ensures ∙ c.in-Some-rename_slot.is) c.hart-state.ensures
+    (sym c.has_actor.ensures ∙ c.if-not-has_actor.false) c.in-Some.ensures.there c.hart-state.ensures
     (parts_agree i c.self.invariant v c.self.view_is) (queue_size i c.self.invariant v c.self.view_is)
     (record {
       oldest = c.is_oldest.ensures ∙ ap (λ xs. is_first c.args.seq (map (λ (z : Slot). z.seq) xs)) c.deref.ensures.0;

@@ -2,7 +2,7 @@
 use Rattle.std.proofs.Common.{◌∙◌, true, false, sym, ap, map}
 use Rattle.retire_squash.specs.declared.active.Active.{Active}
 use Rattle.smt_model.specs.{Rules.is_first, Comparisons.same_effect}
-use Rattle.core_state.proofs.Following.Retire.{no_actor, gone, placed_elsewhere, waits, not_oldest, can_retire, tells}
+use Rattle.core_state.proofs.Following.Retire.{no_actor, gone, waits, not_oldest, can_retire, tells}
 use Rattle.core_state.proofs.Following.Retire.{effect_view}
 use Rattle.core_parts.proofs.Agreement.Queues.{has_place}
 use Rattle.core_state.proofs.Following.Place.{hart_inside}
@@ -18,24 +18,16 @@ returns-in_default c =
     sym (gone c.args.self.now.setup c.args.self.now.past c.args.actor c.args.seq c.args.said
     (sym c.has_actor.ensures ∙ c.if-not-has_actor.false) c.in_default.ensures.nowhere)
 
-pub returns-in_default-active : goal.returns-in_default-active
-returns-in_default-active c =
-    sym (placed_elsewhere c.args.self.now.setup c.args.self.now.past c.args.actor c.args.seq c.args.said
-    (sym c.has_actor.ensures ∙ c.if-not-has_actor.false) c.in-Some.hart c.in-Some.place c.in-Some.ensures.placed
-    (sym c.active.ensures ∙ c.in_default-active.is))
-
 pub returns-in_default-outcome_at : goal.returns-in_default-outcome_at
 returns-in_default-outcome_at c =
     sym (waits c.args.self.now.setup c.args.self.now.past c.args.actor c.args.seq c.args.said
-    c.in-Some.hart c.in-Some.place c.in-Some-active.active c.in-Some.ensures.placed
-    (sym c.active.ensures ∙ c.in-Some-active.is) (sym c.has_actor.ensures ∙ c.if-not-has_actor.false)
+    c.in-Some.hart c.in-Some.active c.in-Some.ensures.there (sym c.has_actor.ensures ∙ c.if-not-has_actor.false)
     (sym c.outcome_at.ensures ∙ c.in_default-outcome_at.is))
 
 pub returns-then-not-is_oldest_active : goal.returns-then-not-is_oldest_active
 returns-then-not-is_oldest_active c =
     sym (not_oldest c.args.self.now.setup c.args.self.now.past c.args.actor c.args.seq c.args.said
-    c.in-Some.hart c.in-Some.place c.in-Some-active.active c.in-Some.ensures.placed
-    (sym c.active.ensures ∙ c.in-Some-active.is) (sym c.has_actor.ensures ∙ c.if-not-has_actor.false)
+    c.in-Some.hart c.in-Some.active c.in-Some.ensures.there (sym c.has_actor.ensures ∙ c.if-not-has_actor.false)
     c.in-Some-outcome_at.outcome
     (sym c.outcome_at.ensures ∙ c.in-Some-outcome_at.is) c.hart.result.now
     c.is_oldest_active.result c.hart.ensures
@@ -47,27 +39,25 @@ effect-now-requires c =
     has_place c.self.inside.parts.harts.items c.self.inside.parts.accesses c.in-Some.hart
     c.self.invariant.agrees.accesses
     (hart_inside c.self.inside c.self.invariant c.args.self.now c.self.view_is c.in-Some.hart
-    c.in-Some.ensures.placed.inside)
+    c.in-Some.ensures.there.inside)
 
 pub returns-then-not-is_same_effect : goal.returns-then-not-is_same_effect
 returns-then-not-is_same_effect c =
     let can = can_retire c.args.self.now.setup c.args.self.now.past c.args.actor c.args.seq c.args.said
-    c.in-Some.hart c.in-Some.place c.in-Some-active.active c.in-Some.ensures.placed
-    (sym c.active.ensures ∙ c.in-Some-active.is) (sym c.has_actor.ensures ∙ c.if-not-has_actor.false)
+    c.in-Some.hart c.in-Some.active c.in-Some.ensures.there (sym c.has_actor.ensures ∙ c.if-not-has_actor.false)
     c.in-Some-outcome_at.outcome
     (sym c.outcome_at.ensures ∙ c.in-Some-outcome_at.is) c.hart.result.now
     c.is_oldest_active.result c.hart.ensures
     (c.is_oldest_active.ensures ∙ ap (λ xs. is_first c.args.seq (map (λ (z : Active). z.seq) xs)) c.items.ensures.items)
     (c.if-not-is_oldest_active.false) in
     sym (tells c.args.self.now.setup c.args.self.now.past c.args.actor c.args.seq c.args.said
-    c.in-Some.hart c.in-Some.place c.in-Some-active.active c.in-Some.ensures.placed
-    (sym c.active.ensures ∙ c.in-Some-active.is) (sym c.has_actor.ensures ∙ c.if-not-has_actor.false)
+    c.in-Some.hart c.in-Some.active c.in-Some.ensures.there (sym c.has_actor.ensures ∙ c.if-not-has_actor.false)
     c.in-Some-outcome_at.outcome
     (sym c.outcome_at.ensures ∙ c.in-Some-outcome_at.is) c.hart.result.now
     c.is_oldest_active.result c.hart.ensures
     (c.is_oldest_active.ensures ∙ ap (λ xs. is_first c.args.seq (map (λ (z : Active). z.seq) xs)) c.items.ensures.items)
     (c.if-not-is_oldest_active.false) c.effect-now.result false
-    (effect_view c.self.inside c.self.invariant c.args.self.now c.self.view_is c.in-Some.hart c.in-Some-active.active
+    (effect_view c.self.inside c.self.invariant c.args.self.now c.self.view_is c.in-Some.hart c.in-Some.active
     c.in-Some-outcome_at.outcome c.effect-now.result can c.effect-now.ensures)
     (sym (sym c.is_same_effect.ensures ∙ c.if-not-is_same_effect.true)
     ∙ ap (λ e. same_effect e c.effect-now.result) c.fields.ensures.value))
@@ -75,22 +65,20 @@ returns-then-not-is_same_effect c =
 pub returns : goal.returns
 returns c =
     let can = can_retire c.args.self.now.setup c.args.self.now.past c.args.actor c.args.seq c.args.said
-    c.in-Some.hart c.in-Some.place c.in-Some-active.active c.in-Some.ensures.placed
-    (sym c.active.ensures ∙ c.in-Some-active.is) (sym c.has_actor.ensures ∙ c.if-not-has_actor.false)
+    c.in-Some.hart c.in-Some.active c.in-Some.ensures.there (sym c.has_actor.ensures ∙ c.if-not-has_actor.false)
     c.in-Some-outcome_at.outcome
     (sym c.outcome_at.ensures ∙ c.in-Some-outcome_at.is) c.hart.result.now
     c.is_oldest_active.result c.hart.ensures
     (c.is_oldest_active.ensures ∙ ap (λ xs. is_first c.args.seq (map (λ (z : Active). z.seq) xs)) c.items.ensures.items)
     (c.if-not-is_oldest_active.false) in
     sym (tells c.args.self.now.setup c.args.self.now.past c.args.actor c.args.seq c.args.said
-    c.in-Some.hart c.in-Some.place c.in-Some-active.active c.in-Some.ensures.placed
-    (sym c.active.ensures ∙ c.in-Some-active.is) (sym c.has_actor.ensures ∙ c.if-not-has_actor.false)
+    c.in-Some.hart c.in-Some.active c.in-Some.ensures.there (sym c.has_actor.ensures ∙ c.if-not-has_actor.false)
     c.in-Some-outcome_at.outcome
     (sym c.outcome_at.ensures ∙ c.in-Some-outcome_at.is) c.hart.result.now
     c.is_oldest_active.result c.hart.ensures
     (c.is_oldest_active.ensures ∙ ap (λ xs. is_first c.args.seq (map (λ (z : Active). z.seq) xs)) c.items.ensures.items)
     (c.if-not-is_oldest_active.false) c.effect-now.result true
-    (effect_view c.self.inside c.self.invariant c.args.self.now c.self.view_is c.in-Some.hart c.in-Some-active.active
+    (effect_view c.self.inside c.self.invariant c.args.self.now c.self.view_is c.in-Some.hart c.in-Some.active
     c.in-Some-outcome_at.outcome c.effect-now.result can c.effect-now.ensures)
     (sym (sym c.is_same_effect.ensures ∙ c.if-not-is_same_effect.false)
     ∙ ap (λ e. same_effect e c.effect-now.result) c.fields.ensures.value))

@@ -1,7 +1,0 @@
-use Rattle.std.proofs.Common.{◌≡◌, ℕ, ◌<◌, None, slice_index_or}
-use Rattle.core_parts.specs.{Place.place_in, declared.hart.HartState.HartState}
-use Rattle.core_parts.proofs.parts.Parts.place_of.Given as goal
-
-abbrev pub invariant-loop-hart : goal.invariant-loop-hart
-invariant-loop-hart l = (k : ℕ) (d : HartState) → k < l.hart
-    → place_in (slice_index_or l.state-items k d) l.seq ≡ None
