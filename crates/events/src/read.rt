@@ -208,7 +208,7 @@ fn read_next(text: &[u8]) -> Result<Next, FieldError>
 }
 
 // What comes next as the first field, and the text of the others.
-#[inline]
+#[inline(always)]
 fn take_next(text: &[u8]) -> Result<(Next, &[u8]), FieldError>
     ensures taken { IfOk result (λ p. IsTaken next_field text.now p.0 p.1.now) }
     ensures refused { IfErr result (λ error. next_field (field 32 text.now) ≡ Err error) }

@@ -1,11 +1,12 @@
 -- Entries by rising number: after one more, after some less, and which ready one is the oldest.
 use Rattle.std.proofs.Common.{◌≡◌, ◌≢◌, ℕ, ◌<◌, ◌≤◌, ◌==◌, ltb, Bool, true, false, cond, Some, List, [], ◌∷◌, map}
-use Rattle.std.proofs.Common.{filter, refl, sym, ap, ◌∙◌, subst, arith}
+use Rattle.std.proofs.Common.{zero, suc, ◌++◌, filter, length, get_or, take, drop, refl, sym, ap, ◌∙◌, subst, arith}
+use Rattle.std.proofs.lemmas.Bool.Decides.{nat_tests}
 use Rattle.std.specs.List.{AllByRecursion}
 use Rattle.std.proofs.lemmas.Bool.{ltb-true, ltb-false, eqb-false, or_parts, false≢true}
 use Rattle.rv_decode.specs.declared.op.UnitKind.{UnitKind}
 use Rattle.issue_queue.specs.{declared.entry.Entry.Entry, Entry.can_issue, Entry.woken_entry}
-use Rattle.issue_queue.specs.Queue.{Queue, AreEntriesRising, has_number, inserted_entry, first_ready, IsOldestReady}
+use Rattle.issue_queue.specs.Queue.{Queue, AreEntriesRising, has_number, inserted_entry, first_ready, is_other, IsOldestReady}
 
 -- some less
 AllByRecursion-filter : (P : Entry → Type 0) (test : Entry → Bool) (xs : List Entry) → AllByRecursion P xs
@@ -96,3 +97,34 @@ queue size xs = record { size = size; entries = xs }
 
 pub same_entries : (size : ℕ) (xs ys : List Entry) → xs ≡ ys → queue size xs ≡ queue size ys
 same_entries size xs ys same = ap (queue size) same
+
+-- without the entry of a number, which stands in one place alone
+others_stay : (n m : ℕ) (xs : List Entry) → m ≡ n → AllByRecursion (λ y. m < y.seq) xs → filter (is_other n) xs ≡ xs
+others_stay n m [] same all = refl
+others_stay n m (x ∷ xs) same all =
+    let apart : is_other n x ≡ true = grind (arith, nat_tests, all.0, same) in
+    rw apart (ap (λ ys. x ∷ ys) (others_stay n m xs same all.1))
+
+above_at : (n i : ℕ) (d : Entry) (xs : List Entry) → AllByRecursion (λ y. n < y.seq) xs → i < length xs
+    → n < (get_or xs i d).seq
+above_at n i d [] all inside = absurd (omega (arith, inside))
+above_at n zero d (x ∷ xs) all inside = all.0
+above_at n (suc i) d (x ∷ xs) all inside = above_at n i d xs all.1 (omega (arith, inside))
+
+pub without_place : (n i : ℕ) (d : Entry) (xs : List Entry) → AreEntriesRising xs → i < length xs
+    → (get_or xs i d).seq ≡ n → filter (is_other n) xs ≡ take i xs ++ drop (suc i) xs
+without_place n i d [] rising inside it = absurd (omega (arith, inside))
+without_place n zero d (x ∷ xs) rising inside it =
+    let gone : is_other n x ≡ false = grind (arith, nat_tests, it) in
+    rw gone (others_stay n x.seq xs it rising.0)
+without_place n (suc i) d (x ∷ xs) rising inside it =
+    let above = above_at x.seq i d xs rising.0 (omega (arith, inside)) in
+    let apart : is_other n x ≡ true = grind (arith, nat_tests, above, it) in
+    rw apart (ap (λ ys. x ∷ ys) (without_place n i d xs rising.1 (omega (arith, inside)) it))
+
+pub without_none : (n : ℕ) (xs : List Entry) → has_number n xs ≡ false → filter (is_other n) xs ≡ xs
+without_none n [] absent = refl
+without_none n (x ∷ xs) absent =
+    let parts = or_parts (x.seq == n) (has_number n xs) absent in
+    let apart : is_other n x ≡ true = rw parts.0 refl in
+    rw apart (ap (λ ys. x ∷ ys) (without_none n xs parts.1))

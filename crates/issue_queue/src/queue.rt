@@ -1,8 +1,9 @@
 ghost use Rattle.std.specs.Prelude.{◌≡◌, ℕ, ◌<◌, ◌≤◌, ◌==◌, [], length, insert, map, filter};
-ghost use Rattle.std.specs.Prelude.{count_by, false, IfSome, IfNone};
+ghost use Rattle.std.specs.Prelude.{count_by, false, slice_index_or, IfSome, IfNone};
 ghost use Rattle.std.specs.List.{AllByRecursion};
 ghost use Rattle.std.specs.Option.{option_map};
 ghost use Rattle.numbers.specs.Sizes.{most_queued};
+ghost use Rattle.issue_queue.specs.declared.entry.Entry.{Entry as AnyEntry};
 ghost use Rattle.issue_queue.specs.Entry.{woken_entry, can_issue};
 ghost use Rattle.issue_queue.specs.Queue.{has_number, inserted_entry, first_ready, IsOldestReady};
 ghost use Rattle.issue_queue.specs.Queue.{AreEntriesRising, is_other, stays};
@@ -140,7 +141,9 @@ impl IssueQueue {
     pub fn remove(&mut self, seq: Seq)
         ensures { self.new ≡ record self.old { entries = filter (is_other seq) self.old.entries } }
     {
-        self.entries.retain(|entry| entry.seq != seq);
+        if let Some(index) = place_with(seq, self.entries()) {
+            self.entries.remove(index);
+        }
     }
 
     /// Takes out a hart's instructions that are younger than `after`.
@@ -164,6 +167,21 @@ fn place_of(entry: &Entry, entries: &[Entry]) -> usize
         }
     }
     entries.len()
+}
+
+// Where the entry of this number stands.
+fn place_with(seq: Seq, entries: &[Entry]) -> Option<usize>
+    ensures inside { IfSome result (λ i. i < length entries.now) }
+    ensures there { IfSome result
+        (λ i. (d : AnyEntry) → (slice_index_or entries.now i d).seq ≡ seq) }
+    ensures none { IfNone result (has_number seq entries.now ≡ false) }
+{
+    for (i, entry) in entries.iter().enumerate() {
+        if entry.seq == seq {
+            return Some(i);
+        }
+    }
+    None
 }
 
 fn first_ready(kind: UnitKind, entries: &[Entry]) -> Option<Entry>

@@ -1,7 +1,8 @@
 -- Lemmas on the pieces of a text.
 use Rattle.std.proofs.Common.{◌≡◌, ℕ, ◌<◌, ◌≤◌, Bool, true, false, not, Option, Some, None, unwrap_or, List, [], ◌∷◌}
 use Rattle.std.proofs.Common.{length, take, drop, ◌+◌, suc, get_or, nat_lt, filter, drop-cons, add-one, length-drop}
-use Rattle.std.proofs.Common.{arith, refl}
+use Rattle.std.proofs.Common.{arith, refl, ◌-◌, ◌∙◌}
+use Rattle.std.proofs.lemmas.List.{take_rest}
 use Rattle.std.specs.List.{position, position_or_len, slice_split}
 use Rattle.std.proofs.{lemmas.List.Splits.slice_split-cons_yes, lemmas.List.Splits.slice_split_first}
 use Rattle.std.proofs.{lemmas.List.Splits.slice_split_none, lemmas.List.Sums.fails_before_first}
@@ -97,3 +98,17 @@ pieces_some xs ys zs i n start rest end behind =
     let here : get_or ys 0 0 ≡ get_or xs i 0 = rw rest (grind (arith, common_steps)) in
     let head : is_separator (get_or ys 0 0) ≡ false = rw here (not_true _ facts.1) in
     rw (← same) (up_to ys zs n (position is_separator ys) (inside_first ys long head) long refl end behind)
+
+-- a piece of one byte at the front
+ends_at : (b d : Bool) (x y : ℕ) (rest : List ℕ) → is_separator x ≡ b → is_separator y ≡ d → b ≡ false → d ≡ true
+    → position_or_len is_separator (x ∷ y ∷ rest) ≡ 1
+ends_at b d x y rest first second other same = rw (first ∙ other, second ∙ same) refl
+
+pub pieces_short : (text : List ℕ) → 1 < length text → is_separator (get_or text 0 0) ≡ false
+    → is_separator (get_or text 1 0) ≡ true
+    → pieces text ≡ take 1 text ∷ pieces (take (length text - 2) (drop 2 text))
+pieces_short [] long first second = absurd (omega (arith, long))
+pieces_short (x ∷ []) long first second = absurd (omega (arith, long))
+pieces_short (x ∷ y ∷ rest) long first second =
+    let end = ends_at false true x y rest first second refl refl in
+    rw (take_rest (x ∷ y ∷ rest) 2) (split (x ∷ y ∷ rest) 1 end (omega (arith, long)) (omega arith))

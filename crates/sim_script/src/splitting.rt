@@ -18,12 +18,42 @@ pub fn first_piece(text: &[u8]) -> Option<(&[u8], &[u8])>
     ensures shorter { IfSome result (λ p. length p.1.now < length text.now) }
     ensures none { IfNone result (pieces text.now ≡ []) }
 {
+    match short_piece(text) {
+        Some(found) => Some(found),
+        None => any_piece(text),
+    }
+}
+
+fn any_piece(text: &[u8]) -> Option<(&[u8], &[u8])>
+    ensures found { IfSome result (λ p. pieces text.now ≡ p.0.now ∷ pieces p.1.now) }
+    ensures shorter { IfSome result (λ p. length p.1.now < length text.now) }
+    ensures none { IfNone result (pieces text.now ≡ []) }
+{
     let Some(start) = piece_start(text) else {
         return None;
     };
     let text = &text[start..];
     let end = piece_end(text).unwrap_or(text.len());
     Some((&text[..end], &text[end..]))
+}
+
+/// A piece of one byte at the front, and the text behind the separator that ends it: such pieces make
+/// up most orders.
+#[inline]
+fn short_piece(text: &[u8]) -> Option<(&[u8], &[u8])>
+    ensures found { IfSome result (λ p. pieces text.now ≡ p.0.now ∷ pieces p.1.now) }
+    ensures shorter { IfSome result (λ p. length p.1.now < length text.now) }
+{
+    if text.len() < 2 {
+        return None;
+    }
+    if is_separator(text[0]) {
+        return None;
+    }
+    if !is_separator(text[1]) {
+        return None;
+    }
+    Some((&text[..1], &text[2..]))
 }
 
 /// Where the first byte stands that is no separator.

@@ -92,6 +92,9 @@ weighs v (c ∷ cs) digits =
     (value_low c parts.0) alone.rest alone.whole in
     record { whole = rw pow-succ' whole; rest = rw pow-succ' rest }
 
+pub digits_small : (text : List ℕ) → list_all is_hex_digit text ≡ true → hex_after 0 text < 16 ^ length text
+digits_small text digits = (weighs 0 text digits).rest
+
 -- digits are the spelling of the number that they write
 hex-hex_after : (v : ℕ) (text : List ℕ) → list_all is_hex_digit text ≡ true
     → hex (length text) (hex_after v text) ≡ text

@@ -1,11 +1,10 @@
 -- Fields lack each byte that stands between fields: the space, the comma, the newline and more.
 
-use Rattle.std.proofs.Common.{◌≡◌, ℕ, suc, ◌^◌, ◌<◌, Bool, true, false, not, ◌==◌, List, [], ◌∷◌, ◌++◌, Option, None}
-use Rattle.std.proofs.Common.{Some, ℤ, pos, negsuc, refl, ◌∙◌, arith}
+use Rattle.std.proofs.Common.{◌≡◌, ℕ, ◌^◌, ◌<◌, Bool, true, false, not, ◌==◌, List, [], ◌∷◌, ◌++◌}
+use Rattle.std.proofs.Common.{refl, ◌∙◌, arith}
 use Rattle.std.proofs.{lemmas.Bool.Decides.nat_tests, lemmas.List.Folds.list_all-append}
-use Rattle.std.specs.{Char.is_ascii_digit, Fmt.decimal, Fmt.signed_decimal, List.list_all, Prelude.IfSome}
-use Rattle.std.specs.{Int.Signed.mag}
-use Rattle.text_fields.specs.{Reading.is_hex_digit, Spelling.dash, Spelling.hex, Spelling.optional, Splitting.Lacks}
+use Rattle.std.specs.{Char.is_ascii_digit, Fmt.decimal, List.list_all}
+use Rattle.text_fields.specs.{Reading.is_hex_digit, Spelling.hex, Splitting.Lacks}
 use Rattle.text_fields.proofs.{DecimalLaws.decimal_digits, HexLaws.hex_digits}
 
 -- bytes that all pass a test lack one that does not

@@ -1,6 +1,7 @@
 pub mod DecimalLaws
 pub mod DecimalLemmas
 pub mod DigitLemmas
+pub mod DigitTable
 pub mod HexLaws
 pub mod HexLemmas
 pub mod LacksLaws

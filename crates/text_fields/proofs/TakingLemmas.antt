@@ -1,7 +1,7 @@
 -- A field that is read from the front of a text, byte by byte, up to its space.
 
 use Rattle.std.proofs.Common.{◌≡◌, ◌≢◌, ℕ, suc, ◌+◌, ◌-◌, ◌*◌, ◌<◌, ◌≤◌, Bool, true, false, ◌==◌, ◌&&◌, List, [], ◌∷◌}
-use Rattle.std.proofs.Common.{◌++◌, length, get_or, take, drop, drop-cons, None, Some, Result, refl, sym, ◌∙◌}
+use Rattle.std.proofs.Common.{◌++◌, length, get_or, take, drop, drop-cons, None, Some, Result, refl, subst, sym, ◌∙◌}
 use Rattle.std.proofs.Common.{ap, arith, nat_le, nat_lt}
 use Rattle.std.proofs.lemmas.Bool.Decides.{nat_tests}
 use Rattle.std.proofs.lemmas.List.{length-take-le, take-append-drop, take_rest}
@@ -89,6 +89,19 @@ decimal_taken max value place text end within some alone =
     let number = number_from (field 32 text) nonempty (λ zero_first. end.long ∙ one (sym first ∙ zero_first)) end.digits in
     let low : nat_le value max ≡ true = grind (arith, nat_tests) in
     (rw (number, end.whole, low) refl, take_rest text (place + 1) ∙ end.others)
+
+-- one digit before a space is a number
+pub digit_taken : (max : ℕ) (text : List ℕ) → 1 < length text → is_ascii_digit (get_or text 0 0) ≡ true
+    → get_or text 1 0 ≡ 32 → get_or text 0 0 - 48 ≤ max
+    → IsTaken (decimal_field max) text (get_or text 0 0 - 48) (take (length text - 2) (drop 2 text))
+digit_taken max text long digit space within =
+    let c = get_or text 0 0 in
+    let apart : c ≢ 32 = grind (arith, nat_tests, digit) in
+    let one = at_next 0 0 text (at_start text) (omega (arith, long)) apart digit in
+    let end = at_end (0 * 10 + (c - 48)) 1 text one long space in
+    let value : 0 * 10 + (c - 48) ≡ c - 48 = omega arith in
+    let taken = decimal_taken max (0 * 10 + (c - 48)) 1 text end (rw value within) (omega arith) refl in
+    subst (λ v. IsTaken (decimal_field max) text v (take (length text - 2) (drop 2 text))) value taken
 
 -- digits before a space are the first field
 pub hex_taken : (count value : ℕ) (text : List ℕ) → count < length text → get_or text count 0 ≡ 32

@@ -89,24 +89,34 @@ pub fn read_signed_decimal(text: &[u8], bound: u32) -> Result<i32, FieldError>
     }
 }
 
-// The number that a hexadecimal digit stands for.
+/// Above every number of eight hexadecimal digits.
+const NO: u64 = 1 << 32;
+
+// `weight` of each byte.
+static DIGITS: [u64; 256] = [
+    NO, NO, NO, NO, NO, NO, NO, NO, NO, NO, NO, NO, NO, NO, NO, NO, NO, NO, NO, NO, NO, NO, NO, NO,
+    NO, NO, NO, NO, NO, NO, NO, NO, NO, NO, NO, NO, NO, NO, NO, NO, NO, NO, NO, NO, NO, NO, NO, NO,
+    0, 1, 2, 3, 4, 5, 6, 7, 8, 9, NO, NO, NO, NO, NO, NO, NO, NO, NO, NO, NO, NO, NO, NO, NO, NO,
+    NO, NO, NO, NO, NO, NO, NO, NO, NO, NO, NO, NO, NO, NO, NO, NO, NO, NO, NO, NO, NO, NO, NO, 10,
+    11, 12, 13, 14, 15, NO, NO, NO, NO, NO, NO, NO, NO, NO, NO, NO, NO, NO, NO, NO, NO, NO, NO, NO,
+    NO, NO, NO, NO, NO, NO, NO, NO, NO, NO, NO, NO, NO, NO, NO, NO, NO, NO, NO, NO, NO, NO, NO, NO,
+    NO, NO, NO, NO, NO, NO, NO, NO, NO, NO, NO, NO, NO, NO, NO, NO, NO, NO, NO, NO, NO, NO, NO, NO,
+    NO, NO, NO, NO, NO, NO, NO, NO, NO, NO, NO, NO, NO, NO, NO, NO, NO, NO, NO, NO, NO, NO, NO, NO,
+    NO, NO, NO, NO, NO, NO, NO, NO, NO, NO, NO, NO, NO, NO, NO, NO, NO, NO, NO, NO, NO, NO, NO, NO,
+    NO, NO, NO, NO, NO, NO, NO, NO, NO, NO, NO, NO, NO, NO, NO, NO, NO, NO, NO, NO, NO, NO, NO, NO,
+    NO, NO, NO, NO, NO, NO, NO, NO, NO, NO, NO, NO, NO, NO,
+];
+
+// What a byte stands for as a hexadecimal digit, and `NO` where it is none.
 #[inline]
-fn hex_digit_value(digit: u8) -> Option<u32>
-    ensures digit { IfSome result (λ value. is_hex_digit digit ≡ true) }
-    ensures value { IfSome result (λ value. value ≡ hex_digit_value digit) }
-    ensures small { IfSome result (λ value. value < 16) }
-    ensures other { IfNone result (is_hex_digit digit ≡ false) }
+fn weight(byte: u8) -> u64
+    ensures { result ≡ (if is_hex_digit byte then hex_digit_value byte else 4294967296) }
 {
-    if digit.is_ascii_digit() {
-        return Some(u32::from(digit - b'0'));
-    }
-    if b'a' <= digit && digit <= b'f' {
-        return Some(u32::from(digit - (b'a' - 10)));
-    }
-    None
+    DIGITS[byte as usize]
 }
 
-// The number that up to eight bytes write, where they are hexadecimal digits.
+// The number that up to eight bytes write, where they are hexadecimal digits. A byte that is none
+// makes the sum too great, so that one test at the end is enough.
 #[inline]
 pub(crate) fn hex_number(digits: &[u8]) -> Option<u32>
     requires { length digits.now ≤ 8 }
@@ -115,11 +125,14 @@ pub(crate) fn hex_number(digits: &[u8]) -> Option<u32>
     ensures small { IfSome result (λ value. value < 16 ^ length digits.now) }
     ensures other { IfNone result (list_all is_hex_digit digits.now ≡ false) }
 {
-    let mut value = 0;
+    let mut sum = 0;
     for digit in digits {
-        value = value * 16 + hex_digit_value(*digit)?;
+        sum = sum * 16 + weight(*digit);
     }
-    Some(value)
+    if sum >= NO {
+        return None;
+    }
+    Some(sum as u32)
 }
 
 /// A number of exactly `count` lower-case hexadecimal digits, 0 to 8. What is anything else is

@@ -32,6 +32,10 @@ pub fn split_field(text: &[u8], separator: u8) -> (&[u8], &[u8])
     ensures others { result.1.now ≡ rest separator text.now }
     ensures length { length result.0.now + length result.1.now ≤ length text.now }
 {
+    // A field of one byte is so frequent that it has a way of its own.
+    if text.len() > 1 && text[1] == separator && text[0] != separator {
+        return (&text[..1], &text[2..]);
+    }
     let end = first_end(text, separator);
     if end == text.len() {
         return (text, &[]);

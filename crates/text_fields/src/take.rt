@@ -19,22 +19,30 @@ fn begins_with_zero(text: &[u8], digits: usize) -> bool
     digits > 1 && text[0] == b'0'
 }
 
-// The number of a first field with no fault that a space ends, and the text behind that space.
-#[inline]
-fn plain_decimal(text: &[u8], max: u32) -> Option<(u32, &[u8])>
+/// The most digits that are read on the quick way, and the space behind them.
+const QUICK: usize = 8;
+
+// The number of a first field of a few digits that a space ends, with no fault, and the text behind
+// that space. The loop's length is known, so that it can be written out.
+#[inline(always)]
+fn several_digits(text: &[u8], max: u32) -> Option<(u32, &[u8])>
     ensures taken { IfSome result (λ p. IsTaken (decimal_field max) text.now p.0 p.1.now) }
     ensures within { IfSome result (λ p. p.0 ≤ max) }
 {
     let mut value = 0u64;
-    for (place, byte) in text.iter().enumerate() {
-        if *byte == b' ' {
+    for place in 0..QUICK {
+        if place >= text.len() {
+            return None;
+        }
+        let byte = text[place];
+        if !byte.is_ascii_digit() {
+            if byte != b' ' {
+                return None;
+            }
             if place == 0 || begins_with_zero(text, place) {
                 return None;
             }
             return Some((value as u32, &text[place + 1..]));
-        }
-        if !byte.is_ascii_digit() {
-            return None;
         }
         value = value * 10 + u64::from(byte - b'0');
         if value > u64::from(max) {
@@ -44,17 +52,60 @@ fn plain_decimal(text: &[u8], max: u32) -> Option<(u32, &[u8])>
     None
 }
 
+// The number of a first field of one digit that a space ends, and the text behind that space.
+#[inline(always)]
+fn one_digit(text: &[u8], max: u32) -> Option<(u32, &[u8])>
+    ensures taken { IfSome result (λ p. IsTaken (decimal_field max) text.now p.0 p.1.now) }
+    ensures within { IfSome result (λ p. p.0 ≤ max) }
+{
+    if text.len() < 2 || text[1] != b' ' {
+        return None;
+    }
+    if !text[0].is_ascii_digit() {
+        return None;
+    }
+    let value = u32::from(text[0] - b'0');
+    if value > max {
+        return None;
+    }
+    Some((value, &text[2..]))
+}
+
+// The number of a first field with no fault that a space ends, and the text behind that space.
+#[inline(always)]
+fn plain_decimal(text: &[u8], max: u32) -> Option<(u32, &[u8])>
+    ensures taken { IfSome result (λ p. IsTaken (decimal_field max) text.now p.0 p.1.now) }
+    ensures within { IfSome result (λ p. p.0 ≤ max) }
+{
+    // A number that may have two digits mostly has one.
+    if max < 100 {
+        return one_digit(text, max);
+    }
+    several_digits(text, max)
+}
+
 /// The first field as `read_decimal` reads it, and the text of the others, which is empty where
 /// there are none.
-#[inline]
+#[inline(always)]
 pub fn take_decimal(text: &[u8], max: u32) -> Result<(u32, &[u8]), FieldError>
     ensures taken { IfOk result (λ p. IsTaken (decimal_field max) text.now p.0 p.1.now) }
     ensures within { IfOk result (λ p. p.0 ≤ max) }
     ensures refused { IfErr result (λ error. decimal_field max (field 32 text.now) ≡ Err error) }
 {
-    if let Some(taken) = plain_decimal(text, max) {
-        return Ok(taken);
+    match plain_decimal(text, max) {
+        Some(taken) => Ok(taken),
+        None => any_decimal(text, max),
     }
+}
+
+// `take_decimal` of any text, in more steps.
+#[cold]
+#[inline(never)]
+fn any_decimal(text: &[u8], max: u32) -> Result<(u32, &[u8]), FieldError>
+    ensures taken { IfOk result (λ p. IsTaken (decimal_field max) text.now p.0 p.1.now) }
+    ensures within { IfOk result (λ p. p.0 ≤ max) }
+    ensures refused { IfErr result (λ error. decimal_field max (field 32 text.now) ≡ Err error) }
+{
     let (first, others) = split_field(text, b' ');
     Ok((read_decimal(first, max)?, others))
 }
@@ -80,9 +131,20 @@ pub fn take_hex(text: &[u8], count: usize) -> Result<(u32, &[u8]), FieldError>
     ensures taken { IfOk result (λ p. IsTaken (hex_field count) text.now p.0 p.1.now) }
     ensures refused { IfErr result (λ error. hex_field count (field 32 text.now) ≡ Err error) }
 {
-    if let Some(taken) = plain_hex(text, count) {
-        return Ok(taken);
+    match plain_hex(text, count) {
+        Some(taken) => Ok(taken),
+        None => any_hex(text, count),
     }
+}
+
+// `take_hex` of any text, in more steps.
+#[cold]
+#[inline(never)]
+fn any_hex(text: &[u8], count: usize) -> Result<(u32, &[u8]), FieldError>
+    requires { count ≤ 8 }
+    ensures taken { IfOk result (λ p. IsTaken (hex_field count) text.now p.0 p.1.now) }
+    ensures refused { IfErr result (λ error. hex_field count (field 32 text.now) ≡ Err error) }
+{
     let (first, others) = split_field(text, b' ');
     Ok((read_hex(first, count)?, others))
 }
@@ -100,9 +162,22 @@ pub fn take_optional_hex(text: &[u8], count: usize) -> Result<(Option<u32>, &[u8
     if text.len() > 1 && text[0] == b'-' && text[1] == b' ' {
         return Ok((None, &text[2..]));
     }
-    if let Some((value, others)) = plain_hex(text, count) {
-        return Ok((Some(value), others));
+    match plain_hex(text, count) {
+        Some((value, others)) => Ok((Some(value), others)),
+        None => any_optional_hex(text, count),
     }
+}
+
+// `take_optional_hex` of any text, in more steps.
+#[cold]
+#[inline(never)]
+fn any_optional_hex(text: &[u8], count: usize) -> Result<(Option<u32>, &[u8]), FieldError>
+    requires { count ≤ 8 }
+    ensures taken { IfOk result
+        (λ p. IsTaken (optional_field (hex_field count)) text.now p.0 p.1.now) }
+    ensures refused { IfErr result
+        (λ error. optional_field (hex_field count) (field 32 text.now) ≡ Err error) }
+{
     let (first, others) = split_field(text, b' ');
     Ok((read_optional_hex(first, count)?, others))
 }

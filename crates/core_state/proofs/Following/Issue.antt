@@ -2,11 +2,11 @@
 use Rattle.std.specs.Prelude.{◌≡◌, ℕ, ◌==◌, ◌&&◌, Bool, true, false, not, nat_lt, List, [], ◌∷◌, map, find}
 use Rattle.std.specs.Prelude.{Option, Some, None, is_some, is_none, if◌then◌else◌, IfSome, IfNone}
 use Rattle.std.specs.List.{AllByRecursion, list_all}
-use Rattle.std.proofs.Common.{◌∙◌, refl, sym, ap, inl, inr, arith}
+use Rattle.std.proofs.Common.{zero, suc, ◌<◌, ◌≤◌, length, get_or, drop, ◌∙◌, refl, sym, ap, inl, inr, arith}
 use Rattle.std.proofs.{lemmas.Bool.cases_Bool, lemmas.Bool.false≢true}
-use Rattle.std.proofs.{lemmas.Option.none-some}
+use Rattle.std.proofs.{lemmas.Option.none-some, lemmas.Bool.Decides.nat_tests}
 use Rattle.events.specs.{declared.event.Event.Event, declared.event.Event.TheVariants.Issue}
-use Rattle.issue_queue.specs.{Entry.has_values, Entry.can_issue, declared.entry.Entry.Entry}
+use Rattle.issue_queue.specs.{Entry.has_values, Entry.can_issue, declared.entry.Entry.Entry, Queue.AreEntriesRising}
 use Rattle.rv_decode.specs.{Registers.op_unit, Registers.same_unit, declared.op.UnitKind.UnitKind}
 use Rattle.smt_model.specs.{Picture.picture, Setup.Setup, Basics.holds_of}
 use Rattle.smt_model.specs.{Jobs.is_actor, Jobs.job, Jobs.unit_of_actor, Registers.is_ready}
@@ -43,6 +43,31 @@ module _ (setup : Setup) (past : List Event) (legal : is_legal setup past) (s : 
         absurd (false≢true (sym (missing (λ z. z.seq) s es (sym is_it)) ∙ (ap (member s) numbers ∙ m)))
     | inr f ↦ f
   ]
+
+-- ---- The oldest ready one
+
+-- it is no lower one that is ready
+abbrev pub passes : UnitKind → ℕ → Entry → Bool
+passes kind n x = not (nat_lt x.seq n && can_issue kind x)
+
+no_lower : (kind : UnitKind) (n : ℕ) (x : Entry) → n ≤ x.seq → passes kind n x ≡ true
+no_lower kind n x above =
+    let apart : nat_lt x.seq n ≡ false = grind (arith, nat_tests, above) in
+    rw apart refl
+
+all_above : (kind : UnitKind) (n m : ℕ) (xs : List Entry) → n ≤ m → AllByRecursion (λ y. m < y.seq) xs
+    → list_all (passes kind n) xs ≡ true
+all_above kind n m [] above all = refl
+all_above kind n m (x ∷ xs) above all =
+    rw (no_lower kind n x (omega (arith, above, all.0))) (all_above kind n m xs above all.1)
+
+pub none_behind : (kind : UnitKind) (n i : ℕ) (d : Entry) (xs : List Entry) → AreEntriesRising xs → i < length xs
+    → n ≤ (get_or xs i d).seq → list_all (passes kind n) (drop i xs) ≡ true
+none_behind kind n i d [] rising inside above = absurd (omega (arith, inside))
+none_behind kind n zero d (x ∷ xs) rising inside above =
+    rw (no_lower kind n x above) (all_above kind n x.seq xs above rising.0)
+none_behind kind n (suc i) d (x ∷ xs) rising inside above =
+    none_behind kind n i d xs rising.1 (omega (arith, inside)) above
 
 -- ---- The rules
 

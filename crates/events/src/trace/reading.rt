@@ -16,6 +16,10 @@ use memchr::memchr;
 use std::alloc::{AllocFailed, Global};
 use thiserror::Error;
 
+/// About how many bytes a line of a trace has, rather too few: room for so many events is made at
+/// once, and they seldom move.
+const USUAL_LINE: usize = 20;
+
 /// Why a text is no trace.
 #[derive(Clone, Copy, Debug, PartialEq, Eq, Drop, Error)]
 pub enum TraceRefused {
@@ -59,7 +63,9 @@ fn read_events(text: &[u8], alloc: Global) -> Result<Vec<Event>, TraceRefused>
         Ok(rest) => rest,
         Err(rule) => return Err(TraceRefused::Line { line: 1, rule }),
     };
-    let mut events = Vec::new(alloc);
+    let Ok(mut events) = Vec::with_capacity(alloc, rest.len() / USUAL_LINE) else {
+        return Err(TraceRefused::Memory);
+    };
     while !rest.is_empty() {
         match read_first_event(rest) {
             Ok((event, others)) => {
@@ -107,6 +113,7 @@ fn read_first_event(text: &[u8]) -> Result<(Event, &[u8]), u8>
 }
 
 // The first line without its newline, and the text behind it, where a newline ends it.
+#[inline(always)]
 fn split_line(text: &[u8]) -> Option<(&[u8], &[u8])>
     ensures parts { IfSome result (λ p. text.now ≡ ended p.0.now ++ p.1.now) }
     ensures first { IfSome result (λ p. p.0.now ≡ field 10 text.now) }

@@ -1,7 +1,7 @@
 ghost use Rattle.std.specs.Prelude.{◌≡◌, ◌==◌, ◌&&◌, not, nat_lt, find, IfSome, IfNone, true, false};
 ghost use Rattle.std.specs.List.{list_all};
 ghost use Rattle.events.specs.declared.event.Event.TheVariants.{Issue};
-ghost use Rattle.issue_queue.specs.Entry.{can_issue};
+ghost use Rattle.issue_queue.specs.{Entry.can_issue, Queue.AreEntriesRising};
 ghost use Rattle.rv_decode.specs.Registers.{op_unit, same_unit};
 ghost use Rattle.smt_model.specs.Fates.{fate, is, Renamed};
 ghost use Rattle.smt_model.specs.Jobs.{is_actor};
@@ -71,11 +71,19 @@ fn is_for(kind: UnitKind, op: Op) -> bool
     kind == op.unit()
 }
 
-/// Whether no entry of a lower number may be taken up by a unit of this kind.
+/// Whether no entry of a lower number may be taken up by a unit of this kind. The numbers rise, so
+/// none is looked at from the first on that is no lower.
 fn is_oldest_ready(entries: &[Entry], kind: UnitKind, seq: Seq) -> bool
+    requires { AreEntriesRising entries.now }
     ensures { result ≡ list_all (λ x. not (nat_lt x.seq seq && can_issue kind x)) entries.now }
 {
-    entries
-        .iter()
-        .all(|entry| !(entry.seq < seq && entry.can_issue(kind)))
+    for entry in entries {
+        if entry.seq >= seq {
+            return true;
+        }
+        if entry.can_issue(kind) {
+            return false;
+        }
+    }
+    true
 }

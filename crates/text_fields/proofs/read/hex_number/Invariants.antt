@@ -1,12 +1,10 @@
-use Rattle.std.proofs.Common.{◌≡◌, ◌^◌, ◌<◌, drop}
-use Rattle.std.specs.List.{list_all}
-use Rattle.text_fields.specs.Reading.{hex_after, is_hex_digit}
+use Rattle.std.proofs.Common.{◌≡◌, ◌+◌, ◌*◌, ◌^◌, ◌≤◌, drop}
+use Rattle.text_fields.proofs.DigitTable.{weighed}
 use Rattle.text_fields.proofs.read.hex_number.Given as goal
 
--- the digits to come, after the number so far, write the whole number
+-- the bytes to come, after the sum so far, make the whole sum, which leaves room for more
 abbrev pub invariant-loop-digit : goal.invariant-loop-digit
 invariant-loop-digit l = record {
-  small : l.value < 16 ^ l.digit-index;
-  whole : hex_after l.value (drop l.digit-index l.digits) ≡ hex_after 0 l.digits;
-  digits : list_all is_hex_digit (drop l.digit-index l.digits) ≡ list_all is_hex_digit l.digits;
+  small : 15 * l.sum + 4294967296 ≤ 4294967296 * 16 ^ l.digit-index;
+  whole : weighed l.sum (drop l.digit-index l.digits) ≡ weighed 0 l.digits;
 }

@@ -1,4 +1,4 @@
-use Rattle.std.proofs.Common.{◌≡◌, ◌+◌, List, [], ◌∷◌, ◌++◌, append_assoc, drop, get_or, subst, take, ◌∙◌, ap}
+use Rattle.std.proofs.Common.{◌≡◌, List, [], ◌∷◌, ◌++◌, append_assoc, drop, get_or, subst, take, ◌∙◌, ap}
 use Rattle.std.proofs.{lemmas.List.take_all, lemmas.Result.on_ok_weaker}
 use Rattle.events.specs.{declared.event.Event.Event, Line.line_of, Sinking.HasBroken, Sinking.HasPut, Sinking.HasPutBut}
 use Rattle.events.specs.Trace.{ended, event_lines, header, trace_text}

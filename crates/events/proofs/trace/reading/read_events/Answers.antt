@@ -6,7 +6,7 @@ use Rattle.events.proofs.trace.reading.read_events.Goals as goal
 
 pub loop-rest-init : goal.loop-rest-init
 loop-rest-init c =
-    rw c.new-events.ensures.items
+    rw c.in-Ok-with_capacity.ensures.items
     (c.in-Ok.ensures.read ∙ ap (λ text. text ++ c.in-Ok.rest.now) (sym trace_text-nil), All-nil IsEventInRange)
 
 pub loop-rest-preserved : goal.loop-rest-preserved

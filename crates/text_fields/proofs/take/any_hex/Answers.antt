@@ -1,17 +1,11 @@
 use Rattle.std.proofs.Common.{rules}
-use Rattle.text_fields.proofs.take.take_hex.Goals as goal
+use Rattle.text_fields.proofs.take.any_hex.Goals as goal
 
 pub returns-clause-refused : goal.returns-clause-refused
 returns-clause-refused c = search rules
 
 pub returns-clause-taken : goal.returns-clause-taken
 returns-clause-taken c = search rules
-
-pub returns-in-Some-clause-refused : goal.returns-in-Some-clause-refused
-returns-in-Some-clause-refused c = search rules
-
-pub returns-in-Some-clause-taken : goal.returns-in-Some-clause-taken
-returns-in-Some-clause-taken c = search rules
 
 pub returns-in_err-read_hex-clause-refused : goal.returns-in_err-read_hex-clause-refused
 returns-in_err-read_hex-clause-refused c = search rules

@@ -1,7 +1,7 @@
 use Rattle.std.proofs.Common.{arith, sym, ◌∙◌}
 use Rattle.std.proofs.lemmas.Grind.{common_steps}
 use Rattle.sim_script.proofs.Pieces.{pieces_none, pieces_some}
-use Rattle.sim_script.proofs.splitting.first_piece.Goals as goal
+use Rattle.sim_script.proofs.splitting.any_piece.Goals as goal
 
 pub returns-in_default-clause-none : goal.returns-in_default-clause-none
 returns-in_default-clause-none c = pieces_none _ (sym c.piece_start.ensures ∙ c.in_default.is)

@@ -1,5 +1,5 @@
 use Rattle.std.proofs.Common.{rules}
-use Rattle.text_fields.proofs.take.take_decimal.Goals as goal
+use Rattle.text_fields.proofs.take.any_decimal.Goals as goal
 
 pub returns-clause-refused : goal.returns-clause-refused
 returns-clause-refused c = search rules
@@ -9,15 +9,6 @@ returns-clause-taken c = search rules
 
 pub returns-clause-within : goal.returns-clause-within
 returns-clause-within c = search rules
-
-pub returns-in-Some-clause-refused : goal.returns-in-Some-clause-refused
-returns-in-Some-clause-refused c = search rules
-
-pub returns-in-Some-clause-taken : goal.returns-in-Some-clause-taken
-returns-in-Some-clause-taken c = search rules
-
-pub returns-in-Some-clause-within : goal.returns-in-Some-clause-within
-returns-in-Some-clause-within c = search rules
 
 pub returns-in_err-read_decimal-clause-refused : goal.returns-in_err-read_decimal-clause-refused
 returns-in_err-read_decimal-clause-refused c = search rules
