@@ -1,5 +1,6 @@
 //! Taking: each function reads the first field of a text whose fields stand apart by spaces, and
-//! hands on the text of the others. A field that is as it should be is passed over once.
+//! hands on the text of the others. A field as it mostly is, without a fault and not too long for
+//! the quick way, is passed over once.
 
 ghost use Rattle.std.specs.Prelude.{◌≡◌, ◌≤◌, ◌==◌, ◌&&◌, nat_lt, length, slice_index, IfOk, IfErr};
 ghost use Rattle.std.specs.Prelude.{IfSome};
