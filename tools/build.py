@@ -96,7 +96,7 @@ class Proof:
             shutil.copytree(f"{ROOT}/crates/{other}", f"{self.room}/crates/{other}", copy_function=os.link, ignore=leave)
         leave = shutil.ignore_patterns("smtsim-build-*")
         shutil.copytree(f"{ROOT}/crates/{name}", f"{self.room}/crates/{name}", ignore=leave)
-        words = ["rt", "run" if name == PROGRAM else "lib", "--jobs", str(jobs)]
+        words = [sys.executable, f"{ROOT}/tools/quick_rt.py", "run" if name == PROGRAM else "lib", "--jobs", str(jobs)]
         words += ["--", "--help"] if name == PROGRAM else []
         how = {"stdin": subprocess.DEVNULL, "stdout": log, "stderr": log}
         self.running = subprocess.Popen(words, cwd=f"{self.room}/crates/{name}", **how)
