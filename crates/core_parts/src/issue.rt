@@ -80,7 +80,12 @@ impl HartState {
 fn first_ready(entries: &[Entry], kind: UnitKind) -> Option<Entry>
     ensures { result ≡ first_ready kind entries.now }
 {
-    entries.iter().copied().find(|entry| entry.can_issue(kind))
+    for entry in entries {
+        if entry.can_issue(kind) {
+            return Some(*entry);
+        }
+    }
+    None
 }
 
 /// The number of a source that has one.

@@ -1,4 +1,5 @@
-//! Where an instruction is, by its number alone.
+//! Where an instruction is, by its number alone. What may come next is of the oldest of some hart, so
+//! the oldest ones of all harts are looked at first.
 
 ghost use Rattle.std.specs.Prelude.{◌≡◌, ◌≤◌, ℕ, ◌<◌, Some, None, IfSome, IfNone, length};
 ghost use Rattle.std.specs.Prelude.{slice_index_or, is_some, true};
@@ -23,6 +24,11 @@ impl Parts {
             → slot_in (slice_index_or self.now.harts.items h d).decode_latch.items seq ≡ None) }
     {
         for (hart, state) in self.harts.iter().enumerate() {
+            if oldest_with(&state.decode_latch, seq).is_some() {
+                return Some(hart as u8);
+            }
+        }
+        for (hart, state) in self.harts.iter().enumerate() {
             if slot_of(&state.decode_latch, seq).is_some() {
                 return Some(hart as u8);
             }
@@ -41,6 +47,11 @@ impl Parts {
             → slot_in (slice_index_or self.now.harts.items h d).rename_latch.items seq ≡ None) }
     {
         for (hart, state) in self.harts.iter().enumerate() {
+            if let Some(oldest) = oldest_with(&state.rename_latch, seq) {
+                return Some((hart as u8, oldest));
+            }
+        }
+        for (hart, state) in self.harts.iter().enumerate() {
             if let Some(slot) = slot_of(&state.rename_latch, seq) {
                 return Some((hart as u8, slot));
             }
@@ -58,6 +69,11 @@ impl Parts {
             → member_in (slice_index_or self.now.harts.items h d).active seq ≡ None) }
     {
         for (hart, state) in self.harts.iter().enumerate() {
+            if let Some(oldest) = oldest_active_with(state.active.items(), seq) {
+                return Some((hart as u8, oldest));
+            }
+        }
+        for (hart, state) in self.harts.iter().enumerate() {
             if let Some(active) = state.active.find(seq) {
                 return Some((hart as u8, active));
             }
@@ -66,9 +82,36 @@ impl Parts {
     }
 }
 
+/// The first of these, where it is the instruction of number `seq`.
+fn oldest_with(slots: &[Slot], seq: Seq) -> Option<Slot>
+    ensures { IfSome result (λ x. slot_in slots.now seq ≡ Some x) }
+{
+    let oldest = slots.first()?;
+    if oldest.seq != seq {
+        return None;
+    }
+    Some(*oldest)
+}
+
+/// The first of these, where it is the instruction of number `seq`.
+fn oldest_active_with(active: &[Active], seq: Seq) -> Option<Active>
+    ensures { IfSome result (λ x. member_in active.now seq ≡ Some x) }
+{
+    let oldest = active.first()?;
+    if oldest.seq != seq {
+        return None;
+    }
+    Some(*oldest)
+}
+
 /// The one of these that is the instruction of number `seq`.
 fn slot_of(slots: &[Slot], seq: Seq) -> Option<Slot>
     ensures { result ≡ slot_in slots.now seq }
 {
-    slots.iter().copied().find(|slot| slot.seq == seq)
+    for slot in slots {
+        if slot.seq == seq {
+            return Some(*slot);
+        }
+    }
+    None
 }

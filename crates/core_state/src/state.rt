@@ -18,10 +18,11 @@ ghost use Rattle.smt_model.specs.Jobs.{is_actor};
 ghost use Rattle.smt_model.specs.Setup.{is_accepted};
 ghost use Rattle.core_state.specs.Setup.{setup_of, accepts};
 
-mod apply;
+mod follow;
 mod readers;
 mod refusal;
 mod tables;
+mod write;
 
 use crate::log::append;
 use crate::refused::CoreRefused;

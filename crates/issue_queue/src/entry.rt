@@ -1,4 +1,5 @@
-ghost use Rattle.std.specs.Prelude.{◌≡◌, ◌∷◌, []};
+ghost use Rattle.std.specs.Prelude.{◌≡◌, ◌∷◌, [], map};
+ghost use Rattle.issue_queue.specs.Entry.{woken_source};
 
 use numbers::{Phys, Seq};
 use rv_decode::{Op, UnitKind};
@@ -13,7 +14,7 @@ pub enum Source {
 }
 
 impl Source {
-    ghost use Rattle.issue_queue.specs.Entry.{is_value, woken_source};
+    ghost use Rattle.issue_queue.specs.Entry.{is_value};
 
     /// Whether the value is known.
     pub fn is_value(self) -> bool
@@ -22,12 +23,12 @@ impl Source {
         matches!(self, Source::Value(_))
     }
 
-    fn woken(self, register: Phys, value: u32) -> Source
-        ensures { result ≡ woken_source register value self }
+    fn wake(&mut self, register: Phys, value: u32)
+        ensures { self.new ≡ woken_source register value self.old }
     {
-        match self {
-            Source::Waits(waited) if waited == register => Source::Value(value),
-            _ => self,
+        match *self {
+            Source::Waits(waited) if waited == register => *self = Source::Value(value),
+            _ => {}
         }
     }
 }
@@ -63,7 +64,15 @@ impl Entry {
     pub(crate) fn wake(&mut self, register: Phys, value: u32)
         ensures { self.new ≡ woken_entry register value self.old }
     {
-        self.sources = self.sources.map(|source| source.woken(register, value));
+        wake_sources(&mut self.sources, register, value);
+    }
+}
+
+fn wake_sources(sources: &mut [Source], register: Phys, value: u32)
+    ensures { sources.new ≡ map (woken_source register value) sources.old }
+{
+    for source in sources.iter_mut() {
+        source.wake(register, value);
     }
 }
 

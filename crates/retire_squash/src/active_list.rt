@@ -82,7 +82,7 @@ impl ActiveList {
     pub fn find(&self, seq: Seq) -> Option<Active>
         ensures { result ≡ find (λ x. x.seq == seq) self.now }
     {
-        self.items.iter().copied().find(|active| active.seq == seq)
+        with_number(self.items(), seq)
     }
 
     /// Whether an instruction of this number may be added: there is room, and all in flight are
@@ -140,6 +140,18 @@ impl ActiveList {
         }
         self.items.pop()
     }
+}
+
+// The one of these that is the instruction of this number.
+fn with_number(items: &[Active], seq: Seq) -> Option<Active>
+    ensures { result ≡ find (λ x. x.seq == seq) items.now }
+{
+    for one in items {
+        if one.seq == seq {
+            return Some(*one);
+        }
+    }
+    None
 }
 
 // Whether every number is below this one.

@@ -1,19 +1,19 @@
 -- From the headline over legal histories to what a core's account and registers say.
 use Rattle.std.specs.Prelude.{◌≡◌, ℕ, zero, suc, ◌+◌, ◌<◌, ◌≤◌, ◌==◌, ◌&&◌, true, nat_lt, if◌then◌else◌, List, [], ◌∷◌}
-use Rattle.std.specs.Prelude.{◌++◌, length, map, reverse, Option, Some, None, IfSome}
+use Rattle.std.specs.Prelude.{◌++◌, length, map, Option, Some, None, IfSome}
 use native.Mathlib.Numerals.{unary_clauses}
 use Rattle.std.proofs.Common.{◌∙◌, refl, sym, ap, subst, inl, inr, arith}
 use Rattle.std.proofs.{lemmas.Bool.cases_Bool, lemmas.Bool.Decides.nat_tests}
-use Rattle.std.proofs.lemmas.List.{length-map, length_push, map-append, reverse-reverse}
-use Rattle.events.specs.{declared.effect.Record.Record, declared.event.Event.Event}
-use Rattle.smt_model.specs.{declared.config.Status.Status, Account.records, Account.committed_value, Basics.below}
-use Rattle.smt_model.specs.{Memory.status, Memory.output, Plain.run, Plain.read_register, Registers.value}
-use Rattle.smt_model.specs.{Registers.committed, Rules.is_legal, Setup.Setup}
+use Rattle.std.proofs.lemmas.List.{length-map, length_push, map-append}
+use Rattle.events.specs.{declared.event.Event.Event}
+use Rattle.smt_model.specs.{declared.config.Status.Status, Account.committed_value, Basics.below}
+use Rattle.smt_model.specs.{Memory.status, Plain.read_register, Registers.value}
+use Rattle.smt_model.specs.{Registers.committed, Rules.is_legal}
 use Rattle.smt_laws.specs.Sequential.{IsSequential, EachIsSequential}
 use Rattle.core_state.specs.View.{CoreView}
 use Rattle.smt_model.specs.Memory.{byte_at, reserved}
 use Rattle.shared_memory.specs.Contents.{Contents, byte_of, reserved_of}
-use Rattle.smt_core.specs.Headline.{IsPlainRun, IsPlainRegister, IsPlainMemory}
+use Rattle.smt_core.specs.Headline.{IsPlainRegister, IsPlainMemory}
 
 -- ---- The account
 

@@ -23,10 +23,9 @@ impl Core {
         if self.state.is_full() {
             return Followed::Full;
         }
-        if let Some(rule) = self.state.refusal(event) {
+        if let Err(rule) = self.state.follow(event) {
             return Followed::Refused(rule);
         }
-        self.state.apply(event);
         Followed::Done
     }
 }

@@ -1,25 +1,18 @@
 -- An event that may come next finds its instruction where the code looks for it.
-use Rattle.std.specs.Prelude.{◌≡◌, ℕ, true, false, List, Option, Some, None}
+use Rattle.std.specs.Prelude.{◌≡◌, ℕ, true, false, List, Some, None}
 use Rattle.std.proofs.Common.{◌∙◌, sym, ap, arith}
 use Rattle.std.proofs.{lemmas.Bool.false≢true, lemmas.Bool.Decides.nat_tests}
 use Rattle.events.specs.{declared.effect.Effect.Effect, declared.effect.Outcome.Outcome, declared.event.Event.Event}
-use Rattle.events.specs.declared.event.Event.TheVariants.{Fetch, Decode, Rename, Issue, Complete, Retire}
+use Rattle.events.specs.declared.event.Event.TheVariants.{Fetch, Issue, Complete, Retire}
 use Rattle.smt_model.specs.{Basics.same_number, Jobs.is_actor, Jobs.job, Setup.Setup}
-use Rattle.smt_model.specs.Fates.{fate, is, is_in_flight, InDecode, InRename, Renamed, Squashed}
+use Rattle.smt_model.specs.Fates.{fate, is, is_in_flight, Renamed, Squashed}
 use Rattle.smt_model.specs.Rules.{refused}
-use Rattle.smt_model.proofs.Allowed.{complete_allowed, decode_allowed, issue_allowed, rename_allowed, retire_allowed}
+use Rattle.smt_model.proofs.Allowed.{complete_allowed, issue_allowed, retire_allowed}
 use Rattle.smt_model.proofs.Fates.Moves.{fetch_number}
 use Rattle.core_state.specs.{Answers.fetched_at}
 use Rattle.core_parts.specs.declared.point.FetchPoint.{FetchPoint}
 
 module _ (setup : Setup) (past : List Event) (actor s : ℕ) where
-  pub decode_waits : refused setup past (Decode actor s) ≡ None → is (fate past s) InDecode ≡ false → ⊥
-  decode_waits ok none = false≢true (sym none ∙ (decode_allowed setup past actor s ok).fated)
-
-  pub rename_waits : (taken : Option ℕ) → refused setup past (Rename actor s taken) ≡ None
-      → is (fate past s) InRename ≡ false → ⊥
-  rename_waits taken ok none = false≢true (sym none ∙ (rename_allowed setup past actor s taken ok).fated)
-
   pub retire_flies : (effect : Effect) → refused setup past (Retire actor s effect) ≡ None
       → is_in_flight (fate past s) ≡ false → ⊥
   retire_flies effect ok none =

@@ -1,4 +1,4 @@
-//! Which rule a given event breaks, if it breaks one.
+//! Which rule a given event breaks, if it breaks one, and where its instruction is.
 
 ghost use Rattle.std.specs.Prelude.{◌≡◌, ℕ, ◌<◌, IfSome, IfNone, length, false};
 ghost use Rattle.smt_model.specs.Fates.{fate, is, is_in_flight, InDecode, InRename};
@@ -36,8 +36,8 @@ impl State {
                 word,
                 predicted,
             } => self.fetch_refusal(actor, FetchPoint { hart, pc, word }, seq, predicted),
-            Event::Decode { actor, seq } => self.decode_refusal(actor, seq),
-            Event::Rename { actor, seq, phys } => self.rename_refusal(actor, seq, phys),
+            Event::Decode { actor, seq } => self.judge_decode(actor, seq).err(),
+            Event::Rename { actor, seq, phys } => self.judge_rename(actor, seq, phys).err(),
             Event::Issue { actor, seq } => self.issue_refusal(actor, seq),
             Event::Complete {
                 actor,
@@ -50,7 +50,7 @@ impl State {
     }
 
     /// The hart in whose decode latch the instruction of number `seq` is.
-    pub(super) fn in_decode_latch(&self, seq: Seq) -> Option<u8>
+    fn in_decode_latch(&self, seq: Seq) -> Option<u8>
         ensures there { IfSome result (λ h. InDecodeLatch self.now.setup self.now.past h seq) }
         ensures nowhere { IfNone result (is (fate self.now.past seq) InDecode ≡ false) }
     {
@@ -58,7 +58,7 @@ impl State {
     }
 
     /// The hart in whose rename latch the instruction of number `seq` is, and how it stands there.
-    pub(super) fn in_rename_latch(&self, seq: Seq) -> Option<(u8, Slot)>
+    fn in_rename_latch(&self, seq: Seq) -> Option<(u8, Slot)>
         ensures there { IfSome result
             (λ r. InRenameLatch self.now.setup self.now.past r.0 seq r.1) }
         ensures nowhere { IfNone result (is (fate self.now.past seq) InRename ≡ false) }
@@ -76,7 +76,7 @@ impl State {
     }
 
     /// What hart `hart` has of its own.
-    pub(super) fn hart(&self, hart: u8) -> &HartState
+    fn hart(&self, hart: u8) -> &HartState
         requires { hart < self.now.setup.harts }
         ensures { HartAgrees (picture self.now.setup self.now.past) hart result.now }
     {

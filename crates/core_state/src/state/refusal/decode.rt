@@ -1,5 +1,7 @@
-ghost use Rattle.std.specs.Prelude.{◌≡◌, map};
+ghost use Rattle.std.specs.Prelude.{◌≡◌, map, true, IfOk};
+ghost use Rattle.std.specs.Result.{result_err};
 ghost use Rattle.events.specs.declared.event.Event.TheVariants.{Decode};
+ghost use Rattle.smt_model.specs.Fates.{is_of};
 ghost use Rattle.smt_model.specs.Rules.{refused, is_first};
 
 use super::first_failing;
@@ -9,21 +11,28 @@ use numbers::Seq;
 use numbers::sizes::LATCH_ROOM;
 
 impl State {
-    /// The first rule that a decode of instruction `seq` by actor `actor` breaks.
-    pub(in crate::state) fn decode_refusal(&self, actor: u8, seq: Seq) -> Option<u8>
-        ensures { result ≡ refused self.now.setup self.now.past (Decode actor seq) }
+    /// The hart whose instruction `seq` actor `actor` may decode, or the first rule that the decode
+    /// breaks.
+    pub(in crate::state) fn judge_decode(&self, actor: u8, seq: Seq) -> Result<u8, u8>
+        ensures rule { result_err result
+            ≡ refused self.now.setup self.now.past (Decode actor seq) }
+        ensures of_hart { IfOk result (λ h. is_of self.now.past h seq ≡ true) }
     {
         if !self.has_actor(actor) {
-            return Some(1);
+            return Err(1);
         }
         let Some(hart) = self.in_decode_latch(seq) else {
-            return Some(2);
+            return Err(2);
         };
         let state = self.hart(hart);
-        first_failing(&[
+        let broken = first_failing(&[
             (3, is_oldest(&state.decode_latch, seq)),
             (4, state.rename_latch.len() < LATCH_ROOM),
-        ])
+        ]);
+        match broken {
+            Some(rule) => Err(rule),
+            None => Ok(hart),
+        }
     }
 }
 

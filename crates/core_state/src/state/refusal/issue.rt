@@ -61,7 +61,12 @@ impl State {
 fn entry_with(entries: &[Entry], seq: Seq) -> Option<Entry>
     ensures { result ≡ find (λ x. x.seq == seq) entries.now }
 {
-    entries.iter().copied().find(|entry| entry.seq == seq)
+    for entry in entries {
+        if entry.seq == seq {
+            return Some(*entry);
+        }
+    }
+    None
 }
 
 /// Whether a unit of this kind executes the instruction.

@@ -1,6 +1,8 @@
-ghost use Rattle.std.specs.Prelude.{◌≡◌, ◌||◌, not, count_by, nat_lt, is_some};
+ghost use Rattle.std.specs.Prelude.{◌≡◌, ◌||◌, not, count_by, nat_lt, is_some, true, IfOk};
+ghost use Rattle.std.specs.Result.{result_err};
 ghost use Rattle.events.specs.declared.event.Event.TheVariants.{Rename};
 ghost use Rattle.numbers.specs.Sizes.{most_accesses};
+ghost use Rattle.smt_model.specs.Fates.{is_of};
 ghost use Rattle.smt_model.specs.Kinds.{kind_of, is_loading, is_storing, writes_register};
 ghost use Rattle.smt_model.specs.Basics.{same_truth};
 ghost use Rattle.smt_model.specs.Rules.{refused};
@@ -16,24 +18,26 @@ use retire_squash::Active;
 use rv_decode::Op;
 
 impl State {
-    /// The first rule that a rename of instruction `seq` by actor `actor` breaks, with the register
-    /// `phys` where it is given one.
-    pub(in crate::state) fn rename_refusal(
+    /// The hart whose instruction `seq` actor `actor` may rename, with the register `phys` where it
+    /// is given one, or the first rule that the rename breaks.
+    pub(in crate::state) fn judge_rename(
         &self,
         actor: u8,
         seq: Seq,
         phys: Option<Phys>,
-    ) -> Option<u8>
-        ensures { result ≡ refused self.now.setup self.now.past (Rename actor seq phys) }
+    ) -> Result<u8, u8>
+        ensures rule { result_err result
+            ≡ refused self.now.setup self.now.past (Rename actor seq phys) }
+        ensures of_hart { IfOk result (λ h. is_of self.now.past h seq ≡ true) }
     {
         if !self.has_actor(actor) {
-            return Some(1);
+            return Err(1);
         }
         let Some((hart, slot)) = self.in_rename_latch(seq) else {
-            return Some(2);
+            return Err(2);
         };
         let state = self.hart(hart);
-        first_failing(&[
+        let broken = first_failing(&[
             (3, is_oldest(&state.rename_latch, seq)),
             (4, !self.parts.queue.is_full()),
             (5, !state.active.is_full()),
@@ -41,7 +45,11 @@ impl State {
             (7, has_store_room(state.active.items(), slot.op)),
             (8, is_fitting(phys, slot.op)),
             (9, self.may_take(phys)),
-        ])
+        ]);
+        match broken {
+            Some(rule) => Err(rule),
+            None => Ok(hart),
+        }
     }
 
     /// Whether nothing is taken, or a free register.

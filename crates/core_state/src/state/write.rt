@@ -13,7 +13,6 @@ ghost use Rattle.core_state.specs.View.{CoreView, grown};
 
 use super::State;
 use crate::log::{append, put_out};
-use core_parts::FetchPoint;
 use events::{Effect, Event, Outcome, Record};
 use exec_units::Job;
 use issue_queue::Entry;
@@ -21,98 +20,6 @@ use numbers::{Phys, Seq};
 use retire_squash::Active;
 
 impl State {
-    /// Takes an event that may come next, as it is told.
-    pub fn apply(&mut self, event: &Event)
-        requires room { length self.old.past < self.old.limit }
-        requires allowed { refused self.old.setup self.old.past event.now ≡ None }
-        ensures { self.new ≡ grown event.now self.old }
-    {
-        match *event {
-            Event::Fetch {
-                actor,
-                hart,
-                seq: _,
-                pc,
-                word,
-                predicted,
-            } => {
-                self.fetch(actor, FetchPoint { hart, pc, word }, predicted);
-            }
-            Event::Decode { actor, seq } => self.apply_decode(actor, seq),
-            Event::Rename { actor, seq, phys } => self.apply_rename(actor, seq, phys),
-            Event::Issue { actor, seq } => self.apply_issue(actor, seq),
-            Event::Complete {
-                actor,
-                seq,
-                outcome,
-            } => self.apply_completion(actor, seq, outcome),
-            Event::Drop { actor, seq } => {
-                self.drop_job(actor, seq);
-            }
-            Event::Retire { actor, seq, effect } => self.apply_retirement(actor, seq, effect),
-        }
-    }
-
-    fn apply_decode(&mut self, actor: u8, seq: Seq)
-        requires room { length self.old.past < self.old.limit }
-        requires allowed { refused self.old.setup self.old.past (Decode actor seq) ≡ None }
-        ensures { self.new ≡ grown (Decode actor seq) self.old }
-    {
-        let Some(hart) = self.in_decode_latch(seq) else {
-            unreachable!();
-        };
-        self.write_decode(actor, hart, seq);
-    }
-
-    fn apply_rename(&mut self, actor: u8, seq: Seq, phys: Option<Phys>)
-        requires room { length self.old.past < self.old.limit }
-        requires allowed { refused self.old.setup self.old.past (Rename actor seq phys) ≡ None }
-        ensures { self.new ≡ grown (Rename actor seq phys) self.old }
-    {
-        let Some((hart, _)) = self.in_rename_latch(seq) else {
-            unreachable!();
-        };
-        self.write_rename(actor, hart, seq, phys);
-    }
-
-    fn apply_issue(&mut self, actor: u8, seq: Seq)
-        requires room { length self.old.past < self.old.limit }
-        requires allowed { refused self.old.setup self.old.past (Issue actor seq) ≡ None }
-        ensures { self.new ≡ grown (Issue actor seq) self.old }
-    {
-        let Some(entry) = self.entry_of(seq) else {
-            unreachable!();
-        };
-        let (job, _event) = self.write_issue(actor, entry);
-        job.abandon();
-    }
-
-    fn apply_completion(&mut self, actor: u8, seq: Seq, outcome: Outcome)
-        requires room { length self.old.past < self.old.limit }
-        requires allowed { refused self.old.setup self.old.past
-            (Complete actor seq outcome) ≡ None }
-        ensures { self.new ≡ grown (Complete actor seq outcome) self.old }
-    {
-        let Some(job) = self.job_with(actor, seq) else {
-            unreachable!();
-        };
-        let Some(active) = self.parts.in_flight(job.hart, seq) else {
-            unreachable!();
-        };
-        self.finish(actor, job.hart, &active, outcome);
-    }
-
-    fn apply_retirement(&mut self, actor: u8, seq: Seq, effect: Effect)
-        requires room { length self.old.past < self.old.limit }
-        requires allowed { refused self.old.setup self.old.past (Retire actor seq effect) ≡ None }
-        ensures { self.new ≡ grown (Retire actor seq effect) self.old }
-    {
-        let Some((hart, active)) = self.in_active_list(seq) else {
-            unreachable!();
-        };
-        self.write_retire(actor, hart, active, effect);
-    }
-
     /// Writes the decode of instruction `seq` of hart `hart`, which may come next.
     pub(super) fn write_decode(&mut self, actor: u8, hart: u8, seq: Seq) -> Event
         requires room { length self.old.past < self.old.limit }
