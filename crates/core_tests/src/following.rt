@@ -3,6 +3,7 @@
 
 use crate::asks_of_a_core::{config, first_image};
 use crate::rows::holds;
+use core_state::State;
 use events::{Event, read_event_line};
 use history_check::{CheckRefused, check};
 use smt_core::{Core, Followed};
@@ -137,6 +138,27 @@ fn followed(row: &Row, alloc: Global) -> Option<(usize, Followed)> {
     followed_by(&mut core, events.as_slice())
 }
 
+/// How many of these events a state takes, one after the other, each of which breaks no rule, and
+/// the rule that the one behind them breaks, if there is one.
+fn applied_by(state: &mut State, events: &[Event]) -> (usize, Option<u8>) {
+    for (place, event) in events.iter().enumerate() {
+        let rule = state.refusal(event);
+        if rule.is_some() || state.is_full() {
+            return (place, rule);
+        }
+        state.apply(event);
+    }
+    (events.len(), None)
+}
+
+/// The same of a row's events, by a state with room for as many as there are.
+fn applied(row: &Row, alloc: Global) -> Option<(usize, Option<u8>)> {
+    let events = trace_with(row, alloc)?;
+    let image = first_image(alloc)?;
+    let mut state = State::new(&image, config(1, 64, 16, 1), 18, alloc).ok()?;
+    Some(applied_by(&mut state, events.as_slice()))
+}
+
 #[test]
 fn a_check_names_the_first_event_and_rule(rt: HostRuntime) {
     for row in &ROWS {
@@ -153,6 +175,18 @@ fn a_core_follows_up_to_the_first_refused(rt: HostRuntime) {
             None => (18, Followed::Full),
         };
         let came = followed(row, rt.alloc());
+        holds(&rt, row.lines[0], came == Some(expected));
+    }
+}
+
+#[test]
+fn a_state_says_the_rule_and_takes_what_breaks_none(rt: HostRuntime) {
+    for row in &ROWS {
+        let expected = match row.refused {
+            Some((index, rule)) => (index as usize, Some(rule)),
+            None => (18, None),
+        };
+        let came = applied(row, rt.alloc());
         holds(&rt, row.lines[0], came == Some(expected));
     }
 }
