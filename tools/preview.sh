@@ -1,5 +1,5 @@
 #!/bin/sh
-# Runs `smtsim` on the given words by `rt try`, which builds in a minute or less and proves nothing: tools/preview.sh WORD ..
+# Runs `smtsim` on the given words by `rt try`, which builds in a minute or two and proves nothing: tools/preview.sh WORD ..
 # What it prints may be wrong where a proof would fail. It is for a first look while there is no proved program.
 set -eu
 root=$(cd "$(dirname "$0")/.." && pwd)
@@ -22,7 +22,7 @@ while [ "$words" -gt 0 ]; do
     fi
     set -- "$@" "$word"
 done
-echo "smtsim: there is no proved program yet. Unproved, by rt try, in about a minute:"
+echo "smtsim: there is no proved program yet. Unproved, by rt try, in a minute or two:"
 cd "$root/crates/smtsim"
 # shellcheck disable=SC2086  # files is a list of words
 rt try $files -- "$@" 2>"$work/errors" </dev/null || true
