@@ -1,5 +1,5 @@
-//! Where an instruction is, by its number alone. What may come next is of the oldest of some hart, so
-//! the oldest ones of all harts are looked at first.
+//! Where an instruction is, by its number alone. One that may be decoded, renamed or retired is the
+//! oldest of its hart there, so the oldest ones of all harts are looked at first.
 
 ghost use Rattle.std.specs.Prelude.{◌≡◌, ◌≤◌, ℕ, ◌<◌, Some, None, IfSome, IfNone, length};
 ghost use Rattle.std.specs.Prelude.{slice_index_or, is_some, true};

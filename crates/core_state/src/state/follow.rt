@@ -1,4 +1,6 @@
-//! A given event as the next, where it may come next.
+//! A given event as the next, where it may come next. What decides on a decode or a rename says which
+//! hart's it is. The instruction of an issue, a completion or a retirement is sought again when it is
+//! written: that costs less than to hand it over.
 
 ghost use Rattle.std.specs.Prelude.{◌≡◌, ◌<◌, length, None, IfOk, IfErr};
 ghost use Rattle.std.specs.Result.{result_err};
