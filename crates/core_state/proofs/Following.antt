@@ -8,4 +8,3 @@ pub mod Issue
 pub mod Fetch
 pub mod Complete
 pub mod Retire
-pub mod Apply

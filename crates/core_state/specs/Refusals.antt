@@ -5,11 +5,12 @@ use Rattle.events.specs.{declared.event.Event.Event, declared.effect.Outcome.Out
 use Rattle.rv_decode.specs.declared.op.UnitKind.{UnitKind}
 use Rattle.exec_units.specs.Job.{JobView}
 use Rattle.issue_queue.specs.declared.entry.Entry.{Entry}
-use Rattle.retire_squash.specs.declared.active.Stage.{Stage}
+use Rattle.retire_squash.specs.{declared.active.Active.Active, declared.active.Stage.Stage}
 use Rattle.retire_squash.specs.declared.active.Stage.TheVariants as stage
 use Rattle.smt_model.specs.{Basics.holds_of, Jobs.job, Jobs.unit_of_actor, Picture.Picture}
 use Rattle.smt_model.specs.{Registers.is_unclaimed, Setup.Setup, Setup.registers_of}
-use Rattle.core_parts.specs.{Agree.IsEntry, Agree.IsOpenJob, declared.slot.OpenJob.OpenJob}
+use Rattle.core_parts.specs.{Agree.IsEntry, Agree.IsOpenJob, Place.InActiveList}
+use Rattle.core_parts.specs.{declared.slot.OpenJob.OpenJob}
 
 -- Nothing is taken, or a free register.
 abbrev pub is_free_or_none : Setup → List Event → Option ℕ → Bool
@@ -40,3 +41,7 @@ open_view x = record { seq = x.seq; op = x.op; pc = x.pc; first = x.first; secon
 abbrev pub outcome_at : Stage → Option Outcome
 outcome_at (stage.Completed outcome) = Some outcome
 outcome_at _ = None
+
+-- Hart h has instruction s in flight.
+abbrev pub HasInFlight : Setup → List Event → ℕ → ℕ → Type 0
+HasInFlight setup past h s = (a : Active) × InActiveList setup past h s a

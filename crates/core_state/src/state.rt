@@ -4,7 +4,8 @@ ghost use Rattle.std.specs.Prelude.{Err, if◌then◌else◌};
 ghost use Rattle.numbers.specs.Sizes.{most_harts, most_extra, most_queued};
 ghost use Rattle.numbers.specs.Sizes.{most_events};
 ghost use Rattle.events.specs.Range.{HasShortWrite};
-ghost use Rattle.core_parts.specs.Agree.{IsActive};
+ghost use Rattle.events.specs.declared.event.Event.TheVariants.{Issue};
+ghost use Rattle.core_parts.specs.Agree.{IsActive, IsEntry};
 ghost use Rattle.core_state.specs.View.{CoreView, grown};
 ghost use Rattle.core_state.specs.Answers.{AllowsNone, CanFetch, fetched_at, TakesLeast, IsJobOf};
 ghost use Rattle.core_state.specs.Answers.{IsStrange};
@@ -31,6 +32,7 @@ use core_parts::{FetchPoint, Parts, choose, unit_of};
 use elf_image::Image;
 use events::{Effect, Event, History, Outcome, Record};
 use exec_units::{Done, Job};
+use issue_queue::Entry;
 use memory_effects::effect;
 use numbers::Seq;
 use retire_squash::Active;
@@ -217,9 +219,22 @@ impl State {
         ensures idle { IfNone result (AllowsNone self.old.setup (AskIssue actor) self.old.past) }
         ensures none { IfNone result (self.new ≡ self.old) }
     {
-        let kind = unit_of(*self.config.roles.get(usize::from(actor))?)?;
-        let entry = self.parts.next_to_issue(actor, kind)?;
+        let entry = self.next_to_issue(actor)?;
         Some(self.write_issue(actor, entry))
+    }
+
+    /// The entry of the instruction that actor `actor` issues next: the oldest ready one of its kind
+    /// of unit. It may issue no other. None where there is none, or the actor is no unit or has a job.
+    fn next_to_issue(&self, actor: u8) -> Option<Entry>
+        ensures allowed { IfSome result
+            (λ e. refused self.now.setup self.now.past (Issue actor e.seq) ≡ None) }
+        ensures alone { IfSome result (λ e. (seq : ℕ)
+            → refused self.now.setup self.now.past (Issue actor seq) ≡ None → seq ≡ e.seq) }
+        ensures entry { IfSome result (IsEntry (picture self.now.setup self.now.past)) }
+        ensures idle { IfNone result (AllowsNone self.now.setup (AskIssue actor) self.now.past) }
+    {
+        let kind = unit_of(*self.config.roles.get(usize::from(actor))?)?;
+        self.parts.next_to_issue(actor, kind)
     }
 
     /// Takes back the job of actor `actor`, worked: a completion, or a drop where the instruction

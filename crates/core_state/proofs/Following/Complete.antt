@@ -12,18 +12,18 @@ use Rattle.retire_squash.specs.declared.active.Active.{Active}
 use Rattle.smt_model.specs.{Basics.holds_of, Basics.same_number, Bytes.read, Comparisons.same_outcome}
 use Rattle.smt_model.specs.{Exec.Computed, Faults.checked, Outcomes.outcome_of, Picture.Picture, Picture.picture}
 use Rattle.smt_model.specs.{Jobs.is_actor, Jobs.job, Setup.Setup}
-use Rattle.smt_model.specs.Fates.{Fate, fate, fetching, is, is_in_flight, Squashed}
+use Rattle.smt_model.specs.Fates.{Fate, fate, fetching, is, is_in_flight, is_of, Squashed}
 use Rattle.smt_model.specs.Rules.{first_failing, refused, of_fetched, outcome_now}
 use Rattle.core_parts.specs.Agree.{IsActive, PartsAgree}
 use Rattle.core_parts.specs.{Complete.IsSameJob}
-use Rattle.core_state.specs.{Refusals.IsJobWith, Refusals.open_view}
+use Rattle.core_state.specs.{Refusals.HasInFlight, Refusals.IsJobWith, Refusals.open_view}
 use Rattle.core_state.specs.{State.IsCore, State.view_of, View.CoreView}
 use Rattle.core_parts.specs.{declared.slot.OpenJob.OpenJob}
 use Rattle.core_state.specs.{declared.state.State.TheInside.Inside}
 use Rattle.core_parts.proofs.{Agreement.Harts.stage_flies}
 use Rattle.core_state.proofs.{Following.Place.parts_agree, Following.Place.is_legal_view}
 use Rattle.core_state.proofs.Following.Tests.{refused-is, holds, fails}
-use Rattle.core_state.proofs.Steps.Complete.{Job.job_hart_there, Job.job_squashed, Memory.says_now}
+use Rattle.core_state.proofs.Steps.Complete.{Job.job_hart, Job.job_hart_there, Job.job_squashed, Memory.says_now}
 
 -- ---- The rules
 
@@ -138,6 +138,22 @@ module _ (i : Inside) (core : IsCore i) (v : CoreView) (at : view_of i ≡ v) (a
       spared_if_flying (fate v.past s)
       (subst (λ n. is_in_flight (fate v.past n) ≡ true) is_it.1
       (stage_flies (picture v.setup v.past) a.seq a.stage is_it.0.stage))
+
+  pub has_by : (r : Option Active) → is_none r ≡ false
+      → IfSome r (λ a. (p : Picture) → PartsAgree p i.parts → IsActive p x.hart a × (a.seq ≡ s))
+      → HasInFlight v.setup v.past x.hart s
+  has_by None some found = absurd (false≢true (sym some))
+  has_by (Some a) some found =
+      let is_it = found (picture v.setup v.past) (parts_agree i core v at) in (
+        a,
+        record {
+          inside = job_hart_there v.setup v.past (is_legal_view i core v at) actor x with_it.opened;
+          of_hart = subst (λ n. is_of v.past x.hart n ≡ true) with_it.number
+              (job_hart v.setup v.past actor x with_it.opened);
+          active = is_it.0;
+          number = is_it.1;
+        },
+      )
 
   -- What the parts make of it is what it has to say.
   pub says_by : (w o outcome : Outcome) (b : Bool) → w ≡ outcome_of_job (open_view x)

@@ -7,7 +7,9 @@ use Rattle.smt_model.specs.{Basics.same_number, Setup.Setup, Jobs.is_actor, Fate
 use Rattle.smt_model.specs.Fetching.{choice, fetch_pc}
 use Rattle.smt_model.specs.Rules.{first_failing, refused}
 use Rattle.smt_model.proofs.{Fates.Choosing.chosen, Fates.Moves.same_number-is}
-use Rattle.core_parts.specs.{Fetch.next_hart}
+use Rattle.smt_model.proofs.Fates.Moves.{fetch_number}
+use Rattle.core_parts.specs.{Fetch.next_hart, declared.point.FetchPoint.FetchPoint}
+use Rattle.core_state.specs.{Answers.fetched_at}
 use Rattle.core_state.specs.{State.IsCore, State.past_of, State.setup_in, State.view_of}
 use Rattle.core_state.specs.{View.CoreView, declared.state.State.TheInside.Inside}
 use Rattle.core_state.proofs.{Following.Tests.refused-is, Following.Tests.holds, Following.Tests.fails}
@@ -66,3 +68,11 @@ module _ (setup : Setup) (past : List Event) (actor h s pc : ℕ) (word : Option
       ∙ (holds 1 (is_actor setup actor) behind_actor one
       ∙ (holds 2 (same_number (choice setup past) (Some h)) behind_choice this
       ∙ rw (sym a_is, sym b_is, sym c_is) refl))
+
+-- The number of an allowed fetch is the next.
+pub fetch_at : (setup : Setup) (past : List Event) (actor s predicted : ℕ) (point : FetchPoint)
+    → refused setup past (Fetch actor point.hart s point.pc point.word predicted) ≡ None
+    → Fetch actor point.hart s point.pc point.word predicted ≡ fetched_at actor point predicted past
+fetch_at setup past actor s predicted point ok =
+    ap (λ n. Fetch actor point.hart n point.pc point.word predicted)
+    (fetch_number setup past actor point.hart s point.pc point.word predicted ok)

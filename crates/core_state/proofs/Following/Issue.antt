@@ -1,9 +1,9 @@
 -- Which rule an issue breaks.
-use Rattle.std.specs.Prelude.{◌≡◌, ℕ, ◌==◌, ◌&&◌, Bool, true, false, not, nat_lt, List, [], ◌∷◌, map, find}
+use Rattle.std.specs.Prelude.{◌≡◌, ℕ, ◌==◌, ◌&&◌, ◌||◌, Bool, true, false, not, nat_lt, List, [], ◌∷◌, map, find}
 use Rattle.std.specs.Prelude.{Option, Some, None, is_some, is_none, if◌then◌else◌, IfSome, IfNone}
-use Rattle.std.specs.List.{AllByRecursion, list_all}
-use Rattle.std.proofs.Common.{zero, suc, ◌<◌, ◌≤◌, length, get_or, drop, ◌∙◌, refl, sym, ap, inl, inr, arith}
-use Rattle.std.proofs.{lemmas.Bool.cases_Bool, lemmas.Bool.false≢true}
+use Rattle.std.specs.List.{AllByRecursion, list_all, list_any}
+use Rattle.std.proofs.Common.{zero, suc, ◌<◌, ◌≤◌, length, get_or, drop, ◌∙◌, refl, sym, ap, subst, inl, inr, arith}
+use Rattle.std.proofs.{lemmas.Bool.and_parts, lemmas.Bool.cases_Bool, lemmas.Bool.cases_eq, lemmas.Bool.false≢true}
 use Rattle.std.proofs.{lemmas.Option.none-some, lemmas.Bool.Decides.nat_tests}
 use Rattle.events.specs.{declared.event.Event.Event, declared.event.Event.TheVariants.Issue}
 use Rattle.issue_queue.specs.{Entry.has_values, Entry.can_issue, declared.entry.Entry.Entry, Queue.AreEntriesRising}
@@ -15,11 +15,13 @@ use Rattle.smt_model.specs.Flights.{queue, all_numbers}
 use Rattle.smt_model.specs.Rules.{first_failing, refused, is_for, is_oldest_ready, is_legal}
 use Rattle.smt_model.proofs.{Lists.member, Lists.filter-member, Fates.Numbers.all_numbers-member}
 use Rattle.smt_model.proofs.{Fates.Numbers.known_below, Fates.Moves.stage_of}
-use Rattle.core_parts.specs.{Agree.IsEntry}
+use Rattle.core_parts.specs.{Agree.IsEntry, Issuing.suits}
 use Rattle.core_state.specs.{Refusals.idle_unit, Refusals.IsEntryOf}
 use Rattle.core_state.proofs.Following.Place.{found, missing}
 use Rattle.core_state.proofs.Following.Tests.{refused-is, holds, fails}
+use Rattle.core_state.proofs.Steps.Asked.{some_of}
 use Rattle.core_parts.proofs.Steps.Issue.Next.{ready_known, suits_known}
+use Rattle.core_state.proofs.Steps.Issue.Rules.{issue_unit, issue_can}
 
 -- ---- The entry
 
@@ -164,3 +166,43 @@ module _ (setup : Setup) (past : List Event) (actor s : ℕ) where
       ∙ (holds 2 idle behind_unit is_idle.both
       ∙ (holds 3 (is (fate past s) Renamed) behind_fate fated
       ∙ rw (a_now, b_now, c_now) refl)))
+
+-- ---- One alone may be issued by an actor
+
+no_lower_one : (test : ℕ → Bool) (n m : ℕ) (xs : List ℕ) → list_all (λ t. not (nat_lt t n && test t)) xs ≡ true
+    → list_any (λ t. t == m) xs ≡ true → test m ≡ true → n ≤ m
+no_lower_one test n m [] all queued fits = absurd (grind arith)
+no_lower_one test n m (x ∷ xs) all queued fits =
+    let parts = and_parts (not (nat_lt x n && test x)) (list_all (λ t. not (nat_lt t n && test t)) xs) all in
+    elim (cases_eq x m) [
+      | inl same ↦
+          let one : not (nat_lt m n && test m) ≡ true = subst (λ t. not (nat_lt t n && test t) ≡ true) same parts.0 in
+          grind (arith, nat_tests, one, fits)
+      | inr other ↦
+          let apart : (x == m) ≡ false = grind (arith, nat_tests) in
+          no_lower_one test n m xs parts.1
+          (subst (λ b. (b || list_any (λ t. t == m) xs) ≡ true) apart queued) fits
+    ]
+
+pub one_issue : (setup : Setup) (past : List Event) → is_legal setup past → (actor n m : ℕ)
+    → refused setup past (Issue actor n) ≡ None → refused setup past (Issue actor m) ≡ None → n ≡ m
+one_issue setup past legal actor n m one other =
+    let unit = issue_unit setup past actor n one in
+    let first = issue_can setup past legal actor n unit.kind unit.is one in
+    let second = issue_can setup past legal actor m unit.kind unit.is other in
+    let test = suits (picture setup past) unit.kind in
+    let low = no_lower_one test n m (queue past) first.oldest second.queued second.fits in
+    let high = no_lower_one test m n (queue past) second.oldest first.queued first.fits in
+    omega (arith, low, high)
+
+pub alone : (setup : Setup) (past : List Event) → is_legal setup past → (actor : ℕ) (r : Option Entry)
+    → IfSome r (λ e. refused setup past (Issue actor e.seq) ≡ None)
+    → IfSome r (λ e. (s : ℕ) → refused setup past (Issue actor s) ≡ None → s ≡ e.seq)
+alone setup past legal actor None ok = tt
+alone setup past legal actor (Some e) ok = λ s other. one_issue setup past legal actor s e.seq other ok
+
+pub another_is_refused : (setup : Setup) (past : List Event) (actor n m : ℕ)
+    → ((s : ℕ) → refused setup past (Issue actor s) ≡ None → s ≡ n) → (n ≡ m → ⊥)
+    → is_some (refused setup past (Issue actor m)) ≡ true
+another_is_refused setup past actor n m alone apart =
+    some_of (refused setup past (Issue actor m)) (λ ok. apart (sym (alone m ok)))

@@ -1,15 +1,15 @@
 -- Where an instruction is in the parts is where it is in the history.
 use Rattle.std.specs.Prelude.{◌≡◌, ℕ, ◌<◌, ◌≤◌, ◌==◌, Bool, true, false, List, [], ◌∷◌, map, find, filter, length, Option}
 use Rattle.std.specs.Prelude.{Some, None, is_some, IfSome, IfNone, slice_index_or}
-use Rattle.std.specs.List.{AllByRecursion}
+use Rattle.std.specs.List.{AllByRecursion, list_any}
 use Rattle.std.proofs.Common.{◌∙◌, refl, sym, ap, subst, inl, inr, arith}
 use Rattle.std.proofs.{lemmas.Bool.cases_Bool, lemmas.Bool.cases_lt, lemmas.Bool.false≢true}
 use Rattle.std.proofs.{lemmas.Bool.Decides.nat_tests, lemmas.Option.none-some, lemmas.Option.same_Some}
 use Rattle.events.specs.declared.event.Event.{Event}
 use Rattle.retire_squash.specs.declared.active.Active.{Active}
-use Rattle.smt_model.specs.{Basics.holds_of, Setup.Setup, Picture.picture, Rules.is_legal}
+use Rattle.smt_model.specs.{Basics.holds_of, Setup.Setup, Picture.Picture, Picture.picture, Rules.is_legal}
 use Rattle.smt_model.specs.Fates.{Fate, fate, is, is_of, is_in_flight, stage, InDecode, InRename}
-use Rattle.smt_model.specs.Flights.{numbers, in_decode, in_rename}
+use Rattle.smt_model.specs.Flights.{numbers, in_decode, in_rename, flight}
 use Rattle.smt_model.proofs.Lists.{member, member-filter, filter-member}
 use Rattle.smt_model.proofs.{Fates.Choosing.hart_there, Fates.Moves.fate_at, Fates.Moves.stage_of}
 use Rattle.smt_model.proofs.Fates.Numbers.{numbers-of, numbers-member, known_fetched}
@@ -18,6 +18,8 @@ use Rattle.core_state.specs.{State.IsCore, State.past_of, State.setup_in, State.
 use Rattle.core_parts.specs.Place.{slot_in, member_in, InDecodeLatch, InRenameLatch, InActiveList}
 use Rattle.core_parts.specs.{declared.hart.HartState.HartState, declared.slot.Slot.Slot}
 use Rattle.core_state.specs.{declared.state.State.TheInside.Inside}
+use Rattle.core_parts.proofs.{Agreement.Harts.stage_flies}
+use Rattle.core_state.proofs.{Steps.Complete.Job.member_any}
 
 -- ---- Members
 
@@ -259,3 +261,13 @@ module _ (i : Inside) (core : IsCore i) (v : CoreView) (at : view_of i ≡ v) wh
 
   pub is_legal_view : is_legal v.setup v.past
   is_legal_view = subst (λ u. is_legal u.setup u.past) at core.legal
+
+  -- An instruction in flight is in its hart's list.
+  pub listed : (h s : ℕ) (a : Active) → InActiveList v.setup v.past h s a
+      → ((p : Picture) → PartsAgree p i.parts → list_any (λ n. n == s) (p.flight h) ≡ false) → ⊥
+  listed h s a placed gone =
+      let flies = subst (λ n. is_in_flight (fate v.past n) ≡ true) placed.number
+      (stage_flies (picture v.setup v.past) a.seq a.stage placed.active.stage) in
+      let there = filter-member (λ n. is_in_flight (fate v.past n)) s (numbers v.past h)
+      (numbers-member v.setup v.past is_legal_view h s placed.of_hart) flies in
+      false≢true (sym (gone (picture v.setup v.past) parts_agree) ∙ (sym (member_any s (flight v.past h)) ∙ there))

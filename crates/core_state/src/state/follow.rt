@@ -1,18 +1,22 @@
-//! A given event as the next, where it may come next. What decides on a decode or a rename says which
-//! hart's it is. The instruction of an issue, a completion or a retirement is sought again when it is
+//! A given event as the next, where it may come next. What decides on an event of an instruction says
+//! which hart's it is. The instruction of a completion or a retirement is sought again there when it is
 //! written: that costs less than to hand it over.
 
-ghost use Rattle.std.specs.Prelude.{◌≡◌, ◌<◌, length, None, IfOk, IfErr};
+ghost use Rattle.std.specs.Prelude.{◌≡◌, ◌<◌, length, None, Some, is_some, true, IfOk, IfErr};
 ghost use Rattle.std.specs.Result.{result_err};
 ghost use Rattle.events.specs.declared.event.Event.TheVariants.{Fetch, Decode, Rename, Issue};
 ghost use Rattle.events.specs.declared.event.Event.TheVariants.{Complete, Retire};
+ghost use Rattle.smt_model.specs.Picture.{picture};
 ghost use Rattle.smt_model.specs.Rules.{refused};
+ghost use Rattle.core_parts.specs.Agree.{IsActive};
+ghost use Rattle.core_state.specs.Refusals.{HasInFlight};
 ghost use Rattle.core_state.specs.View.{CoreView, grown};
 
 use super::State;
 use core_parts::FetchPoint;
 use events::{Effect, Event, Outcome};
 use numbers::{Phys, Seq};
+use retire_squash::Active;
 
 impl State {
     /// Takes an event as the next, where it may come next; else the number of the first rule that
@@ -107,23 +111,27 @@ impl State {
         ensures made { IfOk result (λ _. self.new ≡ grown (Issue actor seq) self.old) }
         ensures same { IfErr result (λ _. self.new ≡ self.old) }
     {
-        if let Some(rule) = self.issue_refusal(actor, seq) {
-            return Err(rule);
+        // Only what the actor issues next may come, so the queue is gone through once.
+        let Some(entry) = self.next_to_issue(actor) else {
+            return Err(self.issue_rule(actor, seq));
+        };
+        if entry.seq != seq {
+            return Err(self.issue_rule(actor, seq));
         }
-        self.apply_issue(actor, seq);
+        let (job, _event) = self.write_issue(actor, entry);
+        job.abandon();
         Ok(())
     }
 
-    fn apply_issue(&mut self, actor: u8, seq: Seq)
-        requires room { length self.old.past < self.old.limit }
-        requires allowed { refused self.old.setup self.old.past (Issue actor seq) ≡ None }
-        ensures { self.new ≡ grown (Issue actor seq) self.old }
+    /// The first rule that an issue breaks which may not come.
+    fn issue_rule(&self, actor: u8, seq: Seq) -> u8
+        requires { is_some (refused self.now.setup self.now.past (Issue actor seq)) ≡ true }
+        ensures { Some result ≡ refused self.now.setup self.now.past (Issue actor seq) }
     {
-        let Some(entry) = self.entry_of(seq) else {
+        let Some(rule) = self.issue_refusal(actor, seq) else {
             unreachable!();
         };
-        let (job, _event) = self.write_issue(actor, entry);
-        job.abandon();
+        rule
     }
 
     fn follow_completion(&mut self, actor: u8, seq: Seq, outcome: Outcome) -> Result<(), u8>
@@ -133,26 +141,10 @@ impl State {
         ensures made { IfOk result (λ _. self.new ≡ grown (Complete actor seq outcome) self.old) }
         ensures same { IfErr result (λ _. self.new ≡ self.old) }
     {
-        if let Some(rule) = self.complete_refusal(actor, seq, outcome) {
-            return Err(rule);
-        }
-        self.apply_completion(actor, seq, outcome);
+        let hart = self.judge_completion(actor, seq, outcome)?;
+        let active = self.flying(hart, seq);
+        self.finish(actor, hart, &active, outcome);
         Ok(())
-    }
-
-    fn apply_completion(&mut self, actor: u8, seq: Seq, outcome: Outcome)
-        requires room { length self.old.past < self.old.limit }
-        requires allowed { refused self.old.setup self.old.past
-            (Complete actor seq outcome) ≡ None }
-        ensures { self.new ≡ grown (Complete actor seq outcome) self.old }
-    {
-        let Some(job) = self.job_with(actor, seq) else {
-            unreachable!();
-        };
-        let Some(active) = self.parts.in_flight(job.hart, seq) else {
-            unreachable!();
-        };
-        self.finish(actor, job.hart, &active, outcome);
     }
 
     fn follow_drop(&mut self, actor: u8, seq: Seq) -> Result<(), u8>
@@ -176,21 +168,21 @@ impl State {
         ensures made { IfOk result (λ _. self.new ≡ grown (Retire actor seq effect) self.old) }
         ensures same { IfErr result (λ _. self.new ≡ self.old) }
     {
-        if let Some(rule) = self.retire_refusal(actor, seq, effect) {
-            return Err(rule);
-        }
-        self.apply_retirement(actor, seq, effect);
+        let hart = self.judge_retirement(actor, seq, effect)?;
+        let active = self.flying(hart, seq);
+        self.write_retire(actor, hart, active, effect);
         Ok(())
     }
 
-    fn apply_retirement(&mut self, actor: u8, seq: Seq, effect: Effect)
-        requires room { length self.old.past < self.old.limit }
-        requires allowed { refused self.old.setup self.old.past (Retire actor seq effect) ≡ None }
-        ensures { self.new ≡ grown (Retire actor seq effect) self.old }
+    /// Hart `hart`'s instruction `seq`, which it has in flight.
+    fn flying(&self, hart: u8, seq: Seq) -> Active
+        requires { HasInFlight self.now.setup self.now.past hart seq }
+        ensures number { result.seq ≡ seq }
+        ensures active { IsActive (picture self.now.setup self.now.past) hart result }
     {
-        let Some((hart, active)) = self.in_active_list(seq) else {
+        let Some(active) = self.parts.in_flight(hart, seq) else {
             unreachable!();
         };
-        self.write_retire(actor, hart, active, effect);
+        active
     }
 }

@@ -43,9 +43,9 @@ impl State {
                 actor,
                 seq,
                 outcome,
-            } => self.complete_refusal(actor, seq, outcome),
+            } => self.judge_completion(actor, seq, outcome).err(),
             Event::Drop { actor, seq } => self.drop_refusal(actor, seq),
-            Event::Retire { actor, seq, effect } => self.retire_refusal(actor, seq, effect),
+            Event::Retire { actor, seq, effect } => self.judge_retirement(actor, seq, effect).err(),
         }
     }
 
@@ -67,7 +67,7 @@ impl State {
     }
 
     /// The hart that has the instruction of number `seq` in flight, and how it stands there.
-    pub(super) fn in_active_list(&self, seq: Seq) -> Option<(u8, Active)>
+    fn in_active_list(&self, seq: Seq) -> Option<(u8, Active)>
         ensures there { IfSome result
             (λ r. InActiveList self.now.setup self.now.past r.0 seq r.1) }
         ensures nowhere { IfNone result (is_in_flight (fate self.now.past seq) ≡ false) }

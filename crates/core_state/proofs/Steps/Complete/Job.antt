@@ -19,7 +19,7 @@ use Rattle.core_state.specs.{Answers.IsJobOf, Answers.IsStrange}
 use Rattle.core_parts.specs.{Complete.IsSameJob}
 use Rattle.core_parts.specs.{declared.slot.OpenJob.OpenJob}
 
-member_any : (n : ℕ) (xs : List ℕ) → member n xs ≡ list_any (λ s. s == n) xs
+pub member_any : (n : ℕ) (xs : List ℕ) → member n xs ≡ list_any (λ s. s == n) xs
 member_any n [] = refl
 member_any n (x ∷ xs) = ap (λ b. (x == n) || b) (member_any n xs)
 

@@ -1,7 +1,7 @@
 -- A core's issue: what it finds is allowed, the parts can make the step, the job is the actor's open one, and where it
 -- finds nothing no issue is allowed.
 use Rattle.std.specs.Prelude.{◌≡◌, ℕ, ◌<◌, ◌≤◌, ◌==◌, true, List, [], ◌∷◌, ◌++◌, length, reverse, Option, Some, None}
-use Rattle.std.specs.Prelude.{slice_index_or, option_and_then}
+use Rattle.std.specs.Prelude.{slice_index_or, option_and_then, IfSome, IfNone}
 use Rattle.std.proofs.Common.{◌∙◌, refl, sym, ap, subst, arith}
 use Rattle.std.proofs.{lemmas.Bool.Decides.nat_tests, lemmas.Option.slice_get_past, lemmas.Option.slice_get_read}
 use Rattle.rv_decode.specs.declared.op.UnitKind.{UnitKind}
@@ -63,16 +63,6 @@ pub record Issues (i : Inside) (actor : ℕ) (kind : UnitKind) (e : Entry) : Typ
   pub actor_is : is_actor (setup_in i) actor ≡ true
   pub unit : unit_of_actor (setup_in i) actor ≡ Some kind
   pub can : CanBeIssued i.parts actor kind e
-
--- An actor whose role the code has read, and what it has found for it.
-pub issues_now : (i : Inside) (actor k : ℕ) (roles : List Role) (role : Role) (unit : Option UnitKind)
-    (kind : UnitKind) (e : Entry)
-    → roles ≡ i.config.roles.items → k ≡ actor → k < length roles → role ≡ slice_index_or roles k role
-    → unit ≡ unit_of_role role → unit ≡ Some kind
-    → CanBeIssued i.parts actor kind e → Issues i actor kind e
-issues_now i actor k roles role unit kind e same_roles same_actor inside at of_role is_kind can =
-    let found = unit_now i actor k roles role unit same_roles same_actor inside at of_role in
-    record { actor_is = found.0; unit = found.1 ∙ is_kind; can = can }
 
 pub issue_allowed_now : (i : Inside) (actor : ℕ) (kind : UnitKind) (e : Entry) → IsCore i → Issues i actor kind e
     → refused (setup_in i) (past_of i) (Issue actor e.seq) ≡ None
@@ -190,3 +180,27 @@ nothing_to_issue i actor kind core unit none =
 
 pub same_actor : (actor : ℕ) → (actor == actor) ≡ true
 same_actor actor = grind (arith, nat_tests)
+
+-- ---- The answer of the parts, whatever it is
+
+module _ (i : Inside) (core : IsCore i) (v : CoreView) (at : view_of i ≡ v) (actor : ℕ) (kind : UnitKind)
+    (actor_is : is_actor (setup_in i) actor ≡ true) (unit : unit_of_actor (setup_in i) actor ≡ Some kind) where
+  pub next_allowed : (r : Option Entry) → IfSome r (CanBeIssued i.parts actor kind)
+      → IfSome r (λ e. refused v.setup v.past (Issue actor e.seq) ≡ None)
+  next_allowed None can = tt
+  next_allowed (Some e) can =
+      subst (λ u. refused u.setup u.past (Issue actor e.seq) ≡ None) at
+      (issue_allowed_now i actor kind e core (record { actor_is = actor_is; unit = unit; can = can }))
+
+  pub next_entry : (r : Option Entry) → IfSome r (CanBeIssued i.parts actor kind)
+      → IfSome r (IsEntry (picture v.setup v.past))
+  next_entry None can = tt
+  next_entry (Some e) can =
+      subst (λ u. IsEntry (picture u.setup u.past) e) at (can (picture (setup_in i) (past_of i)) core.agrees).0
+
+  pub next_none : (r : Option Entry)
+      → IfNone r ((p : Picture) → PartsAgree p i.parts → (n : ℕ) → CanIssue p actor kind n → ⊥)
+      → IfNone r (AllowsNone v.setup (AskIssue actor) v.past)
+  next_none (Some e) none = tt
+  next_none None none =
+      subst (λ u. AllowsNone u.setup (AskIssue actor) u.past) at (nothing_to_issue i actor kind core unit none)

@@ -1,4 +1,5 @@
-ghost use Rattle.std.specs.Prelude.{◌≡◌, IfSome, IfNone, Some, false, true};
+ghost use Rattle.std.specs.Prelude.{◌≡◌, IfSome, IfNone, IfOk, Some, false, true};
+ghost use Rattle.std.specs.Result.{result_err};
 ghost use Rattle.events.specs.declared.event.Event.TheVariants.{Complete};
 ghost use Rattle.smt_model.specs.Basics.{same_number};
 ghost use Rattle.smt_model.specs.Comparisons.{same_outcome};
@@ -6,7 +7,7 @@ ghost use Rattle.smt_model.specs.Jobs.{is_actor, job};
 ghost use Rattle.smt_model.specs.Picture.{picture};
 ghost use Rattle.smt_model.specs.Rules.{refused};
 ghost use Rattle.core_parts.specs.Agree.{HasOpenJob};
-ghost use Rattle.core_state.specs.Refusals.{IsJobWith, open_view};
+ghost use Rattle.core_state.specs.Refusals.{IsJobWith, HasInFlight, open_view};
 ghost use Rattle.exec_units.specs.Job.{outcome_of_job};
 
 use super::same::is_same_outcome;
@@ -17,30 +18,32 @@ use exec_units::{Job, work};
 use numbers::Seq;
 
 impl State {
-    /// The first rule that a completion of instruction `seq` by actor `actor` with this outcome
-    /// breaks.
-    pub(in crate::state) fn complete_refusal(
+    /// The hart whose instruction `seq` actor `actor` may complete with this outcome, or the first
+    /// rule that the completion breaks.
+    pub(in crate::state) fn judge_completion(
         &self,
         actor: u8,
         seq: Seq,
         outcome: Outcome,
-    ) -> Option<u8>
-        ensures { result ≡ refused self.now.setup self.now.past (Complete actor seq outcome) }
+    ) -> Result<u8, u8>
+        ensures rule { result_err result
+            ≡ refused self.now.setup self.now.past (Complete actor seq outcome) }
+        ensures there { IfOk result (λ h. HasInFlight self.now.setup self.now.past h seq) }
     {
         if !self.has_actor(actor) {
-            return Some(1);
+            return Err(1);
         }
         let Some(job) = self.job_with(actor, seq) else {
-            return Some(2);
+            return Err(2);
         };
         if self.parts.in_flight(job.hart, seq).is_none() {
-            return Some(3);
+            return Err(3);
         }
         let now = self.parts.completion_of(&job, worked(&job));
         if !is_same_outcome(outcome.fields(), now) {
-            return Some(4);
+            return Err(4);
         }
-        None
+        Ok(job.hart)
     }
 
     /// The first rule that a drop of instruction `seq` by actor `actor` breaks.

@@ -1,7 +1,8 @@
-ghost use Rattle.std.specs.Prelude.{◌≡◌, map};
+ghost use Rattle.std.specs.Prelude.{◌≡◌, map, IfOk};
+ghost use Rattle.std.specs.Result.{result_err};
 ghost use Rattle.events.specs.declared.event.Event.TheVariants.{Retire};
 ghost use Rattle.smt_model.specs.Rules.{refused, is_first};
-ghost use Rattle.core_state.specs.Refusals.{outcome_at};
+ghost use Rattle.core_state.specs.Refusals.{outcome_at, HasInFlight};
 
 use super::same::is_same_effect;
 use crate::state::State;
@@ -11,28 +12,35 @@ use numbers::Seq;
 use retire_squash::{Active, Stage};
 
 impl State {
-    /// The first rule that a retirement of instruction `seq` by actor `actor` with this effect
-    /// breaks.
-    pub(in crate::state) fn retire_refusal(&self, actor: u8, seq: Seq, said: Effect) -> Option<u8>
-        ensures { result ≡ refused self.now.setup self.now.past (Retire actor seq said) }
+    /// The hart whose instruction `seq` actor `actor` may retire with this effect, or the first rule
+    /// that the retirement breaks.
+    pub(in crate::state) fn judge_retirement(
+        &self,
+        actor: u8,
+        seq: Seq,
+        said: Effect,
+    ) -> Result<u8, u8>
+        ensures rule { result_err result
+            ≡ refused self.now.setup self.now.past (Retire actor seq said) }
+        ensures there { IfOk result (λ h. HasInFlight self.now.setup self.now.past h seq) }
     {
         if !self.has_actor(actor) {
-            return Some(1);
+            return Err(1);
         }
         let Some((hart, active)) = self.in_active_list(seq) else {
-            return Some(2);
+            return Err(2);
         };
         let Some(outcome) = outcome_at(active.stage) else {
-            return Some(2);
+            return Err(2);
         };
         if !is_oldest_active(self.hart(hart).active.items(), seq) {
-            return Some(3);
+            return Err(3);
         }
         let now = effect(&self.parts.memory, hart, active.op, outcome);
         if !is_same_effect(said.fields(), now) {
-            return Some(4);
+            return Err(4);
         }
-        None
+        Ok(hart)
     }
 }
 

@@ -2,7 +2,7 @@
 use Rattle.std.proofs.Common.{◌≡◌, ◌∙◌, None, sym, ap, subst}
 use Rattle.smt_model.specs.Rules.{refused}
 use Rattle.core_state.specs.{View.grown}
-use Rattle.core_state.proofs.Following.Apply.{fetch_at}
+use Rattle.core_state.proofs.Following.Fetch.{fetch_at}
 use Rattle.core_state.proofs.state.State.follow_fetch.Goals as goal
 
 pub fetch-requires-clause-allowed : goal.fetch-requires-clause-allowed

@@ -6,26 +6,26 @@ use Rattle.core_state.proofs.Following.Retire.{no_actor, gone, waits, not_oldest
 use Rattle.core_state.proofs.Following.Retire.{effect_view}
 use Rattle.core_parts.proofs.Agreement.Queues.{has_place}
 use Rattle.core_state.proofs.Following.Place.{hart_inside}
-use Rattle.core_state.proofs.state.State.retire_refusal.Goals as goal
+use Rattle.core_state.proofs.state.State.judge_retirement.Goals as goal
 
-pub returns-then-not-has_actor : goal.returns-then-not-has_actor
-returns-then-not-has_actor c =
+pub returns-then-not-has_actor-clause-rule : goal.returns-then-not-has_actor-clause-rule
+returns-then-not-has_actor-clause-rule c =
     sym (no_actor c.args.self.now.setup c.args.self.now.past c.args.actor c.args.seq c.args.said
     (sym c.has_actor.ensures ∙ c.if-not-has_actor.true))
 
-pub returns-in_default : goal.returns-in_default
-returns-in_default c =
+pub returns-in_default-clause-rule : goal.returns-in_default-clause-rule
+returns-in_default-clause-rule c =
     sym (gone c.args.self.now.setup c.args.self.now.past c.args.actor c.args.seq c.args.said
     (sym c.has_actor.ensures ∙ c.if-not-has_actor.false) c.in_default.ensures.nowhere)
 
-pub returns-in_default-outcome_at : goal.returns-in_default-outcome_at
-returns-in_default-outcome_at c =
+pub returns-in_default-outcome_at-clause-rule : goal.returns-in_default-outcome_at-clause-rule
+returns-in_default-outcome_at-clause-rule c =
     sym (waits c.args.self.now.setup c.args.self.now.past c.args.actor c.args.seq c.args.said
     c.in-Some.hart c.in-Some.active c.in-Some.ensures.there (sym c.has_actor.ensures ∙ c.if-not-has_actor.false)
     (sym c.outcome_at.ensures ∙ c.in_default-outcome_at.is))
 
-pub returns-then-not-is_oldest_active : goal.returns-then-not-is_oldest_active
-returns-then-not-is_oldest_active c =
+pub returns-then-not-is_oldest_active-clause-rule : goal.returns-then-not-is_oldest_active-clause-rule
+returns-then-not-is_oldest_active-clause-rule c =
     sym (not_oldest c.args.self.now.setup c.args.self.now.past c.args.actor c.args.seq c.args.said
     c.in-Some.hart c.in-Some.active c.in-Some.ensures.there (sym c.has_actor.ensures ∙ c.if-not-has_actor.false)
     c.in-Some-outcome_at.outcome
@@ -41,8 +41,8 @@ effect-now-requires c =
     (hart_inside c.self.inside c.self.invariant c.args.self.now c.self.view_is c.in-Some.hart
     c.in-Some.ensures.there.inside)
 
-pub returns-then-not-is_same_effect : goal.returns-then-not-is_same_effect
-returns-then-not-is_same_effect c =
+pub returns-then-not-is_same_effect-clause-rule : goal.returns-then-not-is_same_effect-clause-rule
+returns-then-not-is_same_effect-clause-rule c =
     let can = can_retire c.args.self.now.setup c.args.self.now.past c.args.actor c.args.seq c.args.said
     c.in-Some.hart c.in-Some.active c.in-Some.ensures.there (sym c.has_actor.ensures ∙ c.if-not-has_actor.false)
     c.in-Some-outcome_at.outcome
@@ -62,8 +62,8 @@ returns-then-not-is_same_effect c =
     (sym (sym c.is_same_effect.ensures ∙ c.if-not-is_same_effect.true)
     ∙ ap (λ e. same_effect e c.effect-now.result) c.fields.ensures.value))
 
-pub returns : goal.returns
-returns c =
+pub returns-clause-rule : goal.returns-clause-rule
+returns-clause-rule c =
     let can = can_retire c.args.self.now.setup c.args.self.now.past c.args.actor c.args.seq c.args.said
     c.in-Some.hart c.in-Some.active c.in-Some.ensures.there (sym c.has_actor.ensures ∙ c.if-not-has_actor.false)
     c.in-Some-outcome_at.outcome
@@ -82,3 +82,6 @@ returns c =
     c.in-Some-outcome_at.outcome c.effect-now.result can c.effect-now.ensures)
     (sym (sym c.is_same_effect.ensures ∙ c.if-not-is_same_effect.false)
     ∙ ap (λ e. same_effect e c.effect-now.result) c.fields.ensures.value))
+
+pub returns-clause-there : goal.returns-clause-there
+returns-clause-there c = (c.in-Some.active, c.in-Some.ensures.there)

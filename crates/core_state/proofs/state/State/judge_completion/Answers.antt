@@ -3,19 +3,19 @@ use Rattle.std.proofs.Common.{◌∙◌, true, false, sym, ap}
 use Rattle.smt_model.specs.Comparisons.{same_outcome}
 use Rattle.core_parts.proofs.Agreement.Queues.{has_place}
 use Rattle.core_state.proofs.Following.Complete.{no_actor, no_job, squashed, tells, lent_it, hart_inside, gone_by}
-use Rattle.core_state.proofs.Following.Complete.{flies_by, says_by, is_none_by}
-use Rattle.core_state.proofs.state.State.complete_refusal.Goals as goal
+use Rattle.core_state.proofs.Following.Complete.{flies_by, says_by, is_none_by, has_by}
+use Rattle.core_state.proofs.state.State.judge_completion.Goals as goal
 
-pub returns-then-not-has_actor : goal.returns-then-not-has_actor
-returns-then-not-has_actor c =
+pub returns-then-not-has_actor-clause-rule : goal.returns-then-not-has_actor-clause-rule
+returns-then-not-has_actor-clause-rule c =
     sym (no_actor c.args.self.now.setup c.args.self.now.past c.args.actor c.args.seq c.args.outcome
     (sym c.has_actor.ensures ∙ c.if-not-has_actor.true))
 
 pub job_with-requires : goal.job_with-requires
 job_with-requires c = sym c.has_actor.ensures ∙ c.if-not-has_actor.false
 
-pub returns-in_default : goal.returns-in_default
-returns-in_default c =
+pub returns-in_default-clause-rule : goal.returns-in_default-clause-rule
+returns-in_default-clause-rule c =
     sym (no_job c.args.self.now.setup c.args.self.now.past c.args.actor c.args.seq c.args.outcome
     (sym c.has_actor.ensures ∙ c.if-not-has_actor.false) c.in_default.ensures.none)
 
@@ -24,8 +24,8 @@ in_flight-requires c =
     hart_inside c.self.inside c.self.invariant c.args.self.now c.self.view_is c.args.actor c.args.seq c.in-Some.job
     c.in-Some.ensures.some
 
-pub returns-then-is_none : goal.returns-then-is_none
-returns-then-is_none c =
+pub returns-then-is_none-clause-rule : goal.returns-then-is_none-clause-rule
+returns-then-is_none-clause-rule c =
     sym (squashed c.args.self.now.setup c.args.self.now.past c.args.actor c.args.seq c.args.outcome
     (sym c.has_actor.ensures ∙ c.if-not-has_actor.false) (lent_it c.self.inside c.self.invariant c.args.self.now c.self.view_is c.args.actor c.args.seq c.in-Some.job
     c.in-Some.ensures.some)
@@ -39,8 +39,8 @@ completion_of-now-requires c =
     c.self.invariant.agrees.accesses (hart_inside c.self.inside c.self.invariant c.args.self.now c.self.view_is c.args.actor c.args.seq c.in-Some.job
     c.in-Some.ensures.some)
 
-pub returns-then-not-is_same_outcome : goal.returns-then-not-is_same_outcome
-returns-then-not-is_same_outcome c =
+pub returns-then-not-is_same_outcome-clause-rule : goal.returns-then-not-is_same_outcome-clause-rule
+returns-then-not-is_same_outcome-clause-rule c =
     sym (tells c.args.self.now.setup c.args.self.now.past c.args.actor c.args.seq c.args.outcome false
     (sym c.has_actor.ensures ∙ c.if-not-has_actor.false) (lent_it c.self.inside c.self.invariant c.args.self.now c.self.view_is c.args.actor c.args.seq c.in-Some.job
     c.in-Some.ensures.some)
@@ -52,8 +52,8 @@ returns-then-not-is_same_outcome c =
     c.worked.result c.completion_of-now.result c.args.outcome false c.worked.ensures
     c.completion_of-now.ensures (sym (sym c.is_same_outcome.ensures ∙ c.if-not-is_same_outcome.true) ∙ ap (λ o. same_outcome o c.completion_of-now.result) c.fields.ensures)))
 
-pub returns : goal.returns
-returns c =
+pub returns-clause-rule : goal.returns-clause-rule
+returns-clause-rule c =
     sym (tells c.args.self.now.setup c.args.self.now.past c.args.actor c.args.seq c.args.outcome true
     (sym c.has_actor.ensures ∙ c.if-not-has_actor.false) (lent_it c.self.inside c.self.invariant c.args.self.now c.self.view_is c.args.actor c.args.seq c.in-Some.job
     c.in-Some.ensures.some)
@@ -64,3 +64,9 @@ returns c =
     c.in-Some.ensures.some
     c.worked.result c.completion_of-now.result c.args.outcome true c.worked.ensures
     c.completion_of-now.ensures (sym (sym c.is_same_outcome.ensures ∙ c.if-not-is_same_outcome.false) ∙ ap (λ o. same_outcome o c.completion_of-now.result) c.fields.ensures)))
+
+pub returns-clause-there : goal.returns-clause-there
+returns-clause-there c =
+    has_by c.self.inside c.self.invariant c.args.self.now c.self.view_is c.args.actor c.args.seq c.in-Some.job
+    c.in-Some.ensures.some
+    c.in_flight.result (is_none_by c.in_flight.result c.is_none.result false c.is_none.ensures c.if-is_none.false) c.in_flight.ensures.some
