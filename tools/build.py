@@ -46,6 +46,8 @@ def seconds_of(names):
 
 def copy_to(room, needed):
     """A repository of these crates alone, without their edits."""
+    # `rt ci` wants to stand at the top of one.
+    os.mkdir(f"{room}/.git")
     shutil.copy(f"{ROOT}/HANDLES", room)
     with open(f"{room}/crates.txt", "w", encoding="utf-8") as lines:
         lines.writelines(needed.values())
