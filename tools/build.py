@@ -103,7 +103,8 @@ def main():
     if not is_built:
         lines = open(path, encoding="utf-8", errors="replace").read().split("\n")
         wrong = [line for line in lines if re.search(r"error|no proof|not proved|NOT PROVED|^rt: FAILED", line)]
-        print("\n".join(wrong[:20]), file=sys.stderr)
+        # Where no crate is to blame, `rt` says at its end why it stopped.
+        print("\n".join(wrong[:20] or lines[-6:]).rstrip(), file=sys.stderr)
         return 1
     os.utime(f"{out}/{PROGRAM}")
     return 0
