@@ -187,7 +187,7 @@ impl<L: Origin> Held<L> {
 }
 
 /// The headline, of this core. It does nothing: it is there for its contract.
-fn show(core: &Core)
+pub(crate) fn show(core: &Core)
     ensures shown { Shown core.now }
     ensures few { length core.now.past ≤ 16777216 }
 {

@@ -2,12 +2,13 @@
 //! each pass counts stands here.
 //!
 //! Read in this order: `ask` (what is asked and said), `tally` (what a history holds of one actor),
-//! `origin` (which core it is), `reader` (what looks at a core), `finished` (what is left at the
-//! end), `held` (what stands behind the lock, with the passes; `held/passes` and `held/replies`
-//! read them out), `locked` (the lock).
+//! `counts` (how many events it holds of each), `origin` (which core it is), `reader` (what looks at
+//! a core), `finished` (what is left at the end), `held` (what stands behind the lock, with the
+//! passes; `held/passes` and `held/replies` read them out), `locked` (the lock).
 #![tactic(auto)]
 
 pub mod ask;
+mod counts;
 pub mod finished;
 pub mod held;
 pub mod locked;

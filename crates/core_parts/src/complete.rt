@@ -120,10 +120,10 @@ impl Parts {
     /// Hart `hart`'s instruction `active`, which is actor `actor`'s job, has its outcome. Where it
     /// goes elsewhere than was predicted, all younger ones of its hart are squashed, and the hart
     /// is fetched from there.
-    pub fn finish(&mut self, actor: u8, hart: u8, active: &Active, outcome: OutcomeFields)
-        requires step { From self.old hart (λ p q. IsFinish p q hart actor active.now outcome) }
+    pub fn finish(&mut self, actor: u8, hart: u8, active: &Active, outcome: &OutcomeFields)
+        requires step { From self.old hart (λ p q. IsFinish p q hart actor active.now outcome.now) }
         ensures agrees { (p q : Picture) → PartsAgree p self.old
-            → IsFinish p q hart actor active.now outcome → PartsAgree q self.new }
+            → IsFinish p q hart actor active.now outcome.now → PartsAgree q self.new }
         ensures sizes { KeepsSizes self.old self.new }
     {
         let Some(pc) = redirect_pc(outcome.next, active.predicted) else {
@@ -142,21 +142,21 @@ impl Parts {
         actor: u8,
         hart: u8,
         active: &Active,
-        outcome: OutcomeFields,
+        outcome: &OutcomeFields,
         goes_on: u32,
     )
         requires inside { hart < length self.old.harts.items }
         requires place { hart < most_harts }
         ensures agrees { (p q : Picture) → PartsAgree p self.old
-            → IsComplete p q hart active.now.seq actor outcome goes_on
+            → IsComplete p q hart active.now.seq actor outcome.now goes_on
             → active.now.phys ≡ p.phys active.now.seq → active.now.op ≡ op_in p active.now.seq
             → PartsAgree q self.new }
         ensures sizes { KeepsSizes self.old self.new }
     {
         self.fill(active.phys, outcome.value);
         set_job(&mut self.jobs, usize::from(actor), None);
-        resolve_access(&mut self.accesses, hart, active.op, active.seq, outcome);
-        self.harts[usize::from(hart)].complete(active.seq, outcome, goes_on);
+        resolve_access(&mut self.accesses, hart, active.op, active.seq, *outcome);
+        self.harts[usize::from(hart)].complete(active.seq, *outcome, goes_on);
     }
 
     /// Actor `actor` is rid of its job, whose instruction was squashed.

@@ -6,6 +6,7 @@ ghost use Rattle.core_parts.specs.Agree.{PartsAgree, From, KeepsSizes};
 ghost use Rattle.core_parts.specs.Decode.{CanDecode, Decodes, IsDecoded};
 
 use crate::hart::HartState;
+use crate::latch::drop_oldest;
 use crate::parts::Parts;
 use numbers::Seq;
 
@@ -46,7 +47,8 @@ impl HartState {
         requires room { length self.old.rename_latch.items < latch_room }
         ensures { IsDecoded self.old self.new }
     {
-        let slot = self.decode_latch.remove(0);
+        let slot = self.decode_latch[0];
+        drop_oldest(&mut self.decode_latch);
         self.rename_latch.push(slot);
     }
 }

@@ -1,11 +1,12 @@
 //! The parts of the core that its steps move instructions through, and the steps over these parts.
 //! What a step asks and leaves is said with a picture of the history, never with the history.
 //!
-//! Read in this order: `slot` (an instruction before it is renamed), `hart` (what each hart has of
-//! its own), `parts` (what all harts share), then the steps in the order of the pipeline: `fetch`
-//! with `point` (where the next fetch is), `decode`, `rename`, `issue`, `complete`, `retire`, and
-//! `squash`, which the last two share; `accesses` and `memory` (what these do with the loads and
-//! stores in flight, and with memory); and `place` (where an instruction is).
+//! Read in this order: `slot` (an instruction before it is renamed) and `latch` (where such ones
+//! wait), `hart` (what each hart has of its own), `parts` (what all harts share), then the steps in
+//! the order of the pipeline: `fetch` with `point` (where the next fetch is), `decode`, `rename`,
+//! `issue`, `complete`, `retire`, and `squash`, which the last two share; `accesses` and `memory`
+//! (what these do with the loads and stores in flight, and with memory); and `place` (where an
+//! instruction is).
 #![tactic(auto)]
 
 mod accesses;
@@ -14,6 +15,7 @@ mod decode;
 mod fetch;
 mod hart;
 mod issue;
+mod latch;
 mod memory;
 mod parts;
 mod place;

@@ -1,4 +1,5 @@
 ghost use Rattle.std.specs.Prelude.{◌≡◌};
+ghost use Rattle.rv_decode.specs.Decode.{op_of_word};
 ghost use Rattle.core_parts.specs.Fetch.{slot_at};
 
 use crate::slot::Slot;
@@ -16,15 +17,17 @@ pub struct FetchPoint {
 }
 
 impl FetchPoint {
-    /// What is fetched there under the number `seq`, and then goes on at `predicted`.
-    pub fn slot(self, seq: Seq, predicted: u32) -> Slot
+    /// What is fetched there under the number `seq`, and then goes on at `predicted`; `op` is what
+    /// the word there is.
+    pub fn slot(self, seq: Seq, op: Op, predicted: u32) -> Slot
+        requires { op ≡ op_of_word self.word }
         ensures { result ≡ slot_at seq self predicted }
     {
         Slot {
             seq,
             pc: self.pc,
             word: self.word,
-            op: Op::of_word(self.word),
+            op,
             predicted,
         }
     }

@@ -16,6 +16,7 @@ ghost use Rattle.core_parts.specs.Renaming.{has_full_memory_queue, source_in, em
 
 use crate::accesses::add_access;
 use crate::hart::HartState;
+use crate::latch::drop_oldest;
 use crate::parts::Parts;
 use crate::slot::Slot;
 use free_list::FreeList;
@@ -135,7 +136,7 @@ impl HartState {
         requires writes { IfSome phys (λ x. 0 < destination slot.op) }
         ensures { HasRenamed slot phys self.old self.new }
     {
-        self.rename_latch.remove(0);
+        drop_oldest(&mut self.rename_latch);
         let rd = slot.op.destination();
         self.active.append(Active {
             seq: slot.seq,

@@ -52,16 +52,16 @@ impl Parts {
 
     /// Retires hart `hart`'s oldest instruction in flight, `active`, with this effect: it commits,
     /// or ends or stops its hart.
-    pub fn retire(&mut self, hart: u8, active: Active, effect: EffectFields)
-        requires step { From self.old hart (λ p q. Retires p q hart active effect) }
+    pub fn retire(&mut self, hart: u8, active: &Active, effect: EffectFields)
+        requires step { From self.old hart (λ p q. Retires p q hart active.now effect) }
         requires write { IfSome effect.write (CanWrite self.old.memory.image) }
-        ensures agrees { (p q : Picture) → PartsAgree p self.old → Retires p q hart active effect
+        ensures agrees { (p q : Picture) → PartsAgree p self.old → Retires p q hart active.now effect
             → PartsAgree q self.new }
         ensures sizes { KeepsSizes self.old self.new }
     {
         match effect.next {
             Next::Pc(pc) => {
-                if is_replay(&active, effect) {
+                if is_replay(active, effect) {
                     self.replay(hart, active, effect, pc);
                 } else {
                     let on = self.harts[usize::from(hart)].fetch_pc;
@@ -75,11 +75,11 @@ impl Parts {
 
     /// A load that reads another number now than it did as it completed: all younger ones are
     /// squashed, then it commits with the number of now, and its hart is fetched from `pc`.
-    fn replay(&mut self, hart: u8, active: Active, effect: EffectFields, pc: u32)
-        requires step { From self.old hart (λ p q. Replays p q hart active effect pc) }
+    fn replay(&mut self, hart: u8, active: &Active, effect: EffectFields, pc: u32)
+        requires step { From self.old hart (λ p q. Replays p q hart active.now effect pc) }
         requires write { IfSome effect.write (CanWrite self.old.memory.image) }
         ensures agrees { (p q : Picture) → PartsAgree p self.old
-            → Replays p q hart active effect pc → PartsAgree q self.new }
+            → Replays p q hart active.now effect pc → PartsAgree q self.new }
         ensures sizes { KeepsSizes self.old self.new }
     {
         self.squash(hart, active.seq);
@@ -88,11 +88,11 @@ impl Parts {
 
     /// Its register becomes the committed one, and the one before becomes free. Memory is written
     /// and its hart's reservation changes as its effect says; the hart is fetched from `pc`.
-    fn commit(&mut self, hart: u8, active: Active, effect: EffectFields, pc: u32)
-        requires step { From self.old hart (λ p q. Commits p q hart active effect pc) }
+    fn commit(&mut self, hart: u8, active: &Active, effect: EffectFields, pc: u32)
+        requires step { From self.old hart (λ p q. Commits p q hart active.now effect pc) }
         requires write { IfSome effect.write (CanWrite self.old.memory.image) }
         ensures agrees { (p q : Picture) → PartsAgree p self.old
-            → Commits p q hart active effect pc → PartsAgree q self.new }
+            → Commits p q hart active.now effect pc → PartsAgree q self.new }
         ensures sizes { KeepsSizes self.old self.new }
     {
         let replaced = self.harts[usize::from(hart)].commit(active.rd, active.phys, pc);
@@ -105,9 +105,9 @@ impl Parts {
 
     /// Nothing is committed and memory stays: its own register becomes free, and all younger ones
     /// are squashed.
-    fn halt(&mut self, hart: u8, active: Active, status: Status)
-        requires step { From self.old hart (λ p q. Ends p q hart active status) }
-        ensures agrees { (p q : Picture) → PartsAgree p self.old → Ends p q hart active status
+    fn halt(&mut self, hart: u8, active: &Active, status: Status)
+        requires step { From self.old hart (λ p q. Ends p q hart active.now status) }
+        ensures agrees { (p q : Picture) → PartsAgree p self.old → Ends p q hart active.now status
             → PartsAgree q self.new }
         ensures sizes { KeepsSizes self.old self.new }
     {
@@ -117,9 +117,9 @@ impl Parts {
 
     /// Hart `hart` loses its oldest instruction, whose register becomes free, and stands like this
     /// from now on.
-    fn leave(&mut self, hart: u8, active: Active, status: Status)
-        requires step { From self.old hart (λ p q. Leaves p q hart active status) }
-        ensures agrees { (p q : Picture) → PartsAgree p self.old → Leaves p q hart active status
+    fn leave(&mut self, hart: u8, active: &Active, status: Status)
+        requires step { From self.old hart (λ p q. Leaves p q hart active.now status) }
+        ensures agrees { (p q : Picture) → PartsAgree p self.old → Leaves p q hart active.now status
             → PartsAgree q self.new }
         ensures sizes { KeepsSizes self.old self.new }
     {

@@ -1,6 +1,7 @@
 -- How callers see the fields of a state, and what is true of these in every state.
 use Rattle.std.specs.Prelude.{◌≡◌, ◌≤◌, true, List, length, reverse, vec_capacity}
 use Rattle.numbers.specs.Sizes.{most_events}
+use Rattle.decoded_code.specs.Code.{IsCodeOf}
 use Rattle.events.specs.declared.event.Event.{Event}
 use Rattle.smt_model.specs.{Account.records, Fates.fetches, Fetching.last_fetched, Memory.output}
 use Rattle.smt_model.specs.{Picture.picture, Rules.is_legal, Setup.Setup}
@@ -17,7 +18,7 @@ setup_in i = setup_of i.image i.config
 abbrev pub view_of : Inside → CoreView
 view_of i = record { setup = setup_in i; limit = i.history.limit; past = past_of i }
 
--- The sizes are a core's. The history is legal, and every part agrees with it: the parts that
+-- The sizes are a core's, and the code that was decoded is the image's. The history is legal, and every part agrees with it: the parts that
 -- instructions move through, how many were fetched and which hart last, the records and the output.
 -- There is room for a record and a byte of output for each event to come.
 pub record IsCore (i : Inside) : Type 0 where
@@ -26,6 +27,7 @@ pub record IsCore (i : Inside) : Type 0 where
   pub harts : length i.parts.harts.items ≡ i.config.harts
   pub queue : i.parts.queue.size ≡ i.config.queue
   pub image : i.parts.memory.image ≡ i.image
+  pub code : IsCodeOf i.image i.code
   pub legal : is_legal (setup_in i) (past_of i)
   pub agrees : PartsAgree (picture (setup_in i) (past_of i)) i.parts
   pub fetched : i.fetched ≡ fetches (past_of i)

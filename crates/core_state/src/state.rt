@@ -29,6 +29,7 @@ use crate::log::append;
 use crate::refused::CoreRefused;
 use crate::sizes::is_core;
 use core_parts::{FetchPoint, Parts, choose, unit_of};
+use decoded_code::Code;
 use elf_image::Image;
 use events::{Effect, Event, History, Outcome, Record};
 use exec_units::{Done, Job};
@@ -44,6 +45,8 @@ use std::marker::Model;
 #[derive(Drop)]
 pub struct State {
     image: Image,
+    /// The image's code, decoded.
+    code: Code,
     config: Config,
     parts: Parts,
     /// The hart that was fetched last.
@@ -106,12 +109,14 @@ impl State {
             ≡ record { setup = setup_of image.now config; limit = limit; past = [] }) }
     {
         let image = image.try_clone()?;
+        let code = Code::new(&image, alloc)?;
         let history = History::with_limit(limit, alloc)?;
         let records = Vec::with_capacity(alloc, limit as usize)?;
         let output = Vec::with_capacity(alloc, limit as usize)?;
         let parts = Parts::new(config.harts, config.extra, config.queue, &image, alloc)?;
         Ok(State {
             image,
+            code,
             config,
             parts,
             last: None,
@@ -144,7 +149,7 @@ impl State {
         Some(FetchPoint {
             hart: hart as u8,
             pc,
-            word: self.image.code_word(pc),
+            word: self.code.word_at(pc),
         })
     }
 
@@ -156,7 +161,8 @@ impl State {
         ensures event { result ≡ fetched_at actor point predicted self.old.past }
         ensures made { self.new ≡ grown result self.old }
     {
-        let slot = point.slot(self.fetched, predicted);
+        let op = self.code.op_at(point.pc);
+        let slot = point.slot(self.fetched, op, predicted);
         let event = point.event(actor, slot.seq, predicted);
         self.parts.fetch(usize::from(point.hart), slot);
         self.last = Some(point.hart);
@@ -254,8 +260,9 @@ impl State {
         let Some(active) = self.parts.in_flight(job.hart, job.seq) else {
             return Some(self.drop_job(actor, job.seq));
         };
-        let outcome = self.parts.completion_of(&job, done.outcome().fields());
-        Some(self.finish(actor, job.hart, &active, Outcome::new(outcome)))
+        let fields = self.parts.completion_of(&job, done.outcome().fields());
+        let outcome = Outcome::new(fields);
+        Some(self.finish(actor, job.hart, &active, outcome, &fields))
     }
 
     /// Retires hart `hart`'s oldest instruction in flight. None where there is none, it isn't
@@ -276,7 +283,7 @@ impl State {
         }
         let (active, outcome) = self.parts.next_to_retire(hart)?;
         let fields = effect(&self.parts.memory, hart, active.op, outcome);
-        Some(self.write_retire(actor, hart, active, Effect::new(fields)))
+        Some(self.write_retire(actor, hart, &active, Effect::new(fields)))
     }
 
     /// Whether the core has this actor.

@@ -12,7 +12,8 @@ use crate::effect::{Effect, Next, Outcome, Record, Written};
 use crate::event::{Event, Phys, Seq};
 use arrayvec::ArrayString;
 use text_fields::{
-    push_ascii, push_dash, push_hex, push_number, push_optional_hex, push_small_number,
+    push_ascii, push_hex, push_number, push_small_number, push_spaced_dash, push_spaced_number,
+    push_word_after,
 };
 
 /// Room for any line that is printed here, without its newline.
@@ -23,8 +24,7 @@ fn push_small_field<const N: usize>(line: &mut ArrayString<N>, value: u8)
     ensures spelled { line.new.bytes ≡ line.old.bytes ++ after_space (decimal value) }
     ensures length { array_string_len line.new ≤ array_string_len line.old + 4 }
 {
-    push_ascii(line, b' ');
-    push_small_number(line, value);
+    push_spaced_number(line, value);
 }
 
 fn push_number_field<const N: usize>(line: &mut ArrayString<N>, value: u32)
@@ -41,10 +41,9 @@ fn push_optional_number_field<const N: usize>(line: &mut ArrayString<N>, value: 
     ensures spelled { line.new.bytes ≡ line.old.bytes ++ after_space (optional decimal value) }
     ensures length { array_string_len line.new ≤ array_string_len line.old + 11 }
 {
-    push_ascii(line, b' ');
     match value {
-        None => push_dash(line),
-        Some(number) => push_number(line, u32::from(number)),
+        None => push_spaced_dash(line),
+        Some(number) => push_number_field(line, u32::from(number)),
     }
 }
 
@@ -53,8 +52,7 @@ fn push_word_field<const N: usize>(line: &mut ArrayString<N>, value: u32)
     ensures spelled { line.new.bytes ≡ line.old.bytes ++ after_space (hex 8 value) }
     ensures length { array_string_len line.new ≤ array_string_len line.old + 9 }
 {
-    push_ascii(line, b' ');
-    push_hex(line, value, 8);
+    push_word_after(line, b' ', value);
 }
 
 fn push_optional_word_field<const N: usize>(line: &mut ArrayString<N>, value: Option<u32>)
@@ -62,8 +60,10 @@ fn push_optional_word_field<const N: usize>(line: &mut ArrayString<N>, value: Op
     ensures spelled { line.new.bytes ≡ line.old.bytes ++ after_space (optional (hex 8) value) }
     ensures length { array_string_len line.new ≤ array_string_len line.old + 9 }
 {
-    push_ascii(line, b' ');
-    push_optional_hex(line, value, 8);
+    match value {
+        None => push_spaced_dash(line),
+        Some(number) => push_word_field(line, number),
+    }
 }
 
 fn push_optional_byte_field<const N: usize>(line: &mut ArrayString<N>, value: Option<u8>)
@@ -71,8 +71,13 @@ fn push_optional_byte_field<const N: usize>(line: &mut ArrayString<N>, value: Op
     ensures spelled { line.new.bytes ≡ line.old.bytes ++ after_space (optional (hex 2) value) }
     ensures length { array_string_len line.new ≤ array_string_len line.old + 3 }
 {
-    push_ascii(line, b' ');
-    push_optional_hex(line, value.map(u32::from), 2);
+    match value {
+        None => push_spaced_dash(line),
+        Some(byte) => {
+            push_ascii(line, b' ');
+            push_hex(line, u32::from(byte), 2);
+        }
+    }
 }
 
 fn push_next_field<const N: usize>(line: &mut ArrayString<N>, next: Next)
@@ -82,14 +87,8 @@ fn push_next_field<const N: usize>(line: &mut ArrayString<N>, next: Next)
 {
     push_ascii(line, b' ');
     match next {
-        Next::Pc(pc) => {
-            push_ascii(line, b'p');
-            push_hex(line, pc, 8);
-        }
-        Next::Ended(status) => {
-            push_ascii(line, b'e');
-            push_hex(line, status, 8);
-        }
+        Next::Pc(pc) => push_word_after(line, b'p', pc),
+        Next::Ended(status) => push_word_after(line, b'e', status),
         Next::Stopped(cause) => {
             push_ascii(line, b's');
             push_small_number(line, cause);
@@ -106,10 +105,8 @@ fn push_write_fields<const N: usize>(line: &mut ArrayString<N>, write: Option<Wr
 {
     match write {
         None => {
-            push_ascii(line, b' ');
-            push_dash(line);
-            push_ascii(line, b' ');
-            push_dash(line);
+            push_spaced_dash(line);
+            push_spaced_dash(line);
         }
         Some(written) => {
             push_word_field(line, written.addr);

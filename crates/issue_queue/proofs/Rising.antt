@@ -105,22 +105,22 @@ others_stay n m (x ∷ xs) same all =
     let apart : is_other n x ≡ true = grind (arith, nat_tests, all.0, same) in
     rw apart (ap (λ ys. x ∷ ys) (others_stay n m xs same all.1))
 
-above_at : (n i : ℕ) (d : Entry) (xs : List Entry) → AllByRecursion (λ y. n < y.seq) xs → i < length xs
+pub above_at : (n i : ℕ) (d : Entry) (xs : List Entry) → AllByRecursion (λ y. n < y.seq) xs → i < length xs
     → n < (get_or xs i d).seq
 above_at n i d [] all inside = absurd (omega (arith, inside))
 above_at n zero d (x ∷ xs) all inside = all.0
 above_at n (suc i) d (x ∷ xs) all inside = above_at n i d xs all.1 (omega (arith, inside))
 
-pub without_place : (n i : ℕ) (d : Entry) (xs : List Entry) → AreEntriesRising xs → i < length xs
-    → (get_or xs i d).seq ≡ n → filter (is_other n) xs ≡ take i xs ++ drop (suc i) xs
-without_place n i d [] rising inside it = absurd (omega (arith, inside))
-without_place n zero d (x ∷ xs) rising inside it =
-    let gone : is_other n x ≡ false = grind (arith, nat_tests, it) in
-    rw gone (others_stay n x.seq xs it rising.0)
-without_place n (suc i) d (x ∷ xs) rising inside it =
-    let above = above_at x.seq i d xs rising.0 (omega (arith, inside)) in
-    let apart : is_other n x ≡ true = grind (arith, nat_tests, above, it) in
-    rw apart (ap (λ ys. x ∷ ys) (without_place n i d xs rising.1 (omega (arith, inside)) it))
+pub without_place : (n i : ℕ) (xs : List Entry) → AreEntriesRising xs → i < length xs
+    → ((d : Entry) → (get_or xs i d).seq ≡ n) → filter (is_other n) xs ≡ take i xs ++ drop (suc i) xs
+without_place n i [] rising inside it = absurd (omega (arith, inside))
+without_place n zero (x ∷ xs) rising inside it =
+    let gone : is_other n x ≡ false = grind (arith, nat_tests, it x) in
+    rw gone (others_stay n x.seq xs (it x) rising.0)
+without_place n (suc i) (x ∷ xs) rising inside it =
+    let above = above_at x.seq i x xs rising.0 (omega (arith, inside)) in
+    let apart : is_other n x ≡ true = grind (arith, nat_tests, above, it x) in
+    rw apart (ap (λ ys. x ∷ ys) (without_place n i xs rising.1 (omega (arith, inside)) it))
 
 pub without_none : (n : ℕ) (xs : List Entry) → has_number n xs ≡ false → filter (is_other n) xs ≡ xs
 without_none n [] absent = refl

@@ -1,5 +1,5 @@
-ghost use Rattle.std.specs.Prelude.{◌≡◌, ℕ, ◌<◌, ◌≤◌, ◌==◌, [], length, insert, map, filter};
-ghost use Rattle.std.specs.Prelude.{count_by, false, slice_index_or, IfSome, IfNone};
+ghost use Rattle.std.specs.Prelude.{◌≡◌, ℕ, ◌-◌, ◌<◌, ◌≤◌, ◌==◌, [], length, map, filter};
+ghost use Rattle.std.specs.Prelude.{count_by, false, remove, slice_index_or, take, IfSome, IfNone};
 ghost use Rattle.std.specs.List.{AllByRecursion};
 ghost use Rattle.std.specs.Option.{option_map};
 ghost use Rattle.numbers.specs.Sizes.{most_queued};
@@ -104,8 +104,8 @@ impl IssueQueue {
         requires absent { has_number entry.seq self.old.entries ≡ false }
         ensures { self.new ≡ record self.old { entries = inserted_entry entry self.old.entries } }
     {
-        let index = place_of(&entry, self.entries());
-        self.entries.insert(index, entry);
+        self.entries.push(entry);
+        sink_last(self.entries.as_mut_slice(), entry);
     }
 
     /// A physical register has its value: every source that waits for it has that value now.
@@ -141,8 +141,9 @@ impl IssueQueue {
     pub fn remove(&mut self, seq: Seq)
         ensures { self.new ≡ record self.old { entries = filter (is_other seq) self.old.entries } }
     {
-        if let Some(index) = place_with(seq, self.entries()) {
-            self.entries.remove(index);
+        if let Some(place) = place_with(seq, self.entries()) {
+            close_gap(self.entries.as_mut_slice(), place);
+            self.entries.pop();
         }
     }
 
@@ -156,17 +157,33 @@ impl IssueQueue {
     }
 }
 
-// Where an entry belongs among these.
-fn place_of(entry: &Entry, entries: &[Entry]) -> usize
-    ensures bound { result ≤ length entries.now }
-    ensures place { inserted_entry entry.now entries.now ≡ insert entries.now result entry.now }
+// Writes an entry where it belongs among all but the last of these, whose place is spare. A new
+// entry mostly belongs near the end, so its place is sought from there, and those of a higher
+// number move up by one on the way.
+fn sink_last(entries: &mut [Entry], entry: Entry)
+    requires spare { 0 < length entries.old }
+    requires rising { AreEntriesRising (take (length entries.old - 1) entries.old) }
+    ensures { entries.new ≡ inserted_entry entry (take (length entries.old - 1) entries.old) }
 {
-    for (i, other) in entries.iter().enumerate() {
-        if entry.seq < other.seq {
-            return i;
+    for before in (0..entries.len() - 1).rev() {
+        if entries[before].seq <= entry.seq {
+            entries[before + 1] = entry;
+            return;
         }
+        entries[before + 1] = entries[before];
     }
-    entries.len()
+    entries[0] = entry;
+}
+
+// Moves those behind this place down by one, over the one that stands in it. The last place is
+// spare then.
+fn close_gap(entries: &mut [Entry], place: usize)
+    requires inside { place < length entries.old }
+    ensures { take (length entries.old - 1) entries.new ≡ remove entries.old place }
+{
+    for i in place..entries.len() - 1 {
+        entries[i] = entries[i + 1];
+    }
 }
 
 // Where the entry of this number stands.

@@ -2,9 +2,9 @@ use crate::rows::holds;
 use arrayvec::ArrayString;
 use text_fields::{
     FieldError, field_count, push_ascii, push_dash, push_decimal, push_hex, push_number,
-    push_optional_decimal, push_optional_hex, push_small_number, read_decimal, read_hex,
-    read_optional_decimal, read_optional_hex, read_signed_decimal, split_field, take_decimal,
-    take_hex, take_optional_hex,
+    push_optional_decimal, push_optional_hex, push_small_number, push_spaced_dash,
+    push_spaced_number, push_word_after, read_decimal, read_hex, read_optional_decimal,
+    read_optional_hex, read_signed_decimal, split_field, take_decimal, take_hex, take_optional_hex,
 };
 
 #[test]
@@ -59,6 +59,18 @@ fn prints_numbers_of_one_byte(rt: HostRuntime) {
     push_small_number(&mut text, 100);
     push_small_number(&mut text, 255);
     assert!(rt; text.as_str() == "715100255");
+}
+
+#[test]
+fn prints_fields_with_what_stands_before_them(rt: HostRuntime) {
+    let mut text = ArrayString::<32>::new();
+    push_spaced_number(&mut text, 7);
+    push_spaced_number(&mut text, 15);
+    push_spaced_number(&mut text, 255);
+    push_word_after(&mut text, b' ', 0x8000_0018);
+    push_word_after(&mut text, b'p', 0xab);
+    push_spaced_dash(&mut text);
+    assert!(rt; text.as_str() == " 7 15 255 80000018p000000ab -");
 }
 
 #[test]

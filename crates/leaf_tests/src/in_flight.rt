@@ -97,3 +97,31 @@ fn a_stage_is_set_at_one_number_alone(rt: HostRuntime) {
     let (issued, completed) = (Some(Stage::Issued), Some(Stage::Completed(outcome)));
     assert!(rt; stages(&active) == [issued, completed, None, Some(Stage::Renamed)]);
 }
+
+/// Adds the instruction of this number, where it may be added.
+fn add(active: &mut ActiveList, seq: u32) -> bool {
+    if !active.may_append(seq) {
+        return false;
+    }
+    active.append(renamed(seq));
+    true
+}
+
+#[test]
+fn two_hundred_leave_in_order_through_room_for_sixty_four(rt: HostRuntime) {
+    let mut active = ActiveList::new();
+    for seq in 0..200u32 {
+        assert!(rt; add(&mut active, seq));
+        active.issue(seq);
+        if seq >= 40 {
+            let left = pop_oldest(&mut active).expect(&rt, "an oldest one");
+            assert!(rt; left.head == left.popped && left.popped.seq == seq - 40);
+            assert!(rt; left.popped.stage == Stage::Issued);
+        }
+    }
+    assert!(rt; active.len() == 40 && !active.is_full());
+    for seq in 200..224u32 {
+        assert!(rt; add(&mut active, seq));
+    }
+    assert!(rt; active.is_full() && !active.may_append(224));
+}

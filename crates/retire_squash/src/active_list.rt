@@ -1,4 +1,4 @@
-ghost use Rattle.std.specs.Prelude.{◌≡◌, ◌↔◌, ◌<◌, ◌≤◌, ◌==◌, [], ◌∷◌, ◌++◌, length, drop, find};
+ghost use Rattle.std.specs.Prelude.{◌≡◌, ◌↔◌, ◌<◌, ◌≤◌, ◌==◌, [], ◌∷◌, ◌++◌, length, drop, find, take};
 ghost use Rattle.std.specs.Prelude.{IsTrue, IfSome, IfNone};
 ghost use Rattle.numbers.specs.Sizes.{most_in_flight};
 ghost use Rattle.retire_squash.specs.Active.{Above, Within, AreActivesRising, with_stage};
@@ -11,21 +11,28 @@ use numbers::sizes::MOST_IN_FLIGHT;
 use std::marker::Model;
 
 /// The instructions of a hart in flight, at most 64, oldest first. A clause sees it as their list.
+///
+/// One that leaves at the front stays where it is until its room is needed, so a retirement moves no
+/// other.
 #[derive(Drop)]
 pub struct ActiveList {
+    /// Those that have left, and then those in flight.
     items: ArrayVec<Active, MOST_IN_FLIGHT>,
+    /// How many at the front have left.
+    gone: usize,
 }
 
 impl Model for ActiveList {
-    ghost use Rattle.std.specs.Prelude.{List};
+    ghost use Rattle.std.specs.Prelude.{List, ◌≤◌, length, drop};
     ghost use Rattle.retire_squash.specs.declared.active.Active.{Active};
     ghost use Rattle.retire_squash.specs.Active.{AreActivesRising};
 
     ghost Value = { List Active };
 
-    ghost view = { λ a. a.items.items };
+    ghost view = { λ a. drop a.gone a.items.items };
 
-    ghost invariant = { λ a. AreActivesRising a.items.items };
+    ghost invariant = { λ a. (a.gone ≤ length a.items.items)
+        × AreActivesRising (drop a.gone a.items.items) };
 }
 
 impl ActiveList {
@@ -35,6 +42,7 @@ impl ActiveList {
     {
         ActiveList {
             items: ArrayVec::new(),
+            gone: 0,
         }
     }
 
@@ -43,14 +51,14 @@ impl ActiveList {
         ensures value { result ≡ length self.now }
         ensures bound { result ≤ most_in_flight }
     {
-        self.items.len()
+        self.items.len() - self.gone
     }
 
     /// Whether none is in flight.
     pub fn is_empty(&self) -> bool
         ensures { result ≡ (length self.now == 0) }
     {
-        self.items.is_empty()
+        self.len() == 0
     }
 
     /// Whether there is no room for another.
@@ -58,7 +66,7 @@ impl ActiveList {
         ensures value { result ≡ (length self.now == most_in_flight) }
         ensures bound { length self.now ≤ most_in_flight }
     {
-        self.items.is_full()
+        self.len() == MOST_IN_FLIGHT
     }
 
     /// The instructions, oldest first.
@@ -67,7 +75,7 @@ impl ActiveList {
         ensures bound { length result.now ≤ most_in_flight }
         ensures rising { AreActivesRising result.now }
     {
-        self.items.as_slice()
+        &self.items.as_slice()[self.gone..]
     }
 
     /// The oldest instruction in flight.
@@ -75,7 +83,7 @@ impl ActiveList {
         ensures some { IfSome result (λ oldest. self.now ≡ oldest ∷ drop 1 self.now) }
         ensures none { IfNone result (self.now ≡ []) }
     {
-        self.items.first().copied()
+        self.items().first().copied()
     }
 
     /// The instruction of this number.
@@ -99,6 +107,10 @@ impl ActiveList {
         requires above { Above active.seq self.old }
         ensures { self.new ≡ self.old ++ active ∷ [] }
     {
+        if self.items.is_full() {
+            forget(&mut self.items, self.gone);
+            self.gone = 0;
+        }
         self.items.push(active);
     }
 
@@ -108,21 +120,24 @@ impl ActiveList {
         ensures value { self.old ≡ result ∷ self.new }
         ensures rest { self.new ≡ drop 1 self.old }
     {
-        self.items.remove(0)
+        let oldest = self.items[self.gone];
+        self.gone += 1;
+        oldest
     }
 
     /// A unit has taken up the instruction of this number, if it is in flight.
     pub fn issue(&mut self, seq: Seq)
         ensures { self.new ≡ with_stage seq Stage.Issued self.old }
     {
-        set_stage(self.items.as_mut_slice(), seq, Stage::Issued);
+        set_stage_behind(self.items.as_mut_slice(), self.gone, seq, Stage::Issued);
     }
 
     /// The instruction of this number has its outcome, if it is in flight.
     pub fn complete(&mut self, seq: Seq, outcome: OutcomeFields)
         ensures { self.new ≡ with_stage seq (Stage.Completed outcome) self.old }
     {
-        set_stage(self.items.as_mut_slice(), seq, Stage::Completed(outcome));
+        let stage = Stage::Completed(outcome);
+        set_stage_behind(self.items.as_mut_slice(), self.gone, seq, stage);
     }
 
     /// Takes the youngest instruction out, if its number is above `after`.
@@ -134,7 +149,7 @@ impl ActiveList {
             (λ cut. (self.old ≡ self.new ++ cut ∷ []) × (after < cut.seq)) }
         ensures none { IfNone result ((self.new ≡ self.old) × Within after self.old) }
     {
-        let youngest = self.items.last()?;
+        let youngest = self.items().last()?;
         if youngest.seq <= after {
             return None;
         }
@@ -161,12 +176,33 @@ fn are_older(items: &[Active], seq: Seq) -> bool
     items.iter().all(|active| active.seq < seq)
 }
 
+// The instruction of this number is at this stage. The numbers rise, so there is one at most.
 fn set_stage(items: &mut [Active], seq: Seq, stage: Stage)
+    requires { AreActivesRising items.old }
     ensures { items.new ≡ with_stage seq stage items.old }
 {
     for active in items.iter_mut() {
         if active.seq == seq {
             active.stage = stage;
+            return;
         }
     }
+}
+
+// `set_stage` of those behind the first `gone`.
+fn set_stage_behind(items: &mut [Active], gone: usize, seq: Seq, stage: Stage)
+    requires within { gone ≤ length items.old }
+    requires rising { AreActivesRising (drop gone items.old) }
+    ensures { items.new ≡ take gone items.old ++ with_stage seq stage (drop gone items.old) }
+{
+    set_stage(&mut items[gone..], seq, stage);
+}
+
+// Gives up the room of the first `gone`, and moves the others there.
+fn forget(items: &mut ArrayVec<Active, MOST_IN_FLIGHT>, gone: usize)
+    requires { gone ≤ length items.old.items }
+    ensures { items.new.items ≡ drop gone items.old.items }
+{
+    items.as_mut_slice().rotate_left(gone);
+    items.truncate(items.len() - gone);
 }

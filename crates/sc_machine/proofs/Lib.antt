@@ -3,7 +3,6 @@ pub mod Advancing
 pub mod Beginning
 pub mod Changes
 pub mod Executing
-pub mod Fetching
 pub mod Harts
 pub mod Running
 pub mod Stepping

@@ -1,5 +1,4 @@
 pub mod Access
-pub mod Code
 pub mod Harts
 pub mod Machine
 pub mod MachineInside

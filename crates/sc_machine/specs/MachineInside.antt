@@ -2,7 +2,8 @@
 use Rattle.std.specs.Prelude.{◌<◌, ◌≤◌, length}
 use Rattle.std.specs.Vec.{vec_capacity}
 use Rattle.numbers.specs.Sizes.{most_harts}
-use Rattle.sc_machine.specs.{Code.IsCodeOf, Machine.Machine}
+use Rattle.decoded_code.specs.Code.{IsCodeOf}
+use Rattle.sc_machine.specs.Machine.{Machine}
 use Rattle.sc_machine.specs.{declared.machine.Plain.TheInside.Inside}
 
 -- what callers see of it

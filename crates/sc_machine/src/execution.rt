@@ -5,13 +5,13 @@ ghost use Rattle.elf_image.specs.Image.{ProgramImage, code_word};
 ghost use Rattle.rv_decode.specs.Decode.{op_of_word};
 ghost use Rattle.rv_decode.specs.Kinds.{first_source, second_source};
 ghost use Rattle.rv_decode.specs.Table.{OpInRange};
-ghost use Rattle.sc_machine.specs.Code.{IsCodeOf};
+ghost use Rattle.decoded_code.specs.Code.{IsCodeOf};
 ghost use Rattle.sc_machine.specs.Execution.{IsNext, IsAllowed};
 
 use crate::access::stop_at_fault;
-use crate::code::Code;
 use crate::effect::effect_of;
 use crate::hart::Hart;
+use decoded_code::Code;
 use events::{Effect, Record};
 use rv_decode::{Op, Reg};
 use rv_execute::execute;

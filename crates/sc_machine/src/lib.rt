@@ -3,15 +3,13 @@
 //! Its meaning is the definitions' machine (`smt_model/specs/Plain`): whatever the machine agrees
 //! with before a step, it agrees with one step later afterwards.
 //!
-//! Read in this order: `refused` (why there is no machine or no step), `hart`, `code` (the image's
-//! code, decoded once), `access` (which bytes an instruction touches, and its faults), `effect`
-//! (what an instruction does to the machine as it stands), `execution`, `change` (what that changes
-//! in memory), `machine`, `step`.
+//! Read in this order: `refused` (why there is no machine or no step), `hart`, `access` (which bytes
+//! an instruction touches, and its faults), `effect` (what an instruction does to the machine as it
+//! stands), `execution`, `change` (what that changes in memory), `machine`, `step`.
 #![tactic(auto)]
 
 mod access;
 mod change;
-mod code;
 mod effect;
 mod execution;
 mod hart;

@@ -8,9 +8,9 @@ ghost use Rattle.sc_machine.specs.Steps.{IsNew, are_harts};
 ghost use Rattle.sc_machine.specs.declared.hart.Hart.{Hart as HartView};
 ghost use Rattle.sc_machine.specs.declared.refused.PlainRefused.TheVariants.{Harts};
 
-use crate::code::Code;
 use crate::hart::Hart;
 use crate::refused::PlainRefused;
+use decoded_code::Code;
 use elf_image::Image;
 use numbers::sizes::MOST_HARTS;
 use shared_memory::Memory;

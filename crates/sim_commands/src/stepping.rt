@@ -1,4 +1,4 @@
-ghost use Rattle.std.specs.Prelude.{◌≡◌, ◌↔◌, List, [], All, IsTrue, Ok, Err, IfOk, IfErr, OnOk};
+ghost use Rattle.std.specs.Prelude.{◌≡◌, List, [], All, IsTrue, Ok, Err, IfOk, IfErr, OnOk};
 ghost use Rattle.std.specs.Prelude.{length, sum};
 ghost use Rattle.elf_image.specs.Loaded.{IsImageOf};
 ghost use Rattle.core_state.specs.Setup.{setup_of};
@@ -12,17 +12,15 @@ ghost use Rattle.sim_report.specs.Refusals.{as_read, OfFile, PassesAll, AreAccep
 ghost use Rattle.sim_report.specs.Refusals.{AreInputsRefusedFor, IsImageRefusal, IsConfigRefusal};
 ghost use Rattle.sim_report.specs.Refusals.{IsScriptRefusal, refusal_of};
 
-use core_lock::{Finished, Held, Origin};
+use core_lock::Finished;
 use elf_image::{Image, LoadRefused, load};
 use sim_inputs::Settings;
 use sim_report::{Refused, Unread};
 use sim_script::{ScriptRefused, Word, read_script};
 use sim_session::{Unwritten, ask_core};
-use smt_core::{Config, Core, CoreRefused, Predict};
+use smt_core::{Core, CoreRefused, Predict};
 use std::alloc::Global;
 use std::io::Write;
-use std::marker::Brand;
-use std::sync::ledger::Blank;
 
 /// Makes the asks of a script in order, each of them of one core, and prints a line for each: what
 /// the core answers. The whole script is read before the first ask.
@@ -107,22 +105,7 @@ pub(crate) fn step_files<P: Predict, W: Write>(
         Ok(asked) => asked,
         Err(Unwritten) => return Err(Refused::Output),
     };
-    let blank = Blank::new(16);
-    Ok(finish::<Brand>(asked, blank, &image, &settings.config))
-}
-
-/// What is left of a core that was asked: as of one behind a lock, whose passes are dealt now.
-fn finish<L: Origin>(core: Core, blank: Blank, image: &Image, config: &Config) -> Finished
-    requires name { blank.name ≡ L.name }
-    requires parts { (blank.parts ≡ L.parts) × (L.parts ≡ 16) }
-    requires origin { (core.setup ≡ L.setup) × (core.limit ≡ L.limit) }
-    ensures core { result.core ≡ core }
-    ensures own { IsTrue result.own ↔ (core.setup ≡ setup_of image.now config.now) }
-    ensures counted { sum result.counts ≡ length result.core.past }
-    ensures shown { Shown result.core }
-{
-    let (held, passes) = Held::<L>::new(core, blank);
-    held.finish(passes, image, config)
+    Ok(Finished::without_lock(asked, &image, &settings.config))
 }
 
 /// The image that a file holds.

@@ -1,14 +1,15 @@
 //! Fields of text: decimal and hexadecimal numbers, printed and read, and a text split into its
 //! fields.
 //!
-//! Read in this order: `pairs`, `print`, `split`, `read`, `take`, `laws` (the one is the other's
-//! inverse).
+//! Read in this order: `pairs`, `print`, `spaced`, `split`, `read`, `take`, `laws` (the one is the
+//! other's inverse).
 #![tactic(auto)]
 
 pub mod laws;
 mod pairs;
 pub mod print;
 pub mod read;
+pub mod spaced;
 pub mod split;
 pub mod take;
 
@@ -20,5 +21,6 @@ pub use read::{
     FieldError, read_decimal, read_hex, read_optional_decimal, read_optional_hex,
     read_signed_decimal,
 };
+pub use spaced::{push_spaced_dash, push_spaced_number, push_word_after};
 pub use split::{field_count, split_field};
 pub use take::{take_decimal, take_hex, take_optional_hex};

@@ -92,7 +92,7 @@ pub fn push_number<const N: usize>(text: &mut ArrayString<N>, value: u32)
 
 // Appends ASCII characters.
 #[inline(always)]
-fn push_bytes<const N: usize>(text: &mut ArrayString<N>, bytes: &[u8])
+pub(crate) fn push_bytes<const N: usize>(text: &mut ArrayString<N>, bytes: &[u8])
     requires ascii { IsAscii bytes.now }
     requires room { array_string_len text.old + length bytes.now ≤ N }
     ensures spelled { text.new.bytes ≡ text.old.bytes ++ bytes.now }

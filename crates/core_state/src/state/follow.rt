@@ -143,7 +143,7 @@ impl State {
     {
         let hart = self.judge_completion(actor, seq, outcome)?;
         let active = self.flying(hart, seq);
-        self.finish(actor, hart, &active, outcome);
+        self.finish(actor, hart, &active, outcome, &outcome.fields());
         Ok(())
     }
 
@@ -170,7 +170,7 @@ impl State {
     {
         let hart = self.judge_retirement(actor, seq, effect)?;
         let active = self.flying(hart, seq);
-        self.write_retire(actor, hart, active, effect);
+        self.write_retire(actor, hart, &active, effect);
         Ok(())
     }
 

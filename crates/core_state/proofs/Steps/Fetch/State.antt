@@ -8,7 +8,8 @@ use Rattle.events.specs.{History.EventList, declared.event.Event.Event}
 use Rattle.events.specs.declared.event.Event.TheVariants.{Fetch, Decode, Rename, Issue, Complete, Drop, Retire}
 use Rattle.smt_model.specs.{Fates.fetches, Fetching.choice, Picture.Picture, Picture.picture, Rules.refused}
 use Rattle.smt_model.specs.{Jobs.is_actor, Steps.IsFetch}
-use Rattle.smt_model.proofs.Steps.Fetch.{steps-Fetch}
+use Rattle.smt_model.proofs.{Allowed.fetch_allowed, Fates.Moves.same_number-is, Steps.Fetch.steps-Fetch}
+use Rattle.rv_decode.specs.{Decode.op_of_word, declared.op.Op.Op}
 use Rattle.core_parts.specs.Agree.{HartAgrees, PartsAgree, From, KeepsSizes}
 use Rattle.core_state.specs.{Answers.CanFetch, Answers.fetched_at, View.CoreView}
 use Rattle.core_parts.specs.{declared.hart.HartState.HartState}
@@ -59,6 +60,17 @@ fetch_ok i core v view actor point predicted ok =
     (sym view) ok in
     subst (λ n. refused (setup_in i) (past_of i) (Fetch actor point.hart n point.pc point.word predicted) ≡ None)
     (sym core.fetched) here
+
+-- The code that was decoded has the word's instruction at the pc that is fetched.
+pub op_of_point : (i : Inside) → IsCore i → (v : CoreView) → view_of i ≡ v → (actor : ℕ) (point : FetchPoint) (predicted : ℕ)
+    → (op : Op) → op ≡ op_of_word (code_word i.image point.pc)
+    → refused v.setup v.past (fetched_at actor point predicted v.past) ≡ None → op ≡ op_of_word point.word
+op_of_point i core v view actor point predicted op is ok =
+    let here = fetch_ok i core v view actor point predicted ok in
+    let word_is : point.word ≡ code_word i.image point.pc =
+    same_number-is point.word (code_word i.image point.pc)
+    (fetch_allowed (setup_in i) (past_of i) actor point.hart i.fetched point.pc point.word predicted here).word_is in
+    is ∙ ap op_of_word (sym word_is)
 
 pub fetch_starts : (i : Inside) → IsCore i → (v : CoreView) → view_of i ≡ v
     → (actor : ℕ) (point : FetchPoint) (predicted h : ℕ) (slot : Slot)

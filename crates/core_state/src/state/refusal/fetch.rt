@@ -32,10 +32,7 @@ impl State {
         first_failing(&[
             (3, seq == self.fetched),
             (4, point.pc == self.hart(point.hart).fetch_pc),
-            (
-                5,
-                is_same_number(point.word, self.image.code_word(point.pc)),
-            ),
+            (5, is_same_number(point.word, self.code.word_at(point.pc))),
         ])
     }
 

@@ -37,6 +37,6 @@ returns-clause-asked g c =
     (λ core. Prints (g.W.Write.contents c.args.out.now) (g.W.Write.contents c.ask_core.new.out)
     (λ text. OfFile (as_read c.args.script)
     (λ script. AreAskedWith g.P.Predict.predicts c.args.predict.now c.ask_core.new.predict script core text)))
-    (sym c.finish.ensures.core)
+    (sym c.without_lock.ensures.core)
     (of_script g.P.Predict.predicts (as_read c.args.script) c.in-Ok-read_words.words.items _ _ _ _ _ _
     c.in-Ok-read_words.ensures.script c.in-Ok-make_core.ensures.unasked made)

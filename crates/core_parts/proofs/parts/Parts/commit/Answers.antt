@@ -15,18 +15,18 @@ remove_access-requires-clause-load c =
     let from = c.requires.step in
     let old = c.args.self.now in
     let a = c.index_mut.result.now in
-    (is_there from.before c.args.hart c.args.active.seq c.args.active.op (from.after.flight c.args.hart) old a
+    (is_there from.before c.args.hart c.args.active.now.seq c.args.active.now.op (from.after.flight c.args.hart) old a
     from.agrees from.inside (c.index_mut.ensures.value ∙ ap (λ i. slice_index_or old.harts.items i a) c.from.ensures)
-    from.step.step.flight (active_op from.before c.args.hart c.args.active from.step.is_oldest.is_active)).load
+    from.step.step.flight (active_op from.before c.args.hart c.args.active.now from.step.is_oldest.is_active)).load
 
 pub remove_access-requires-clause-store : goal.remove_access-requires-clause-store
 remove_access-requires-clause-store c =
     let from = c.requires.step in
     let old = c.args.self.now in
     let a = c.index_mut.result.now in
-    (is_there from.before c.args.hart c.args.active.seq c.args.active.op (from.after.flight c.args.hart) old a
+    (is_there from.before c.args.hart c.args.active.now.seq c.args.active.now.op (from.after.flight c.args.hart) old a
     from.agrees from.inside (c.index_mut.ensures.value ∙ ap (λ i. slice_index_or old.harts.items i a) c.from.ensures)
-    from.step.step.flight (active_op from.before c.args.hart c.args.active from.step.is_oldest.is_active)).store
+    from.step.step.flight (active_op from.before c.args.hart c.args.active.now from.step.is_oldest.is_active)).store
 
 pub commit_access-requires-clause-hart : goal.commit_access-requires-clause-hart
 commit_access-requires-clause-hart c =
@@ -38,18 +38,18 @@ returns-clause-agrees c p q agrees commits =
     let old = c.args.self.now in
     let a = c.index_mut.result.now in
     let y = c.commit-replaced.new.self in
-    let made : IsCommitted c.args.hart c.args.active c.args.effect.write old.memory c.commit_access.new.memory =
+    let made : IsCommitted c.args.hart c.args.active.now c.args.effect.write old.memory c.commit_access.new.memory =
     record {
       bytes = c.commit_access.ensures.bytes;
       reserved = λ g. rw c.address_at-addr.ensures at (c.commit_access.ensures.reserved g);
     } in
-    parts_committed p q c.args.hart c.args.active c.args.effect c.args.pc old c.fill.new.self a y
+    parts_committed p q c.args.hart c.args.active.now c.args.effect c.args.pc old c.fill.new.self a y
     c.commit-replaced.result
     c.give_back.new.free c.remove_access.new.accesses c.commit_access.new.memory
     c.requires.step.inside (c.index_mut.ensures.value ∙ ap (λ i. slice_index_or old.harts.items i a) c.from.ensures)
     c.commit-replaced.ensures c.remove_access.ensures made c.give_back.ensures
     (subst
-    (λ i. IsFilled c.args.active.phys c.args.effect.value
+    (λ i. IsFilled c.args.active.now.phys c.args.effect.value
     (record old {
       harts = with_item old.harts i y;
       free = c.give_back.new.free;

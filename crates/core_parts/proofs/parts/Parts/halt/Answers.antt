@@ -12,7 +12,7 @@ leave-requires c =
         after = with_map from.before from.step.step.middle c.args.hart;
         inside = from.inside;
         agrees = from.agrees;
-        step = leaves_with from.before from.after c.args.hart c.args.active c.args.status from.step;
+        step = leaves_with from.before from.after c.args.hart c.args.active.now c.args.status from.step;
       };
     }
 
@@ -27,8 +27,8 @@ squash-requires c =
         inside = subst (λ n. c.args.hart < n) (sym c.leave.ensures.sizes.harts) from.inside;
         agrees =
             c.leave.ensures.agrees from.before middle from.agrees
-            (leaves_with from.before from.after c.args.hart c.args.active c.args.status from.step);
-        step = squash_with from.before from.step.step.middle from.after c.args.hart c.args.active.seq
+            (leaves_with from.before from.after c.args.hart c.args.active.now c.args.status from.step);
+        step = squash_with from.before from.step.step.middle from.after c.args.hart c.args.active.now.seq
             from.step.step.squash;
       };
     }
@@ -37,5 +37,5 @@ pub returns-clause-agrees : goal.returns-clause-agrees
 returns-clause-agrees c p q agrees ends =
     let middle = with_map p ends.step.middle c.args.hart in
     c.squash.ensures.agrees middle q
-    (c.leave.ensures.agrees p middle agrees (leaves_with p q c.args.hart c.args.active c.args.status ends))
-    (squash_with p ends.step.middle q c.args.hart c.args.active.seq ends.step.squash)
+    (c.leave.ensures.agrees p middle agrees (leaves_with p q c.args.hart c.args.active.now c.args.status ends))
+    (squash_with p ends.step.middle q c.args.hart c.args.active.now.seq ends.step.squash)

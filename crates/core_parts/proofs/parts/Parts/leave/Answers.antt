@@ -8,7 +8,7 @@ use Rattle.core_parts.proofs.parts.Parts.leave.Goals as goal
 pub give_back-requires : goal.give_back-requires
 give_back-requires c =
     let from = c.requires.step in
-    own_leaves from.before from.after c.args.hart c.args.active c.args.status c.args.self.now.free from.step
+    own_leaves from.before from.after c.args.hart c.args.active.now c.args.status c.args.self.now.free from.step
     from.agrees.free
 
 pub remove_access-requires-clause-hart : goal.remove_access-requires-clause-hart
@@ -21,18 +21,18 @@ remove_access-requires-clause-load c =
     let from = c.requires.step in
     let old = c.args.self.now in
     let a = c.index_mut.result.now in
-    (is_there from.before c.args.hart c.args.active.seq c.args.active.op (from.after.flight c.args.hart) old a
+    (is_there from.before c.args.hart c.args.active.now.seq c.args.active.now.op (from.after.flight c.args.hart) old a
     from.agrees from.inside (c.index_mut.ensures.value ∙ ap (λ i. slice_index_or old.harts.items i a) c.from.ensures)
-    from.step.step.flight (active_op from.before c.args.hart c.args.active from.step.is_oldest.is_active)).load
+    from.step.step.flight (active_op from.before c.args.hart c.args.active.now from.step.is_oldest.is_active)).load
 
 pub remove_access-requires-clause-store : goal.remove_access-requires-clause-store
 remove_access-requires-clause-store c =
     let from = c.requires.step in
     let old = c.args.self.now in
     let a = c.index_mut.result.now in
-    (is_there from.before c.args.hart c.args.active.seq c.args.active.op (from.after.flight c.args.hart) old a
+    (is_there from.before c.args.hart c.args.active.now.seq c.args.active.now.op (from.after.flight c.args.hart) old a
     from.agrees from.inside (c.index_mut.ensures.value ∙ ap (λ i. slice_index_or old.harts.items i a) c.from.ensures)
-    from.step.step.flight (active_op from.before c.args.hart c.args.active from.step.is_oldest.is_active)).store
+    from.step.step.flight (active_op from.before c.args.hart c.args.active.now from.step.is_oldest.is_active)).store
 
 pub returns-clause-agrees : goal.returns-clause-agrees
 returns-clause-agrees c p q agrees leaves =
@@ -47,7 +47,7 @@ returns-clause-agrees c p q agrees leaves =
       accesses = c.remove_access.new.accesses;
     }))
     (sym c.from.ensures)
-    (parts_left p q c.args.hart c.args.active c.args.status old a y c.give_back.new.free
+    (parts_left p q c.args.hart c.args.active.now c.args.status old a y c.give_back.new.free
     c.remove_access.new.accesses c.requires.step.inside
     (c.index_mut.ensures.value ∙ ap (λ i. slice_index_or old.harts.items i a) c.from.ensures) c.leave.ensures
     c.remove_access.ensures c.give_back.ensures agrees leaves)

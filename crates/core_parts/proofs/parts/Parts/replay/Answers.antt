@@ -26,7 +26,7 @@ commit-requires-clause-step c =
       after = from.after;
       inside = subst (λ n. c.args.hart < n) (sym c.squash.ensures.sizes.harts) from.inside;
       agrees = c.squash.ensures.agrees from.before from.step.step.middle from.agrees from.step.step.squash;
-      step = commits_then from.before from.after c.args.hart c.args.active c.args.effect c.args.pc from.step;
+      step = commits_then from.before from.after c.args.hart c.args.active.now c.args.effect c.args.pc from.step;
     }
 
 pub commit-requires-clause-write : goal.commit-requires-clause-write
@@ -39,4 +39,4 @@ returns-clause-agrees c p q agrees replays =
     let middle = replays.step.middle in
     c.commit.ensures.agrees middle q
     (c.squash.ensures.agrees p middle agrees replays.step.squash)
-    (commits_then p q c.args.hart c.args.active c.args.effect c.args.pc replays)
+    (commits_then p q c.args.hart c.args.active.now c.args.effect c.args.pc replays)

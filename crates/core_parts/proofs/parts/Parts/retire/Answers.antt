@@ -11,7 +11,7 @@ replay-requires-clause-step c =
       after = from.after;
       inside = from.inside;
       agrees = from.agrees;
-      step = replays_on from.before from.after c.args.hart c.args.active c.args.effect c.in-Pc.pc c.in-Pc.is
+      step = replays_on from.before from.after c.args.hart c.args.active.now c.args.effect c.in-Pc.pc c.in-Pc.is
           (sym c.is_replay.ensures ∙ c.if-is_replay.true) from.step;
     }
 
@@ -25,7 +25,7 @@ commit-requires-clause-step c =
       after = from.after;
       inside = from.inside;
       agrees = from.agrees;
-      step = fetched_on from.before from.after old c.args.hart c.args.active c.args.effect c.in-Pc.pc
+      step = fetched_on from.before from.after old c.args.hart c.args.active.now c.args.effect c.in-Pc.pc
           c.index.result.now from.inside at from.agrees c.in-Pc.is
           (sym c.is_replay.ensures ∙ c.if-is_replay.false) from.step;
     }
@@ -39,7 +39,7 @@ halt-requires c =
         after = from.after;
         inside = from.inside;
         agrees = from.agrees;
-        step = ends_ended from.before from.after c.args.hart c.args.active c.args.effect c.in-Ended.status
+        step = ends_ended from.before from.after c.args.hart c.args.active.now c.args.effect c.in-Ended.status
             c.in-Ended.is from.step;
       };
     }
@@ -53,7 +53,7 @@ halt-requires-in-Stopped c =
         after = from.after;
         inside = from.inside;
         agrees = from.agrees;
-        step = ends_stopped from.before from.after c.args.hart c.args.active c.args.effect c.in-Stopped.cause
+        step = ends_stopped from.before from.after c.args.hart c.args.active.now c.args.effect c.in-Stopped.cause
             c.in-Stopped.is from.step;
       };
     }
@@ -61,7 +61,7 @@ halt-requires-in-Stopped c =
 pub returns-then-is_replay-clause-agrees : goal.returns-then-is_replay-clause-agrees
 returns-then-is_replay-clause-agrees c p q agrees retires =
     c.replay.ensures.agrees p q agrees
-    (replays_on p q c.args.hart c.args.active c.args.effect c.in-Pc.pc c.in-Pc.is
+    (replays_on p q c.args.hart c.args.active.now c.args.effect c.in-Pc.pc c.in-Pc.is
     (sym c.is_replay.ensures ∙ c.if-is_replay.true) retires)
 
 pub returns-else-is_replay-clause-agrees : goal.returns-else-is_replay-clause-agrees
@@ -69,15 +69,15 @@ returns-else-is_replay-clause-agrees c p q agrees retires =
     let old = c.args.self.now in
     let at = c.index.ensures ∙ ap (λ i. slice_index_or old.harts.items i c.index.result.now) c.from.ensures in
     c.commit.ensures.agrees p q agrees
-    (fetched_on p q old c.args.hart c.args.active c.args.effect c.in-Pc.pc c.index.result.now
+    (fetched_on p q old c.args.hart c.args.active.now c.args.effect c.in-Pc.pc c.index.result.now
     c.requires.step.inside at agrees c.in-Pc.is (sym c.is_replay.ensures ∙ c.if-is_replay.false) retires)
 
 pub returns-in-Ended-clause-agrees : goal.returns-in-Ended-clause-agrees
 returns-in-Ended-clause-agrees c p q agrees retires =
     c.halt.ensures.agrees p q agrees
-    (ends_ended p q c.args.hart c.args.active c.args.effect c.in-Ended.status c.in-Ended.is retires)
+    (ends_ended p q c.args.hart c.args.active.now c.args.effect c.in-Ended.status c.in-Ended.is retires)
 
 pub returns-in-Stopped-clause-agrees : goal.returns-in-Stopped-clause-agrees
 returns-in-Stopped-clause-agrees c p q agrees retires =
     c.halt-in-Stopped.ensures.agrees p q agrees
-    (ends_stopped p q c.args.hart c.args.active c.args.effect c.in-Stopped.cause c.in-Stopped.is retires)
+    (ends_stopped p q c.args.hart c.args.active.now c.args.effect c.in-Stopped.cause c.in-Stopped.is retires)

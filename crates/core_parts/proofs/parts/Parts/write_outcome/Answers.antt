@@ -8,7 +8,7 @@ returns-clause-agrees c = λ p q agrees step phys op.
     let x = c.index_mut.result.now in
     let at : x ≡ get_or c.fill.new.self.harts.items c.args.hart x =
     subst (λ i. x ≡ get_or c.fill.new.self.harts.items i x) c.from-2.ensures c.index_mut.ensures.value in
-    parts_completed p q c.args.hart c.args.active.now.seq c.args.actor c.args.active.now.op c.args.outcome
+    parts_completed p q c.args.hart c.args.active.now.seq c.args.actor c.args.active.now.op c.args.outcome.now
     c.args.goes_on c.args.active.now.phys old c.fill.new.self _
     c.requires.inside agrees step phys op (record {
       was = x;

@@ -36,4 +36,4 @@ returns c =
     (ap (λ n. c.args.seq == n) (fetched_view i c.self.invariant v c.self.view_is))
     (ap (λ n. point.pc == n) c.hart.ensures.fetch_pc)
     (c.is_same_number.ensures ∙ ap (same_number point.word)
-    (c.code_word.ensures ∙ ap (λ (u : CoreView). code_word u.setup.image point.pc) c.self.view_is)))
+    (c.word_at.ensures i.image c.self.invariant.code ∙ ap (λ (u : CoreView). code_word u.setup.image point.pc) c.self.view_is)))

@@ -9,6 +9,7 @@ invariant_of-result c = rw c.in_ok-history.ensures (record {
   harts = c.in_ok-parts.ensures.harts;
   queue = c.in_ok-parts.ensures.queue;
   image = c.in_ok-parts.ensures.image;
+  code = c.in_ok-code.ensures;
   legal = tt;
   agrees = c.in_ok-parts.ensures.begins _ refl refl refl;
   fetched = refl;

@@ -26,6 +26,6 @@ returns-clause-allowed c =
     let found = c.in_ok-hart.ensures in
     found_can c.self.inside c.self.invariant c.args.self.now c.self.view_is c.args.actor c.in_ok-hart.hart
     c.has_actor.result c.deref.result.now
-    c.index.result.now c.code_word.result c.has_actor.ensures c.if-not-has_actor.false c.deref.ensures.value found.value
+    c.index.result.now c.word_at.result c.has_actor.ensures c.if-not-has_actor.false c.deref.ensures.value found.value
     found.inside c.index.ensures
-    c.code_word.ensures
+    (c.word_at.ensures c.self.inside.image c.self.invariant.code)

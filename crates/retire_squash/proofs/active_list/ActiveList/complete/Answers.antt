@@ -1,12 +1,16 @@
-use Rattle.std.proofs.Common.{length, sym, ap, ◌∙◌, subst}
+use Rattle.std.proofs.Common.{◌≤◌, length, drop, sym, ap, ◌∙◌, subst, arith}
 use Rattle.arrayvec.proofs.ArrayVecLemmas.{items-with_items}
 use Rattle.retire_squash.specs.{Active.AreActivesRising, declared.active.Stage.TheVariants.Completed}
-use Rattle.retire_squash.proofs.Rising.{IsRising-with_stage}
+use Rattle.retire_squash.proofs.Gone.{IsRising-behind_staged}
 use Rattle.retire_squash.proofs.active_list.ActiveList.complete.Goals as goal
 
 pub invariant_of-self : goal.invariant_of-self
 invariant_of-self c =
-    let same_length = c.set_stage.auto.items ∙ ap length c.as_mut_slice.ensures.value in
-    subst AreActivesRising (sym (items-with_items c.self.inside.items c.set_stage.new.items same_length))
-    (rw (c.set_stage.ensures, c.as_mut_slice.ensures.value)
-    (IsRising-with_stage c.args.seq (Completed c.args.outcome) c.self.inside.items.items c.self.invariant))
+    let same_length = c.set_stage_behind.auto.items ∙ ap length c.as_mut_slice.ensures.value in
+    let gone = c.self.inside.gone in
+    subst (λ xs. (gone ≤ length xs) × AreActivesRising (drop gone xs))
+    (sym (items-with_items c.self.inside.items c.set_stage_behind.new.items same_length)) (
+      omega (arith, same_length, c.self.invariant.0),
+      rw (c.set_stage_behind.ensures, c.as_mut_slice.ensures.value)
+          (IsRising-behind_staged c.args.seq (Completed c.args.outcome) c.self.inside.items.items gone c.self.invariant.0 c.self.invariant.1),
+    )

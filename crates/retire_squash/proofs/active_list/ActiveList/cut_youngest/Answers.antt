@@ -1,17 +1,29 @@
-use Rattle.std.proofs.Common.{refl}
+use Rattle.std.proofs.Common.{◌<◌, ◌≤◌, ◌-◌, ◌∙◌, refl, length, ap, arith}
+use Rattle.std.proofs.lemmas.List.{length-take-le}
+use Rattle.std.proofs.lemmas.Bool.Decides.{nat_tests}
 use Rattle.std.specs.Option.{option_to_list}
-use Rattle.retire_squash.proofs.Rising.{IsRising-front, Within-last}
+use Rattle.retire_squash.proofs.Rising.{Within-last}
+use Rattle.retire_squash.proofs.Gone.{inside, IsRising-shorter}
 use Rattle.retire_squash.proofs.active_list.ActiveList.cut_youngest.Goals as goal
-
-pub invariant_of-self : goal.invariant_of-self
-invariant_of-self c =
-    IsRising-front c.pop.new.self.items (option_to_list c.pop.result) (rw (← c.pop.ensures.items) c.self.invariant)
 
 pub returns-then-youngest-after-clause-none : goal.returns-then-youngest-after-clause-none
 returns-then-youngest-after-clause-none c =
     let is_last = c.in_ok-youngest.ensures.item.1 in (
       refl,
-      rw (← c.self.view_is)
-          (Within-last c.self.inside.items.items c.in_ok-youngest.youngest.now c.args.after c.self.invariant
-          (rw (← c.deref.ensures.0, ← is_last) c.if-youngest-after.true)),
+      rw (← c.items.ensures.items)
+          (Within-last c.items.result.now c.in_ok-youngest.youngest.now c.args.after c.items.ensures.rising
+          (rw (← is_last) c.if-youngest-after.true)),
+    )
+
+pub invariant_of-self : goal.invariant_of-self
+invariant_of-self c =
+    let seen : 0 < length c.items.result.now = grind (arith, nat_tests, c.in_ok-youngest.ensures.item.0) in
+    let some = inside c.self.inside.items.items c.args.self.now c.self.inside.gone c.self.view_is
+    (rw c.items.ensures.items at seen) in
+    let xs = c.self.inside.items.items in
+    let fewer = ap length c.pop.ensures.rest ∙ length-take-le (length xs - 1) xs (omega arith) in
+    let within : c.self.inside.gone ≤ length c.pop.new.self.items = omega (arith, some, fewer) in (
+      within,
+      IsRising-shorter c.self.inside.items.items c.pop.new.self.items (option_to_list c.pop.result) c.self.inside.gone
+          c.pop.ensures.items within c.self.invariant.1,
     )

@@ -1,0 +1,12 @@
+use Rattle.std.proofs.Common.{◌≡◌, ◌*◌, length, arith}
+use Rattle.elf_image.specs.Image.{code_size}
+use Rattle.decoded_code.proofs.Fetching.{decoded}
+use Rattle.decoded_code.proofs.code.Code.new.Goals as goal
+
+pub returns : goal.returns
+returns c =
+    let words = c.loop-index.words in
+    let size : 4 * length words.items ≡ code_size c.args.image.now =
+    omega (arith, c.code-start.ensures.size, c.code-start.ensures.aligned, c.loop-index.invariant.0) in
+    decoded c.args.image.now (record { start = c.code-start.result.0; words = words }) c.code-start.ensures.start
+    c.code-start.ensures.aligned.0 size c.loop-index.invariant.1

@@ -1,7 +1,0 @@
-use Rattle.std.proofs.Common.{◌≡◌, length}
-use Rattle.sc_machine.proofs.Fetching.{AreFetched}
-use Rattle.sc_machine.proofs.code.Code.new.Given as goal
-
--- the words so far are the image's, decoded
-abbrev pub invariant-loop-index : goal.invariant-loop-index
-invariant-loop-index l = (length l.words.items ≡ l.index) × AreFetched l.image l.start l.words.items
