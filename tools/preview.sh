@@ -2,8 +2,9 @@
 # Shows what `smtsim` prints on the given words, unproved, by `rt try`, which proves nothing: tools/preview.sh WORD ..
 # What it prints may be wrong where a proof would fail. It is for a first look while there is no proved program.
 #
-# `step IMAGE SCRIPT`, with or without `--config FILE` behind it, is made by a program of its own (preview/program.txt, which the gate would refuse as .rt outside a crate): that has less
-# to translate, so its first line comes within a minute. For other words the whole program is translated.
+# `step IMAGE SCRIPT`, with or without `--config FILE` behind it, is made by a program of its own, which has less to translate, so its
+# first line comes within a minute: preview/program.txt, so named since the gate refuses a .rt file outside of a crate. For other words
+# the whole program is translated.
 set -eu
 root=$(cd "$(dirname "$0")/.." && pwd)
 work=$(mktemp -d)
