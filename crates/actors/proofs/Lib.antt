@@ -1,3 +1,4 @@
 pub mod EveryRole
+pub mod GoingBehind
 pub mod Handing
 pub mod Telling

@@ -100,6 +100,7 @@ impl Parts {
 
     /// What the completion of a job says, from the outcome that its unit handed back: with the fault
     /// of its access, or with the first look of a load.
+    #[inline(always)]
     pub fn completion_of(&self, job: &OpenJob, outcome: OutcomeFields) -> OutcomeFields
         requires { job.now.hart < most_harts }
         ensures { (c : Computed) → outcome ≡ outcome_of job.now.op c None
@@ -120,6 +121,7 @@ impl Parts {
     /// Hart `hart`'s instruction `active`, which is actor `actor`'s job, has its outcome. Where it
     /// goes elsewhere than was predicted, all younger ones of its hart are squashed, and the hart
     /// is fetched from there.
+    #[inline(always)]
     pub fn finish(&mut self, actor: u8, hart: u8, active: &Active, outcome: &OutcomeFields)
         requires step { From self.old hart (λ p q. IsFinish p q hart actor active.now outcome.now) }
         ensures agrees { (p q : Picture) → PartsAgree p self.old
@@ -137,6 +139,7 @@ impl Parts {
 
     /// The outcome is written, its number handed on, a store told what it will write, the actor rid
     /// of the job, and the hart is fetched from `goes_on`.
+    #[inline(always)]
     fn write_outcome(
         &mut self,
         actor: u8,

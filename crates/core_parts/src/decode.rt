@@ -30,6 +30,7 @@ impl Parts {
     }
 
     /// Decodes hart `hart`'s oldest fetched instruction.
+    #[inline(always)]
     pub fn decode(&mut self, hart: u8)
         requires step { From self.old hart (λ p q. Decodes p q hart) }
         ensures agrees { (p q : Picture) → PartsAgree p self.old → (n : ℕ) → IsDecode p q hart n

@@ -57,6 +57,7 @@ pub fn choose(harts: &[HartState], last: Option<u8>) -> Option<usize>
 
 impl Parts {
     /// Takes an instruction that hart `hart` has fetched into its decode latch.
+    #[inline(always)]
     pub fn fetch(&mut self, hart: usize, slot: Slot)
         requires step { From self.old hart (λ p q. Fetches p q hart slot) }
         requires op { slot.op ≡ op_of_word slot.word }

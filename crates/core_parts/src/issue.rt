@@ -37,6 +37,7 @@ impl Parts {
     }
 
     /// Takes the instruction of a ready entry out of the queue, as a job of actor `actor`.
+    #[inline(always)]
     pub fn issue(&mut self, actor: u8, entry: Entry) -> Job
         requires actor { actor < most_actors }
         requires ready { has_values entry ≡ true }

@@ -55,6 +55,7 @@ impl Parts {
     /// Moves hart `hart`'s oldest decoded instruction into the active list and the queue, with the
     /// register `phys` where it writes one. Its sources are looked up before its own register
     /// enters the map.
+    #[inline(always)]
     pub fn rename(&mut self, hart: u8, phys: Option<Phys>)
         requires step { From self.old hart (λ p q. IsRenaming p q self.old.queue.size hart phys) }
         ensures agrees { (p q : Picture) → PartsAgree p self.old

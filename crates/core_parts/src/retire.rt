@@ -52,6 +52,7 @@ impl Parts {
 
     /// Retires hart `hart`'s oldest instruction in flight, `active`, with this effect: it commits,
     /// or ends or stops its hart.
+    #[inline(always)]
     pub fn retire(&mut self, hart: u8, active: &Active, effect: EffectFields)
         requires step { From self.old hart (λ p q. Retires p q hart active.now effect) }
         requires write { IfSome effect.write (CanWrite self.old.memory.image) }
@@ -75,6 +76,7 @@ impl Parts {
 
     /// A load that reads another number now than it did as it completed: all younger ones are
     /// squashed, then it commits with the number of now, and its hart is fetched from `pc`.
+    #[inline(never)]
     fn replay(&mut self, hart: u8, active: &Active, effect: EffectFields, pc: u32)
         requires step { From self.old hart (λ p q. Replays p q hart active.now effect pc) }
         requires write { IfSome effect.write (CanWrite self.old.memory.image) }
@@ -88,6 +90,7 @@ impl Parts {
 
     /// Its register becomes the committed one, and the one before becomes free. Memory is written
     /// and its hart's reservation changes as its effect says; the hart is fetched from `pc`.
+    #[inline(always)]
     fn commit(&mut self, hart: u8, active: &Active, effect: EffectFields, pc: u32)
         requires step { From self.old hart (λ p q. Commits p q hart active.now effect pc) }
         requires write { IfSome effect.write (CanWrite self.old.memory.image) }
@@ -105,6 +108,7 @@ impl Parts {
 
     /// Nothing is committed and memory stays: its own register becomes free, and all younger ones
     /// are squashed.
+    #[inline(never)]
     fn halt(&mut self, hart: u8, active: &Active, status: Status)
         requires step { From self.old hart (λ p q. Ends p q hart active.now status) }
         ensures agrees { (p q : Picture) → PartsAgree p self.old → Ends p q hart active.now status

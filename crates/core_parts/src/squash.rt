@@ -22,6 +22,7 @@ impl Parts {
     /// Throws away hart `hart`'s instructions younger than number `after`: its latches are emptied,
     /// its registers are given back, its loads and stores leave their queues, and its map and
     /// counter are what the older ones make them.
+    #[inline(never)]
     pub(crate) fn squash(&mut self, hart: u8, after: Seq)
         requires step { From self.old hart (λ p q. IsSquash p q hart after) }
         ensures agrees { (p q : Picture) → PartsAgree p self.old → IsSquash p q hart after

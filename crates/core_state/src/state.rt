@@ -137,6 +137,7 @@ impl State {
 
     /// Where actor `actor` fetches next: the hart to choose, at its fetch pc. None where no hart
     /// qualifies or there is no such actor.
+    #[inline(always)]
     pub fn next_to_fetch(&self, actor: u8) -> Option<FetchPoint>
         ensures allowed { IfSome result (CanFetch self.now.setup self.now.past actor) }
         ensures idle { IfNone result (AllowsNone self.now.setup (AskFetch actor) self.now.past) }
@@ -154,6 +155,7 @@ impl State {
     }
 
     /// Fetches at `point` for actor `actor`, where it fetches next, and goes on at `predicted`.
+    #[inline(always)]
     pub fn fetch(&mut self, actor: u8, point: FetchPoint, predicted: u32) -> Event
         requires room { length self.old.past < self.old.limit }
         requires allowed { refused self.old.setup self.old.past
@@ -173,6 +175,7 @@ impl State {
 
     /// Decodes hart `hart`'s oldest fetched instruction. None where there is none, the rename latch
     /// is full, or there is no such actor or hart, and then nothing changes.
+    #[inline(always)]
     pub fn decode(&mut self, actor: u8, hart: u8) -> Option<Event>
         requires { length self.old.past < self.old.limit }
         ensures made { IfSome result (λ e. self.new ≡ grown e self.old) }
@@ -194,6 +197,7 @@ impl State {
     /// Renames hart `hart`'s oldest decoded instruction, with the least free register where it
     /// writes one. None where there is no such instruction, room, register, actor or hart, and then
     /// nothing changes.
+    #[inline(always)]
     pub fn rename(&mut self, actor: u8, hart: u8) -> Option<Event>
         requires { length self.old.past < self.old.limit }
         ensures made { IfSome result (λ e. self.new ≡ grown e self.old) }
@@ -215,6 +219,7 @@ impl State {
 
     /// Issues the oldest ready instruction of the actor's kind of unit. None where there is none,
     /// or the actor is no unit or has a job, and then nothing changes.
+    #[inline(always)]
     pub fn issue(&mut self, actor: u8) -> Option<(Job, Event)>
         requires { length self.old.past < self.old.limit }
         ensures made { IfSome result (λ r. self.new ≡ grown r.1 self.old) }
@@ -231,6 +236,7 @@ impl State {
 
     /// The entry of the instruction that actor `actor` issues next: the oldest ready one of its kind
     /// of unit. It may issue no other. None where there is none, or the actor is no unit or has a job.
+    #[inline(always)]
     fn next_to_issue(&self, actor: u8) -> Option<Entry>
         ensures allowed { IfSome result
             (λ e. refused self.now.setup self.now.past (Issue actor e.seq) ≡ None) }
@@ -245,6 +251,7 @@ impl State {
 
     /// Takes back the job of actor `actor`, worked: a completion, or a drop where the instruction
     /// was squashed meanwhile. None where the actor has no such job, and then nothing changes.
+    #[inline(always)]
     pub fn complete(&mut self, actor: u8, done: &Done) -> Option<Event>
         requires { length self.old.past < self.old.limit }
         ensures made { IfSome result (λ e. self.new ≡ grown e self.old) }
@@ -267,6 +274,7 @@ impl State {
 
     /// Retires hart `hart`'s oldest instruction in flight. None where there is none, it isn't
     /// completed, or there is no such actor or hart, and then nothing changes.
+    #[inline(always)]
     pub fn retire(&mut self, actor: u8, hart: u8) -> Option<Event>
         requires { length self.old.past < self.old.limit }
         ensures made { IfSome result (λ e. self.new ≡ grown e self.old) }

@@ -8,6 +8,7 @@ use rv_execute::execute;
 /// A unit's work: it executes the instruction of the job, and hands the job back with what that
 /// came to.
 #[tactic(auto, unfolding(crate::specs::Job::outcome_of_job))]
+#[inline(always)]
 pub fn work(job: Job) -> Done
     ensures { result ≡ record { job = job; outcome = outcome_of_job job } }
 {

@@ -105,7 +105,7 @@ impl IssueQueue {
         ensures { self.new ≡ record self.old { entries = inserted_entry entry self.old.entries } }
     {
         self.entries.push(entry);
-        sink_last(self.entries.as_mut_slice(), entry);
+        sink_last(self.entries.as_mut_slice(), &entry);
     }
 
     /// A physical register has its value: every source that waits for it has that value now.
@@ -159,20 +159,22 @@ impl IssueQueue {
 
 // Writes an entry where it belongs among all but the last of these, whose place is spare. A new
 // entry mostly belongs near the end, so its place is sought from there, and those of a higher
-// number move up by one on the way.
-fn sink_last(entries: &mut [Entry], entry: Entry)
+// number move up by one on the way. It stays out of its caller's frame, where an entry, which is
+// large, would stand twice.
+#[inline(never)]
+fn sink_last(entries: &mut [Entry], entry: &Entry)
     requires spare { 0 < length entries.old }
     requires rising { AreEntriesRising (take (length entries.old - 1) entries.old) }
-    ensures { entries.new ≡ inserted_entry entry (take (length entries.old - 1) entries.old) }
+    ensures { entries.new ≡ inserted_entry entry.now (take (length entries.old - 1) entries.old) }
 {
     for before in (0..entries.len() - 1).rev() {
         if entries[before].seq <= entry.seq {
-            entries[before + 1] = entry;
+            entries[before + 1] = *entry;
             return;
         }
         entries[before + 1] = entries[before];
     }
-    entries[0] = entry;
+    entries[0] = *entry;
 }
 
 // Moves those behind this place down by one, over the one that stands in it. The last place is

@@ -19,6 +19,7 @@ use shared_memory::Memory;
 /// What the core says as the hart's instruction `seq` completes, from the outcome that a unit
 /// handed back. An access that faults stops the hart and says nothing else; a load that writes a
 /// register gives it its first look. All else stays.
+#[inline(always)]
 pub fn completion(
     memory: &Memory,
     accesses: &LoadStore,

@@ -19,6 +19,7 @@ use shared_memory::Memory;
 /// What the hart's instruction does that retires with this outcome, by memory and reservations as
 /// they are now: a load reads again, LR and AMO read, a store writes, SC writes where the hart
 /// holds the word, and an AMO writes what it makes of the word.
+#[inline(always)]
 pub fn effect(memory: &Memory, hart: u8, op: Op, outcome: OutcomeFields) -> EffectFields
     requires { hart < 8 }
     ensures { (c : Computed) (look : Option ℕ)

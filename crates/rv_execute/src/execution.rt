@@ -15,6 +15,7 @@ use rv_word::add;
 /// What is computed at `pc` by what was found there, from the numbers of its first and its second
 /// source. A word that is no instruction stops with cause 2, and no word with cause 1.
 #[tactic(auto, unfolding(smt_model::specs::Exec::exec))]
+#[inline(always)]
 pub fn execute(op: Op, pc: u32, a: u32, b: u32) -> Computed
     ensures { result ≡ exec op pc a b }
 {

@@ -79,6 +79,7 @@ impl Core {
 
     /// Fetches the next word of the hart to choose, and goes on where the predictor guesses. Where
     /// the code has no word there, the predictor isn't asked, and the pc behind is predicted.
+    #[inline(always)]
     pub fn fetch<P: Predict>(&mut self, actor: u8, predict: &mut P) -> Answer
         ensures answered { Answered (AskFetch actor) self.old result self.new }
         ensures predicted { IsPredicted P.predicts predict.old result predict.new }
@@ -97,6 +98,7 @@ impl Core {
     }
 
     /// Decodes hart `hart`'s oldest fetched instruction.
+    #[inline(always)]
     pub fn decode(&mut self, actor: u8, hart: u8) -> Answer
         ensures { Answered (AskDecode actor hart) self.old result self.new }
     {
@@ -110,6 +112,7 @@ impl Core {
     }
 
     /// Renames hart `hart`'s oldest decoded instruction.
+    #[inline(always)]
     pub fn rename(&mut self, actor: u8, hart: u8) -> Answer
         ensures { Answered (AskRename actor hart) self.old result self.new }
     {
@@ -123,6 +126,7 @@ impl Core {
     }
 
     /// Issues the oldest ready instruction of the actor's kind of unit, as a job to work.
+    #[inline(always)]
     pub fn issue(&mut self, actor: u8) -> IssueAnswer
         ensures { IssueAnswered actor self.old result self.new }
     {
@@ -144,6 +148,7 @@ impl Core {
         answered
     }
 
+    #[inline(always)]
     fn complete_by(&mut self, actor: u8, done: &Done) -> CompleteAnswer
         ensures { CompleteAnswered actor done.now.job self.old result self.new }
     {
@@ -157,6 +162,7 @@ impl Core {
     }
 
     /// Retires hart `hart`'s oldest instruction in flight.
+    #[inline(always)]
     pub fn retire(&mut self, actor: u8, hart: u8) -> Answer
         ensures { Answered (AskRetire actor hart) self.old result self.new }
     {

@@ -21,6 +21,7 @@ use retire_squash::Active;
 
 impl State {
     /// Writes the decode of instruction `seq` of hart `hart`, which may come next.
+    #[inline(always)]
     pub(super) fn write_decode(&mut self, actor: u8, hart: u8, seq: Seq) -> Event
         requires room { length self.old.past < self.old.limit }
         requires allowed { refused self.old.setup self.old.past (Decode actor seq) ≡ None }
@@ -36,6 +37,7 @@ impl State {
 
     /// Writes the rename of instruction `seq` of hart `hart`, which may come next with the register
     /// `phys`.
+    #[inline(always)]
     pub(super) fn write_rename(
         &mut self,
         actor: u8,
@@ -56,6 +58,7 @@ impl State {
     }
 
     /// Writes the issue of the instruction of `entry`, which may come next.
+    #[inline(always)]
     pub(super) fn write_issue(&mut self, actor: u8, entry: Entry) -> (Job, Event)
         requires room { length self.old.past < self.old.limit }
         requires allowed { refused self.old.setup self.old.past (Issue actor entry.seq) ≡ None }
@@ -75,6 +78,7 @@ impl State {
 
     /// Writes the completion of an instruction in flight, which may come next with this outcome; its
     /// fields are given beside it, since whoever decides has them.
+    #[inline(always)]
     pub(super) fn finish(
         &mut self,
         actor: u8,
@@ -115,6 +119,7 @@ impl State {
     }
 
     /// Writes the retirement of an instruction in flight, which may come next with this effect.
+    #[inline(always)]
     pub(super) fn write_retire(
         &mut self,
         actor: u8,
