@@ -1,7 +1,7 @@
 """The files that the second judge reads: a program image, a configuration, a trace.
 
 Written from docs/FORMATS.md and from crates/elf_image/specs, crates/sim_inputs/specs and
-crates/events/specs. Nothing here is shared with the model of the program in this folder.
+crates/event_text/specs. Nothing here is shared with the model of the program in this folder.
 """
 
 import re

@@ -3,7 +3,7 @@
 
 use crate::files::file_of;
 use crate::rows::{ends, holds};
-use events::{Over, print_trace, read_trace};
+use event_text::{Over, print_trace, read_trace};
 use sim_inputs::{Settings, read_config};
 use simulator::{
     Refused, StaticPredictor, Unread, check_and_report, report, status_of, step_bytes,

@@ -4,7 +4,8 @@
 use crate::asks_of_a_core::{config, first_image};
 use crate::rows::holds;
 use core_state::State;
-use events::{Event, read_event_line};
+use event_text::read_event_line;
+use events::Event;
 use history_check::{CheckRefused, check};
 use smt_core::{Core, Followed};
 use std::alloc::Global;

@@ -5,7 +5,7 @@ use crate::asks_of_a_core::ended_core;
 use crate::files::file_of;
 use crate::rows::holds;
 use elf_image::{Image, RamSize, load};
-use events::print_record;
+use event_text::print_record;
 use plain_run::{OrderStopped, PlainRun, run_again, run_order};
 use sc_machine::Stopped;
 use smt_core::Status;

@@ -10,7 +10,7 @@ mod tracing;
 
 use crate::files::file_of;
 use actors::Open;
-use events::{Over, Sink};
+use event_text::{Over, Sink};
 use sim_inputs::Line;
 use simulator::{Inputs, perform};
 use smt_core::Predict;

@@ -3,13 +3,8 @@ pub mod Event
 pub mod History
 pub mod HistoryInside
 pub mod Kind
-pub mod Line
 pub mod OutcomeInside
 pub mod Range
-pub mod Reading
-pub mod Refusals
-pub mod Sinking
 pub mod TagLaws
 pub mod Tagged
-pub mod Trace
 pub mod Width

@@ -48,8 +48,8 @@ impl EventKind {
         })
     }
 
-    // How many fields stand after the letter.
-    pub(crate) fn fields_after(self) -> usize
+    /// How many fields stand after the letter on its lines.
+    pub fn fields_after(self) -> usize
         ensures { result ≡ fields_after self }
     {
         match self {

@@ -1,8 +1,8 @@
 use crate::rows::holds;
 use arrayvec::ArrayString;
+use event_text::{print_event, print_record, push_event, push_record, read_event_line};
 use events::{
     Effect, EffectFields, Event, EventKind, History, Next, Outcome, OutcomeFields, Record, Written,
-    print_event, print_record, push_event, push_record, read_event_line,
 };
 use std::alloc::Global;
 

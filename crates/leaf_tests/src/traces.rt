@@ -1,6 +1,7 @@
 use crate::event_lines::trace;
 use crate::rows::{holds, holds_at};
-use events::{Event, Over, TraceRefused, print_trace, read_trace};
+use event_text::{Over, TraceRefused, print_trace, read_trace};
+use events::Event;
 use std::alloc::{AllocError, Global};
 use std::io;
 use std::io::{ErrorKind, Write};

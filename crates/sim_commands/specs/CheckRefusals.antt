@@ -2,8 +2,9 @@
 -- choice.)
 use Rattle.std.specs.Prelude.{◌≡◌, ◌⊎◌, ℕ, true, false, List, length, reverse, All, Err}
 use Rattle.elf_image.specs.{Image.ProgramImage, Loaded.IsImageOf}
-use Rattle.events.specs.{declared.event.Event.Event, Range.IsEventInRange, Trace.trace_text}
-use Rattle.events.specs.Trace.{IsRefusedAt}
+use Rattle.events.specs.{declared.event.Event.Event, Range.IsEventInRange}
+use Rattle.event_text.specs.{Trace.trace_text}
+use Rattle.event_text.specs.Trace.{IsRefusedAt}
 use Rattle.smt_model.specs.{Rules.is_legal, Setup.Setup, Setup.is_accepted}
 use Rattle.core_state.specs.Setup.{setup_of}
 use Rattle.history_check.specs.Checking.{IsFirstBroken}

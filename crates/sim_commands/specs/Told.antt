@@ -9,7 +9,7 @@ use Rattle.smt_model.specs.{Account.open_job_count, Memory.status, Memory.output
 use Rattle.core_state.specs.{Setup.setup_of, View.CoreView}
 use Rattle.core_lock.specs.Shown.{Shown}
 use Rattle.sim_inputs.specs.declared.settings.Settings.{Settings}
-use Rattle.events.specs.{Sinking.HasPut, Trace.trace_text}
+use Rattle.event_text.specs.{Sinking.HasPut, Trace.trace_text}
 use Rattle.sim_report.specs.{Refusals.Read, Refusals.OfFile}
 use Rattle.sim_session.specs.{Session.AreAsked, Session.Prints}
 use Rattle.sim_report.specs.Report.{records_text, report_text, status_number}

@@ -12,7 +12,8 @@ ghost use Rattle.smt_model.specs.Setup.{is_accepted};
 
 use crate::stepping::read_image;
 use elf_image::Image;
-use events::{Event, Trace, TraceRefused, read_trace};
+use event_text::{Trace, TraceRefused, read_trace};
+use events::Event;
 use history_check::{CheckRefused, Checked, check};
 use sim_inputs::Settings;
 use sim_report::{Refused, Unread, report, status_of};

@@ -14,7 +14,7 @@ use crate::keeping::keep_trace;
 use crate::running::run_file;
 use crate::stepping::step_files;
 use actors::Gate;
-use events::Sink;
+use event_text::Sink;
 use sim_inputs::Settings;
 use sim_report::{Refused, Unread, report, status_of};
 use smt_core::{Core, Predict};

@@ -2,7 +2,7 @@ ghost use Rattle.std.specs.Prelude.{◌≡◌, false, OnOk, IfErr};
 ghost use Rattle.sim_report.specs.declared.refused.Refused.TheVariants.{Output};
 ghost use Rattle.sim_commands.specs.Told.{IsKept};
 
-use events::{Sink, print_trace};
+use event_text::{Sink, print_trace};
 use sim_report::Refused;
 use smt_core::Core;
 

@@ -3,7 +3,8 @@ use Rattle.std.specs.Prelude.{ℕ, ◌+◌, Bool, false, ◌==◌, if◌then◌e
 use Rattle.std.specs.Prelude.{codes, flat_map}
 use Rattle.std.specs.{List.list_any, List.list_all, Fmt.decimal}
 use Rattle.text_fields.specs.Spelling.{hex}
-use Rattle.events.specs.{declared.effect.Record.Record, Line.record_text_of}
+use Rattle.events.specs.{declared.effect.Record.Record}
+use Rattle.event_text.specs.{Line.record_text_of}
 use Rattle.smt_model.specs.{declared.config.Status.Status, declared.config.Status.TheVariants.Going}
 use Rattle.smt_model.specs.{declared.config.Status.TheVariants.Ended}
 use Rattle.smt_model.specs.{declared.config.Status.TheVariants.Stopped, Plain.is_going_status}

@@ -3,7 +3,8 @@ ghost use Rattle.std.specs.Io.KnownBytes.{Appends};
 ghost use Rattle.sim_report.specs.Report.{record_line, records_text};
 
 use arrayvec::ArrayString;
-use events::{Record, print_record};
+use event_text::print_record;
+use events::Record;
 use std::io;
 use std::io::Write;
 use text_fields::push_ascii;

@@ -2,7 +2,8 @@
 use Rattle.std.specs.Prelude.{◌≡◌, ℕ, Bool, true, false, List, [], ◌∷◌, ◌++◌, Option, Some, None}
 use Rattle.std.specs.Prelude.{codes, flat_map, replicate, slice_index_or, slice_set}
 use Rattle.std.specs.Io.KnownBytes.{Appends}
-use Rattle.events.specs.{declared.event.Event.Event, Line.line_of, Range.HasShortWrite}
+use Rattle.events.specs.{declared.event.Event.Event, Range.HasShortWrite}
+use Rattle.event_text.specs.{Line.line_of}
 use Rattle.exec_units.specs.Job.{DoneView}
 use Rattle.smt_model.specs.Asks.{Ask, AskFetch, AskDecode, AskRename, AskRetire}
 use Rattle.core_state.specs.View.{CoreView}

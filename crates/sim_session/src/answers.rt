@@ -6,7 +6,8 @@ ghost use Rattle.sim_session.specs.Session.{IsPrintable, IsCompletePrintable};
 ghost use Rattle.sim_session.specs.Session.{done_line, answer_line, complete_line};
 
 use arrayvec::ArrayString;
-use events::{Event, push_event};
+use event_text::push_event;
+use events::Event;
 use smt_core::{Answer, CompleteAnswer};
 use std::io::Write;
 

@@ -13,7 +13,7 @@ ghost use Rattle.sim_commands.specs.Told.{IsKept};
 
 use crate::refusal::refuse;
 use actors::Gate;
-use events::Sink;
+use event_text::Sink;
 use sim_commands::{
     Wanted, check_and_report, read_image, run_and_report, schedule_and_print, step_and_report,
     thread_and_report,

@@ -1,6 +1,6 @@
 ghost use Rattle.std.specs.Prelude.{◌≡◌, None, false};
 
-use events::{Broken, Over, Sink};
+use event_text::{Broken, Over, Sink};
 use std::fs;
 use std::rt::Files;
 

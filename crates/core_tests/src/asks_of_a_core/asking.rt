@@ -4,7 +4,8 @@
 use crate::files::{FIRST, file_of};
 use arrayvec::ArrayVec;
 use elf_image::{Image, RamSize, load};
-use events::{Event, read_event_line};
+use event_text::read_event_line;
+use events::Event;
 use smt_core::{Answer, CompleteAnswer, Config, Core, Done, IssueAnswer, Predict, Role, work};
 use std::alloc::Global;
 

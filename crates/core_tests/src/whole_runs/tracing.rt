@@ -9,7 +9,7 @@ use super::{Told, kept, text};
 use crate::files::FIRST;
 use crate::rows::{ends, holds, shows};
 use elf_image::{RamSize, load};
-use events::{Over, Sink, read_trace};
+use event_text::{Over, Sink, read_trace};
 use history_check::check;
 use sim_inputs::{Line, read_config};
 use simulator::{Inputs, StaticPredictor};

@@ -1,0 +1,5 @@
+pub mod Line
+pub mod Reading
+pub mod Refusals
+pub mod Sinking
+pub mod Trace

@@ -1,0 +1,17 @@
+//! The text of events: the line of an event or of a record, and a trace, which is a line for each
+//! event.
+//!
+//! Read in this order: `print` and `read` (a line), `trace` and `sink` (a whole text), `laws` (the
+//! one is the other's inverse).
+#![tactic(auto)]
+
+pub mod laws;
+pub mod print;
+pub mod read;
+pub mod sink;
+pub mod trace;
+
+pub use print::{Line, print_event, print_record, push_event, push_record};
+pub use read::{Rule, read_event_line};
+pub use sink::{Broken, Over, Sink};
+pub use trace::{Trace, TraceRefused, print_trace, read_trace};
