@@ -2,4 +2,3 @@ pub mod Asks
 pub mod Turns
 pub mod Schedules
 pub mod Refusals
-pub mod Names

@@ -13,5 +13,5 @@ mod schedule;
 mod units;
 
 pub use making::make_schedule;
-pub use refused::{ScheduleRefused, unit_name};
+pub use refused::ScheduleRefused;
 pub use schedule::Schedule;

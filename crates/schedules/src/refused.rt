@@ -1,9 +1,7 @@
-ghost use Rattle.std.specs.Prelude.{◌≡◌};
-ghost use Rattle.schedules.specs.Names.{name_of};
-
 use rv_decode::UnitKind;
 use sc_machine::Stopped;
 use thiserror::Error;
+use unit_names::unit_name;
 
 /// Why an order of harts has no schedule.
 #[derive(Clone, Copy, Debug, PartialEq, Eq, Drop, Error)]
@@ -24,15 +22,4 @@ pub enum ScheduleRefused {
     /// The limit is below the number of events that the schedule may make.
     #[error("limit below {0}")]
     Limit(u64),
-}
-
-/// The name of a kind of unit, as a configuration has it.
-pub fn unit_name(kind: &UnitKind) -> &'static str
-    ensures { result.now ≡ name_of kind.now }
-{
-    match kind {
-        UnitKind::Alu => "alu",
-        UnitKind::Mul => "mul",
-        UnitKind::Mem => "mem",
-    }
 }

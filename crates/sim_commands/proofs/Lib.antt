@@ -1,6 +1,5 @@
 pub mod CheckTelling
 pub mod PlainTelling
-pub mod RunTelling
 pub mod ScheduleTelling
 pub mod Telling
 pub mod InputsRefused

@@ -1,7 +1,6 @@
 pub mod Told
 pub mod PlainRefusals
 pub mod PlainTold
-pub mod RunTold
 pub mod CheckRefusals
 pub mod CheckTold
 pub mod ScheduleTold

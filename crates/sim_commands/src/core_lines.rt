@@ -6,29 +6,27 @@ ghost use Rattle.sim_script.specs.Script.{IsScript};
 ghost use Rattle.sim_report.specs.declared.refused.Refused.TheVariants.{Memory, Output};
 ghost use Rattle.sim_report.specs.Refusals.{as_read, OfFile, PassesAll, AreAccepted};
 ghost use Rattle.sim_report.specs.Refusals.{AreInputsRefusedFor, refusal_of, says_harts};
-ghost use Rattle.sim_commands.specs.RunTold.{AreRunInputsRefusedFor, IsRunReported, LackARole};
 ghost use Rattle.sim_session.specs.Session.{AreAsked, Prints};
 ghost use Rattle.sim_commands.specs.Told.{AreTables, HasTold, IsKept, IsReported};
 
 use crate::keeping::keep_trace;
-use crate::running::run_file;
 use crate::stepping::step_files;
-use actors::Gate;
 use event_text::Sink;
 use sim_inputs::Settings;
 use sim_report::{Refused, Unread, report, status_of};
 use smt_core::{Core, Predict};
 use std::alloc::{AllocError, Global};
 use std::io::Write;
-use std::sync::Wait;
-use std::thread::Threads;
 
 /// What is wanted beside the asks and the report.
 #[derive(Clone, Copy, Debug, PartialEq, Eq, Drop)]
 pub struct Wanted {
-    records: bool,
-    tables: bool,
-    trace: bool,
+    /// A line for each retired instruction, before the report.
+    pub records: bool,
+    /// The tables of the core, before the records.
+    pub tables: bool,
+    /// The trace of the core, put into its sink.
+    pub trace: bool,
 }
 
 impl Wanted {
@@ -89,52 +87,13 @@ pub fn step_and_report<P: Predict + Copy, S: Sink, W: Write>(
     keep_and_tell(&finished.core, wanted, trace, out, alloc)
 }
 
-/// Runs the core with a thread for each actor, keeps its trace where it is wanted, and writes its
-/// report.
-#[inline(never)]
-pub fn thread_and_report<
-    G: Gate + Sync,
-    P: Predict + Copy + Send,
-    S: Sink,
-    W: Write,
-    R: Threads + Wait + Sync,
->(
-    rt: &R,
-    image: Result<&[u8], Unread>,
-    settings: &Settings,
-    wanted: Wanted,
-    gate: &G,
-    predict: P,
-    trace: &mut S,
-    out: &mut W,
-    alloc: Global,
-) -> Result<u8, Refused>
-    requires untabled { wanted.tables ≡ false }
-    requires works { S.has_failed trace.old ≡ false }
-    ensures unread { IfErr image.entry (λ why. result ≡ Err (refusal_of why)) }
-    ensures refused { IfErr result (AreRunInputsRefusedFor (as_read image.entry) settings.now) }
-    ensures passed { OnOk result
-        (OfFile (as_read image.entry) (λ file. PassesAll file settings.now.ram)) }
-    ensures accepted { OnOk result (AreAccepted settings.now) }
-    ensures manned { OnOk result (LackARole settings.now → ⊥) }
-    ensures reported { IfOk result (IsRunReported settings.now (as_read image.entry)
-        wanted.records (IsKept S.written S.has_failed trace.old trace.new wanted.trace)
-        (W.contents out.old) (W.contents out.new)) }
-    ensures status { IfOk result (λ status. IsTrue (says_harts status)) }
-    ensures unwanted { wanted.trace ≡ false → trace.new ≡ trace.old }
-    ensures unbroken { OnOk result (S.has_failed trace.new ≡ false) }
-    ensures unreported { S.has_failed trace.new ≡ true
-        → W.contents out.new ≡ W.contents out.old }
-{
-    let finished = match run_file(rt, image, settings, gate, predict, alloc) {
-        Ok(finished) => finished,
-        Err(refused) => return Err(refused),
-    };
-    keep_and_tell(&finished.core, wanted, trace, out, alloc)
-}
-
-/// Keeps the trace of a core where it is wanted, and then tells of it. Answers how the harts stand.
-fn keep_and_tell<S: Sink, W: Write>(
+/// Keeps the trace of a core where it is wanted, and then writes its tables, where they are wanted,
+/// and its report. Answers how the harts stand: 3 where one is going, 0 where every one has ended
+/// with 0, else 1.
+///
+/// `Output` is answered where the sink or `out` took no more, `Memory` where there is none for the
+/// text of the tables. Where the sink failed, nothing is written.
+pub fn keep_and_tell<S: Sink, W: Write>(
     core: &Core,
     wanted: Wanted,
     trace: &mut S,

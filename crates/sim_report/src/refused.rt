@@ -3,8 +3,8 @@ ghost use Rattle.sim_report.specs.Refusals.{exit_status_of, refusal_of, says_har
 
 use rv_decode::UnitKind;
 use sc_machine::Stopped;
-use schedules::unit_name;
 use thiserror::Error;
+use unit_names::unit_name;
 
 /// Why a simulation was not made, or not told whole.
 #[derive(Clone, Copy, Debug, PartialEq, Eq, Drop, Error)]

@@ -16,7 +16,7 @@ use Rattle.sim_report.specs.Refusals.{Read, OfFile, IsFirstFailed, PassesAll, Ar
 use Rattle.sim_report.specs.{Refusals.AreInputsRefusedFor}
 use Rattle.sim_commands.specs.{Told.IsReported}
 use Rattle.sim_session.specs.{Session.AreAsked, Session.Prints}
-use Rattle.sim_commands.specs.RunTold.{AreRunInputsRefusedFor, IsRunReported, LackARole}
+use Rattle.sim_runs.specs.RunTold.{AreRunInputsRefusedFor, IsRunReported, LackARole}
 use Rattle.sim_commands.specs.CheckRefusals.{AreCheckInputsRefusedFor, AreTooMany}
 use Rattle.sim_commands.specs.{CheckTold.IsCheckReported}
 use Rattle.sim_commands.specs.{PlainRefusals.ArePlainInputsRefusedFor, PlainTold.IsPlainReported}

@@ -16,10 +16,10 @@ use actors::Gate;
 use event_text::Sink;
 use sim_commands::{
     Wanted, check_and_report, read_image, run_and_report, schedule_and_print, step_and_report,
-    thread_and_report,
 };
 use sim_inputs::{ConfigRefused, Line, Settings, read_config};
 use sim_report::{Refused, Unread, list};
+use sim_runs::thread_and_report;
 use smt_core::Predict;
 use std::alloc::Global;
 use std::io::Write;

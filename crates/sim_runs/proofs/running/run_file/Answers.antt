@@ -1,7 +1,7 @@
 use Rattle.sim_report.specs.Refusals.{as_read}
-use Rattle.sim_commands.proofs.RunTelling.{image_refusal, ran_refusal, same_setup, are_accepted, are_manned}
-use Rattle.sim_commands.proofs.RunTelling.{for_sizes, for_roles}
-use Rattle.sim_commands.proofs.running.run_file.Goals as goal
+use Rattle.sim_runs.proofs.RunTelling.{image_refusal, ran_refusal, same_setup, are_accepted, are_manned}
+use Rattle.sim_runs.proofs.RunTelling.{for_sizes, for_roles}
+use Rattle.sim_runs.proofs.running.run_file.Goals as goal
 
 pub returns-in-Err-clause-refused : goal.returns-in-Err-clause-refused
 returns-in-Err-clause-refused g c =

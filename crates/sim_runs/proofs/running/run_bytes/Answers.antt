@@ -1,5 +1,5 @@
 use Rattle.std.proofs.Common.{rules}
-use Rattle.sim_commands.proofs.running.run_bytes.Goals as goal
+use Rattle.sim_runs.proofs.running.run_bytes.Goals as goal
 
 pub returns-clause-image : goal.returns-clause-image
 returns-clause-image g c = search rules

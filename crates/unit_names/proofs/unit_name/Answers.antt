@@ -1,5 +1,5 @@
 use Rattle.std.proofs.Common.{rules}
-use Rattle.schedules.proofs.refused.unit_name.Goals as goal
+use Rattle.unit_names.proofs.unit_name.Goals as goal
 
 pub returns-in-Alu : goal.returns-in-Alu
 returns-in-Alu c = search rules

@@ -14,8 +14,8 @@ use Rattle.sim_report.specs.declared.refused.Refused.{Refused}
 use Rattle.sim_report.specs.declared.refused.Refused.TheVariants.{Image, Config, Script, Order, Step, Memory, Thread}
 use Rattle.sim_report.specs.declared.refused.Refused.TheVariants.{File, Output, Trace, Event, NoUnit, Limit}
 use Rattle.sim_report.specs.Refusals.{Read, OfFile, PassesAll, AreAccepted, AreRefused, IsImageRefusal}
-use Rattle.sim_commands.specs.{RunTold.AreRunInputsRefusedFor, RunTold.IsRunReported, RunTold.LackARole}
-use Rattle.sim_commands.specs.RunTold.{run_refusal}
+use Rattle.sim_runs.specs.{RunTold.AreRunInputsRefusedFor, RunTold.IsRunReported, RunTold.LackARole}
+use Rattle.sim_runs.specs.RunTold.{run_refusal}
 use Rattle.smt_model.specs.declared.config.Config as configs
 use Rattle.sim_commands.specs.Told.{HasTold}
 

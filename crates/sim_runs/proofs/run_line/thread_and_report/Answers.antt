@@ -1,7 +1,7 @@
 use Rattle.std.proofs.lemmas.Result.{IfErr-weaker, IfOk-weaker}
 use Rattle.sim_report.specs.Refusals.{as_read}
-use Rattle.sim_commands.proofs.RunTelling.{told_refusal, reported}
-use Rattle.sim_commands.proofs.core_lines.thread_and_report.Goals as goal
+use Rattle.sim_runs.proofs.RunTelling.{told_refusal, reported}
+use Rattle.sim_runs.proofs.run_line.thread_and_report.Goals as goal
 
 pub returns-clause-refused : goal.returns-clause-refused
 returns-clause-refused g c =

@@ -3,11 +3,11 @@ ghost use Rattle.elf_image.specs.Loaded.{IsImageOf};
 ghost use Rattle.core_state.specs.Setup.{setup_of};
 ghost use Rattle.core_lock.specs.Shown.{Shown};
 ghost use Rattle.sim_report.specs.Refusals.{as_read, OfFile, PassesAll, AreAccepted, refusal_of};
-ghost use Rattle.sim_commands.specs.RunTold.{AreRunInputsRefusedFor, LackARole, run_refusal};
+ghost use Rattle.sim_runs.specs.RunTold.{AreRunInputsRefusedFor, LackARole, run_refusal};
 
-use crate::stepping::read_image;
 use actors::{Gate, RunRefused, run};
 use core_lock::Finished;
+use sim_commands::read_image;
 use sim_inputs::Settings;
 use sim_report::{Refused, Unread};
 use smt_core::Predict;
