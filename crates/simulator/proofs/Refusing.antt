@@ -1,8 +1,8 @@
 -- Refusals of a line, from those of its configuration and those of its image and script.
-use Rattle.std.specs.Prelude.{◌≡◌, ◌⊎◌, ℕ, Bool, true, false, ◌&&◌, List, [], Option, Some, None, IfErr, Result}
+use Rattle.std.specs.Prelude.{◌≡◌, ◌⊎◌, ℕ, Bool, true, false, List, [], Option, Some, None, IfErr, Result}
 use Rattle.std.specs.Prelude.{Ok, Err, IsTrue}
 use Rattle.std.specs.Borrow.{Bor}
-use Rattle.std.proofs.Common.{refl, sym, ap, subst, ◌∙◌, arith}
+use Rattle.std.proofs.Common.{refl, sym, ap, ◌∙◌, arith}
 use Rattle.std.proofs.lemmas.Bool.{true≢false}
 use Rattle.std.proofs.lemmas.Bool.Decides.{nat_tests}
 use Rattle.sc_machine.specs.Steps.{are_harts}
@@ -10,19 +10,17 @@ use mathlib.Core.Logic.{inl, inr}
 use Rattle.std.specs.Io.KnownBytes.{Appends, Keeps}
 use Rattle.elf_image.specs.Image.{ProgramImage}
 use Rattle.sim_inputs.specs.{declared.line.Line.Line, declared.settings.Settings.Settings}
-use Rattle.sim_script.specs.{declared.actions.Word.Word, Script.IsScript}
 use Rattle.sim_inputs.specs.{Configuration.IsConfiguration}
 use Rattle.sim_inputs.specs.declared.line.Line.TheVariants as lines
 use Rattle.sim_report.specs.declared.refused.Refused.{Refused}
 use Rattle.sim_report.specs.declared.refused.Refused.TheVariants.{Image, Config, Script, Order, Step, Memory, File}
 use Rattle.sim_report.specs.declared.refused.Refused.TheVariants.{Output, Thread, Trace, Event, NoUnit, Limit}
-use Rattle.sim_report.specs.Refusals.{Read, OfFile, PassesAll, AreAccepted, AreRefused, IsImageRefusal, IsConfigRefusal}
-use Rattle.sim_report.specs.Refusals.{IsScriptRefusal, AreInputsRefusedFor, IsAsking}
+use Rattle.sim_report.specs.Refusals.{Read, OfFile, AreRefused}
 use Rattle.sim_report.specs.Refusals.{exit_status_of, refusal_of, says_harts}
 use Rattle.sim_report.specs.declared.refused.Unread.{Unread}
 use Rattle.sim_report.specs.declared.refused.Unread.TheVariants as unread
 use Rattle.simulator.specs.Lines.{IsLineRefusal, IsSettingsRefusal, IsRefusal, OfSettings, IsListed, HasEnded}
-use Rattle.simulator.specs.{Lines.IsReportedBy, Lines.IsStepLine}
+use Rattle.simulator.specs.{Lines.IsReportedBy}
 use Rattle.sim_session.specs.{Session.Prints}
 use Rattle.core_state.specs.View.{CoreView}
 

@@ -1,12 +1,12 @@
 -- The answering of a line that asks for a listing.
-use Rattle.std.specs.Prelude.{◌≡◌, ℕ, Bool, true, false, IsTrue, List, Option, Result, Ok, Err}
+use Rattle.std.specs.Prelude.{◌≡◌, ℕ, Bool, false, List, Option, Result, Err}
 use Rattle.std.specs.Prelude.{OnOk, IfOk, IfErr}
 use Rattle.std.specs.Borrow.{Bor}
 use Rattle.std.proofs.lemmas.Result.{IfErr-weaker}
 use Rattle.sim_inputs.specs.{declared.settings.Settings.Settings}
 use Rattle.sim_inputs.specs.declared.line.Line.TheVariants as lines
 use Rattle.sim_report.specs.{declared.refused.Refused.Refused, declared.refused.Unread.Unread}
-use Rattle.sim_report.specs.Refusals.{Read, OfFile, PassesAll, as_read, refusal_of, says_harts}
+use Rattle.sim_report.specs.Refusals.{Read, OfFile, PassesAll, as_read, refusal_of}
 use Rattle.simulator.specs.Answered.{IsAnswered}
 use Rattle.simulator.proofs.Answering.Untraced.{untraced, on_both, with_status, zero_says}
 use Rattle.simulator.proofs.Printing.{with_both}

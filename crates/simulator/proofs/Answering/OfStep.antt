@@ -1,5 +1,5 @@
 -- The answering of a line that makes the asks of a script.
-use Rattle.std.specs.Prelude.{◌≡◌, ℕ, Bool, true, false, IsTrue, List, Option, Result, Ok, Err, is_some}
+use Rattle.std.specs.Prelude.{◌≡◌, ℕ, Bool, true, false, IsTrue, List, Option, Result, Err, is_some}
 use Rattle.std.specs.Prelude.{OnOk, IfOk, IfErr}
 use Rattle.std.specs.Borrow.{Bor}
 use Rattle.std.proofs.Common.{subst}
@@ -41,9 +41,9 @@ answered {written = written} {has_failed = has_failed} {before = before} {after 
     reported status unwanted unbroken unreported =
     let ready = on_both answer _ _ (on_both answer _ _ passed accepted) asks in
     let told = subst
-        (λ (w : Wanted). IfOk answer (IsReported settings (as_read file) second w.records w.tables
-        (IsKept written has_failed before after w.trace) old new))
-        is_wanted reported in
+    (λ (w : Wanted). IfOk answer (IsReported settings (as_read file) second w.records w.tables
+    (IsKept written has_failed before after w.trace) old new))
+    is_wanted reported in
     record {
       unread = unread_too file (λ why. answer ≡ Err (refusal_of why)) unread;
       refused = IfErr-weaker answer _ _ (λ reason is. is) refused;

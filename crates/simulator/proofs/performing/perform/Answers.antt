@@ -1,5 +1,4 @@
 -- The status is the one that the line was answered with, or that of its refusal.
-use Rattle.std.specs.Prelude.{◌≡◌, true}
 use Rattle.std.proofs.Common.{sym, ◌∙◌}
 use Rattle.std.proofs.lemmas.Bool.{true≢false}
 use mathlib.Core.Logic.{inl}
