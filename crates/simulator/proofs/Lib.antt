@@ -1,3 +1,4 @@
+pub mod Answering
 pub mod Printing
 pub mod ReadWhole
 pub mod Refusing

@@ -1,7 +1,6 @@
 -- Behind a trace that was checked and told, only the output may still be refused.
 use Rattle.std.specs.Prelude.{◌≡◌, ℕ, Bool, true, List, length, reverse, Option, Result, Ok, Err, OnOk, IfOk}
 use Rattle.std.proofs.Common.{subst}
-use Rattle.core_state.specs.Setup.{setup_of}
 use Rattle.smt_model.specs.{Setup.is_accepted, Rules.is_legal}
 use Rattle.sim_inputs.specs.declared.settings.Settings.{Settings}
 use Rattle.sim_report.specs.declared.refused.Refused.TheVariants.{Output}

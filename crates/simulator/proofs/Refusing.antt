@@ -1,23 +1,26 @@
 -- Refusals of a line, from those of its configuration and those of its image and script.
-use Rattle.std.specs.Prelude.{◌≡◌, ◌⊎◌, ℕ, Bool, true, false, ◌&&◌, List, [], Option, Some, None, IfErr, Result}
-use Rattle.std.specs.Prelude.{Ok, Err}
-use Rattle.std.proofs.Common.{sym, subst, ◌∙◌, arith}
+use Rattle.std.specs.Prelude.{◌≡◌, ◌⊎◌, ℕ, Bool, true, false, List, [], Option, Some, None, IfErr, Result}
+use Rattle.std.specs.Prelude.{Ok, Err, IsTrue}
+use Rattle.std.specs.Borrow.{Bor}
+use Rattle.std.proofs.Common.{refl, sym, ap, ◌∙◌, arith}
+use Rattle.std.proofs.lemmas.Bool.{true≢false}
 use Rattle.std.proofs.lemmas.Bool.Decides.{nat_tests}
 use Rattle.sc_machine.specs.Steps.{are_harts}
 use mathlib.Core.Logic.{inl, inr}
 use Rattle.std.specs.Io.KnownBytes.{Appends, Keeps}
 use Rattle.elf_image.specs.Image.{ProgramImage}
 use Rattle.sim_inputs.specs.{declared.line.Line.Line, declared.settings.Settings.Settings}
-use Rattle.sim_script.specs.{declared.actions.Word.Word, Script.IsScript}
 use Rattle.sim_inputs.specs.{Configuration.IsConfiguration}
 use Rattle.sim_inputs.specs.declared.line.Line.TheVariants as lines
 use Rattle.sim_report.specs.declared.refused.Refused.{Refused}
 use Rattle.sim_report.specs.declared.refused.Refused.TheVariants.{Image, Config, Script, Order, Step, Memory, File}
 use Rattle.sim_report.specs.declared.refused.Refused.TheVariants.{Output, Thread, Trace, Event, NoUnit, Limit}
-use Rattle.sim_report.specs.Refusals.{Read, OfFile, PassesAll, AreAccepted, AreRefused, IsImageRefusal, IsConfigRefusal}
-use Rattle.sim_report.specs.Refusals.{IsScriptRefusal, AreInputsRefusedFor, IsAsking}
+use Rattle.sim_report.specs.Refusals.{Read, OfFile, AreRefused}
+use Rattle.sim_report.specs.Refusals.{exit_status_of, refusal_of, says_harts}
+use Rattle.sim_report.specs.declared.refused.Unread.{Unread}
+use Rattle.sim_report.specs.declared.refused.Unread.TheVariants as unread
 use Rattle.simulator.specs.Lines.{IsLineRefusal, IsSettingsRefusal, IsRefusal, OfSettings, IsListed, HasEnded}
-use Rattle.simulator.specs.{Lines.IsReportedBy, Lines.IsStepLine}
+use Rattle.simulator.specs.{Lines.IsReportedBy}
 use Rattle.sim_session.specs.{Session.Prints}
 use Rattle.core_state.specs.View.{CoreView}
 
@@ -170,3 +173,68 @@ ended line config image second settings Kept old mid new status is has flushed =
       listed = λ lists. listing_kept image settings.ram old mid new flushed (has.listed lists);
       reported = report_kept line settings image second Kept old mid new status flushed has.reported;
     })
+
+-- A configuration of which settings were made is none that can't be read, whatever came of that.
+pub configured : (config : Result (Bor (List ℕ)) Unread) (A E : Type 0) (settings : A) (say : Unread → E)
+    (P : Unread → Type 0) → IfErr config (λ why. ◌≡◌ {A = Result A E} (Ok settings) (Err (say why))) → IfErr config P
+configured (Ok text) A E settings say P unread = tt
+configured (Err why) A E settings say P unread = absurd (cc)
+
+-- The settings' refusal is the line's.
+pub unset_by : (config : Result (Bor (List ℕ)) Unread) (A B : Type 0) (reason : Refused)
+    → IfErr config (λ why. ◌≡◌ {A = Result A Refused} (Err reason) (Err (refusal_of why)))
+    → IfErr config (λ why. ◌≡◌ {A = Result B Refused} (Err reason) (Err (refusal_of why)))
+unset_by (Ok text) A B reason unread = tt
+unset_by (Err why) A B reason unread =
+    let same : reason ≡ refusal_of why = cc in
+    ap (λ r. Err r) same
+
+-- A refusal's exit status is 2, 4 or 5, and so never one that says how harts stand; it is 5 for a
+-- file that is unread.
+pub known_refusal : (reason : Refused) (status : ℕ) → status ≡ exit_status_of reason
+    → IsTrue (says_harts status) ⊎ (status ≡ 2) ⊎ (status ≡ 4) ⊎ (status ≡ 5)
+known_refusal (Image number) status is = inr (inl is)
+known_refusal Config status is = inr (inl is)
+known_refusal (Script number) status is = inr (inl is)
+known_refusal (Order index) status is = inr (inl is)
+known_refusal (Step index why) status is = inr (inl is)
+known_refusal (Trace at rule) status is = inr (inr (inl is))
+known_refusal (Event index rule) status is = inr (inr (inl is))
+known_refusal (NoUnit kind) status is = inr (inl is)
+known_refusal (Limit least) status is = inr (inl is)
+known_refusal Memory status is = inr (inr (inr is))
+known_refusal Thread status is = inr (inr (inr is))
+known_refusal File status is = inr (inr (inr is))
+known_refusal Output status is = inr (inr (inr is))
+
+never_says : (reason : Refused) → says_harts (exit_status_of reason) ≡ false
+never_says (Image number) = refl
+never_says Config = refl
+never_says (Script number) = refl
+never_says (Order index) = refl
+never_says (Step index why) = refl
+never_says (Trace at rule) = refl
+never_says (Event index rule) = refl
+never_says (NoUnit kind) = refl
+never_says (Limit least) = refl
+never_says Memory = refl
+never_says Thread = refl
+never_says File = refl
+never_says Output = refl
+
+pub refused_harts : (reason : Refused) (status : ℕ) → status ≡ exit_status_of reason → IsTrue (says_harts status) → ⊥
+refused_harts reason status is harts =
+    true≢false (sym harts ∙ (ap says_harts is ∙ never_says reason))
+
+unread_status : (why : Unread) → exit_status_of (refusal_of why) ≡ 5
+unread_status unread.File = refl
+unread_status unread.Memory = refl
+
+pub unset_refusal : (config : Result (Bor (List ℕ)) Unread) (A : Type 0) (reason : Refused) (status : ℕ)
+    → status ≡ exit_status_of reason
+    → IfErr config (λ why. ◌≡◌ {A = Result A Refused} (Err reason) (Err (refusal_of why)))
+    → IfErr config (λ why. status ≡ 5)
+unset_refusal (Ok text) A reason status is unset = tt
+unset_refusal (Err why) A reason status is unset =
+    let same : reason ≡ refusal_of why = cc in
+    is ∙ (ap exit_status_of same ∙ unread_status why)

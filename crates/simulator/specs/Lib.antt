@@ -1,2 +1,3 @@
 pub mod ProgressLine
 pub mod Lines
+pub mod Answered

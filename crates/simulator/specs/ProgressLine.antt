@@ -1,5 +1,5 @@
 -- The line that tells on a terminal how far a run is.
-use Rattle.std.specs.Prelude.{ℕ, List, [], ◌∷◌, ◌++◌, codes}
+use Rattle.std.specs.Prelude.{ℕ, List, ◌∷◌, ◌++◌, codes}
 use Rattle.std.specs.Fmt.{decimal}
 
 -- Has a terminal forget what it shows from its cursor to the end of the line.

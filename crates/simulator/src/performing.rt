@@ -1,14 +1,11 @@
-ghost use Rattle.std.specs.Prelude.{◌≡◌, IsTrue, OnOk, IfOk, IfErr, Err, ◌⊎◌, List, true, false};
-ghost use Rattle.sim_script.specs.declared.actions.Word.{Word as AnyWord};
-ghost use Rattle.sim_script.specs.Script.{IsScript};
+ghost use Rattle.std.specs.Prelude.{◌≡◌, IsTrue, OnOk, IfOk, IfErr, Err, ◌⊎◌, true, false};
 ghost use Rattle.sim_report.specs.declared.refused.Refused.{Refused as AnyRefused};
-ghost use Rattle.sim_report.specs.declared.refused.Refused.TheVariants.{Output};
-ghost use Rattle.sim_report.specs.Refusals.{as_read, OfFile, PassesAll, AreAccepted};
+ghost use Rattle.sim_report.specs.Refusals.{as_read, OfFile, PassesAll};
 ghost use Rattle.sim_report.specs.Refusals.{exit_status_of, refusal_of, says_harts};
 ghost use Rattle.sim_inputs.specs.Configuration.{IsConfiguration};
-ghost use Rattle.simulator.specs.Lines.{IsStepLine, IsList, IsListed, IsListRefusal, IsLineRefusal};
-ghost use Rattle.simulator.specs.Lines.{IsRefusal, IsSettingsRefusal, OfSettings, HasEnded};
-ghost use Rattle.simulator.specs.Lines.{IsReportedBy, IsUnreported, wants_trace};
+ghost use Rattle.simulator.specs.Answered.{IsAnswered};
+ghost use Rattle.simulator.specs.Lines.{IsListed, IsListRefusal, IsRefusal, IsSettingsRefusal};
+ghost use Rattle.simulator.specs.Lines.{OfSettings, HasEnded, IsUnreported, wants_trace};
 ghost use Rattle.sim_commands.specs.Told.{IsKept};
 
 use crate::refusal::refuse;
@@ -161,30 +158,9 @@ fn answer<G: Gate + Sync, P: Predict + Copy + Send, S: Sink, W: Write, R: Thread
     alloc: Global,
 ) -> Result<u8, Refused>
     requires works { S.has_failed trace.old ≡ false }
-    ensures unread { IfErr inputs.now.image (λ why. result ≡ Err (refusal_of why)) }
-    ensures refused { IfErr result (IsLineRefusal line.now (as_read inputs.now.image) settings.now
-        (as_read inputs.now.second)) }
-    ensures printing { OnOk result (IsLineRefusal line.now (as_read inputs.now.image) settings.now
-        (as_read inputs.now.second) Output) }
-    ensures passed { OnOk result
-        (OfFile (as_read inputs.now.image) (λ file. PassesAll file settings.now.ram)) }
-    ensures accepted { IsStepLine line.now → OnOk result (AreAccepted settings.now) }
-    ensures script { IsStepLine line.now
-        → OnOk result
-        (OfFile (as_read inputs.now.second)
-        (λ text. (words : List AnyWord) × IsScript text words)) }
-    ensures zero { IsList line.now → IfOk result (λ status. status ≡ 0) }
-    ensures listed { IsList line.now → OnOk result (OfFile (as_read inputs.now.image) (λ file.
-        IsListed file settings.now.ram (W.contents out.old) (W.contents out.new))) }
-    ensures reported { IfOk result (λ status. IsReportedBy line.now settings.now
-        (as_read inputs.now.image) (as_read inputs.now.second)
-        (IsKept S.written S.has_failed trace.old trace.new) (W.contents out.old)
-        (W.contents out.new) status) }
-    ensures status { IfOk result (λ status. IsTrue (says_harts status)) }
-    ensures unwanted { wants_trace line.now ≡ false → trace.new ≡ trace.old }
-    ensures unbroken { OnOk result (S.has_failed trace.new ≡ false) }
-    ensures unreported { S.has_failed trace.new ≡ true → IsUnreported line.now
-        (as_read inputs.now.second) (W.contents out.old) (W.contents out.new) }
+    ensures { IsAnswered S.written S.has_failed trace.old trace.new line.now settings.now
+        (as_read inputs.now.image) (as_read inputs.now.second) (W.contents out.old)
+        (W.contents out.new) result }
 {
     match line {
         Line::Step {

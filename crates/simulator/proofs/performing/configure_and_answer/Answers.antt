@@ -1,39 +1,63 @@
+-- Each return as a whole: behind settings that can't be read, behind a refusal, and before and behind
+-- the flush.
 use Rattle.sim_report.specs.Refusals.{as_read}
 use Rattle.sim_report.specs.declared.refused.Refused.TheVariants.{Output}
-use Rattle.simulator.proofs.Refusing.{line_refusal, settings_refusal, ended}
+use Rattle.simulator.proofs.Answering.Untraced.{unfailed}
+use Rattle.simulator.proofs.Refusing.{line_refusal, settings_refusal, ended, configured, unset_by}
+use Rattle.std.proofs.Common.{refl}
 use Rattle.simulator.proofs.performing.configure_and_answer.Goals as goal
 
-pub returns-in-Err-clause-refused : goal.returns-in-Err-clause-refused
-returns-in-Err-clause-refused g c =
+pub returns-in-Err : goal.returns-in-Err
+returns-in-Err g c =
     let inputs = c.args.inputs.now in
-    settings_refusal c.args.line.now (as_read inputs.config) (as_read inputs.image) (as_read inputs.second)
-    c.in-Err.refused c.in-Err.ensures.refused
+    record {
+      unset = unset_by inputs.config _ _ c.in-Err.refused c.in-Err.ensures.unread;
+      refused = settings_refusal c.args.line.now (as_read inputs.config) (as_read inputs.image)
+          (as_read inputs.second) c.in-Err.refused c.in-Err.ensures.refused;
+      ended = tt;
+      status = tt;
+      unwanted = λ unwanted. refl;
+      unreported = λ failed. unfailed g.S.Sink.has_failed _ _ c.requires.works failed;
+    }
 
-pub returns-in-Err-answer-clause-refused : goal.returns-in-Err-answer-clause-refused
-returns-in-Err-answer-clause-refused g c =
+pub returns-in-Err-answer : goal.returns-in-Err-answer
+returns-in-Err-answer g c =
     let inputs = c.args.inputs.now in
-    line_refusal c.args.line.now (as_read inputs.config) c.in-Ok.settings c.in-Ok.ensures.ok (as_read inputs.image)
-    (as_read inputs.second)
-    c.in-Err-answer.refused c.in-Err-answer.ensures.refused
+    let has = c.in-Err-answer.ensures in
+    record {
+      unset = configured inputs.config _ _ _ _ _ c.in-Ok.ensures.unread;
+      refused = line_refusal c.args.line.now (as_read inputs.config) c.in-Ok.settings c.in-Ok.ensures.ok
+          (as_read inputs.image) (as_read inputs.second) c.in-Err-answer.refused has.refused;
+      ended = tt;
+      status = tt;
+      unwanted = has.unwanted;
+      unreported = has.unreported;
+    }
 
-pub returns-in-Err-flush-clause-refused : goal.returns-in-Err-flush-clause-refused
-returns-in-Err-flush-clause-refused g c =
-    let inputs = c.args.inputs.now in
-    line_refusal c.args.line.now (as_read inputs.config) c.in-Ok.settings c.in-Ok.ensures.ok (as_read inputs.image)
-    (as_read inputs.second) Output c.in-Ok-answer.ensures.printing
-
-pub returns-in-Ok-flush-clause-ended : goal.returns-in-Ok-flush-clause-ended
-returns-in-Ok-flush-clause-ended g c =
+pub returns-in-Err-flush : goal.returns-in-Err-flush
+returns-in-Err-flush g c =
     let inputs = c.args.inputs.now in
     let has = c.in-Ok-answer.ensures in
-    ended c.args.line.now (as_read inputs.config) (as_read inputs.image) (as_read inputs.second) c.in-Ok.settings
-    _ _ _ _ _ c.in-Ok.ensures.ok
-    (record {
-      passed = has.passed;
-      accepted = has.accepted;
-      asks = has.script;
-      zero = has.zero;
-      listed = has.listed;
-      reported = has.reported;
-    })
-    c.flush.ensures.bytes
+    record {
+      unset = configured inputs.config _ _ _ _ _ c.in-Ok.ensures.unread;
+      refused = line_refusal c.args.line.now (as_read inputs.config) c.in-Ok.settings c.in-Ok.ensures.ok
+          (as_read inputs.image) (as_read inputs.second) Output has.printing;
+      ended = tt;
+      status = tt;
+      unwanted = has.unwanted;
+      unreported = λ failed. unfailed g.S.Sink.has_failed _ _ has.unbroken failed;
+    }
+
+pub returns-in-Ok-flush : goal.returns-in-Ok-flush
+returns-in-Ok-flush g c =
+    let inputs = c.args.inputs.now in
+    let has = c.in-Ok-answer.ensures in
+    record {
+      unset = configured inputs.config _ _ _ _ _ c.in-Ok.ensures.unread;
+      refused = tt;
+      ended = ended c.args.line.now (as_read inputs.config) (as_read inputs.image) (as_read inputs.second)
+          c.in-Ok.settings _ _ _ _ _ c.in-Ok.ensures.ok has.ended c.flush.ensures.bytes;
+      status = has.status;
+      unwanted = has.unwanted;
+      unreported = λ failed. unfailed g.S.Sink.has_failed _ _ has.unbroken failed;
+    }

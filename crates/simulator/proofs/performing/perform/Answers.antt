@@ -1,5 +1,30 @@
--- The status is the one that the line was answered with.
+-- The status is the one that the line was answered with, or that of its refusal.
+use Rattle.std.proofs.Common.{sym, ◌∙◌}
+use Rattle.std.proofs.lemmas.Bool.{true≢false}
+use mathlib.Core.Logic.{inl}
+use Rattle.simulator.proofs.Refusing.{configured, known_refusal, unset_refusal, refused_harts}
 use Rattle.simulator.proofs.performing.perform.Goals as goal
 
-pub returns-in-Ok-clause-ended : goal.returns-in-Ok-clause-ended
-returns-in-Ok-clause-ended g c = λ harts. c.in-Ok.ensures.ended
+pub returns-in-Ok : goal.returns-in-Ok
+returns-in-Ok g c =
+    let has = c.in-Ok.ensures in
+    record {
+      known = inl has.status;
+      unset = configured c.args.inputs.now.config _ _ _ _ _ has.unset;
+      refused = λ none. absurd (true≢false (sym has.status ∙ none));
+      ended = λ harts. has.ended;
+      unwanted = has.unwanted;
+      unreported = has.unreported;
+    }
+
+pub returns-in-Err : goal.returns-in-Err
+returns-in-Err g c =
+    let has = c.in-Err.ensures in
+    record {
+      known = known_refusal c.in-Err.refused _ c.refuse.ensures;
+      unset = unset_refusal c.args.inputs.now.config _ c.in-Err.refused _ c.refuse.ensures has.unset;
+      refused = λ none. (c.in-Err.refused, sym c.refuse.ensures, has.refused);
+      ended = λ harts. elim (refused_harts c.in-Err.refused _ c.refuse.ensures harts) [ ];
+      unwanted = has.unwanted;
+      unreported = has.unreported;
+    }

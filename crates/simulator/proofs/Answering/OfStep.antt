@@ -1,0 +1,63 @@
+-- The answering of a line that makes the asks of a script.
+use Rattle.std.specs.Prelude.{◌≡◌, ℕ, Bool, true, false, IsTrue, List, Option, Result, Err, is_some}
+use Rattle.std.specs.Prelude.{OnOk, IfOk, IfErr}
+use Rattle.std.specs.Borrow.{Bor}
+use Rattle.std.proofs.Common.{subst}
+use Rattle.std.proofs.lemmas.Result.{IfErr-weaker}
+use Rattle.sim_inputs.specs.{declared.settings.Settings.Settings}
+use Rattle.sim_inputs.specs.declared.line.Line.TheVariants as lines
+use Rattle.sim_report.specs.{declared.refused.Refused.Refused, declared.refused.Unread.Unread}
+use Rattle.sim_report.specs.Refusals.{Read, AreAccepted, AreInputsRefusedFor, IsAsking, OfFile, PassesAll, as_read, refusal_of, says_harts}
+use Rattle.sim_commands.specs.declared.core_lines.Wanted.{Wanted}
+use Rattle.sim_commands.specs.Told.{IsKept, IsReported}
+use Rattle.sim_session.specs.Session.{AreAsked, Prints}
+use Rattle.core_state.specs.View.{CoreView}
+use Rattle.simulator.specs.Answered.{IsAnswered}
+use Rattle.simulator.proofs.Answering.Untraced.{unread_too, on_both, with_status}
+use Rattle.simulator.proofs.Printing.{with_both}
+
+pub answered : {S : Type 0} {written : S → Option (List ℕ)} {has_failed : S → Bool} {before after : S}
+    {image script : Bor (List ℕ)} {config : Option (Bor (List ℕ))} {records show : Bool}
+    {trace : Option (Bor (List ℕ))} {settings : Settings} {second : Read}
+    {old new : Option (List ℕ)} {answer : Result ℕ Refused} (file : Result (Bor (List ℕ)) Unread)
+    (wanted : Wanted)
+    → wanted ≡ record { records = records; tables = show; trace = is_some trace }
+    → IfErr file (λ why. answer ≡ Err (refusal_of why))
+    → IfErr answer (AreInputsRefusedFor (as_read file) settings second)
+    → OnOk answer (OfFile (as_read file) (λ file. PassesAll file settings.ram))
+    → OnOk answer (AreAccepted settings)
+    → OnOk answer (IsAsking second)
+    → IfOk answer (IsReported settings (as_read file) second wanted.records wanted.tables
+    (IsKept written has_failed before after wanted.trace) old new)
+    → IfOk answer (λ status. IsTrue (says_harts status))
+    → (wanted.trace ≡ false → after ≡ before)
+    → OnOk answer (has_failed after ≡ false)
+    → (has_failed after ≡ true
+    → (core : CoreView) × Prints old new (λ text. OfFile second (λ script. AreAsked script core text)))
+    → IsAnswered written has_failed before after (lines.Step image script config records show trace) settings
+    (as_read file) second old new answer
+answered {written = written} {has_failed = has_failed} {before = before} {after = after} {settings = settings}
+    {second = second} {old = old} {new = new} {answer = answer} file wanted is_wanted unread refused passed accepted asks
+    reported status unwanted unbroken unreported =
+    let ready = on_both answer _ _ (on_both answer _ _ passed accepted) asks in
+    let told = subst
+    (λ (w : Wanted). IfOk answer (IsReported settings (as_read file) second w.records w.tables
+    (IsKept written has_failed before after w.trace) old new))
+    is_wanted reported in
+    record {
+      unread = unread_too file (λ why. answer ≡ Err (refusal_of why)) unread;
+      refused = IfErr-weaker answer _ _ (λ reason is. is) refused;
+      printing = with_both answer _ _ _ ready status (λ all status is. all);
+      ended = with_status answer _ _ _ ready told (λ all status is. record {
+        passed = all.0.0;
+        accepted = λ steps. all.0.1;
+        asks = λ steps. all.1;
+        zero = λ lists. absurd lists;
+        listed = λ lists. absurd lists;
+        reported = is;
+      });
+      status = status;
+      unwanted = subst (λ (w : Wanted). w.trace ≡ false → after ≡ before) is_wanted unwanted;
+      unbroken = unbroken;
+      unreported = unreported;
+    }
