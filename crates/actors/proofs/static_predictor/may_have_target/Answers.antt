@@ -8,5 +8,5 @@ pub returns-else-opcode-eq-JUMP : goal.returns-else-opcode-eq-JUMP
 returns-else-opcode-eq-JUMP c =
     let no_jump : (opcode_at c.args.word == 0b1101111) ≡ false = grind (arith, nat_tests, c.if-opcode-eq-JUMP.false) in
     λ other pc.
-      let no_branch : (opcode_at c.args.word == 0b1100011) ≡ false = grind (arith, nat_tests, other) in
-      goes_behind pc c.args.word no_jump no_branch
+    let no_branch : (opcode_at c.args.word == 0b1100011) ≡ false = grind (arith, nat_tests, other) in
+    goes_behind pc c.args.word no_jump no_branch
