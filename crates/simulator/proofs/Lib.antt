@@ -1,4 +1,3 @@
 pub mod Answering
 pub mod Printing
-pub mod ReadWhole
 pub mod Refusing
