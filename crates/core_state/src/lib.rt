@@ -12,4 +12,5 @@ mod state;
 
 pub use core_parts::FetchPoint;
 pub use refused::CoreRefused;
+pub use sizes::is_core;
 pub use state::State;

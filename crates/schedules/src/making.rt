@@ -1,7 +1,7 @@
 //! The run of an order, the units and the room that its schedule takes.
 
 ghost use Rattle.std.specs.Prelude.{◌≡◌, length, IfOk, IfErr};
-ghost use Rattle.core_state.specs.Setup.{setup_of, accepts};
+ghost use Rattle.core_state.specs.Setup.{setup_of};
 ghost use Rattle.plain_run.specs.Orders.{HasLeft, OfEachSetup};
 ghost use Rattle.schedules.specs.Refusals.{IsScheduleRefusedFor, IsRunRefusal};
 ghost use Rattle.schedules.specs.Schedules.{IsScheduleOf, room_for};
@@ -9,9 +9,9 @@ ghost use Rattle.schedules.specs.Schedules.{IsScheduleOf, room_for};
 use crate::refused::ScheduleRefused;
 use crate::schedule::Schedule;
 use crate::units::{Units, missing_unit};
+use core_state::is_core;
 use elf_image::Image;
-use events::{History, Record};
-use numbers::sizes::{FEWEST_QUEUED, MOST_ACTORS, MOST_EXTRA, MOST_HARTS, MOST_QUEUED};
+use events::Record;
 use plain_run::{OrderStopped, PlainRun, run_order};
 use sim_script::laws::lines_are_scripts;
 use smt_laws::laws::retires_an_execution;
@@ -66,17 +66,6 @@ pub fn make_schedule<'a>(
         units: Units::of(roles),
         order,
     })
-}
-
-/// Whether a core may have these sizes and this limit on its history.
-fn is_core(config: &Config, limit: u32) -> bool
-    ensures { result ≡ accepts config.now limit }
-{
-    (1..=MOST_HARTS).contains(&config.harts)
-        && (1..=MOST_EXTRA).contains(&config.extra)
-        && (FEWEST_QUEUED..=MOST_QUEUED as u8).contains(&config.queue)
-        && (1..=MOST_ACTORS).contains(&config.roles.len())
-        && limit <= History::MAX_LIMIT
 }
 
 /// What the plain machine leaves when it has run the order.
