@@ -1,5 +1,5 @@
 -- Refusals of the steps, from those of the image, the configuration and the script.
-use Rattle.std.specs.Prelude.{◌≡◌, ◌⊎◌, List, Ok, Err}
+use Rattle.std.specs.Prelude.{◌≡◌, ◌⊎◌, ℕ, List, Result, Ok, Err}
 use Rattle.std.proofs.Common.{sym, subst}
 use mathlib.Core.Logic.{inl, inr}
 use Rattle.sim_inputs.specs.declared.settings.Settings.{Settings}
@@ -7,7 +7,7 @@ use Rattle.sim_script.specs.{declared.actions.Word.Word, Script.IsScript}
 use Rattle.sim_report.specs.declared.refused.Refused.{Refused}
 use Rattle.sim_report.specs.declared.refused.Refused.TheVariants.{Image, Config, Script, Order, Step, Memory, File}
 use Rattle.sim_report.specs.declared.refused.Refused.TheVariants.{Output, Thread, Trace, Event, NoUnit, Limit}
-use Rattle.sim_report.specs.Refusals.{Read, OfFile, PassesAll, AreAccepted, IsImageRefusal, IsConfigRefusal}
+use Rattle.sim_report.specs.Refusals.{Read, OfFile, PassesAll, AreAccepted, AreRefused, IsImageRefusal, IsConfigRefusal}
 use Rattle.sim_report.specs.Refusals.{IsScriptRefusal, AreInputsRefusedFor, IsAsking}
 
 -- What is refused of the image is refused of the steps; then what is of the sizes, and what is of the script.

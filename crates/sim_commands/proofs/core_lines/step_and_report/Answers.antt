@@ -1,5 +1,8 @@
+use Rattle.std.specs.Prelude.{◌≡◌, true}
+use Rattle.std.proofs.Common.{subst, sym}
 use Rattle.std.proofs.lemmas.Result.{IfErr-weaker, IfOk-weaker}
 use Rattle.sim_report.specs.{Refusals.as_read}
+use Rattle.sim_commands.specs.{Told.IsKept}
 use Rattle.sim_commands.proofs.{InputsRefused.told_refusal}
 use Rattle.sim_commands.proofs.{Telling.reported, Telling.unreported}
 use Rattle.sim_commands.proofs.core_lines.step_and_report.Goals as goal
