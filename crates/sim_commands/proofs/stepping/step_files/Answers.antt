@@ -1,4 +1,4 @@
-use Rattle.std.proofs.Common.{refl, sym, subst}
+use Rattle.std.proofs.Common.{refl, rules, sym, subst}
 use Rattle.sim_report.specs.{Refusals.as_read, Refusals.OfFile}
 use Rattle.sim_session.specs.{Session.AreAskedWith, Session.Prints}
 use Rattle.sim_commands.proofs.ScriptsRead.{of_script}
@@ -89,3 +89,6 @@ returns-clause-asked g c =
     (sym c.without_lock.ensures.core)
     (of_script g.P.Predict.predicts (as_read c.args.script) c.in-Ok-read_words.words.items _ _ _ _ _ _
     c.in-Ok-read_words.ensures.script c.in-Ok-make_core.ensures.unasked made)
+
+pub returns-clause-script : goal.returns-clause-script
+returns-clause-script g c = search rules
