@@ -4,3 +4,4 @@ pub mod ScheduleTelling
 pub mod Telling
 pub mod InputsRefused
 pub mod ScriptsRead
+pub mod FilesRead

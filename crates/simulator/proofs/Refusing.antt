@@ -174,21 +174,6 @@ ended line config image second settings Kept old mid new status is has flushed =
       reported = report_kept line settings image second Kept old mid new status flushed has.reported;
     })
 
--- A configuration of which settings were made is none that can't be read, whatever came of that.
-pub configured : (config : Result (Bor (List ℕ)) Unread) (A E : Type 0) (settings : A) (say : Unread → E)
-    (P : Unread → Type 0) → IfErr config (λ why. ◌≡◌ {A = Result A E} (Ok settings) (Err (say why))) → IfErr config P
-configured (Ok text) A E settings say P unread = tt
-configured (Err why) A E settings say P unread = absurd (cc)
-
--- The settings' refusal is the line's.
-pub unset_by : (config : Result (Bor (List ℕ)) Unread) (A B : Type 0) (reason : Refused)
-    → IfErr config (λ why. ◌≡◌ {A = Result A Refused} (Err reason) (Err (refusal_of why)))
-    → IfErr config (λ why. ◌≡◌ {A = Result B Refused} (Err reason) (Err (refusal_of why)))
-unset_by (Ok text) A B reason unread = tt
-unset_by (Err why) A B reason unread =
-    let same : reason ≡ refusal_of why = cc in
-    ap (λ r. Err r) same
-
 -- A refusal's exit status is 2, 4 or 5, and so never one that says how harts stand; it is 5 for a
 -- file that is unread.
 pub known_refusal : (reason : Refused) (status : ℕ) → status ≡ exit_status_of reason

@@ -2,8 +2,9 @@
 -- the flush.
 use Rattle.sim_report.specs.Refusals.{as_read}
 use Rattle.sim_report.specs.declared.refused.Refused.TheVariants.{Output}
+use Rattle.sim_commands.proofs.FilesRead.{was_read, still_unread}
 use Rattle.simulator.proofs.Answering.Untraced.{unfailed}
-use Rattle.simulator.proofs.Refusing.{line_refusal, settings_refusal, ended, configured, unset_by}
+use Rattle.simulator.proofs.Refusing.{line_refusal, settings_refusal, ended}
 use Rattle.std.proofs.Common.{refl}
 use Rattle.simulator.proofs.performing.configure_and_answer.Goals as goal
 
@@ -11,7 +12,7 @@ pub returns-in-Err : goal.returns-in-Err
 returns-in-Err g c =
     let inputs = c.args.inputs.now in
     record {
-      unset = unset_by inputs.config _ _ c.in-Err.refused c.in-Err.ensures.unread;
+      unset = still_unread inputs.config _ _ c.in-Err.refused c.in-Err.ensures.unread;
       refused = settings_refusal c.args.line.now (as_read inputs.config) (as_read inputs.image)
           (as_read inputs.second) c.in-Err.refused c.in-Err.ensures.refused;
       ended = tt;
@@ -25,7 +26,7 @@ returns-in-Err-answer g c =
     let inputs = c.args.inputs.now in
     let has = c.in-Err-answer.ensures in
     record {
-      unset = configured inputs.config _ _ _ _ _ c.in-Ok.ensures.unread;
+      unset = was_read inputs.config _ _ _ c.in-Ok.ensures.unread;
       refused = line_refusal c.args.line.now (as_read inputs.config) c.in-Ok.settings c.in-Ok.ensures.ok
           (as_read inputs.image) (as_read inputs.second) c.in-Err-answer.refused has.refused;
       ended = tt;
@@ -39,7 +40,7 @@ returns-in-Err-flush g c =
     let inputs = c.args.inputs.now in
     let has = c.in-Ok-answer.ensures in
     record {
-      unset = configured inputs.config _ _ _ _ _ c.in-Ok.ensures.unread;
+      unset = was_read inputs.config _ _ _ c.in-Ok.ensures.unread;
       refused = line_refusal c.args.line.now (as_read inputs.config) c.in-Ok.settings c.in-Ok.ensures.ok
           (as_read inputs.image) (as_read inputs.second) Output has.printing;
       ended = tt;
@@ -53,7 +54,7 @@ returns-in-Ok-flush g c =
     let inputs = c.args.inputs.now in
     let has = c.in-Ok-answer.ensures in
     record {
-      unset = configured inputs.config _ _ _ _ _ c.in-Ok.ensures.unread;
+      unset = was_read inputs.config _ _ _ c.in-Ok.ensures.unread;
       refused = tt;
       ended = ended c.args.line.now (as_read inputs.config) (as_read inputs.image) (as_read inputs.second)
           c.in-Ok.settings _ _ _ _ _ c.in-Ok.ensures.ok has.ended c.flush.ensures.bytes;

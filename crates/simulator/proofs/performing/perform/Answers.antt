@@ -2,7 +2,8 @@
 use Rattle.std.proofs.Common.{sym, ◌∙◌}
 use Rattle.std.proofs.lemmas.Bool.{true≢false}
 use mathlib.Core.Logic.{inl}
-use Rattle.simulator.proofs.Refusing.{configured, known_refusal, unset_refusal, refused_harts}
+use Rattle.sim_commands.proofs.FilesRead.{was_read}
+use Rattle.simulator.proofs.Refusing.{known_refusal, unset_refusal, refused_harts}
 use Rattle.simulator.proofs.performing.perform.Goals as goal
 
 pub returns-in-Ok : goal.returns-in-Ok
@@ -10,7 +11,7 @@ returns-in-Ok g c =
     let has = c.in-Ok.ensures in
     record {
       known = inl has.status;
-      unset = configured c.args.inputs.now.config _ _ _ _ _ has.unset;
+      unset = was_read c.args.inputs.now.config _ _ _ has.unset;
       refused = λ none. absurd (true≢false (sym has.status ∙ none));
       ended = λ harts. has.ended;
       unwanted = has.unwanted;
