@@ -1,3 +1,4 @@
 pub mod EveryRole
 pub mod Handing
+pub mod Refusing
 pub mod Telling
