@@ -7,6 +7,7 @@ ghost use Rattle.board.specs.Seats.{board_of, name_of};
 ghost use Rattle.core_lock.specs.Shown.{Shown};
 ghost use Rattle.actors.specs.Counts.{AreCounts, IsRun};
 ghost use Rattle.actors.specs.Roles.{HaveEveryRole, has_role};
+ghost use Rattle.core_state.specs.declared.refused.CoreRefused.TheVariants as core_refused;
 ghost use Rattle.actors.specs.declared.refused.RunRefused.TheVariants as refused;
 
 use crate::actor::Shared;
@@ -113,13 +114,23 @@ fn make_core(image: &Image, config: &Config, limit: u32, alloc: Global) -> Resul
     ensures limit { IfOk result (λ core. core.limit ≡ limit) }
 {
     let complete = has_every_role(config);
-    match Core::new(image, config.copied(), limit, alloc) {
+    match new_core(image, config, limit, alloc) {
         Ok(core) if complete => Ok(core),
         Ok(_) => Err(RunRefused::Roles),
         Err(CoreRefused::Config) => Err(RunRefused::Config),
         Err(CoreRefused::Memory) if complete => Err(RunRefused::Memory),
         Err(CoreRefused::Memory) => Err(RunRefused::Roles),
     }
+}
+
+/// A core of a configuration that is kept.
+fn new_core(image: &Image, config: &Config, limit: u32, alloc: Global) -> Result<Core, CoreRefused>
+    ensures setup { IfOk result (λ core. core.setup ≡ setup_of image.now config.now) }
+    ensures limit { IfOk result (λ core. core.limit ≡ limit) }
+    ensures refused { (result ≡ Err core_refused.Config)
+        ↔ (is_accepted (setup_of image.now config.now) limit ≡ false) }
+{
+    Core::new(image, config.copied(), limit, alloc)
 }
 
 /// Whether there is an actor of each role.
