@@ -11,7 +11,7 @@ AreCounts past counts = (k n : ℕ) → slice_get counts k ≡ Some n → n ≡ 
 
 -- The actors of a run have asked this core, and nothing else did: it is of the same setup and
 -- limit still. The counts add up to its events, and each is its actor's where that is told.
-pub record IsRun (core : CoreView) (left : Finished) : Type 0 where
+pub record HasRun (core : CoreView) (left : Finished) : Type 0 where
   pub setup : left.core.setup ≡ core.setup
   pub limit : left.core.limit ≡ core.limit
   pub own : IsTrue left.own

@@ -5,7 +5,7 @@ ghost use Rattle.smt_model.specs.Setup.{is_accepted};
 ghost use Rattle.core_state.specs.Setup.{setup_of};
 ghost use Rattle.board.specs.Seats.{board_of, name_of};
 ghost use Rattle.core_lock.specs.Shown.{Shown};
-ghost use Rattle.actors.specs.Counts.{AreCounts, IsRun};
+ghost use Rattle.actors.specs.Counts.{AreCounts, HasRun};
 ghost use Rattle.actors.specs.Roles.{HaveEveryRole, has_role};
 ghost use Rattle.core_state.specs.declared.refused.CoreRefused.TheVariants as core_refused;
 ghost use Rattle.actors.specs.declared.refused.RunRefused.TheVariants as refused;
@@ -86,7 +86,7 @@ fn run_made<G: Gate + Sync, P: Predict + Copy + Send, R: Threads + Wait + Sync>(
 ) -> Result<Finished, RunRefused>
     requires { core.setup ≡ setup_of image.now config.now }
     ensures refused { IfErr result (λ why. (why ≡ refused.Memory) ⊎ (why ≡ refused.Thread)) }
-    ensures made { IfOk result (IsRun core) }
+    ensures made { IfOk result (HasRun core) }
 {
     let (board, seats) = match Board::new(alloc) {
         Ok(made) => made,
@@ -187,7 +187,7 @@ fn run_core<
     requires seats { All (λ seat. board_of seat ≡ N.board) seats }
     requires image { core.setup ≡ setup_of plan.image.now plan.config.now }
     ensures refused { IfErr result (λ why. (why ≡ refused.Memory) ⊎ (why ≡ refused.Thread)) }
-    ensures made { IfOk result (IsRun core) }
+    ensures made { IfOk result (HasRun core) }
 {
     match place_all::<N>(seats, alloc) {
         Ok(seats) => run_placed::<L, N, G, P, R>(rt, core, blank, board, seats, plan),
@@ -216,7 +216,7 @@ fn run_placed<
     requires board { name_of board ≡ N.board }
     requires image { core.setup ≡ setup_of plan.image.now plan.config.now }
     ensures refused { IfErr result (λ why. why ≡ refused.Thread) }
-    ensures made { IfOk result (IsRun core) }
+    ensures made { IfOk result (HasRun core) }
 {
     let (core, mut passes) = LockedCore::<L>::new(core, blank);
     let shared = Shared {

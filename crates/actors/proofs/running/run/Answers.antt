@@ -5,10 +5,10 @@ use Rattle.actors.proofs.Refusing.{handed_on, neither, begun}
 use Rattle.actors.proofs.running.run.Goals as goal
 
 pub returns-in-Err-clause-config : goal.returns-in-Err-clause-config
-returns-in-Err-clause-config g c = handed_on _ _ c.in-Err.refused Config c.in-Err.ensures.config
+returns-in-Err-clause-config g c = handed_on _ _ _ Config c.in-Err.ensures.config
 
 pub returns-in-Err-clause-roles : goal.returns-in-Err-clause-roles
-returns-in-Err-clause-roles g c = handed_on _ _ c.in-Err.refused Roles c.in-Err.ensures.roles
+returns-in-Err-clause-roles g c = handed_on _ _ _ Roles c.in-Err.ensures.roles
 
 pub returns-in-Ok-clause-config : goal.returns-in-Ok-clause-config
 returns-in-Ok-clause-config g c =
