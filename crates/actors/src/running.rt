@@ -5,12 +5,13 @@ ghost use Rattle.smt_model.specs.Setup.{is_accepted};
 ghost use Rattle.core_state.specs.Setup.{setup_of};
 ghost use Rattle.board.specs.Seats.{board_of, name_of};
 ghost use Rattle.core_lock.specs.Shown.{Shown};
-ghost use Rattle.actors.specs.Counts.{AreCounts};
+ghost use Rattle.actors.specs.Counts.{AreCounts, HasRun};
 ghost use Rattle.actors.specs.Roles.{HaveEveryRole, has_role};
+ghost use Rattle.core_state.specs.declared.refused.CoreRefused.TheVariants as core_refused;
 ghost use Rattle.actors.specs.declared.refused.RunRefused.TheVariants as refused;
 
 use crate::actor::Shared;
-use crate::desk::{Desk, Naming, place_all};
+use crate::desk::{Desk, Naming, Placed, place_all};
 use crate::gate::Gate;
 use crate::refused::RunRefused;
 use crate::start::start;
@@ -66,18 +67,34 @@ pub fn run<G: Gate + Sync, P: Predict + Copy + Send, R: Threads + Wait + Sync>(
     ensures shown { IfOk result (λ finished. Shown finished.core) }
 {
     // Each refusal is handed on as it is: a `?` would leave the prover to find what it becomes.
-    let core = match make_core(image, &config, limit, alloc) {
-        Ok(core) => core,
-        Err(refused) => return Err(refused),
-    };
-    let made = match Board::new(alloc) {
+    match make_core(image, &config, limit, alloc) {
+        Ok(core) => run_made(rt, core, image, &config, turns, gate, predict, alloc),
+        Err(refused) => Err(refused),
+    }
+}
+
+/// Makes the board of a run, and has the actors run.
+fn run_made<G: Gate + Sync, P: Predict + Copy + Send, R: Threads + Wait + Sync>(
+    rt: &R,
+    core: Core,
+    image: &Image,
+    config: &Config,
+    turns: u64,
+    gate: &G,
+    predict: P,
+    alloc: Global,
+) -> Result<Finished, RunRefused>
+    requires { core.setup ≡ setup_of image.now config.now }
+    ensures refused { IfErr result (λ why. (why ≡ refused.Memory) ⊎ (why ≡ refused.Thread)) }
+    ensures made { IfOk result (HasRun core) }
+{
+    let (board, seats) = match Board::new(alloc) {
         Ok(made) => made,
         Err(_) => return Err(RunRefused::Memory),
     };
-    let (board, seats) = made;
     let plan = Plan {
         image,
-        config: &config,
+        config,
         turns,
         gate,
         predict,
@@ -97,13 +114,23 @@ fn make_core(image: &Image, config: &Config, limit: u32, alloc: Global) -> Resul
     ensures limit { IfOk result (λ core. core.limit ≡ limit) }
 {
     let complete = has_every_role(config);
-    match Core::new(image, config.copied(), limit, alloc) {
+    match new_core(image, config, limit, alloc) {
         Ok(core) if complete => Ok(core),
         Ok(_) => Err(RunRefused::Roles),
         Err(CoreRefused::Config) => Err(RunRefused::Config),
         Err(CoreRefused::Memory) if complete => Err(RunRefused::Memory),
         Err(CoreRefused::Memory) => Err(RunRefused::Roles),
     }
+}
+
+/// A core of a configuration that is kept.
+fn new_core(image: &Image, config: &Config, limit: u32, alloc: Global) -> Result<Core, CoreRefused>
+    ensures setup { IfOk result (λ core. core.setup ≡ setup_of image.now config.now) }
+    ensures limit { IfOk result (λ core. core.limit ≡ limit) }
+    ensures refused { (result ≡ Err core_refused.Config)
+        ↔ (is_accepted (setup_of image.now config.now) limit ≡ false) }
+{
+    Core::new(image, config.copied(), limit, alloc)
 }
 
 /// Whether there is an actor of each role.
@@ -137,7 +164,7 @@ fn contain(roles: &[Role], role: Role) -> bool
     roles.contains(&role)
 }
 
-/// Puts the core behind a lock, has the actors run, and gives up the lock.
+/// Gives each seat its place, and has the actors run.
 fn run_core<
     L: Origin + Send + Sync,
     N: Naming + Send + Sync,
@@ -160,17 +187,37 @@ fn run_core<
     requires seats { All (λ seat. board_of seat ≡ N.board) seats }
     requires image { core.setup ≡ setup_of plan.image.now plan.config.now }
     ensures refused { IfErr result (λ why. (why ≡ refused.Memory) ⊎ (why ≡ refused.Thread)) }
-    ensures setup { IfOk result (λ finished. finished.core.setup ≡ core.setup) }
-    ensures limit { IfOk result (λ finished. finished.core.limit ≡ core.limit) }
-    ensures own { IfOk result (λ finished. IsTrue finished.own) }
-    ensures counted { IfOk result (λ finished. sum finished.counts ≡ length finished.core.past) }
-    ensures told { IfOk result
-        (λ finished. IsTrue finished.told → AreCounts finished.core.past finished.counts) }
-    ensures shown { IfOk result (λ finished. Shown finished.core) }
+    ensures made { IfOk result (HasRun core) }
 {
-    let Ok(mut seats) = place_all::<N>(seats, alloc) else {
-        return Err(RunRefused::Memory);
-    };
+    match place_all::<N>(seats, alloc) {
+        Ok(seats) => run_placed::<L, N, G, P, R>(rt, core, blank, board, seats, plan),
+        Err(_) => Err(RunRefused::Memory),
+    }
+}
+
+/// Puts the core behind a lock, has the actors run, and gives up the lock.
+fn run_placed<
+    L: Origin + Send + Sync,
+    N: Naming + Send + Sync,
+    G: Gate + Sync,
+    P: Predict + Copy + Send,
+    R: Threads + Wait + Sync,
+>(
+    rt: &R,
+    core: Core,
+    blank: Blank,
+    board: Board,
+    mut seats: Vec<Placed<N>>,
+    plan: Plan<'_, G, P>,
+) -> Result<Finished, RunRefused>
+    requires name { blank.name ≡ L.name }
+    requires parts { (blank.parts ≡ L.parts) × (L.parts ≡ 16) }
+    requires origin { (core.setup ≡ L.setup) × (core.limit ≡ L.limit) }
+    requires board { name_of board ≡ N.board }
+    requires image { core.setup ≡ setup_of plan.image.now plan.config.now }
+    ensures refused { IfErr result (λ why. why ≡ refused.Thread) }
+    ensures made { IfOk result (HasRun core) }
+{
     let (core, mut passes) = LockedCore::<L>::new(core, blank);
     let shared = Shared {
         core,
@@ -188,7 +235,14 @@ fn run_core<
         seats.as_mut_slice(),
     );
     let Shared { core, .. } = shared;
-    let finished = core.finish(passes, plan.image, plan.config);
+    only_if(all_started, core.finish(passes, plan.image, plan.config))
+}
+
+/// What is left of a run, where all of its threads were started.
+fn only_if(all_started: bool, finished: Finished) -> Result<Finished, RunRefused>
+    ensures refused { IfErr result (λ why. why ≡ refused.Thread) }
+    ensures made { IfOk result (λ left. left ≡ finished) }
+{
     if all_started {
         Ok(finished)
     } else {

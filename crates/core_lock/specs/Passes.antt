@@ -19,6 +19,10 @@ pub record IsTold (past : List Event) (actor count : ℕ) (last : Option Event) 
   pub counts : count ≡ event_count actor past
   pub ends : last ≡ last_event_of actor past
 
+-- A pass that is dealt is this actor's, and was told all that the history holds of it.
+abbrev pub IsDealt : List Event → ℕ → ℕ → ℕ → Option Event → Type 0
+IsDealt past k actor count last = (actor ≡ k) × IsTold past k count last
+
 -- How many events are by this actor or one of a greater number.
 abbrev pub made_from : ℕ → List Event → ℕ
 made_from k past = how_many (λ e. nat_le k (actor_of e)) past

@@ -5,7 +5,7 @@ ghost use Rattle.core_state.specs.Setup.{setup_of};
 ghost use Rattle.smt_model.specs.Account.{event_count, last_event_of};
 ghost use Rattle.core_lock.specs.Asks.{Replied, IssueReplied, CompleteReplied, IsPredictedBy};
 ghost use Rattle.core_lock.specs.Asks.{plain_said, asked_of, event_in, grown_by, is_reply};
-ghost use Rattle.core_lock.specs.Passes.{IsTold, more, later, made_from, going_in, places};
+ghost use Rattle.core_lock.specs.Passes.{IsDealt, IsTold, more, later, made_from, going_in, places};
 ghost use Rattle.core_lock.specs.Shown.{Shown};
 ghost use Rattle.core_lock.specs.Tallies.{AreTallies};
 
@@ -76,24 +76,11 @@ impl<L: Origin> Held<L> {
         let (mut book, mut rest) = blank.open::<L>();
         book.add(&mut rest, core.history().len() as u64);
         let tallies = tallies_in(&core);
-        let passes = [
-            deal(&core, &tallies, &mut rest, 0),
-            deal(&core, &tallies, &mut rest, 1),
-            deal(&core, &tallies, &mut rest, 2),
-            deal(&core, &tallies, &mut rest, 3),
-            deal(&core, &tallies, &mut rest, 4),
-            deal(&core, &tallies, &mut rest, 5),
-            deal(&core, &tallies, &mut rest, 6),
-            deal(&core, &tallies, &mut rest, 7),
-            deal(&core, &tallies, &mut rest, 8),
-            deal(&core, &tallies, &mut rest, 9),
-            deal(&core, &tallies, &mut rest, 10),
-            deal(&core, &tallies, &mut rest, 11),
-            deal(&core, &tallies, &mut rest, 12),
-            deal(&core, &tallies, &mut rest, 13),
-            deal(&core, &tallies, &mut rest, 14),
-            deal(&core, &tallies, &mut rest, 15),
-        ];
+        let (a, b, c, d) = deal_four(&core, &tallies, &mut rest, 0);
+        let (e, f, g, h) = deal_four(&core, &tallies, &mut rest, 4);
+        let (i, j, k, l) = deal_four(&core, &tallies, &mut rest, 8);
+        let (m, n, o, p) = deal_four(&core, &tallies, &mut rest, 12);
+        let passes = [a, b, c, d, e, f, g, h, i, j, k, l, m, n, o, p];
         book.audit(&mut rest);
         (Held { core, book, rest }, passes)
     }
@@ -202,15 +189,39 @@ fn tallies_in(core: &Core) -> [Tally; 16]
     tallies_of(core.history())
 }
 
+/// The passes of four actors, from `first` on. Four by four, since the proof of a body grows with the
+/// square of its calls.
+fn deal_four<L: Ledger>(
+    core: &Core,
+    tallies: &[Tally; 16],
+    rest: &mut Share<L>,
+    first: u8,
+) -> (Pass<L>, Pass<L>, Pass<L>, Pass<L>)
+    requires tallies { AreTallies core.now.past tallies.now }
+    requires parts { rest.old.parts + first ≡ 16 }
+    requires inside { first ≤ 12 }
+    requires amount { rest.old.amount ≡ made_from first core.now.past }
+    ensures a { IsDealt core.now.past first result.0.actor result.0.count result.0.last }
+    ensures b { IsDealt core.now.past (first + 1) result.1.actor result.1.count result.1.last }
+    ensures c { IsDealt core.now.past (first + 2) result.2.actor result.2.count result.2.last }
+    ensures d { IsDealt core.now.past (first + 3) result.3.actor result.3.count result.3.last }
+    ensures parts { rest.new.parts + (first + 4) ≡ 16 }
+    ensures amount { rest.new.amount ≡ made_from (first + 4) core.now.past }
+{
+    let a = deal(core, tallies, rest, first);
+    let b = deal(core, tallies, rest, first + 1);
+    let c = deal(core, tallies, rest, first + 2);
+    let d = deal(core, tallies, rest, first + 3);
+    (a, b, c, d)
+}
+
 /// The pass of actor `actor`, taken from what is left for it and those of greater numbers.
 fn deal<L: Ledger>(core: &Core, tallies: &[Tally; 16], rest: &mut Share<L>, actor: u8) -> Pass<L>
     requires tallies { AreTallies core.now.past tallies.now }
     requires parts { rest.old.parts + actor ≡ 16 }
     requires inside { actor < 16 }
     requires amount { rest.old.amount ≡ made_from actor core.now.past }
-    ensures actor { result.actor ≡ actor }
-    ensures count { result.count ≡ event_count actor core.now.past }
-    ensures last { result.last ≡ last_event_of actor core.now.past }
+    ensures dealt { IsDealt core.now.past actor result.actor result.count result.last }
     ensures parts { rest.new.parts + (actor + 1) ≡ 16 }
     ensures amount { rest.new.amount ≡ made_from (actor + 1) core.now.past }
 {

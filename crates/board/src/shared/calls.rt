@@ -33,25 +33,12 @@ impl Board {
     {
         let (table, mut rest) = Table::of_words(alloc, &[0; 17], &())?;
         let board = Board { table };
-        let seats = [
-            board.deal(&mut rest, 0),
-            board.deal(&mut rest, 1),
-            board.deal(&mut rest, 2),
-            board.deal(&mut rest, 3),
-            board.deal(&mut rest, 4),
-            board.deal(&mut rest, 5),
-            board.deal(&mut rest, 6),
-            board.deal(&mut rest, 7),
-            board.deal(&mut rest, 8),
-            board.deal(&mut rest, 9),
-            board.deal(&mut rest, 10),
-            board.deal(&mut rest, 11),
-            board.deal(&mut rest, 12),
-            board.deal(&mut rest, 13),
-            board.deal(&mut rest, 14),
-            board.deal(&mut rest, 15),
-            board.deal(&mut rest, 16),
-        ];
+        let (a, b, c, d) = board.deal_four(&mut rest, 0);
+        let (e, f, g, h) = board.deal_four(&mut rest, 4);
+        let (i, j, k, l) = board.deal_four(&mut rest, 8);
+        let (m, n, o, p) = board.deal_four(&mut rest, 12);
+        let reader = board.deal(&mut rest, 16);
+        let seats = [a, b, c, d, e, f, g, h, i, j, k, l, m, n, o, p, reader];
         Ok((board, seats))
     }
 
@@ -106,6 +93,26 @@ impl Board {
         }
         let stop = self.look(seat, STOP);
         BoardView { counts, stop }
+    }
+
+    /// Cuts the seats of the next four places, from `first` on, off what is left. Four by four, since
+    /// the proof of a body grows with the square of its calls.
+    fn deal_four(&self, rest: &mut Token, first: u8) -> (Seat, Seat, Seat, Seat)
+        requires board { rest.old.table_id ≡ name_of self.now }
+        requires inside { first ≤ 13 }
+        requires left { rest.old.me.0 ≡ from first }
+        ensures a { IsNew (name_of self.now) first result.0 }
+        ensures b { IsNew (name_of self.now) (first + 1) result.1 }
+        ensures c { IsNew (name_of self.now) (first + 2) result.2 }
+        ensures d { IsNew (name_of self.now) (first + 3) result.3 }
+        ensures board { rest.new.table_id ≡ rest.old.table_id }
+        ensures left { rest.new.me.0 ≡ from (first + 4) }
+    {
+        let a = self.deal(rest, first);
+        let b = self.deal(rest, first + 1);
+        let c = self.deal(rest, first + 2);
+        let d = self.deal(rest, first + 3);
+        (a, b, c, d)
     }
 
     /// Cuts the seat of the next place off what is left.

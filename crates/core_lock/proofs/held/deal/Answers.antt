@@ -1,4 +1,4 @@
-use Rattle.std.proofs.Common.{◌≡◌, ◌+◌, ◌∙◌, ap, arith, rules}
+use Rattle.std.proofs.Common.{◌≡◌, ◌+◌, ◌∙◌, refl, ap, arith}
 use Rattle.core_lock.specs.Passes.{made_from}
 use Rattle.core_lock.proofs.Counting.{own_and_greater, none_from_16}
 use Rattle.core_lock.proofs.held.deal.Goals as goal
@@ -28,5 +28,5 @@ returns-clause-amount g c =
     let count = (c.tally_at-count.ensures past c.requires.tallies).counts in
     omega (arith, count, c.requires.amount, own_and_greater k past, c.split_off-part.ensures.amount_left)
 
-pub returns-clause-count : goal.returns-clause-count
-returns-clause-count g c = search rules
+pub returns-clause-dealt : goal.returns-clause-dealt
+returns-clause-dealt g c = (refl, c.tally_at-count.ensures c.args.core.now.past c.requires.tallies)

@@ -1,16 +1,61 @@
-use Rattle.std.proofs.Common.{◌≡◌, ◌∙◌, sym, ap, arith, length, rules}
+use Rattle.std.proofs.Common.{◌≡◌, ◌∙◌, refl, sym, ap, arith, length}
 use Rattle.std.proofs.lemmas.List.{length-reverse}
-use Rattle.core_lock.proofs.Counting.{all_from_0}
+use Rattle.core_lock.proofs.{Counting.all_from_0, Laid.four_more}
 use Rattle.core_lock.proofs.held.Held.new.Goals as goal
 
-pub deal-requires-clause-amount : goal.deal-requires-clause-amount
-deal-requires-clause-amount g c =
+pub deal_four-a-requires-clause-amount : goal.deal_four-a-requires-clause-amount
+deal_four-a-requires-clause-amount g c =
     let long : length c.history.result.now ≡ length c.args.core.past =
     sym (length-reverse c.history.result.now) ∙ ap length c.history.ensures.events in
     omega (arith, c.add.ensures.amount, c.open-book.ensures.amount, long, all_from_0 c.args.core.past)
 
-pub deal-requires-16-clause-parts : goal.deal-requires-16-clause-parts
-deal-requires-16-clause-parts g c = search rules
+pub deal_four-e-requires-clause-parts : goal.deal_four-e-requires-clause-parts
+deal_four-e-requires-clause-parts g c = c.deal_four-a.ensures.parts
 
-pub deal-requires-16-clause-amount : goal.deal-requires-16-clause-amount
-deal-requires-16-clause-amount g c = search rules
+pub deal_four-e-requires-clause-amount : goal.deal_four-e-requires-clause-amount
+deal_four-e-requires-clause-amount g c = c.deal_four-a.ensures.amount
+
+pub deal_four-i-requires-clause-parts : goal.deal_four-i-requires-clause-parts
+deal_four-i-requires-clause-parts g c = c.deal_four-e.ensures.parts
+
+pub deal_four-i-requires-clause-amount : goal.deal_four-i-requires-clause-amount
+deal_four-i-requires-clause-amount g c = c.deal_four-e.ensures.amount
+
+pub deal_four-m-requires-clause-parts : goal.deal_four-m-requires-clause-parts
+deal_four-m-requires-clause-parts g c = c.deal_four-i.ensures.parts
+
+pub deal_four-m-requires-clause-amount : goal.deal_four-m-requires-clause-amount
+deal_four-m-requires-clause-amount g c = c.deal_four-i.ensures.amount
+
+pub returns-clause-actors : goal.returns-clause-actors
+returns-clause-actors g c =
+    let from_0 = c.deal_four-a.ensures in
+    let from_4 = c.deal_four-e.ensures in
+    let from_8 = c.deal_four-i.ensures in
+    let from_12 = c.deal_four-m.ensures in
+    four_more from_0.a.0 from_0.b.0 from_0.c.0 from_0.d.0
+    (four_more from_4.a.0 from_4.b.0 from_4.c.0 from_4.d.0
+    (four_more from_8.a.0 from_8.b.0 from_8.c.0 from_8.d.0
+    (four_more from_12.a.0 from_12.b.0 from_12.c.0 from_12.d.0 refl)))
+
+pub returns-clause-counts : goal.returns-clause-counts
+returns-clause-counts g c =
+    let from_0 = c.deal_four-a.ensures in
+    let from_4 = c.deal_four-e.ensures in
+    let from_8 = c.deal_four-i.ensures in
+    let from_12 = c.deal_four-m.ensures in
+    four_more from_0.a.1.counts from_0.b.1.counts from_0.c.1.counts from_0.d.1.counts
+    (four_more from_4.a.1.counts from_4.b.1.counts from_4.c.1.counts from_4.d.1.counts
+    (four_more from_8.a.1.counts from_8.b.1.counts from_8.c.1.counts from_8.d.1.counts
+    (four_more from_12.a.1.counts from_12.b.1.counts from_12.c.1.counts from_12.d.1.counts refl)))
+
+pub returns-clause-lasts : goal.returns-clause-lasts
+returns-clause-lasts g c =
+    let from_0 = c.deal_four-a.ensures in
+    let from_4 = c.deal_four-e.ensures in
+    let from_8 = c.deal_four-i.ensures in
+    let from_12 = c.deal_four-m.ensures in
+    four_more from_0.a.1.ends from_0.b.1.ends from_0.c.1.ends from_0.d.1.ends
+    (four_more from_4.a.1.ends from_4.b.1.ends from_4.c.1.ends from_4.d.1.ends
+    (four_more from_8.a.1.ends from_8.b.1.ends from_8.c.1.ends from_8.d.1.ends
+    (four_more from_12.a.1.ends from_12.b.1.ends from_12.c.1.ends from_12.d.1.ends refl)))

@@ -1,5 +1,5 @@
 use Rattle.board.specs.Seats.{name_of}
-use Rattle.actors.proofs.running.run.Given as goal
+use Rattle.actors.proofs.running.run_made.Given as goal
 
 -- the ledger is the new one, the core behind the lock is the one that was made, and the seats are
 -- those of the board that was made
