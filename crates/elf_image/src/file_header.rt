@@ -10,7 +10,7 @@ use crate::refusal::LoadRefused;
 use byteorder::{ByteOrder, LittleEndian};
 
 /// The fields of a file header that loading goes by.
-#[derive(Clone, Copy, Debug)]
+#[derive(Clone, Copy)]
 pub(crate) struct FileHeader {
     pub(crate) entry: u32,
     pub(crate) table_offset: u32,

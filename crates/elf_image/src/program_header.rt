@@ -13,7 +13,7 @@ pub(crate) const MOST_SEGMENTS: usize = 8;
 const LOADABLE: u32 = 1;
 
 /// The fields of a program header, without p_paddr and p_align, which nothing here reads.
-#[derive(Clone, Copy, Debug, Default)]
+#[derive(Clone, Copy, Default)]
 pub(crate) struct ProgramHeader {
     pub(crate) kind: u32,
     pub(crate) offset: u32,

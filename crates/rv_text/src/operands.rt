@@ -1,4 +1,4 @@
-ghost use Rattle.std.specs.Prelude.{◌≡◌};
+ghost use Rattle.std.specs.Prelude.{◌≡◌, ℕ};
 ghost use Rattle.rv_text.specs.Reading.{
   upper_operands,
   jump_operands,
@@ -16,7 +16,9 @@ ghost use Rattle.rv_text.specs.Reading.{
 use crate::fields::{amount, expect_end, register, signed, target, upper};
 use crate::mnemonic::{AtomicOp, Mnemonic};
 use crate::refused::TextRefused;
-use rv_decode::{Instr, Ordering, Reg};
+use rv_decode::{
+    BranchOp, ImmediateOp, Instr, LoadOp, MulDivOp, Ordering, Reg, RegisterOp, ShiftOp, StoreOp,
+};
 
 #[tactic(auto, unfolding(crate::specs::Reading::upper_operands, crate::specs::Reading::two_fields))]
 fn upper_operands(text: &[u8]) -> Result<(Reg, u32), TextRefused>
@@ -145,88 +147,136 @@ fn atomic_of(op: AtomicOp, ordering: Ordering, text: &[u8]) -> Result<Instr, Tex
     })
 }
 
+// The instruction of each row, from its operands.
+
+#[tactic(auto, unfolding(crate::specs::Reading::instr_at))]
+fn lui_of(text: &[u8]) -> Result<Instr, TextRefused>
+    ensures { (pc : ℕ) → result ≡ instr_at pc Mnemonic.Lui text.now }
+{
+    let (rd, imm) = upper_operands(text)?;
+    Ok(Instr::Lui { rd, imm })
+}
+
+#[tactic(auto, unfolding(crate::specs::Reading::instr_at))]
+fn auipc_of(text: &[u8]) -> Result<Instr, TextRefused>
+    ensures { (pc : ℕ) → result ≡ instr_at pc Mnemonic.Auipc text.now }
+{
+    let (rd, imm) = upper_operands(text)?;
+    Ok(Instr::Auipc { rd, imm })
+}
+
+#[tactic(auto, unfolding(crate::specs::Reading::instr_at))]
+fn jal_of(pc: u32, text: &[u8]) -> Result<Instr, TextRefused>
+    ensures { result ≡ instr_at pc Mnemonic.Jal text.now }
+{
+    let (rd, offset) = jump_operands(pc, text)?;
+    Ok(Instr::Jal { rd, offset })
+}
+
+#[tactic(auto, unfolding(crate::specs::Reading::instr_at))]
+fn jalr_of(text: &[u8]) -> Result<Instr, TextRefused>
+    ensures { (pc : ℕ) → result ≡ instr_at pc Mnemonic.Jalr text.now }
+{
+    let (rd, offset, rs1) = memory_operands(text)?;
+    Ok(Instr::Jalr { rd, rs1, offset })
+}
+
+#[tactic(auto, unfolding(crate::specs::Reading::instr_at))]
+fn branch_of(op: BranchOp, pc: u32, text: &[u8]) -> Result<Instr, TextRefused>
+    ensures { result ≡ instr_at pc (Mnemonic.Branch op) text.now }
+{
+    let (rs1, rs2, offset) = branch_operands(pc, text)?;
+    Ok(Instr::Branch {
+        op,
+        rs1,
+        rs2,
+        offset,
+    })
+}
+
+#[tactic(auto, unfolding(crate::specs::Reading::instr_at))]
+fn load_of(op: LoadOp, text: &[u8]) -> Result<Instr, TextRefused>
+    ensures { (pc : ℕ) → result ≡ instr_at pc (Mnemonic.Load op) text.now }
+{
+    let (rd, offset, rs1) = memory_operands(text)?;
+    Ok(Instr::Load {
+        op,
+        rd,
+        rs1,
+        offset,
+    })
+}
+
+#[tactic(auto, unfolding(crate::specs::Reading::instr_at))]
+fn store_of(op: StoreOp, text: &[u8]) -> Result<Instr, TextRefused>
+    ensures { (pc : ℕ) → result ≡ instr_at pc (Mnemonic.Store op) text.now }
+{
+    let (rs2, offset, rs1) = memory_operands(text)?;
+    Ok(Instr::Store {
+        op,
+        rs2,
+        rs1,
+        offset,
+    })
+}
+
+#[tactic(auto, unfolding(crate::specs::Reading::instr_at))]
+fn immediate_of(op: ImmediateOp, text: &[u8]) -> Result<Instr, TextRefused>
+    ensures { (pc : ℕ) → result ≡ instr_at pc (Mnemonic.Immediate op) text.now }
+{
+    let (rd, rs1, imm) = immediate_operands(text)?;
+    Ok(Instr::Immediate { op, rd, rs1, imm })
+}
+
+#[tactic(auto, unfolding(crate::specs::Reading::instr_at))]
+fn shift_of(op: ShiftOp, text: &[u8]) -> Result<Instr, TextRefused>
+    ensures { (pc : ℕ) → result ≡ instr_at pc (Mnemonic.Shift op) text.now }
+{
+    let (rd, rs1, amount) = shift_operands(text)?;
+    Ok(Instr::Shift {
+        op,
+        rd,
+        rs1,
+        amount,
+    })
+}
+
+#[tactic(auto, unfolding(crate::specs::Reading::instr_at))]
+fn register_of(op: RegisterOp, text: &[u8]) -> Result<Instr, TextRefused>
+    ensures { (pc : ℕ) → result ≡ instr_at pc (Mnemonic.Register op) text.now }
+{
+    let (rd, rs1, rs2) = register_operands(text)?;
+    Ok(Instr::Register { op, rd, rs1, rs2 })
+}
+
+#[tactic(auto, unfolding(crate::specs::Reading::instr_at))]
+fn mul_div_of(op: MulDivOp, text: &[u8]) -> Result<Instr, TextRefused>
+    ensures { (pc : ℕ) → result ≡ instr_at pc (Mnemonic.MulDiv op) text.now }
+{
+    let (rd, rs1, rs2) = register_operands(text)?;
+    Ok(Instr::MulDiv { op, rd, rs1, rs2 })
+}
+
 /// The instruction of a row that stands at `pc` and has these operands.
 #[tactic(auto, unfolding(crate::specs::Reading::instr_at))]
 pub(crate) fn instr_of(pc: u32, mnemonic: Mnemonic, text: &[u8]) -> Result<Instr, TextRefused>
     ensures { result ≡ instr_at pc mnemonic text.now }
 {
-    Ok(match mnemonic {
-        Mnemonic::Lui => {
-            let (rd, imm) = upper_operands(text)?;
-            Instr::Lui { rd, imm }
-        }
-        Mnemonic::Auipc => {
-            let (rd, imm) = upper_operands(text)?;
-            Instr::Auipc { rd, imm }
-        }
-        Mnemonic::Jal => {
-            let (rd, offset) = jump_operands(pc, text)?;
-            Instr::Jal { rd, offset }
-        }
-        Mnemonic::Jalr => {
-            let (rd, offset, rs1) = memory_operands(text)?;
-            Instr::Jalr { rd, rs1, offset }
-        }
-        Mnemonic::Branch(op) => {
-            let (rs1, rs2, offset) = branch_operands(pc, text)?;
-            Instr::Branch {
-                op,
-                rs1,
-                rs2,
-                offset,
-            }
-        }
-        Mnemonic::Load(op) => {
-            let (rd, offset, rs1) = memory_operands(text)?;
-            Instr::Load {
-                op,
-                rd,
-                rs1,
-                offset,
-            }
-        }
-        Mnemonic::Store(op) => {
-            let (rs2, offset, rs1) = memory_operands(text)?;
-            Instr::Store {
-                op,
-                rs2,
-                rs1,
-                offset,
-            }
-        }
-        Mnemonic::Immediate(op) => {
-            let (rd, rs1, imm) = immediate_operands(text)?;
-            Instr::Immediate { op, rd, rs1, imm }
-        }
-        Mnemonic::Shift(op) => {
-            let (rd, rs1, amount) = shift_operands(text)?;
-            Instr::Shift {
-                op,
-                rd,
-                rs1,
-                amount,
-            }
-        }
-        Mnemonic::Register(op) => {
-            let (rd, rs1, rs2) = register_operands(text)?;
-            Instr::Register { op, rd, rs1, rs2 }
-        }
-        Mnemonic::MulDiv(op) => {
-            let (rd, rs1, rs2) = register_operands(text)?;
-            Instr::MulDiv { op, rd, rs1, rs2 }
-        }
-        Mnemonic::Fence => {
-            expect_end("", text)?;
-            Instr::Fence
-        }
-        Mnemonic::Ecall => {
-            expect_end("", text)?;
-            Instr::Ecall
-        }
-        Mnemonic::Ebreak => {
-            expect_end("", text)?;
-            Instr::Ebreak
-        }
-        Mnemonic::Atomic(op, ordering) => return atomic_of(op, ordering, text),
-    })
+    match mnemonic {
+        Mnemonic::Lui => lui_of(text),
+        Mnemonic::Auipc => auipc_of(text),
+        Mnemonic::Jal => jal_of(pc, text),
+        Mnemonic::Jalr => jalr_of(text),
+        Mnemonic::Branch(op) => branch_of(op, pc, text),
+        Mnemonic::Load(op) => load_of(op, text),
+        Mnemonic::Store(op) => store_of(op, text),
+        Mnemonic::Immediate(op) => immediate_of(op, text),
+        Mnemonic::Shift(op) => shift_of(op, text),
+        Mnemonic::Register(op) => register_of(op, text),
+        Mnemonic::MulDiv(op) => mul_div_of(op, text),
+        Mnemonic::Fence => expect_end("", text).and(Ok(Instr::Fence)),
+        Mnemonic::Ecall => expect_end("", text).and(Ok(Instr::Ecall)),
+        Mnemonic::Ebreak => expect_end("", text).and(Ok(Instr::Ebreak)),
+        Mnemonic::Atomic(op, ordering) => atomic_of(op, ordering, text),
+    }
 }

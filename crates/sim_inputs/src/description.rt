@@ -1,7 +1,7 @@
 ghost use Rattle.std.specs.Prelude.{◌≡◌, IfOk};
-ghost use Rattle.clap.specs.Words.{App, app_of};
+ghost use Rattle.clap.specs.Words.{App, app_of, with_rule, with_subcommand};
 ghost use Rattle.sim_inputs.specs.CommandLine.{IsArgument, IsCommand, config_rule, file_rule};
-ghost use Rattle.sim_inputs.specs.CommandLine.{flag_rule, image_rule, kept_rule};
+ghost use Rattle.sim_inputs.specs.CommandLine.{flag_rule, image_command, kept_rule};
 ghost use Rattle.sim_inputs.specs.CommandLine.{check_command, list_command, plain_command};
 ghost use Rattle.sim_inputs.specs.CommandLine.{run_command, schedule_command, step_command};
 ghost use Rattle.sim_inputs.specs.CommandLine.{order_rule, smtsim, with_core_commands};
@@ -64,35 +64,56 @@ pub fn describe<'a>(alloc: Global) -> Result<Command<'a>, AllocError>
         .about("Simulate a simultaneous multithreading core whose harts run one RV32IMA program")
         .after_help(CONFIGURATION_FORM)
         .subcommand_required(true);
-    add_core_commands(command, alloc)?
-        .subcommand(describe_plain(alloc)?)?
-        .subcommand(describe_schedule(alloc)?)?
-        .subcommand(describe_list(alloc)?)
+    add_other_commands(add_core_commands(command, alloc)?, alloc)
 }
 
 /// Adds the subcommands that run a core, or check what one has done.
 fn add_core_commands<'a>(command: Command<'a>, alloc: Global) -> Result<Command<'a>, AllocError>
     ensures { IfOk result (λ c. app_of c ≡ with_core_commands (app_of command.entry)) }
 {
-    command
-        .subcommand(describe_step(alloc)?)?
-        .subcommand(describe_run(alloc)?)?
-        .subcommand(describe_check(alloc)?)
+    let command = add_subcommand(command, describe_step(alloc))?;
+    let command = add_subcommand(command, describe_run(alloc))?;
+    add_subcommand(command, describe_check(alloc))
+}
+
+/// Adds the other subcommands: of the plain machine and its orders, and of an image alone.
+fn add_other_commands<'a>(command: Command<'a>, alloc: Global) -> Result<Command<'a>, AllocError>
+    ensures { (app : App) → app_of command.entry ≡ app
+        → IfOk result (λ c. app_of c ≡ with_subcommand
+        (with_subcommand (with_subcommand app plain_command.top) schedule_command.top)
+        list_command.top) }
+{
+    let command = add_subcommand(command, describe_plain(alloc))?;
+    let command = add_subcommand(command, describe_schedule(alloc))?;
+    add_subcommand(command, describe_list(alloc))
+}
+
+/// Adds a subcommand, where there was memory to describe it.
+fn add_subcommand<'a>(
+    command: Command<'a>,
+    described: Result<Command<'a>, AllocError>,
+) -> Result<Command<'a>, AllocError>
+    ensures { (app sub : App) → app_of command.entry ≡ app
+        → IfOk described.entry (IsCommand sub)
+        → IfOk result (λ c. app_of c ≡ with_subcommand app sub.top) }
+{
+    command.subcommand(described?)
 }
 
 /// The subcommand `step_command`.
 fn describe_step<'a>(alloc: Global) -> Result<Command<'a>, AllocError>
     ensures { IfOk result (IsCommand step_command) }
 {
-    let files = Command::new(alloc, "step")
-        .about("Make a script's asks of the core in order, and print a report")
-        .after_help(SCRIPT_FORM)
-        .arg(image_argument(alloc))?
-        .arg(file_argument(
-            alloc,
-            "SCRIPT",
-            "The script: what the actors are asked to do",
-        ))?;
+    let image = image_command(
+        alloc,
+        "step",
+        "Make a script's asks of the core in order, and print a report",
+    )?;
+    let files = image.after_help(SCRIPT_FORM).arg(file_argument(
+        alloc,
+        "SCRIPT",
+        "The script: what the actors are asked to do",
+    ))?;
     add_report_options(files, alloc)?
         .arg(flag(alloc, "show", "Print the core's tables, after the asks"))?
         .arg(trace_option(alloc))
@@ -102,21 +123,28 @@ fn describe_step<'a>(alloc: Global) -> Result<Command<'a>, AllocError>
 fn describe_run<'a>(alloc: Global) -> Result<Command<'a>, AllocError>
     ensures { IfOk result (IsCommand run_command) }
 {
-    let files = Command::new(alloc, "run")
-        .about("Run the core, with a thread for each actor, and print a report")
-        .arg(image_argument(alloc))?;
-    add_report_options(files, alloc)?.arg(trace_option(alloc))
+    let image = image_command(
+        alloc,
+        "run",
+        "Run the core, with a thread for each actor, and print a report",
+    )?;
+    add_report_options(image, alloc)?.arg(trace_option(alloc))
 }
 
 /// The subcommand `check_command`.
 fn describe_check<'a>(alloc: Global) -> Result<Command<'a>, AllocError>
     ensures { IfOk result (IsCommand check_command) }
 {
-    let files = Command::new(alloc, "check")
-        .about("Check that a trace is a history of the core, and print its report")
-        .after_help(TRACE_FORM)
-        .arg(image_argument(alloc))?
-        .arg(file_argument(alloc, "TRACE", "The trace: the events of a history"))?;
+    let image = image_command(
+        alloc,
+        "check",
+        "Check that a trace is a history of the core, and print its report",
+    )?;
+    let files = image.after_help(TRACE_FORM).arg(file_argument(
+        alloc,
+        "TRACE",
+        "The trace: the events of a history",
+    ))?;
     add_report_options(files, alloc)
 }
 
@@ -124,11 +152,11 @@ fn describe_check<'a>(alloc: Global) -> Result<Command<'a>, AllocError>
 fn describe_plain<'a>(alloc: Global) -> Result<Command<'a>, AllocError>
     ensures { IfOk result (IsCommand plain_command) }
 {
-    let files = Command::new(alloc, "plain")
-        .about("Run the plain machine in an order of harts, and print a report")
-        .after_help(ORDER_FORM)
-        .arg(image_argument(alloc))?
-        .arg(order_argument(alloc))?;
+    let files = order_command(
+        alloc,
+        "plain",
+        "Run the plain machine in an order of harts, and print a report",
+    )?;
     add_report_options(files, alloc)
 }
 
@@ -136,22 +164,55 @@ fn describe_plain<'a>(alloc: Global) -> Result<Command<'a>, AllocError>
 fn describe_schedule<'a>(alloc: Global) -> Result<Command<'a>, AllocError>
     ensures { IfOk result (IsCommand schedule_command) }
 {
-    Command::new(alloc, "schedule")
-        .about("Print the script that makes the core retire in an order of harts")
-        .after_help(ORDER_FORM)
-        .arg(image_argument(alloc))?
-        .arg(order_argument(alloc))?
-        .arg(config_option(alloc))
+    let files = order_command(
+        alloc,
+        "schedule",
+        "Print the script that makes the core retire in an order of harts",
+    )?;
+    files.arg(config_option(alloc))
 }
 
 /// The subcommand `list_command`.
 fn describe_list<'a>(alloc: Global) -> Result<Command<'a>, AllocError>
     ensures { IfOk result (IsCommand list_command) }
 {
-    Command::new(alloc, "list")
-        .about("Print each word of the program's code: address, word, instruction")
-        .arg(image_argument(alloc))?
-        .arg(config_option(alloc))
+    let image = image_command(
+        alloc,
+        "list",
+        "Print each word of the program's code: address, word, instruction",
+    )?;
+    image.arg(config_option(alloc))
+}
+
+/// A subcommand with its first argument, the image.
+fn image_command<'a>(
+    alloc: Global,
+    name: &'a str,
+    about: &'a str,
+) -> Result<Command<'a>, AllocError>
+    ensures { IfOk result (IsCommand (image_command name.entry.now)) }
+{
+    Command::new(alloc, name).about(about).arg(file_argument(
+        alloc,
+        "IMAGE",
+        "The program: an ELF file of RV32IMA",
+    ))
+}
+
+/// A subcommand with its first two arguments, the image and the order of the plain machine.
+fn order_command<'a>(
+    alloc: Global,
+    name: &'a str,
+    about: &'a str,
+) -> Result<Command<'a>, AllocError>
+    ensures { IfOk result (IsCommand (with_rule (image_command name.entry.now) order_rule)) }
+{
+    let image = image_command(alloc, name, about)?;
+    image.after_help(ORDER_FORM).arg(file_argument(
+        alloc,
+        "ORDER",
+        "The order: which hart makes each step",
+    ))
 }
 
 /// Adds the options that each subcommand that prints a report has.
@@ -164,20 +225,6 @@ fn add_report_options<'a>(command: Command<'a>, alloc: Global) -> Result<Command
         "records",
         "Print a record of each retirement, before the report",
     ))
-}
-
-/// The image, which each subcommand names.
-fn image_argument<'a>(alloc: Global) -> Arg<'a>
-    ensures { IsArgument image_rule result }
-{
-    file_argument(alloc, "IMAGE", "The program: an ELF file of RV32IMA")
-}
-
-/// The order of harts of the plain machine.
-fn order_argument<'a>(alloc: Global) -> Arg<'a>
-    ensures { IsArgument order_rule result }
-{
-    file_argument(alloc, "ORDER", "The order: which hart makes each step")
 }
 
 /// An argument that names a file and must be there.

@@ -1,11 +1,8 @@
 use Rattle.std.proofs.Common.{refl}
-use Rattle.std.proofs.lemmas.Result.{IfOk-weaker}
-use Rattle.sim_inputs.proofs.Described.{one_below}
 use Rattle.sim_inputs.proofs.description.add_core_commands.Goals as goal
 
 pub returns : goal.returns
 returns c =
-    let step = one_below _ _ _ _ _ refl c.in_ok-describe_step.ensures c.in_ok-subcommand.ensures in
-    let run = one_below _ _ _ _ _ step c.in_ok-describe_run.ensures c.in_ok-subcommand-2.ensures in
-    IfOk-weaker c.subcommand-3.result _ _ (λ made. one_below _ _ _ _ made run c.in_ok-describe_check.ensures)
-    c.subcommand-3.ensures
+    let step = c.in_ok-command.ensures _ _ refl c.describe_step.ensures in
+    let run = c.in_ok-command-2.ensures _ _ step c.describe_run.ensures in
+    c.add_subcommand-3.ensures _ _ run c.describe_check.ensures

@@ -1,8 +1,6 @@
 use Rattle.std.proofs.Common.{ap, true, ◌≡◌, ◌∙◌}
-use Rattle.std.proofs.lemmas.Result.{IfOk-weaker}
 use Rattle.clap.specs.Words.{App, app_of}
 use Rattle.sim_inputs.specs.CommandLine.{top, with_core_commands}
-use Rattle.sim_inputs.proofs.Described.{one_below}
 use Rattle.sim_inputs.proofs.description.describe.Goals as goal
 
 pub returns : goal.returns
@@ -11,7 +9,4 @@ returns c =
     rw (c.subcommand_required-command.ensures, c.after_help.ensures, c.about.ensures)
     (ap (λ (a : App). record a { top = record a.top { subcommand_required = true } }) c.new.ensures.app) in
     let core = c.in_ok-add_core_commands.ensures ∙ ap with_core_commands top_is in
-    let plain = one_below _ _ _ _ _ core c.in_ok-describe_plain.ensures c.in_ok-subcommand.ensures in
-    let schedule = one_below _ _ _ _ _ plain c.in_ok-describe_schedule.ensures c.in_ok-subcommand-2.ensures in
-    IfOk-weaker c.subcommand-3.result _ _ (λ made. one_below _ _ _ _ made schedule c.in_ok-describe_list.ensures)
-    c.subcommand-3.ensures
+    c.add_other_commands.ensures _ core

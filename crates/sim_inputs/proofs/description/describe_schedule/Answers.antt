@@ -1,16 +1,8 @@
-use Rattle.std.proofs.Common.{codes}
 use Rattle.std.proofs.lemmas.Result.{IfOk-weaker}
-use Rattle.clap.specs.Words.{new_app}
-use Rattle.sim_inputs.specs.CommandLine.{IsCommand}
 use Rattle.sim_inputs.proofs.Described.{one_more}
 use Rattle.sim_inputs.proofs.description.describe_schedule.Goals as goal
 
 pub returns : goal.returns
 returns c =
-    let begins : IsCommand (new_app (codes "schedule")) c.after_help.result = record {
-      app = rw (c.after_help.ensures, c.about.ensures) c.new.ensures.app;
-      local = rw (c.after_help.ensures, c.about.ensures) c.new.ensures.local;
-    } in
-    let image = one_more _ _ _ _ _ begins c.image_argument.ensures c.in_ok-arg.ensures in
-    let order = one_more _ _ _ _ _ image c.order_argument.ensures c.in_ok-arg-2.ensures in
-    IfOk-weaker c.arg-3.result _ _ (λ made. one_more _ _ _ made _ order c.config_option.ensures) c.arg-3.ensures
+    IfOk-weaker c.arg.result _ _ (λ made. one_more _ _ _ made _ c.in_ok-files.ensures c.config_option.ensures)
+    c.arg.ensures
