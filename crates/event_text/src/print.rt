@@ -11,8 +11,8 @@ ghost use Rattle.event_text.specs.Line.{effect_text, step_text, line_of, record_
 use arrayvec::ArrayString;
 use events::{Effect, Event, Next, Outcome, Phys, Record, Seq, Written};
 use text_fields::{
-    push_ascii, push_hex, push_number, push_small_number, push_spaced_dash, push_spaced_number,
-    push_word_after,
+    push_ascii, push_hex, push_small_number, push_spaced_dash, push_spaced_decimal,
+    push_spaced_number, push_word_after,
 };
 
 /// Room for any line that is printed here, without its newline.
@@ -31,8 +31,7 @@ fn push_number_field<const N: usize>(line: &mut ArrayString<N>, value: u32)
     ensures spelled { line.new.bytes ≡ line.old.bytes ++ after_space (decimal value) }
     ensures length { array_string_len line.new ≤ array_string_len line.old + 11 }
 {
-    push_ascii(line, b' ');
-    push_number(line, value);
+    push_spaced_decimal(line, value);
 }
 
 fn push_optional_number_field<const N: usize>(line: &mut ArrayString<N>, value: Option<Phys>)
