@@ -36,9 +36,20 @@ pub fn push_spaced_decimal<const N: usize>(text: &mut ArrayString<N>, value: u32
     } else if value < 100_000_000 {
         push_five_to_eight(text, value);
     } else {
-        push_ascii(text, b' ');
-        push_number(text, value);
+        push_nine_or_ten(text, value);
     }
+}
+
+// Appends a space and a number, in more steps.
+#[cold]
+#[inline(never)]
+fn push_nine_or_ten<const N: usize>(text: &mut ArrayString<N>, value: u32)
+    requires { array_string_len text.old + 11 ≤ N }
+    ensures spelled { text.new.bytes ≡ text.old.bytes ++ 32 ∷ decimal value }
+    ensures length { array_string_len text.new ≤ array_string_len text.old + 11 }
+{
+    push_ascii(text, b' ');
+    push_number(text, value);
 }
 
 // Appends a space and a number below 10,000.
@@ -127,5 +138,5 @@ pub fn push_spaced_dash<const N: usize>(text: &mut ArrayString<N>)
     ensures spelled { text.new.bytes ≡ text.old.bytes ++ 32 ∷ dash }
     ensures length { array_string_len text.new ≡ array_string_len text.old + 2 }
 {
-    text.push_str(" -");
+    push_bytes(text, &[b' ', b'-']);
 }
