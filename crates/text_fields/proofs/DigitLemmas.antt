@@ -79,10 +79,7 @@ four_digits n a b c d low high p q r s = bytes_four n a b c d p q r s ∙ sym (d
 
 -- the last four of a number of five to eight digits, with the others before them
 pub longer_digits : (n a b c d : ℕ) (front : List ℕ) → 10000 ≤ n → n < 100000000 → front ≡ decimal (n / 10000) →
-    a ≡ 48 + n % 10000 / 100 / 10 → b ≡ 48 + n % 10000 / 100 % 10 → c ≡ 48 + n % 100 / 10 → d ≡ 48 + n % 100 % 10 →
-    front ++ a ∷ b ∷ c ∷ d ∷ [] ≡ decimal n
+    a ≡ 48 + n % 10000 / 100 / 10 → b ≡ 48 + n % 10000 / 100 % 10 → c ≡ 48 + n % 10000 % 100 / 10 →
+    d ≡ 48 + n % 10000 % 100 % 10 → front ++ a ∷ b ∷ c ∷ d ∷ [] ≡ decimal n
 longer_digits n a b c d front low high is p q r s =
-    let same : n % 100 ≡ n % 10000 % 100 = omega arith in
-    let last =
-    bytes_four (n % 10000) a b c d p q (r ∙ ap (λ m. 48 + m / 10) same) (s ∙ ap (λ m. 48 + m % 10) same) in
-    rw (is, last) (sym (decimal_longer n low (omega arith)))
+    rw (is, bytes_four (n % 10000) a b c d p q r s) (sym (decimal_longer n low (omega arith)))

@@ -85,8 +85,9 @@ fn push_five_to_eight<const N: usize>(text: &mut ArrayString<N>, value: u32)
     ensures length { array_string_len text.new ≤ array_string_len text.old + 9 }
 {
     let front = value / 10_000;
-    let third = (value % 10_000 / 100) as u8;
-    let last = (value % 100) as u8;
+    let back = value % 10_000;
+    let third = (back / 100) as u8;
+    let last = (back % 100) as u8;
     let [a, b, c, d] = [tens(third), ones(third), tens(last), ones(last)];
     if front < 10 {
         return push_bytes(text, &[b' ', b'0' + front as u8, a, b, c, d]);
@@ -138,5 +139,6 @@ pub fn push_spaced_dash<const N: usize>(text: &mut ArrayString<N>)
     ensures spelled { text.new.bytes ≡ text.old.bytes ++ 32 ∷ dash }
     ensures length { array_string_len text.new ≡ array_string_len text.old + 2 }
 {
-    push_bytes(text, &[b' ', b'-']);
+    push_ascii(text, b' ');
+    push_ascii(text, b'-');
 }
