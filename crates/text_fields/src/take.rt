@@ -11,15 +11,6 @@ ghost use Rattle.text_fields.specs.Splitting.{field, rest};
 use crate::read::{FieldError, hex_number, read_decimal, read_hex, read_optional_hex};
 use crate::split::split_field;
 
-// Whether the first of several digits is a zero.
-#[inline]
-fn begins_with_zero(text: &[u8], digits: usize) -> bool
-    requires { digits ≤ length text.now }
-    ensures { result ≡ (nat_lt 1 digits && slice_index text.now 0 == 48) }
-{
-    digits > 1 && text[0] == b'0'
-}
-
 /// The most digits that are read on the quick way, and the space behind them.
 const QUICK: usize = 8;
 
@@ -30,6 +21,10 @@ fn several_digits(text: &[u8], max: u32) -> Option<(u32, &[u8])>
     ensures taken { IfSome result (λ p. IsTaken (decimal_field max) text.now p.0 p.1.now) }
     ensures within { IfSome result (λ p. p.0 ≤ max) }
 {
+    // Zero itself goes the slow way, so that no end of a number has to look at its first digit.
+    if text.is_empty() || text[0] == b'0' {
+        return None;
+    }
     let mut value = 0u64;
     for place in 0..QUICK {
         if place >= text.len() {
@@ -37,10 +32,7 @@ fn several_digits(text: &[u8], max: u32) -> Option<(u32, &[u8])>
         }
         let byte = text[place];
         if !byte.is_ascii_digit() {
-            if byte != b' ' {
-                return None;
-            }
-            if place == 0 || begins_with_zero(text, place) {
+            if byte != b' ' || place == 0 {
                 return None;
             }
             return Some((value as u32, &text[place + 1..]));
@@ -112,7 +104,7 @@ fn any_decimal(text: &[u8], max: u32) -> Result<u32, FieldError>
 }
 
 // The number of a first field with no fault that a space ends, and the text behind that space.
-#[inline]
+#[inline(always)]
 fn plain_hex(text: &[u8], count: usize) -> Option<(u32, &[u8])>
     requires { count ≤ 8 }
     ensures { IfSome result (λ p. IsTaken (hex_field count) text.now p.0 p.1.now) }
@@ -126,7 +118,7 @@ fn plain_hex(text: &[u8], count: usize) -> Option<(u32, &[u8])>
 
 /// The first field as `read_hex` reads it, and the text of the others, which is empty where there
 /// are none.
-#[inline]
+#[inline(always)]
 pub fn take_hex(text: &[u8], count: usize) -> Result<(u32, &[u8]), FieldError>
     requires { count ≤ 8 }
     ensures taken { IfOk result (λ p. IsTaken (hex_field count) text.now p.0 p.1.now) }
@@ -151,7 +143,7 @@ fn any_hex(text: &[u8], count: usize) -> Result<u32, FieldError>
 
 /// The first field as `read_optional_hex` reads it, and the text of the others, which is empty
 /// where there are none.
-#[inline]
+#[inline(always)]
 pub fn take_optional_hex(text: &[u8], count: usize) -> Result<(Option<u32>, &[u8]), FieldError>
     requires { count ≤ 8 }
     ensures taken { IfOk result
