@@ -61,15 +61,15 @@ pub fn read_decimal(text: &[u8], max: u32) -> Result<u32, FieldError>
     }
 }
 
-// The number that up to eight digits write, with no fault, if it isn't zero. The loop's turns are
-// so few that it can be written out.
+// The number that up to eight digits write, with no fault. The loop's turns are so few that it can
+// be written out.
 #[tactic(auto, unfolding(crate::specs::Reading::decimal_field))]
 #[inline(always)]
 fn few_digits(text: &[u8], max: u32) -> Option<u32>
     ensures field { IfSome result (λ value. decimal_field max text.now ≡ Ok value) }
     ensures within { IfSome result (λ value. value ≤ max) }
 {
-    if text.is_empty() || text.len() > 8 || text[0] == b'0' {
+    if text.is_empty() || text.len() > 8 || (text[0] == b'0' && text.len() > 1) {
         return None;
     }
     let mut value = 0u64;
