@@ -9,10 +9,10 @@ ghost use Rattle.event_text.specs.Line.{after_space, next_text, address_text, da
 ghost use Rattle.event_text.specs.Line.{effect_text, step_text, line_of, record_text_of};
 
 use arrayvec::ArrayString;
-use events::{Effect, Event, Next, Outcome, Phys, Record, Seq, Written};
+use events::{Cause, Effect, Event, Next, Outcome, Phys, Record, Seq, Written};
 use text_fields::{
-    push_ascii, push_hex, push_number, push_small_number, push_spaced_dash, push_spaced_number,
-    push_word_after,
+    push_ascii, push_hex, push_small_number, push_spaced_dash, push_spaced_decimal,
+    push_spaced_number, push_word_after,
 };
 
 /// Room for any line that is printed here, without its newline.
@@ -31,8 +31,7 @@ fn push_number_field<const N: usize>(line: &mut ArrayString<N>, value: u32)
     ensures spelled { line.new.bytes ≡ line.old.bytes ++ after_space (decimal value) }
     ensures length { array_string_len line.new ≤ array_string_len line.old + 11 }
 {
-    push_ascii(line, b' ');
-    push_number(line, value);
+    push_spaced_decimal(line, value);
 }
 
 fn push_optional_number_field<const N: usize>(line: &mut ArrayString<N>, value: Option<Phys>)
@@ -79,20 +78,43 @@ fn push_optional_byte_field<const N: usize>(line: &mut ArrayString<N>, value: Op
     }
 }
 
+#[inline(always)]
 fn push_next_field<const N: usize>(line: &mut ArrayString<N>, next: Next)
     requires { array_string_len line.old + 10 ≤ N }
     ensures spelled { line.new.bytes ≡ line.old.bytes ++ after_space (next_text next) }
     ensures length { array_string_len line.new ≤ array_string_len line.old + 10 }
 {
-    push_ascii(line, b' ');
     match next {
-        Next::Pc(pc) => push_word_after(line, b'p', pc),
-        Next::Ended(status) => push_word_after(line, b'e', status),
-        Next::Stopped(cause) => {
-            push_ascii(line, b's');
-            push_small_number(line, cause);
+        Next::Pc(pc) => {
+            push_ascii(line, b' ');
+            push_word_after(line, b'p', pc);
         }
+        Next::Ended(status) => push_ended(line, status),
+        Next::Stopped(cause) => push_stopped(line, cause),
     }
+}
+
+#[cold]
+#[inline(never)]
+fn push_ended<const N: usize>(line: &mut ArrayString<N>, status: u32)
+    requires { array_string_len line.old + 10 ≤ N }
+    ensures spelled { line.new.bytes ≡ line.old.bytes ++ after_space (next_text (Next.Ended status)) }
+    ensures length { array_string_len line.new ≤ array_string_len line.old + 10 }
+{
+    push_ascii(line, b' ');
+    push_word_after(line, b'e', status);
+}
+
+#[cold]
+#[inline(never)]
+fn push_stopped<const N: usize>(line: &mut ArrayString<N>, cause: Cause)
+    requires { array_string_len line.old + 10 ≤ N }
+    ensures spelled { line.new.bytes ≡ line.old.bytes ++ after_space (next_text (Next.Stopped cause)) }
+    ensures length { array_string_len line.new ≤ array_string_len line.old + 10 }
+{
+    push_ascii(line, b' ');
+    push_ascii(line, b's');
+    push_small_number(line, cause);
 }
 
 fn push_write_fields<const N: usize>(line: &mut ArrayString<N>, write: Option<Written>)

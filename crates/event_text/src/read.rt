@@ -8,7 +8,7 @@ ghost use Rattle.event_text.specs.declared.read.Rule.TheVariants.{FieldCount};
 ghost use Rattle.text_fields.specs.Reading.{decimal_field, hex_field, optional_field};
 ghost use Rattle.events.specs.Width.{HasWidth, IsWidth};
 ghost use Rattle.event_text.specs.Reading.{rule_number, next_field, pc_field, ended_of, stopped_of};
-ghost use Rattle.event_text.specs.Reading.{sized_field, write_fields, outcome_of, effect_of, fetch_of};
+ghost use Rattle.event_text.specs.Reading.{sized_field, written_of, outcome_of, effect_of, fetch_of};
 ghost use Rattle.event_text.specs.Reading.{decode_of, rename_of, issue_of, complete_of, drop_of};
 ghost use Rattle.event_text.specs.Reading.{retire_of, event_fields, kind_named, event_of};
 ghost use Rattle.event_text.specs.Reading.{of_fields};
@@ -18,7 +18,7 @@ use events::{
 };
 use text_fields::{
     FieldError, field_count, read_decimal, read_hex, read_optional_decimal, read_optional_hex,
-    split_field, take_decimal, take_hex, take_optional_hex,
+    skip_field, split_field, take_decimal, take_hex, take_optional_hex,
 };
 use thiserror::Error;
 
@@ -89,12 +89,6 @@ fn read_phys(text: &[u8]) -> Result<Option<Phys>, FieldError>
         None => None,
         Some(number) => Some(number as Phys),
     })
-}
-
-fn read_optional_word(text: &[u8]) -> Result<Option<u32>, FieldError>
-    ensures { result ≡ optional_field (hex_field 8) text.now }
-{
-    read_optional_hex(text, 8)
 }
 
 fn read_optional_byte(text: &[u8]) -> Result<Option<u8>, FieldError>
@@ -214,13 +208,22 @@ fn take_next(text: &[u8]) -> Result<(Next, &[u8]), FieldError>
     ensures refused { IfErr result (λ error. next_field (field 32 text.now) ≡ Err error) }
 {
     if text.is_empty() || text[0] != b'p' {
-        let (first, others) = split_field(text, b' ');
-        return Ok((read_next(first)?, others));
+        return Ok((any_next(text)?, skip_field(text)));
     }
     match take_hex(&text[1..], 8) {
         Ok((pc, others)) => Ok((Next::Pc(pc), others)),
         Err(error) => Err(error),
     }
+}
+
+// What comes next as the first field of any text, in more steps.
+#[cold]
+#[inline(never)]
+fn any_next(text: &[u8]) -> Result<Next, FieldError>
+    ensures { result ≡ next_field (field 32 text.now) }
+{
+    let (first, _) = split_field(text, b' ');
+    read_next(first)
 }
 
 // The number of a write, and of how many bytes it is.
@@ -247,13 +250,36 @@ fn read_optional_sized(text: &[u8]) -> Result<Option<(u8, u32)>, FieldError>
     Ok(Some(read_sized(text)?))
 }
 
-#[tactic(auto, unfolding(crate::specs::Reading::write_fields))]
-fn read_write(address: &[u8], datum: &[u8]) -> Result<Option<Written>, FieldError>
-    ensures value { result ≡ write_fields address.now datum.now }
+// The number of a write as the first field, and the text of the others.
+#[inline(always)]
+fn take_optional_sized(text: &[u8]) -> Result<(Option<(u8, u32)>, &[u8]), FieldError>
+    ensures taken { IfOk result
+        (λ p. IsTaken (optional_field sized_field) text.now p.0 p.1.now) }
+    ensures sized { IfOk result (λ p. IfSome p.0 (λ some. IsWidth some.0)) }
+    ensures refused { IfErr result
+        (λ error. optional_field sized_field (field 32 text.now) ≡ Err error) }
+{
+    if text.len() > 1 && text[0] == b'-' && text[1] == b' ' {
+        return Ok((None, &text[2..]));
+    }
+    Ok((any_optional_sized(text)?, skip_field(text)))
+}
+
+// The number of a write as the first field of any text, in more steps.
+#[inline(never)]
+fn any_optional_sized(text: &[u8]) -> Result<Option<(u8, u32)>, FieldError>
+    ensures value { result ≡ optional_field sized_field (field 32 text.now) }
+    ensures sized { IfOk result (λ number. IfSome number (λ some. IsWidth some.0)) }
+{
+    let (first, _) = split_field(text, b' ');
+    read_optional_sized(first)
+}
+
+fn written(addr: Option<u32>, number: Option<(u8, u32)>) -> Result<Option<Written>, FieldError>
+    requires { IfSome number (λ some. IsWidth some.0) }
+    ensures value { result ≡ written_of addr number }
     ensures sized { IfOk result (λ write. IfSome write HasWidth) }
 {
-    let addr = read_optional_word(address)?;
-    let number = read_optional_sized(datum)?;
     match (addr, number) {
         (None, None) => Ok(None),
         (Some(addr), Some((n, datum))) => Ok(Some(Written { addr, n, datum })),
@@ -278,18 +304,18 @@ fn read_outcome(fields: &[u8]) -> Result<Outcome, FieldError>
     }))
 }
 
-#[tactic(auto, unfolding(crate::specs::Reading::effect_of))]
+#[tactic(auto, unfolding(crate::specs::Reading::effect_of, crate::specs::Reading::write_fields))]
 fn read_effect(fields: &[u8]) -> Result<Effect, FieldError>
     ensures { result ≡ effect_of fields.now }
 {
     let (value, fields) = take_optional_hex(fields, 8)?;
     let (next, fields) = take_next(fields)?;
-    let (address, fields) = split_field(fields, b' ');
-    let (datum, out) = split_field(fields, b' ');
+    let (addr, fields) = take_optional_hex(fields, 8)?;
+    let (number, out) = take_optional_sized(fields)?;
     Ok(Effect::new(EffectFields {
         value,
         next,
-        write: read_write(address, datum)?,
+        write: written(addr, number)?,
         out: read_optional_byte(out)?,
     }))
 }

@@ -3,8 +3,9 @@ use arrayvec::ArrayString;
 use text_fields::{
     FieldError, field_count, push_ascii, push_dash, push_decimal, push_hex, push_number,
     push_optional_decimal, push_optional_hex, push_small_number, push_spaced_dash,
-    push_spaced_number, push_word_after, read_decimal, read_hex, read_optional_decimal,
-    read_optional_hex, read_signed_decimal, split_field, take_decimal, take_hex, take_optional_hex,
+    push_spaced_decimal, push_spaced_number, push_word_after, read_decimal, read_hex,
+    read_optional_decimal, read_optional_hex, read_signed_decimal, skip_field, split_field,
+    take_decimal, take_hex, take_optional_hex,
 };
 
 #[test]
@@ -25,7 +26,7 @@ fn prints_one_field_after_the_other(rt: HostRuntime) {
 }
 
 /// Numbers of every length.
-static NUMBERS: [(u32, &str); 14] = [
+static NUMBERS: [(u32, &str); 16] = [
     (0, "0"),
     (9, "9"),
     (10, "10"),
@@ -36,6 +37,8 @@ static NUMBERS: [(u32, &str); 14] = [
     (9999, "9999"),
     (10_000, "10000"),
     (70_605, "70605"),
+    (240_100, "240100"),
+    (1_000_000, "1000000"),
     (16_777_215, "16777215"),
     (99_999_999, "99999999"),
     (100_000_000, "100000000"),
@@ -48,6 +51,16 @@ fn prints_numbers_of_every_length(rt: HostRuntime) {
         let mut text = ArrayString::<10>::new();
         push_number(&mut text, *number);
         holds(&rt, want, text.as_str() == *want);
+    }
+}
+
+#[test]
+fn prints_a_space_and_numbers_of_every_length(rt: HostRuntime) {
+    for (number, want) in &NUMBERS {
+        let mut text = ArrayString::<11>::new();
+        push_spaced_decimal(&mut text, *number);
+        let (before, digits) = split_field(text.as_bytes(), b' ');
+        holds(&rt, want, before.is_empty() && digits == want.as_bytes());
     }
 }
 
@@ -201,6 +214,7 @@ fn cuts_a_text_at_its_first_separator(rt: HostRuntime) {
         let (first, others) = split_field(text, b' ');
         holds(&rt, cut.text, first == cut.first.as_bytes());
         holds(&rt, cut.text, others == cut.others.as_bytes());
+        holds(&rt, cut.text, skip_field(text) == cut.others.as_bytes());
     }
 }
 
@@ -224,6 +238,28 @@ static TAKEN_DECIMAL: [Taken<u32>; 9] = [
 fn takes_a_decimal_number_from_the_front(rt: HostRuntime) {
     for (text, want) in &TAKEN_DECIMAL {
         holds(&rt, text, take_decimal(text.as_bytes(), 15) == *want);
+    }
+}
+
+/// Numbers of 24 bits.
+static TAKEN_LONG: [Taken<u32>; 7] = [
+    ("0 5", Ok((0, b"5"))),
+    ("1234567 5 5", Ok((1_234_567, b"5 5"))),
+    ("16777215 5", Ok((16_777_215, b"5"))),
+    ("16777215", Ok((16_777_215, b""))),
+    ("16777216 5", Err(FieldError::OutOfRange)),
+    ("0123 5", Err(FieldError::Misspelled)),
+    ("123a 5", Err(FieldError::Misspelled)),
+];
+
+#[test]
+fn takes_a_number_of_several_digits_from_the_front(rt: HostRuntime) {
+    for (text, want) in &TAKEN_LONG {
+        holds(
+            &rt,
+            text,
+            take_decimal(text.as_bytes(), 16_777_215) == *want,
+        );
     }
 }
 

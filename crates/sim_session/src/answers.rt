@@ -10,6 +10,7 @@ use event_text::push_event;
 use events::Event;
 use smt_core::{Answer, CompleteAnswer};
 use std::io::Write;
+use text_fields::push_ascii;
 
 /// Room for the line of an event.
 type Line = ArrayString<80>;
@@ -64,6 +65,6 @@ pub fn write_event<W: Write>(event: &Event, out: &mut W) -> Result<(), Unwritten
     let mut line = Line::new();
     line.push_str("done ");
     push_event(&mut line, event);
-    line.push_str("\n");
+    push_ascii(&mut line, b'\n');
     write_text(line.as_bytes(), out)
 }

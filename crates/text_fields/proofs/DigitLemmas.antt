@@ -1,6 +1,6 @@
 -- Decimal numbers digit by digit.
 
-use Rattle.std.proofs.Common.{◌≡◌, ℕ, ◌+◌, ◌/◌, ◌%◌, ◌^◌, ◌<◌, ◌≤◌, List, [], ◌∷◌, ◌++◌, refl, ◌∙◌, ap, arith, append_assoc}
+use Rattle.std.proofs.Common.{◌≡◌, ℕ, ◌+◌, ◌/◌, ◌%◌, ◌^◌, ◌<◌, ◌≤◌, List, [], ◌∷◌, ◌++◌, refl, sym, ◌∙◌, ap, arith, append_assoc}
 use Rattle.std.proofs.lemmas.{Fmt.decimal_digit, Fmt.decimal_step}
 use Rattle.std.specs.{Fmt.decimal}
 use Rattle.text_fields.specs.Spelling.{four}
@@ -59,3 +59,27 @@ decimal_longer n low high =
     ∙ ap (λ m. decimal m ++ (48 + n / 10 / 10 / 10 % 10) ∷ (48 + n / 10 / 10 % 10) ∷ (48 + n / 10 % 10) ∷ (48 + n % 10) ∷ []) front
     ∙ ap (λ ds. decimal (n / 10000) ++ ds)
     (same_four _ _ _ _ _ _ _ _ (omega arith) (omega arith) (omega arith) (omega arith))
+
+-- ---- Bytes that are the digits of a number
+
+pub two_digits : (n a b : ℕ) → 10 ≤ n → n < 100 → a ≡ 48 + n / 10 → b ≡ 48 + n % 10 → a ∷ b ∷ [] ≡ decimal n
+two_digits n a b low high p q = rw (p, q) (sym (decimal_two n low high))
+
+pub three_digits : (n a b c : ℕ) → 100 ≤ n → n < 1000 → a ≡ 48 + n / 100 → b ≡ 48 + n % 100 / 10 →
+    c ≡ 48 + n % 100 % 10 → a ∷ b ∷ c ∷ [] ≡ decimal n
+three_digits n a b c low high p q r = rw (p, q, r) (sym (decimal_three n low high))
+
+bytes_four : (n a b c d : ℕ) → a ≡ 48 + n / 100 / 10 → b ≡ 48 + n / 100 % 10 → c ≡ 48 + n % 100 / 10 →
+    d ≡ 48 + n % 100 % 10 → a ∷ b ∷ c ∷ d ∷ [] ≡ four n
+bytes_four n a b c d p q r s = rw (p, q, r, s) refl
+
+pub four_digits : (n a b c d : ℕ) → 1000 ≤ n → n < 10000 → a ≡ 48 + n / 100 / 10 → b ≡ 48 + n / 100 % 10 →
+    c ≡ 48 + n % 100 / 10 → d ≡ 48 + n % 100 % 10 → a ∷ b ∷ c ∷ d ∷ [] ≡ decimal n
+four_digits n a b c d low high p q r s = bytes_four n a b c d p q r s ∙ sym (decimal_four n low high)
+
+-- the last four of a number of five to eight digits, with the others before them
+pub longer_digits : (n a b c d : ℕ) (front : List ℕ) → 10000 ≤ n → n < 100000000 → front ≡ decimal (n / 10000) →
+    a ≡ 48 + n % 10000 / 100 / 10 → b ≡ 48 + n % 10000 / 100 % 10 → c ≡ 48 + n % 10000 % 100 / 10 →
+    d ≡ 48 + n % 10000 % 100 % 10 → front ++ a ∷ b ∷ c ∷ d ∷ [] ≡ decimal n
+longer_digits n a b c d front low high is p q r s =
+    rw (is, bytes_four (n % 10000) a b c d p q r s) (sym (decimal_longer n low (omega arith)))

@@ -1,7 +1,7 @@
 -- The table of the digits of each byte.
 
-use Rattle.std.proofs.Common.{◌≡◌, ℕ, zero, suc, ◌+◌, ◌*◌, ◌/◌, ◌%◌, ◌^◌, ◌<◌, false, List, [], ◌∷◌, get_or, refl, ◌∙◌, ap, arith}
-use Rattle.std.proofs.lemmas.Bool.Decides.{nat_tests}
+use Rattle.std.proofs.Common.{take, drop, ◌≡◌, ℕ, zero, suc, ◌+◌, ◌-◌, ◌*◌, ◌/◌, ◌%◌, ◌^◌, ◌<◌, false, List, [], ◌∷◌, get_or, refl, ◌∙◌, ap, arith}
+use Rattle.std.proofs.lemmas.{Bool.Decides.nat_tests, List.get_or-drop, List.get_or-take}
 use Rattle.std.specs.Fmt.{digit_glyph}
 use Rattle.text_fields.specs.Spelling.{hex, hex_digit}
 use Rattle.text_fields.specs.declared.pairs.TheConstants.{DECIMALS, PAIRS}
@@ -66,10 +66,16 @@ tens_at n within =
     let same : 0 + n ≡ n = omega arith in
     rw are_decimals ((decimals_at 100 0 n within).0 ∙ ap (λ m. 48 + m / 10) same)
 
-pub ones_at : (n : ℕ) → n < 100 → get_or DECIMALS (2 * n + 1) 0 ≡ 48 + n % 10
+ones_at : (n : ℕ) → n < 100 → get_or DECIMALS (2 * n + 1) 0 ≡ 48 + n % 10
 ones_at n within =
     let same : 0 + n ≡ n = omega arith in
     rw are_decimals ((decimals_at 100 0 n within).1 ∙ ap (λ m. 48 + m % 10) same)
+
+-- the same, looked up in what is left of the table from the tens on
+pub ones_behind : (n : ℕ) → n < 100 → get_or (take (200 - 2 * n) (drop (2 * n) DECIMALS)) 1 0 ≡ 48 + n % 10
+ones_behind n within =
+    let inside : 1 < 200 - 2 * n = omega arith in
+    rw (get_or-take, get_or-drop, inside) (ones_at n within)
 
 pub glyph_small : (d : ℕ) → d < 16 → digit_glyph false d < 128
 glyph_small d within = grind (arith, nat_tests)

@@ -90,6 +90,11 @@ decimal_taken max value place text end within some alone =
     let low : nat_le value max ≡ true = grind (arith, nat_tests) in
     (rw (number, end.whole, low) refl, take_rest text (place + 1) ∙ end.others)
 
+-- where the first is no zero, no number of several digits begins with one
+pub no_zero_first : (place : ℕ) (text : List ℕ) → get_or text 0 0 ≢ 48
+    → (nat_lt 1 place && get_or text 0 0 == 48) ≡ false
+no_zero_first place text other = grind (arith, nat_tests, other)
+
 -- one digit before a space is a number
 pub digit_taken : (max : ℕ) (text : List ℕ) → 1 < length text → is_ascii_digit (get_or text 0 0) ≡ true
     → get_or text 1 0 ≡ 32 → get_or text 0 0 - 48 ≤ max

@@ -21,6 +21,6 @@ pub use read::{
     FieldError, read_decimal, read_hex, read_optional_decimal, read_optional_hex,
     read_signed_decimal,
 };
-pub use spaced::{push_spaced_dash, push_spaced_number, push_word_after};
+pub use spaced::{push_spaced_dash, push_spaced_decimal, push_spaced_number, push_word_after};
 pub use split::{field_count, split_field};
-pub use take::{take_decimal, take_hex, take_optional_hex};
+pub use take::{skip_field, take_decimal, take_hex, take_optional_hex};

@@ -44,11 +44,11 @@ pub(crate) fn tens(number: u8) -> u8
     DECIMALS[2 * number as usize]
 }
 
-// The digit of the ones.
+// The digit of the ones. It is looked up behind that of the tens, so that the two are read as one.
 pub(crate) fn ones(number: u8) -> u8
     requires { number < 100 }
     ensures spelled { result ≡ 48 + number % 10 }
     ensures ascii { result < 128 }
 {
-    DECIMALS[2 * number as usize + 1]
+    DECIMALS[2 * number as usize..][1]
 }

@@ -1,7 +1,7 @@
 //! Reading: each function takes one whole field of a text.
 
 ghost use Rattle.std.specs.Prelude.{◌≡◌, ◌^◌, ◌≤◌, ◌<◌, ◌==◌, ◌&&◌, ◌||◌, not, nat_lt, length};
-ghost use Rattle.std.specs.Prelude.{true, false, slice_index, IfOk, IfSome, IfNone, if◌then◌else◌};
+ghost use Rattle.std.specs.Prelude.{true, false, slice_index, Ok, IfOk, IfSome, IfNone, if◌then◌else◌};
 ghost use Rattle.std.specs.List.{list_all};
 ghost use Rattle.std.specs.Char.{is_ascii_digit};
 ghost use Rattle.text_fields.specs.declared.read.FieldError.TheVariants.{Misspelled, OutOfRange};
@@ -50,8 +50,46 @@ fn refusal_above(text: &[u8]) -> FieldError
 ///
 /// It is misspelled if it isn't digits alone or has leading zeros, and out of range if it is above
 /// `max`.
-#[tactic(auto, unfolding(crate::specs::Reading::decimal_field))]
+#[inline]
 pub fn read_decimal(text: &[u8], max: u32) -> Result<u32, FieldError>
+    ensures field { result ≡ decimal_field max text.now }
+    ensures within { IfOk result (λ value. value ≤ max) }
+{
+    match few_digits(text, max) {
+        Some(value) => Ok(value),
+        None => any_number(text, max),
+    }
+}
+
+// The number that up to eight digits write, with no fault. The loop's turns are so few that it can
+// be written out.
+#[tactic(auto, unfolding(crate::specs::Reading::decimal_field))]
+#[inline(always)]
+fn few_digits(text: &[u8], max: u32) -> Option<u32>
+    ensures field { IfSome result (λ value. decimal_field max text.now ≡ Ok value) }
+    ensures within { IfSome result (λ value. value ≤ max) }
+{
+    if text.is_empty() || text.len() > 8 || (text[0] == b'0' && text.len() > 1) {
+        return None;
+    }
+    let mut value = 0u64;
+    for digit in text {
+        if !digit.is_ascii_digit() {
+            return None;
+        }
+        value = value * 10 + u64::from(digit - b'0');
+        if value > u64::from(max) {
+            return None;
+        }
+    }
+    Some(value as u32)
+}
+
+// `read_decimal` of any text, in more steps.
+#[tactic(auto, unfolding(crate::specs::Reading::decimal_field))]
+#[cold]
+#[inline(never)]
+fn any_number(text: &[u8], max: u32) -> Result<u32, FieldError>
     ensures field { result ≡ decimal_field max text.now }
     ensures within { IfOk result (λ value. value ≤ max) }
 {

@@ -6,19 +6,10 @@ ghost use Rattle.std.specs.Prelude.{◌≡◌, ◌≤◌, ◌==◌, ◌&&◌, na
 ghost use Rattle.std.specs.Prelude.{IfSome};
 ghost use Rattle.text_fields.specs.Reading.{decimal_field, hex_field, optional_field};
 ghost use Rattle.text_fields.specs.Taking.{IsTaken};
-ghost use Rattle.text_fields.specs.Splitting.{field};
+ghost use Rattle.text_fields.specs.Splitting.{field, rest};
 
 use crate::read::{FieldError, hex_number, read_decimal, read_hex, read_optional_hex};
 use crate::split::split_field;
-
-// Whether the first of several digits is a zero.
-#[inline]
-fn begins_with_zero(text: &[u8], digits: usize) -> bool
-    requires { digits ≤ length text.now }
-    ensures { result ≡ (nat_lt 1 digits && slice_index text.now 0 == 48) }
-{
-    digits > 1 && text[0] == b'0'
-}
 
 /// The most digits that are read on the quick way, and the space behind them.
 const QUICK: usize = 8;
@@ -30,6 +21,10 @@ fn several_digits(text: &[u8], max: u32) -> Option<(u32, &[u8])>
     ensures taken { IfSome result (λ p. IsTaken (decimal_field max) text.now p.0 p.1.now) }
     ensures within { IfSome result (λ p. p.0 ≤ max) }
 {
+    // Zero itself goes the slow way, so that no end of a number has to look at its first digit.
+    if text.is_empty() || text[0] == b'0' {
+        return None;
+    }
     let mut value = 0u64;
     for place in 0..QUICK {
         if place >= text.len() {
@@ -37,10 +32,7 @@ fn several_digits(text: &[u8], max: u32) -> Option<(u32, &[u8])>
         }
         let byte = text[place];
         if !byte.is_ascii_digit() {
-            if byte != b' ' {
-                return None;
-            }
-            if place == 0 || begins_with_zero(text, place) {
+            if byte != b' ' || place == 0 {
                 return None;
             }
             return Some((value as u32, &text[place + 1..]));
@@ -95,24 +87,24 @@ pub fn take_decimal(text: &[u8], max: u32) -> Result<(u32, &[u8]), FieldError>
 {
     match plain_decimal(text, max) {
         Some(taken) => Ok(taken),
-        None => any_decimal(text, max),
+        None => Ok((any_decimal(text, max)?, skip_field(text))),
     }
 }
 
-// `take_decimal` of any text, in more steps.
+// The first field of any text as `read_decimal` reads it, in more steps. What is left out here, and
+// found by `skip_field`, would have to go through memory, and a place be made for it each time.
 #[cold]
 #[inline(never)]
-fn any_decimal(text: &[u8], max: u32) -> Result<(u32, &[u8]), FieldError>
-    ensures taken { IfOk result (λ p. IsTaken (decimal_field max) text.now p.0 p.1.now) }
-    ensures within { IfOk result (λ p. p.0 ≤ max) }
-    ensures refused { IfErr result (λ error. decimal_field max (field 32 text.now) ≡ Err error) }
+fn any_decimal(text: &[u8], max: u32) -> Result<u32, FieldError>
+    ensures field { result ≡ decimal_field max (field 32 text.now) }
+    ensures within { IfOk result (λ value. value ≤ max) }
 {
-    let (first, others) = split_field(text, b' ');
-    Ok((read_decimal(first, max)?, others))
+    let (first, _) = split_field(text, b' ');
+    read_decimal(first, max)
 }
 
 // The number of a first field with no fault that a space ends, and the text behind that space.
-#[inline]
+#[inline(always)]
 fn plain_hex(text: &[u8], count: usize) -> Option<(u32, &[u8])>
     requires { count ≤ 8 }
     ensures { IfSome result (λ p. IsTaken (hex_field count) text.now p.0 p.1.now) }
@@ -126,7 +118,7 @@ fn plain_hex(text: &[u8], count: usize) -> Option<(u32, &[u8])>
 
 /// The first field as `read_hex` reads it, and the text of the others, which is empty where there
 /// are none.
-#[inline]
+#[inline(always)]
 pub fn take_hex(text: &[u8], count: usize) -> Result<(u32, &[u8]), FieldError>
     requires { count ≤ 8 }
     ensures taken { IfOk result (λ p. IsTaken (hex_field count) text.now p.0 p.1.now) }
@@ -134,25 +126,24 @@ pub fn take_hex(text: &[u8], count: usize) -> Result<(u32, &[u8]), FieldError>
 {
     match plain_hex(text, count) {
         Some(taken) => Ok(taken),
-        None => any_hex(text, count),
+        None => Ok((any_hex(text, count)?, skip_field(text))),
     }
 }
 
-// `take_hex` of any text, in more steps.
+// The first field of any text as `read_hex` reads it, in more steps.
 #[cold]
 #[inline(never)]
-fn any_hex(text: &[u8], count: usize) -> Result<(u32, &[u8]), FieldError>
+fn any_hex(text: &[u8], count: usize) -> Result<u32, FieldError>
     requires { count ≤ 8 }
-    ensures taken { IfOk result (λ p. IsTaken (hex_field count) text.now p.0 p.1.now) }
-    ensures refused { IfErr result (λ error. hex_field count (field 32 text.now) ≡ Err error) }
+    ensures { result ≡ hex_field count (field 32 text.now) }
 {
-    let (first, others) = split_field(text, b' ');
-    Ok((read_hex(first, count)?, others))
+    let (first, _) = split_field(text, b' ');
+    read_hex(first, count)
 }
 
 /// The first field as `read_optional_hex` reads it, and the text of the others, which is empty
 /// where there are none.
-#[inline]
+#[inline(always)]
 pub fn take_optional_hex(text: &[u8], count: usize) -> Result<(Option<u32>, &[u8]), FieldError>
     requires { count ≤ 8 }
     ensures taken { IfOk result
@@ -165,20 +156,27 @@ pub fn take_optional_hex(text: &[u8], count: usize) -> Result<(Option<u32>, &[u8
     }
     match plain_hex(text, count) {
         Some((value, others)) => Ok((Some(value), others)),
-        None => any_optional_hex(text, count),
+        None => Ok((any_optional_hex(text, count)?, skip_field(text))),
     }
 }
 
-// `take_optional_hex` of any text, in more steps.
+// The first field of any text as `read_optional_hex` reads it, in more steps.
 #[cold]
 #[inline(never)]
-fn any_optional_hex(text: &[u8], count: usize) -> Result<(Option<u32>, &[u8]), FieldError>
+fn any_optional_hex(text: &[u8], count: usize) -> Result<Option<u32>, FieldError>
     requires { count ≤ 8 }
-    ensures taken { IfOk result
-        (λ p. IsTaken (optional_field (hex_field count)) text.now p.0 p.1.now) }
-    ensures refused { IfErr result
-        (λ error. optional_field (hex_field count) (field 32 text.now) ≡ Err error) }
+    ensures { result ≡ optional_field (hex_field count) (field 32 text.now) }
 {
-    let (first, others) = split_field(text, b' ');
-    Ok((read_optional_hex(first, count)?, others))
+    let (first, _) = split_field(text, b' ');
+    read_optional_hex(first, count)
+}
+
+/// The text behind the first field of any text, in more steps than the fields of this module take.
+#[cold]
+#[inline(never)]
+pub fn skip_field(text: &[u8]) -> &[u8]
+    ensures { result.now ≡ rest 32 text.now }
+{
+    let (_, others) = split_field(text, b' ');
+    others
 }

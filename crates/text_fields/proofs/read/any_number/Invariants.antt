@@ -1,7 +1,7 @@
 use Rattle.std.proofs.Common.{◌≡◌, ◌≤◌, drop}
 use Rattle.std.specs.{List.list_all, Char.is_ascii_digit}
 use Rattle.text_fields.specs.Reading.{decimal_after}
-use Rattle.text_fields.proofs.read.read_decimal.Given as goal
+use Rattle.text_fields.proofs.read.any_number.Given as goal
 
 -- the bytes to come, after the number so far, write the whole number and are digits as all are
 abbrev pub invariant-loop-digit : goal.invariant-loop-digit

@@ -1,6 +1,6 @@
 use Rattle.std.proofs.Common.{Err, sym, ap, ◌∙◌, arith}
 use Rattle.text_fields.proofs.DecimalLemmas.{above_limit, decimal_after_drop_le}
-use Rattle.text_fields.proofs.read.read_decimal.Goals as goal
+use Rattle.text_fields.proofs.read.any_number.Goals as goal
 
 -- the digits so far are above the limit, and more make no smaller number
 pub returns-then-value-from-clause-field : goal.returns-then-value-from-clause-field
