@@ -10,7 +10,7 @@ use Rattle.sim_report.specs.{declared.refused.Refused.Refused, declared.refused.
 use Rattle.sim_report.specs.Refusals.{Read, AreAccepted, OfFile, PassesAll, as_read, refusal_of, says_harts}
 use Rattle.sim_commands.specs.declared.core_lines.Wanted.{Wanted}
 use Rattle.sim_commands.specs.Told.{IsKept}
-use Rattle.sim_commands.specs.RunTold.{AreRunInputsRefusedFor, IsRunReported, LackARole}
+use Rattle.sim_runs.specs.RunTold.{AreRunInputsRefusedFor, IsRunReported, LackARole}
 use Rattle.simulator.specs.Answered.{IsAnswered}
 use Rattle.simulator.proofs.Answering.Untraced.{unread_too, on_both, with_status}
 use Rattle.simulator.proofs.Printing.{with_both}
