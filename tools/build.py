@@ -1,5 +1,8 @@
 #!/usr/bin/env python3
-"""Proves and builds the program `smtsim`, and says on standard error how far it is: tools/build.py
+"""Proves and builds the program `smtsim`, and says on standard error how far it is: tools/build.py [WORD ..]
+
+Where there are words, it first shows on standard error what the program will print on them, unproved (tools/preview.sh). The proofs begin
+meanwhile, with less of a claim to the processors, and say how far they are once that has been shown.
 
 It has the merge gate, `rt ci`, prove the program and the crates that it stands on, in a copy that has neither their must-fail edits
 nor any tests: so crates that don't stand on one another are proved side by side, and each loads what those below it state and not
@@ -13,6 +16,7 @@ import shutil
 import subprocess
 import sys
 import tempfile
+import threading
 import time
 
 ROOT = os.path.dirname(os.path.dirname(os.path.abspath(__file__)))
@@ -57,13 +61,19 @@ def copy_to(room, needed):
 
 
 class Progress:
-    """Says how many crates are proved and how long the others may still take."""
+    """Says how many crates are proved and how long the others may still take, once it is shown."""
 
     def __init__(self, seconds):
-        self.seconds, self.begun, self.done = seconds, time.time(), set()
+        self.seconds, self.begun, self.done, self.is_shown = seconds, time.time(), set(), False
+
+    def show(self, log):
+        self.is_shown = True
+        print(f"{PROGRAM}: proving and building it, some minutes the first time; log: {log}", file=sys.stderr, flush=True)
 
     def add(self, name):
         self.done.add(name)
+        if not self.is_shown:
+            return
         proved = sum(self.seconds[it] for it in self.done)
         rest = sum(self.seconds.values()) - proved
         minutes = (time.time() - self.begun) * rest / max(proved, 1) / 60
@@ -71,10 +81,27 @@ class Progress:
         print(f"{PROGRAM}: {len(self.done)} of {len(self.seconds)} crates proved{hint}", file=sys.stderr, flush=True)
 
 
+class FirstLook:
+    """What the program will print on some words, unproved, shown on standard error; nothing where there are no words."""
+
+    def __init__(self, words):
+        how = {"stdin": subprocess.DEVNULL, "stdout": sys.stderr.fileno()}
+        self.running = subprocess.Popen([f"{ROOT}/tools/preview.sh", *words], **how) if words else None
+
+    def wait(self):
+        if self.running:
+            self.running.wait()
+
+    def then(self, call):
+        """Calls `call` once all is shown, and goes on meanwhile."""
+        threading.Thread(target=lambda: (self.wait(), call()), daemon=True).start()
+
+
 def prove(room, progress, log):
     """Proves the crates of `room`, and keeps what `rt` says. Answers whether all were proved and the program built."""
     how = {"stdin": subprocess.DEVNULL, "stdout": subprocess.PIPE, "stderr": subprocess.STDOUT, "text": True, "errors": "replace"}
-    with subprocess.Popen(["rt", "ci"], cwd=room, **how) as running:
+    # The first look, and whatever else runs here, goes before it.
+    with subprocess.Popen(["nice", "-n", "19", "rt", "ci"], cwd=room, **how) as running:
         try:
             for line in running.stdout:
                 log.write(line)
@@ -93,13 +120,15 @@ def main():
     os.makedirs(out, exist_ok=True)
     path, needed = f"{out}/build.log", crates_below()
     shown = os.path.relpath(path, ROOT)
-    print(f"{PROGRAM}: proving and building it, some minutes the first time; log: {shown}", file=sys.stderr, flush=True)
+    look, progress = FirstLook(sys.argv[1:]), Progress(seconds_of(needed))
+    look.then(lambda: progress.show(shown))
     with tempfile.TemporaryDirectory(prefix="smtsim-build-", dir=out) as room:
         copy_to(room, needed)
         with open(path, "w", encoding="utf-8") as log:
-            is_built = prove(room, Progress(seconds_of(needed)), log)
+            is_built = prove(room, progress, log)
         if is_built:
             os.replace(f"{room}/crates/{PROGRAM}/out/{PROGRAM}", f"{out}/{PROGRAM}")
+    look.wait()
     if not is_built:
         lines = open(path, encoding="utf-8", errors="replace").read().split("\n")
         wrong = [line for line in lines if re.search(r"error|no proof|not proved|NOT PROVED|^rt: FAILED", line)]
