@@ -31,7 +31,6 @@ impl Parts {
     /// What a rename of hart `hart` takes: the number of its oldest decoded instruction, and the
     /// least free register where that one writes a register. None where there is no such
     /// instruction, no room, register or hart.
-    #[inline(always)]
     pub fn next_to_rename(&self, hart: u8) -> Option<(Seq, Option<Phys>)>
         ensures inside { IfSome result (λ r. hart < length self.now.harts.items) }
         ensures some { IfSome result (λ r. (p : Picture) → PartsAgree p self.now
@@ -117,7 +116,6 @@ fn take(free: &mut FreeList, values: &mut [Option<u32>; MOST_REGISTERS], registe
 impl HartState {
     /// The oldest decoded instruction, where the active list has room for it, and for another load
     /// or store where it is one.
-    #[inline(always)]
     fn next_to_rename(&self) -> Option<Slot>
         ensures some { IfSome result (CanEnter self.now) }
         ensures none { IfNone result ((slot : Slot) → CanEnter self.now slot → ⊥) }
@@ -131,7 +129,6 @@ impl HartState {
 
     /// Moves `slot`, the oldest decoded instruction, into the active list, and its register into
     /// the map.
-    #[inline(always)]
     fn rename(&mut self, slot: Slot, phys: Option<Phys>)
         requires oldest { first self.old.rename_latch.items ≡ Some slot }
         requires room { length self.old.active < most_in_flight }

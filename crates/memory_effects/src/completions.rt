@@ -47,7 +47,6 @@ pub fn completion(
 
 /// The number that a load's first look gives its register: none where the instruction is no load,
 /// or writes no register.
-#[inline(always)]
 fn first_look(
     memory: &Memory,
     accesses: &LoadStore,

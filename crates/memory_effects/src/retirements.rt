@@ -42,7 +42,6 @@ pub fn effect(memory: &Memory, hart: u8, op: Op, outcome: OutcomeFields) -> Effe
 }
 
 /// What an access does at an address, where it has no fault.
-#[inline(always)]
 fn access_effect(
     memory: &Memory,
     hart: u8,

@@ -31,6 +31,7 @@ pub fn write_text<W: Write>(text: &[u8], out: &mut W) -> Result<(), Unwritten>
 
 /// Writes the line of what an ask that lends and takes no job was answered. Where it answers Ok, it
 /// has written exactly this line.
+#[inline(always)]
 pub fn write_answer<W: Write>(answer: &Answer, out: &mut W) -> Result<(), Unwritten>
     requires { IsPrintable answer.now }
     ensures { OnOk result
@@ -44,6 +45,7 @@ pub fn write_answer<W: Write>(answer: &Answer, out: &mut W) -> Result<(), Unwrit
 }
 
 /// The same of what a completion was answered.
+#[inline(always)]
 pub fn write_completion<W: Write>(answer: &CompleteAnswer, out: &mut W) -> Result<(), Unwritten>
     requires { IsCompletePrintable answer.now }
     ensures { OnOk result

@@ -140,7 +140,6 @@ impl Core {
     }
 
     /// Takes back a job that was worked. It is spent in each case.
-    #[inline(always)]
     pub fn complete(&mut self, actor: u8, done: Done) -> CompleteAnswer
         ensures { CompleteAnswered actor done.job self.old result self.new }
     {
