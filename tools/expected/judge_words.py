@@ -1,6 +1,6 @@
 """Instruction words and what they compute, for the second judge.
 
-Written from crates/rv_decode/specs and crates/smt_model/specs (Kinds, Exec, Faults). Nothing here
+Written from crates/rv_instr/specs and crates/smt_model/specs (Kinds, Exec, Faults). Nothing here
 is shared with the model of the core in this folder.
 """
 

@@ -1,10 +1,10 @@
 -- A word whose opcode is neither a jump's nor a branch's goes on behind it, whatever it spells.
 use Rattle.std.proofs.Common.{ℕ, ◌≡◌, ◌==◌, Bool, true, false, Option, Some, None, option_and_then, if◌then◌else◌, refl, rules}
-use Rattle.rv_decode.specs.{declared.instr.Instr.Instr}
-use Rattle.rv_decode.specs.Fields.{opcode_at}
-use Rattle.rv_decode.specs.Decode.{decoded, jalr_of, load_of, store_of, immediate_of, shift_of, register_of}
-use Rattle.rv_decode.specs.Decode.{muldiv_of, fence_of, system_of, atomic_of, load_reserved_of, store_conditional_of}
-use Rattle.rv_decode.specs.Decode.{amo_of}
+use Rattle.rv_instr.specs.{declared.instr.Instr.Instr}
+use Rattle.rv_instr.specs.Fields.{opcode_at}
+use Rattle.rv_instr.specs.Decode.{decoded, jalr_of, load_of, store_of, immediate_of, shift_of, register_of}
+use Rattle.rv_instr.specs.Decode.{muldiv_of, fence_of, system_of, atomic_of, load_reserved_of, store_conditional_of}
+use Rattle.rv_instr.specs.Decode.{amo_of}
 use Rattle.smt_model.specs.Exec.{next_pc}
 use Rattle.actors.specs.Prediction.{static_guess}
 

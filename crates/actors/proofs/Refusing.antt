@@ -2,7 +2,7 @@
 use Rattle.std.proofs.Common.{◌≡◌, ◌∙◌, ℕ, Bool, true, false, List, refl, sym, ap, inl, inr, ◌⊎◌}
 use Rattle.std.proofs.lemmas.Bool.{false≢true}
 use Rattle.std.specs.Prelude.{◌↔◌, Result, Ok, Err, IfErr}
-use Rattle.elf_image.specs.Image.{ProgramImage}
+use Rattle.program_image.specs.Image.{ProgramImage}
 use Rattle.smt_model.specs.{Setup.Setup, declared.config.Role.Role}
 use Rattle.smt_model.specs.declared.config.Config.{Config as CoreConfig}
 use Rattle.core_state.specs.{Setup.setup_of, declared.refused.CoreRefused.CoreRefused}

@@ -3,8 +3,8 @@
 -- Prediction Strategies"]
 use Rattle.std.specs.Prelude.{ℕ, pos, int_lt, if◌then◌else◌, Option, Some}
 use Rattle.rv_word.specs.Word.{sum_of}
-use Rattle.rv_decode.specs.declared.instr.Instr.{Instr}
-use Rattle.rv_decode.specs.declared.instr.Instr.TheVariants as instr
+use Rattle.rv_instr.specs.declared.instr.Instr.{Instr}
+use Rattle.rv_instr.specs.declared.instr.Instr.TheVariants as instr
 use Rattle.smt_model.specs.Exec.{extended, next_pc}
 
 -- Where the instruction at a pc goes on by the predictor; none where its word is illegal.

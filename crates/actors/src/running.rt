@@ -17,7 +17,7 @@ use crate::refused::RunRefused;
 use crate::start::start;
 use board::{Board, Seat};
 use core_lock::{Finished, LockedCore, Origin};
-use elf_image::Image;
+use program_image::Image;
 use smt_core::{Config, Core, CoreRefused, Predict, Role};
 use std::alloc::Global;
 use std::marker::Brand;

@@ -1,10 +1,11 @@
 ghost use Rattle.std.specs.Prelude.{◌≡◌, ℕ, false, pos, int_lt};
 ghost use Rattle.rv_word.specs.Word.{sum_of};
-ghost use Rattle.rv_decode.specs.Decode.{decoded};
+ghost use Rattle.rv_instr.specs.Decode.{decoded};
 ghost use Rattle.smt_model.specs.Exec.{extended, next_pc};
 ghost use Rattle.actors.specs.Prediction.{static_guess};
 
-use rv_decode::{Instr, decode};
+use rv_decode::decode;
+use rv_instr::Instr;
 use rv_word::add;
 use smt_core::Predict;
 
@@ -20,7 +21,7 @@ pub struct StaticPredictor;
 
 impl Predict for StaticPredictor {
     ghost use Rattle.std.specs.Prelude.{◌≡◌};
-    ghost use Rattle.rv_decode.specs.Decode.{decoded};
+    ghost use Rattle.rv_instr.specs.Decode.{decoded};
     ghost use Rattle.actors.specs.Prediction.{static_guess};
 
     ghost predicts = { λ before hart pc word guess after. guess ≡ static_guess pc (decoded word) };

@@ -31,8 +31,3 @@ places_more Q xs i d now before k under p at =
           let found : get_or xs i d ≡ p = get_or_from_slice_get xs i p d (ap (slice_get xs) same ∙ at) in
           subst (λ j. Q j p) same (subst (λ q. Q i q) found now)
     ]
-
--- Two lists are the same where their first four are, one by one, and so are the others.
-pub four_more : {X : Type 0} {a b c d i j k l : X} {xs ys : List X} → a ≡ i → b ≡ j → c ≡ k → d ≡ l → xs ≡ ys
-    → a ∷ b ∷ c ∷ d ∷ xs ≡ i ∷ j ∷ k ∷ l ∷ ys
-four_more at_a at_b at_c at_d at_others = cc

@@ -5,7 +5,7 @@ ghost use Rattle.core_lock.specs.Tallies.{AreCounts};
 
 use crate::counts::counts_in;
 use crate::held::show;
-use elf_image::Image;
+use program_image::Image;
 use smt_core::{Config, Core};
 
 /// What is left of a core when its lock is given up.

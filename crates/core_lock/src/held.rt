@@ -9,6 +9,7 @@ ghost use Rattle.core_lock.specs.Passes.{IsDealt, IsTold, more, later, made_from
 ghost use Rattle.core_lock.specs.Shown.{Shown};
 ghost use Rattle.core_lock.specs.Tallies.{AreTallies};
 
+mod counted;
 mod passes;
 mod replies;
 
@@ -17,9 +18,9 @@ use crate::finished::Finished;
 use crate::origin::Origin;
 use crate::reader::CoreReader;
 use crate::tally::{Tally, tallies_of, tally_at, tally_of};
-use elf_image::Image;
 use events::Event;
 use exec_units::Done;
+use program_image::Image;
 use smt_core::{Answer, CompleteAnswer, Config, Core, IssueAnswer, Predict};
 use smt_laws::laws::refines_the_plain_machine;
 use std::marker::PhantomData;

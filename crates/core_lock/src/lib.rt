@@ -4,7 +4,8 @@
 //! Read in this order: `ask` (what is asked and said), `tally` (what a history holds of one actor),
 //! `counts` (how many events it holds of each), `origin` (which core it is), `reader` (what looks at
 //! a core), `finished` (what is left at the end), `held` (what stands behind the lock, with the
-//! passes; `held/passes` and `held/replies` read them out), `locked` (the lock).
+//! passes; `held/passes` and `held/replies` read them out, `held/counted` lets a pass be posted on a
+//! board), `locked` (the lock).
 #![tactic(auto)]
 
 pub mod ask;

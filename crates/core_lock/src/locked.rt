@@ -13,7 +13,7 @@ use crate::finished::Finished;
 use crate::held::{Held, Pass, Reply};
 use crate::origin::Origin;
 use crate::reader::CoreReader;
-use elf_image::Image;
+use program_image::Image;
 use smt_core::{Config, Core, Predict};
 use std::sync::ledger::Blank;
 use std::sync::{Mutex, Wait};

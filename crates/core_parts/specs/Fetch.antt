@@ -4,7 +4,7 @@ use Rattle.std.specs.Prelude.{◌∷◌, ◌++◌, filter, length, Option, Some,
 use Rattle.numbers.specs.Sizes.{latch_room, most_events}
 use Rattle.smt_model.specs.{Basics.holds_of, Basics.below, Basics.first_least, Fates.Fetched}
 use Rattle.smt_model.specs.{Fetching.turn, Picture.Picture, Plain.is_going_status, Steps.IsFetch}
-use Rattle.rv_decode.specs.Decode.{op_of_word}
+use Rattle.rv_instr.specs.Decode.{op_of_word}
 use Rattle.core_parts.specs.{declared.point.FetchPoint.FetchPoint, declared.slot.Slot.Slot}
 use Rattle.core_parts.specs.{declared.hart.HartState.HartState}
 

@@ -2,7 +2,7 @@
 use Rattle.std.specs.Prelude.{◌≡◌, ℕ, ◌+◌, ◌-◌, ◌<◌, ◌&&◌, nat_le, nat_lt, if◌then◌else◌, []}
 use Rattle.std.specs.Prelude.{Option, Some}
 use Rattle.numbers.specs.Layout.{first_extra}
-use Rattle.elf_image.specs.Image.{ProgramImage}
+use Rattle.program_image.specs.Image.{ProgramImage}
 use Rattle.rename_map.specs.Maps.{lookup, committed_of}
 use Rattle.smt_model.specs.{declared.config.Status.TheVariants.Going, Picture.picture}
 use Rattle.smt_model.specs.{Registers.first_register, Setup.Setup, Setup.first_number}

@@ -2,7 +2,7 @@
 use Rattle.std.specs.Prelude.{◌≡◌, ℕ, Bool, true, not, ◌==◌, ◌&&◌, nat_lt, None, is_some}
 use Rattle.std.specs.Prelude.{slice_index_or}
 use Rattle.std.specs.List.{list_all, list_any}
-use Rattle.rv_decode.specs.{Registers.op_unit, declared.op.UnitKind.UnitKind}
+use Rattle.rv_instr.specs.{Registers.op_unit, declared.op.UnitKind.UnitKind}
 use Rattle.issue_queue.specs.{declared.entry.Entry.Entry, declared.entry.Source.Source}
 use Rattle.issue_queue.specs.{declared.entry.Source.TheVariants.Value}
 use Rattle.issue_queue.specs.{declared.entry.Source.TheVariants.Waits}

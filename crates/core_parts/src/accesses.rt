@@ -11,7 +11,7 @@ use events::OutcomeFields;
 use load_store::LoadStore;
 use memory_effects::access_size;
 use numbers::Seq;
-use rv_decode::{Kind, Op};
+use rv_instr::{Kind, Op};
 
 /// Adds an instruction that is renamed, where it is a load or a store.
 pub(crate) fn add_access(accesses: &mut LoadStore, hart: u8, op: Op, seq: Seq)

@@ -1,6 +1,6 @@
 ghost use Rattle.std.specs.Prelude.{◌≡◌, ℕ, ◌<◌, ◌≤◌, length, IfSome};
 ghost use Rattle.numbers.specs.Sizes.{latch_room, most_events};
-ghost use Rattle.rv_decode.specs.Decode.{op_of_word};
+ghost use Rattle.rv_instr.specs.Decode.{op_of_word};
 ghost use Rattle.smt_model.specs.Picture.{Picture};
 ghost use Rattle.smt_model.specs.Steps.{IsFetch};
 ghost use Rattle.core_parts.specs.Agree.{PartsAgree, From, KeepsSizes};

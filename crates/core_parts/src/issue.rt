@@ -16,7 +16,7 @@ use crate::slot::OpenJob;
 use exec_units::Job;
 use issue_queue::{Entry, Source};
 use numbers::Seq;
-use rv_decode::UnitKind;
+use rv_instr::UnitKind;
 use smt_model::Role;
 
 impl Parts {

@@ -10,7 +10,7 @@ ghost use Rattle.core_parts.specs.Accesses.{address_at, CanWrite};
 
 use events::Written;
 use retire_squash::Stage;
-use rv_decode::{Kind, Op};
+use rv_instr::{Kind, Op};
 use shared_memory::Memory;
 
 /// What an instruction that goes on does with memory as it retires: LR reserves the word at `addr`,

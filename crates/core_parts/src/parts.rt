@@ -11,12 +11,12 @@ ghost use Rattle.core_parts.specs.Listed.{listed};
 use crate::hart::HartState;
 use crate::slot::OpenJob;
 use arrayvec::ArrayVec;
-use elf_image::Image;
 use free_list::FreeList;
 use issue_queue::IssueQueue;
 use load_store::LoadStore;
 use numbers::sizes::{MOST_ACTORS, MOST_REGISTERS};
 use numbers::{Phys, Reg, first_register};
+use program_image::Image;
 use shared_memory::Memory;
 use std::alloc::{AllocError, Global};
 

@@ -1,11 +1,11 @@
 ghost use Rattle.std.specs.Prelude.{◌≡◌};
-ghost use Rattle.rv_decode.specs.Decode.{op_of_word};
+ghost use Rattle.rv_instr.specs.Decode.{op_of_word};
 ghost use Rattle.core_parts.specs.Fetch.{slot_at};
 
 use crate::slot::Slot;
 use events::Event;
 use numbers::Seq;
-use rv_decode::Op;
+use rv_instr::Op;
 
 /// Where the next fetch is: the hart to choose, its fetch pc, and the word of the code there, none
 /// where there is none.

@@ -5,7 +5,7 @@ ghost use Rattle.free_list.specs.Flags.{holds};
 ghost use Rattle.issue_queue.specs.declared.entry.Source.{Source};
 ghost use Rattle.rename_map.specs.Maps.{lookup, IsWritable};
 ghost use Rattle.retire_squash.specs.Active.{Above};
-ghost use Rattle.rv_decode.specs.Table.{OpInRange};
+ghost use Rattle.rv_instr.specs.Table.{OpInRange};
 ghost use Rattle.smt_model.specs.Basics.{first, or_zero};
 ghost use Rattle.smt_model.specs.Kinds.{destination, kind_of, is_loading, is_storing};
 ghost use Rattle.smt_model.specs.Picture.{Picture};
@@ -25,7 +25,7 @@ use numbers::sizes::{MOST_ACCESSES, MOST_REGISTERS};
 use numbers::{Phys, Reg, Seq};
 use rename_map::HartMaps;
 use retire_squash::{Active, Stage};
-use rv_decode::Op;
+use rv_instr::Op;
 
 impl Parts {
     /// What a rename of hart `hart` takes: the number of its oldest decoded instruction, and the

@@ -1,5 +1,5 @@
 use numbers::Seq;
-use rv_decode::Op;
+use rv_instr::Op;
 
 /// An instruction that waits in the decode latch or in the rename latch.
 #[derive(Clone, Copy, Drop)]

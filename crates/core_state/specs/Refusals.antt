@@ -2,7 +2,7 @@
 use Rattle.std.specs.Prelude.{◌≡◌, ℕ, Bool, not, ◌||◌, ◌&&◌, nat_lt, if◌then◌else◌, List, Option, Some, None}
 use Rattle.std.specs.Prelude.{is_some, is_none}
 use Rattle.events.specs.{declared.event.Event.Event, declared.effect.Outcome.Outcome}
-use Rattle.rv_decode.specs.declared.op.UnitKind.{UnitKind}
+use Rattle.rv_instr.specs.declared.op.UnitKind.{UnitKind}
 use Rattle.exec_units.specs.Job.{JobView}
 use Rattle.issue_queue.specs.declared.entry.Entry.{Entry}
 use Rattle.retire_squash.specs.{declared.active.Active.Active, declared.active.Stage.Stage}

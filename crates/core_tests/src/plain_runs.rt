@@ -4,9 +4,11 @@
 use crate::asks_of_a_core::ended_core;
 use crate::files::file_of;
 use crate::rows::holds;
-use elf_image::{Image, RamSize, load};
+use core_rerun::run_again;
+use elf_image::load;
 use event_text::print_record;
-use plain_run::{OrderStopped, PlainRun, run_again, run_order};
+use plain_run::{OrderStopped, PlainRun, run_order};
+use program_image::{Image, RamSize};
 use sc_machine::Stopped;
 use smt_core::Status;
 use std::alloc::Global;

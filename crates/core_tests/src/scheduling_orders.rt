@@ -6,7 +6,7 @@ use crate::predictors::Always;
 use crate::rows::{holds, shows};
 use elf_image::load;
 use plain_run::run_order;
-use rv_decode::UnitKind;
+use rv_instr::UnitKind;
 use sc_machine::Stopped;
 use schedules::ScheduleRefused;
 use sim_inputs::read_config;

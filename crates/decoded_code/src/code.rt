@@ -1,12 +1,13 @@
 //! The words of the code, each with its instruction.
 
 ghost use Rattle.std.specs.Prelude.{◌≡◌, IfOk, IsTrue};
-ghost use Rattle.elf_image.specs.Image.{ProgramImage, has_code_word, code_word};
-ghost use Rattle.rv_decode.specs.Decode.{op_of_word};
+ghost use Rattle.program_image.specs.Image.{ProgramImage, has_code_word, code_word};
+ghost use Rattle.rv_instr.specs.Decode.{op_of_word};
 ghost use Rattle.decoded_code.specs.Code.{IsCodeOf, IsFetched, IsFound, found_at};
 
-use elf_image::Image;
-use rv_decode::Op;
+use program_image::Image;
+use rv_decode::decode_op;
+use rv_instr::Op;
 use std::alloc::{AllocError, Global};
 
 /// A word of the code, and what it is.
@@ -62,7 +63,7 @@ impl Code {
     }
 
     /// What is found at a pc: the instruction of its word, or that there is no word.
-    #[tactic(auto, unfolding(rv_decode::specs::Decode::op_of_word))]
+    #[tactic(auto, unfolding(rv_instr::specs::Decode::op_of_word))]
     pub fn op_at(&self, pc: u32) -> Op
         ensures { (image : ProgramImage) → IsCodeOf image self.now
             → result ≡ op_of_word (code_word image pc) }
@@ -75,7 +76,7 @@ impl Code {
 }
 
 /// The word of an image at a pc where there is one, decoded.
-#[tactic(auto, unfolding(elf_image::specs::Image::code_word))]
+#[tactic(auto, unfolding(program_image::specs::Image::code_word))]
 fn decode_at(image: &Image, pc: u32) -> Fetched
     requires { IsTrue (has_code_word image.now pc) }
     ensures { IsFetched image.now pc result }
@@ -83,6 +84,6 @@ fn decode_at(image: &Image, pc: u32) -> Fetched
     let word = image.code_word(pc).unwrap();
     Fetched {
         word,
-        op: Op::of_word(Some(word)),
+        op: decode_op(Some(word)),
     }
 }

@@ -1,5 +1,4 @@
 pub mod Table
-pub mod Covering
 pub mod Pairs
 pub mod Loading
 pub mod Rising

@@ -4,7 +4,8 @@ use Rattle.std.proofs.Common.{inr}
 use Rattle.std.specs.{Prelude.AllPairs, Prelude.Contains, Prelude.IsPermutation, List.Sorted.IsNonDecreasingBy}
 use Rattle.std.proofs.{lemmas.List.Elements.All-contains, lemmas.List.Sorted.Contains-permutation}
 use Rattle.std.proofs.{lemmas.List.Sorted.IsPermutation-sym}
-use Rattle.elf_image.proofs.{Pairs.AllPairs-permutation, Covering.pairs_tail}
+use Rattle.program_image.proofs.Covering.{pairs_tail}
+use Rattle.elf_image.proofs.{Pairs.AllPairs-permutation}
 
 -- each key is below all later ones
 abbrev pub AreRising : {X : Type 0} → (X → ℕ) → List X → Type 0

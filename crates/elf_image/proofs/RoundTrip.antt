@@ -17,11 +17,12 @@ use Rattle.elf_image.specs.declared.refusal.LoadRefused.TheVariants.{WrongSegmen
 use Rattle.elf_image.specs.declared.refusal.LoadRefused.TheVariants.{WrongMemorySize, SegmentOutsideRam}
 use Rattle.elf_image.specs.declared.refusal.LoadRefused.TheVariants.{SegmentsOverlap, WrongCodeSegment, MisalignedCode}
 use Rattle.elf_image.specs.declared.refusal.LoadRefused.TheVariants.{WrongEntry, OutOfMemory}
-use Rattle.elf_image.specs.Image.{ProgramSegment, ProgramImage, IsWellFormed, ram_start, is_code_segment}
-use Rattle.elf_image.specs.Image.{is_writable_segment, code_segment, code_start, code_size}
+use Rattle.program_image.proofs.Covering.{EndsBefore, pairs_tail}
+use Rattle.program_image.specs.Image.{ProgramSegment, ProgramImage, IsWellFormed, ram_start, is_code_segment}
+use Rattle.program_image.specs.Image.{is_writable_segment, code_segment, code_start, code_size}
 use Rattle.elf_image.specs.Layout.{half_at, word_at, entry_of, table_offset, table_count, loadable, loadable_from}
 use Rattle.elf_image.specs.Checks.{Passes, AreApart, is_executable, is_writable}
-use Rattle.elf_image.proofs.{Covering.EndsBefore, Covering.pairs_tail, Loading.find_counted, Rising.AreRising}
+use Rattle.elf_image.proofs.{Loading.find_counted, Rising.AreRising}
 use Rattle.elf_image.proofs.{Rising.same_order}
 use Rattle.elf_image.proofs.WrittenFields.{header_of, headers_of, Fits, magic, class, order, version, file_version}
 use Rattle.elf_image.proofs.WrittenFields.{kind, machine, header_size, entry_size, table, table_length, enters}

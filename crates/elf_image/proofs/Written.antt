@@ -2,7 +2,8 @@
 use Rattle.std.proofs.Common.{◌≡◌, ℕ, suc, ◌+◌, ◌<◌, ◌≤◌, List, [], ◌∷◌, ◌++◌, length, get_or, drop, refl, sym, ap}
 use Rattle.std.proofs.Common.{drop-cons, add-one}
 use Rattle.std.proofs.lemmas.List.{drop_all}
-use Rattle.elf_image.specs.{Image.ProgramSegment, Written.program_header, Written.program_headers}
+use Rattle.program_image.specs.Image.{ProgramSegment}
+use Rattle.elf_image.specs.{Written.program_header, Written.program_headers}
 
 headers_of_more : (s : ProgramSegment) (segments : List ProgramSegment) (offset : ℕ)
     → program_headers (s ∷ segments) offset ≡ program_header s offset

@@ -4,7 +4,8 @@ use Rattle.std.proofs.Common.{append_assoc, length-append}
 use Rattle.std.specs.Prelude.{slice_index, filter}
 use Rattle.std.proofs.Math.Seq.{drop-append-add}
 use Rattle.byteorder.specs.Numbers.{little_number-reads_back}
-use Rattle.elf_image.specs.{declared.program_header.ProgramHeader.ProgramHeader, Image.ProgramSegment}
+use Rattle.program_image.specs.Image.{ProgramSegment}
+use Rattle.elf_image.specs.{declared.program_header.ProgramHeader.ProgramHeader}
 use Rattle.elf_image.specs.Layout.{half_at, word_at, header_at, headers_from, loadable_from, is_loadable}
 use Rattle.elf_image.specs.Written.{half_bytes, word_bytes, file_header, program_header, program_headers}
 

@@ -1,4 +1,3 @@
-pub mod Image
 pub mod Layout
 pub mod Refusal
 pub mod Checks

@@ -1,7 +1,7 @@
 -- The file that an image is written as. [ELF32, "ELF Header" and "Program Header"]
 use Rattle.std.specs.Prelude.{ℕ, ◌+◌, ◌*◌, List, [], ◌∷◌, ◌++◌, length, replicate, flat_map}
 use Rattle.byteorder.specs.Endian.{little_bytes}
-use Rattle.elf_image.specs.Image.{ProgramSegment, ProgramImage}
+use Rattle.program_image.specs.Image.{ProgramSegment, ProgramImage}
 
 -- A field of two bytes, and one of four, the lowest byte first.
 unfoldable pub half_bytes : ℕ → List ℕ

@@ -9,11 +9,10 @@ ghost use Rattle.elf_image.specs.Loaded.{IsImageOf};
 
 use crate::checks::{check_code, check_places};
 use crate::file_header::read_file_header;
-use crate::image::Image;
 use crate::program_header::{ProgramHeader, read_loadable};
-use crate::ram_size::RamSize;
 use crate::refusal::LoadRefused;
-use crate::segment::read_segments;
+use crate::segments::read_segments;
+use program_image::{Image, RamSize};
 use std::alloc::{AllocError, Global};
 
 /// Puts the headers in the order of their addresses.

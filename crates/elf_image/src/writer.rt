@@ -1,16 +1,15 @@
 //! From an image to a file.
 
 ghost use Rattle.std.specs.Prelude.{◌≡◌, ◌+◌, ◌*◌, ◌≤◌, ◌++◌, length, All, IfOk, OnOk, flat_map};
-ghost use Rattle.elf_image.specs.Image.{ProgramImage};
+ghost use Rattle.program_image.specs.Image.{ProgramImage};
 ghost use Rattle.elf_image.specs.Checks.{Passes};
 ghost use Rattle.elf_image.specs.Loaded.{IsImageOf};
 ghost use Rattle.elf_image.specs.declared.refusal.LoadRefused.{LoadRefused as Refusal};
 ghost use Rattle.elf_image.specs.Written.{half_bytes, word_bytes, file_header, program_header};
 ghost use Rattle.elf_image.specs.Written.{program_headers, file_of};
 
-use crate::image::Image;
-use crate::segment::Segment;
 use byteorder::{ByteOrder, LittleEndian};
+use program_image::{Image, Segment};
 use std::alloc::{AllocError, Global};
 
 /// Appends fields of two bytes.

@@ -1,6 +1,6 @@
 -- What is lent to a unit, and what the unit hands back.
 use Rattle.std.specs.Prelude.{ℕ, None}
-use Rattle.rv_decode.specs.declared.op.Op.{Op}
+use Rattle.rv_instr.specs.declared.op.Op.{Op}
 use Rattle.events.specs.declared.effect.Outcome.{Outcome}
 use Rattle.smt_model.specs.{Exec.exec, Outcomes.outcome_of}
 

@@ -1,7 +1,7 @@
 ghost use Rattle.std.specs.Prelude.{◌≡◌};
 
 use events::{Outcome, Seq};
-use rv_decode::Op;
+use rv_instr::Op;
 use std::marker::Model;
 
 /// An instruction that is lent to a unit, with its operands. It can't be let go: the unit works on

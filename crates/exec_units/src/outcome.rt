@@ -6,8 +6,8 @@ ghost use Rattle.smt_model.specs.Nexts.{is_last};
 ghost use Rattle.smt_model.specs.Outcomes.{last_outcome, outcome_of};
 
 use events::{Next, Outcome, OutcomeFields};
-use rv_decode::{Kind, Op};
 use rv_execute::Computed;
+use rv_instr::{Kind, Op};
 
 /// What the completion says before memory is looked at: an instruction that ends or stops its hart
 /// says nothing else, a register's number is there only for one that writes a register, and an

@@ -15,8 +15,8 @@ ghost use Rattle.smt_model.specs.Memory.{output, status};
 ghost use Rattle.smt_model.specs.Rules.{is_legal};
 ghost use Rattle.smt_model.specs.Setup.{is_accepted};
 
-use elf_image::Image;
 use events::Event;
+use program_image::Image;
 use smt_core::{Account, Config, Core, CoreRefused, Followed};
 use smt_laws::laws::refines_the_plain_machine;
 use std::alloc::Global;

@@ -4,7 +4,7 @@ use Rattle.std.proofs.Common.{zero, suc, ◌++◌, filter, length, get_or, take,
 use Rattle.std.proofs.lemmas.Bool.Decides.{nat_tests}
 use Rattle.std.specs.List.{AllByRecursion}
 use Rattle.std.proofs.lemmas.Bool.{ltb-true, ltb-false, eqb-false, or_parts, false≢true}
-use Rattle.rv_decode.specs.declared.op.UnitKind.{UnitKind}
+use Rattle.rv_instr.specs.declared.op.UnitKind.{UnitKind}
 use Rattle.issue_queue.specs.{declared.entry.Entry.Entry, Entry.can_issue, Entry.woken_entry}
 use Rattle.issue_queue.specs.Queue.{Queue, AreEntriesRising, has_number, inserted_entry, first_ready, is_other, IsOldestReady}
 

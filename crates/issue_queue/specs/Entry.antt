@@ -1,7 +1,7 @@
 -- An instruction that waits for its operands or for a unit.
 use Rattle.std.specs.Prelude.{ℕ, ◌==◌, ◌&&◌, Bool, true, false, map, if◌then◌else◌}
 use Rattle.std.specs.List.{list_all}
-use Rattle.rv_decode.specs.{declared.op.UnitKind.UnitKind, Registers.op_unit, Registers.same_unit}
+use Rattle.rv_instr.specs.{declared.op.UnitKind.UnitKind, Registers.op_unit, Registers.same_unit}
 use Rattle.issue_queue.specs.{declared.entry.Source.Source, declared.entry.Source.TheVariants.Value}
 use Rattle.issue_queue.specs.{declared.entry.Source.TheVariants.Waits, declared.entry.Entry.Entry}
 

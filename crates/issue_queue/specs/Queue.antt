@@ -2,7 +2,7 @@
 use Rattle.std.specs.Prelude.{◌≡◌, ℕ, ◌<◌, ◌≤◌, ◌==◌, ◌&&◌, not, nat_lt, Bool, true, List, [], ◌∷◌}
 use Rattle.std.specs.Prelude.{Option, find, if◌then◌else◌}
 use Rattle.std.specs.List.{AllByRecursion, list_any}
-use Rattle.rv_decode.specs.declared.op.UnitKind.{UnitKind}
+use Rattle.rv_instr.specs.declared.op.UnitKind.{UnitKind}
 use Rattle.issue_queue.specs.{declared.entry.Entry.Entry, Entry.can_issue}
 
 -- a queue: how many entries it has room for, and those it has

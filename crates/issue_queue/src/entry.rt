@@ -2,7 +2,7 @@ ghost use Rattle.std.specs.Prelude.{◌≡◌, ◌∷◌, [], map};
 ghost use Rattle.issue_queue.specs.Entry.{woken_source};
 
 use numbers::{Phys, Seq};
-use rv_decode::{Op, UnitKind};
+use rv_instr::{Op, UnitKind};
 
 /// An operand of an instruction that waits.
 #[derive(Clone, Copy, Debug, PartialEq, Eq, Drop)]
@@ -78,7 +78,7 @@ fn wake_sources(sources: &mut [Source], register: Phys, value: u32)
 
 // What an unused place of a queue holds: no clause of a queue sees it.
 impl Default for Entry {
-    ghost use Rattle.rv_decode.specs.declared.op.Op.TheVariants.{NoWord};
+    ghost use Rattle.rv_instr.specs.declared.op.Op.TheVariants.{NoWord};
     ghost use Rattle.issue_queue.specs.declared.entry.Source.TheVariants.{Value};
 
     fn default() -> Self

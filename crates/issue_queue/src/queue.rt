@@ -12,7 +12,7 @@ use crate::entry::Entry;
 use arrayvec::ArrayVec;
 use numbers::sizes::MOST_QUEUED;
 use numbers::{Phys, Seq};
-use rv_decode::UnitKind;
+use rv_instr::UnitKind;
 use std::marker::Model;
 
 /// The instructions of all harts that wait, by rising number, and how many there is room for: 4 to

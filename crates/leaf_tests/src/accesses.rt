@@ -8,7 +8,7 @@ use crate::rows::holds_at;
 use events::{EffectFields, Next, OutcomeFields, Written};
 use load_store::LoadStore;
 use memory_effects::{completion, effect};
-use rv_decode::Op;
+use rv_decode::decode_op;
 use shared_memory::Memory;
 use std::test::Fail;
 
@@ -154,7 +154,7 @@ fn a_completion_says_its_fault_or_its_first_look(rt: HostRuntime) -> Result<(), 
     let queues = LoadStore::new();
     for (word, addr, datum, value) in &COMPLETIONS {
         let handed = handed_back(*addr, *datum);
-        let op = Op::of_word(Some(*word));
+        let op = decode_op(Some(*word));
         let came = completion(&memory, &queues, 0, 5, op, handed);
         holds_at(&rt, *word, came == said(handed, *value));
     }
@@ -168,7 +168,7 @@ fn an_instruction_retires_by_memory_as_it_is(rt: HostRuntime) -> Result<(), Fail
     memory.reserve(0, WORD);
     memory.reserve(1, NEXT_WORD);
     for (word, addr, datum, value, write) in &EFFECTS {
-        let op = Op::of_word(Some(*word));
+        let op = decode_op(Some(*word));
         let came = effect(&memory, 0, op, handed_back(*addr, *datum));
         holds_at(&rt, *word, came == done(*value, *write));
     }
@@ -179,7 +179,7 @@ fn an_instruction_retires_by_memory_as_it_is(rt: HostRuntime) -> Result<(), Fail
 fn looks(memory: &Memory, queues: &LoadStore, hart: u8, seq: u32) -> (Option<u32>, Option<u32>)
     requires { hart < 8 }
 {
-    let op = Op::of_word(Some(LB));
+    let op = decode_op(Some(LB));
     let outcome = completion(memory, queues, hart, seq, op, handed_back(WORD, None));
     (outcome.value, effect(memory, hart, op, outcome).value)
 }
@@ -210,7 +210,7 @@ fn what_touches_no_memory_stays(rt: HostRuntime) -> Result<(), Fail> {
     let memory = first_memory(rt.alloc()).ok_or("refused")?;
     let queues = LoadStore::new();
     // The byte of a call stands beside its number.
-    let op = Op::of_word(Some(ADDI));
+    let op = decode_op(Some(ADDI));
     let outcome = OutcomeFields {
         value: Some(5),
         next: BEHIND,

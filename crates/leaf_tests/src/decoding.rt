@@ -1,5 +1,6 @@
 use crate::rows::{holds, holds_at, instr_of, word_and_text};
-use rv_decode::{Instr, Op, Reg, UnitKind, decode, encode};
+use rv_decode::{decode, decode_op, encode};
+use rv_instr::{Instr, Op, Reg, UnitKind};
 
 /// Words that the GNU assembler 2.40 and its linker make of the text beside each (-march=rv32ima)
 /// at 80000000; llvm-mc 14 makes the same of those that aren't jumps to a label. One or more of
@@ -128,7 +129,7 @@ static ILLEGAL: [u32; 24] = [
 #[test]
 fn words_of_no_row_are_illegal(rt: HostRuntime) {
     for word in &ILLEGAL {
-        let illegal = matches!(Op::of_word(Some(*word)), Op::Illegal);
+        let illegal = matches!(decode_op(Some(*word)), Op::Illegal);
         holds_at(&rt, *word, illegal);
     }
 }
@@ -201,11 +202,11 @@ fn named_by_word(word: u32) -> Option<Named> {
 #[test]
 fn registers_and_units_are_those_that_the_text_names(rt: HostRuntime) {
     for (word, named) in &NAMED {
-        holds_at(&rt, *word, named_by(Op::of_word(Some(*word))) == *named);
+        holds_at(&rt, *word, named_by(decode_op(Some(*word))) == *named);
         holds_at(&rt, *word, named_by_word(*word) == Some(*named));
     }
     let none = named!(None, None, None, UnitKind::Alu);
-    assert!(rt; named_by(Op::of_word(Some(0))) == none);
-    assert!(rt; named_by(Op::of_word(None)) == none);
-    assert!(rt; matches!(Op::of_word(None), Op::NoWord));
+    assert!(rt; named_by(decode_op(Some(0))) == none);
+    assert!(rt; named_by(decode_op(None)) == none);
+    assert!(rt; matches!(decode_op(None), Op::NoWord));
 }

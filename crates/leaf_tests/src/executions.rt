@@ -2,8 +2,8 @@
 
 use crate::rows::holds;
 use events::Next;
-use rv_decode::{Instr, LoadOp, Op, Ordering, StoreOp};
 use rv_execute::execute;
+use rv_instr::{Instr, LoadOp, Op, Ordering, StoreOp};
 use rv_word::AmoKind;
 
 const PC: u32 = 0x8000_0000;

@@ -2,7 +2,7 @@ ghost use Rattle.std.specs.Prelude.{◌≡◌};
 
 use events::{Next, OutcomeFields};
 use retire_squash::{Active, ActiveList, Stage};
-use rv_decode::Op;
+use rv_instr::Op;
 
 fn renamed(seq: u32) -> Active
     ensures { result.seq ≡ seq }

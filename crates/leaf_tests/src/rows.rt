@@ -2,9 +2,10 @@
 //! of one of these.
 
 ghost use Rattle.std.specs.Prelude.{IfSome};
-ghost use Rattle.rv_decode.specs.Table.{IsInstructionInRange};
+ghost use Rattle.rv_instr.specs.Table.{IsInstructionInRange};
 
-use rv_decode::{Instr, decode};
+use rv_decode::decode;
+use rv_instr::Instr;
 use rv_text::print;
 use std::process::Abort;
 use text_fields::read_hex;

@@ -1,5 +1,5 @@
 use crate::rows::{holds, instr_of, word_and_text};
-use rv_decode::{Instr, ShiftOp};
+use rv_instr::{Instr, ShiftOp};
 use rv_text::{parse, print};
 
 mod words;

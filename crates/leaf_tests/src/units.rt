@@ -1,7 +1,7 @@
 use crate::rows::holds;
 use events::{Next, OutcomeFields};
 use exec_units::{Job, work};
-use rv_decode::{BranchOp, ImmediateOp, Instr, LoadOp, MulDivOp, Op};
+use rv_instr::{BranchOp, ImmediateOp, Instr, LoadOp, MulDivOp, Op};
 
 const PC: u32 = 0x8000_0000;
 

@@ -1,5 +1,5 @@
 use issue_queue::{Entry, IssueQueue, Source};
-use rv_decode::{Instr, LoadOp, MulDivOp, Op, UnitKind};
+use rv_instr::{Instr, LoadOp, MulDivOp, Op, UnitKind};
 use std::process::Abort;
 
 const LOAD: Op = Op::Known(Instr::Load {

@@ -2,10 +2,10 @@
 use Rattle.std.specs.Prelude.{◌≡◌, ℕ, Bool, true, false, ◌&&◌, Option, Some, None}
 use Rattle.std.proofs.Common.{◌∙◌, refl, sym, ap, inl, inr, arith}
 use Rattle.std.proofs.lemmas.Bool.{cases_Bool}
-use Rattle.elf_image.specs.Image.{ProgramImage}
+use Rattle.program_image.specs.Image.{ProgramImage}
 use Rattle.events.specs.declared.effect.Outcome.{Outcome}
 use Rattle.events.specs.declared.effect.Next.TheVariants.{Stopped}
-use Rattle.rv_decode.specs.declared.op.Op.{Op}
+use Rattle.rv_instr.specs.declared.op.Op.{Op}
 use Rattle.smt_model.specs.{Exec.Computed, Nexts.is_last, Faults.fault, Faults.checked, Bytes.read}
 use Rattle.smt_model.specs.Kinds.{Kind, Computing, Loading, Storing, Reserving, Conditional, Atomic, kind_of}
 use Rattle.smt_model.specs.Kinds.{is_loading, touches_memory, writes_register}

@@ -5,7 +5,7 @@ use Rattle.std.proofs.Common.{◌∙◌, refl, ap, inl, inr, arith}
 use Rattle.std.proofs.lemmas.Bool.{cases_Bool, cond-true, cond-false}
 use Rattle.events.specs.declared.event.Event.{Event}
 use Rattle.events.specs.declared.effect.Written.{Written}
-use Rattle.rv_decode.specs.declared.op.Op.{Op}
+use Rattle.rv_instr.specs.declared.op.Op.{Op}
 use Rattle.smt_model.specs.{Setup.Setup, Kinds.kind_of, Kinds.is_storing, Kinds.access_size, Flights.numbers}
 use Rattle.smt_model.specs.{Bytes.number_at, Bytes.read, Bytes.read_value, Bytes.byte_after}
 use Rattle.smt_model.specs.Memory.{byte_at}

@@ -2,7 +2,7 @@
 -- are as a history has them.
 use Rattle.std.specs.Prelude.{◌≡◌, ℕ, List, Some}
 use Rattle.events.specs.declared.event.Event.{Event}
-use Rattle.rv_decode.specs.declared.op.Op.{Op}
+use Rattle.rv_instr.specs.declared.op.Op.{Op}
 use Rattle.smt_model.specs.{Setup.Setup, Exec.Computed, Exec.exec, Faults.checked, Basics.or_zero}
 use Rattle.smt_model.specs.{Bytes.read, Outcomes.outcome_of, Effects.effect_of}
 use Rattle.smt_model.specs.{Kinds.first_source, Kinds.second_source, Registers.operand}

@@ -9,7 +9,7 @@ ghost use Rattle.smt_model.specs.Kinds.{touches_memory};
 ghost use Rattle.shared_memory.specs.Contents.{IsSize, byte_of};
 
 use events::Cause;
-use rv_decode::{Instr, Kind, LoadOp, Op, StoreOp};
+use rv_instr::{Instr, Kind, LoadOp, Op, StoreOp};
 use rv_word::sext;
 use shared_memory::{AccessKind, Memory};
 

@@ -13,7 +13,7 @@ ghost use Rattle.load_store.specs.Queues.{queues_of};
 use crate::access::{access_size, fault, read_value};
 use events::{Cause, Next, OutcomeFields, Seq};
 use load_store::LoadStore;
-use rv_decode::Op;
+use rv_instr::Op;
 use shared_memory::Memory;
 
 /// What the core says as the hart's instruction `seq` completes, from the outcome that a unit

@@ -12,7 +12,7 @@ ghost use Rattle.shared_memory.specs.Contents.{byte_of, reserved_of};
 
 use crate::access::{access_size, fault, read};
 use events::{EffectFields, Next, OutcomeFields, Written};
-use rv_decode::{Instr, Kind, Op};
+use rv_instr::{Instr, Kind, Op};
 use rv_word::amo;
 use shared_memory::Memory;
 

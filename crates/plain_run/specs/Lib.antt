@@ -1,4 +1,3 @@
 pub mod Left
 pub mod LeftInside
 pub mod Orders
-pub mod Again

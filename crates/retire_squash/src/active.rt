@@ -2,7 +2,7 @@ ghost use Rattle.std.specs.Prelude.{◌≡◌, None};
 
 use events::OutcomeFields;
 use numbers::{Phys, Reg, Seq};
-use rv_decode::Op;
+use rv_instr::Op;
 
 /// How far an instruction in flight has come.
 #[derive(Clone, Copy, Debug, PartialEq, Eq, Drop)]
@@ -34,7 +34,7 @@ pub struct Active {
 
 // What an unused place of an `ActiveList` holds: no clause of a list sees it.
 impl Default for Active {
-    ghost use Rattle.rv_decode.specs.declared.op.Op.TheVariants.{NoWord};
+    ghost use Rattle.rv_instr.specs.declared.op.Op.TheVariants.{NoWord};
     ghost use Rattle.retire_squash.specs.declared.active.Stage.TheVariants.{Renamed};
 
     fn default() -> Self

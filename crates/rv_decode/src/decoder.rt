@@ -1,9 +1,9 @@
 //! Words read as instructions: one function for each opcode that has several rows.
 
 ghost use Rattle.std.specs.Prelude.{◌≡◌, IfSome};
-ghost use Rattle.rv_decode.specs.Fields.{opcode_at};
-ghost use Rattle.rv_decode.specs.Table.{Spells, IsInstructionInRange, IsReading};
-ghost use Rattle.rv_decode.specs.Decode.{
+ghost use Rattle.rv_instr.specs.Fields.{opcode_at};
+ghost use Rattle.rv_instr.specs.Table.{Spells, IsInstructionInRange, IsReading, OpInRange};
+ghost use Rattle.rv_instr.specs.Decode.{
   decoded,
   jalr_of,
   branch_of,
@@ -12,12 +12,12 @@ ghost use Rattle.rv_decode.specs.Decode.{
   immediate_of,
   register_of,
   atomic_of,
+  op_of_word,
 };
 
 use crate::fields::{
     bits, immediate_b, immediate_i, immediate_j, immediate_s, immediate_u, ordering, rd, rs1, rs2,
 };
-use crate::instr::Instr;
 use crate::opcodes::{
     AMO, AUIPC, BRANCH, JAL, JALR, LOAD, LUI, MISC_MEM, OP, OP_IMM, STORE, SYSTEM,
 };
@@ -25,8 +25,9 @@ use crate::operations::{
     amo_operation, branch_operation, immediate_operation, load_operation, muldiv_operation,
     register_operation, shift_operation, store_operation,
 };
+use rv_instr::{Instr, Op};
 
-#[tactic(auto, unfolding(crate::specs::Decode::jalr_of))]
+#[tactic(auto, unfolding(rv_instr::specs::Decode::jalr_of))]
 fn jalr(word: u32) -> Option<Instr>
     requires { opcode_at word ≡ JALR }
     ensures value { result ≡ jalr_of word }
@@ -39,7 +40,7 @@ fn jalr(word: u32) -> Option<Instr>
     })
 }
 
-#[tactic(auto, unfolding(crate::specs::Decode::branch_of))]
+#[tactic(auto, unfolding(rv_instr::specs::Decode::branch_of))]
 fn branch(word: u32) -> Option<Instr>
     requires { opcode_at word ≡ BRANCH }
     ensures value { result ≡ branch_of word }
@@ -53,7 +54,7 @@ fn branch(word: u32) -> Option<Instr>
     })
 }
 
-#[tactic(auto, unfolding(crate::specs::Decode::load_of))]
+#[tactic(auto, unfolding(rv_instr::specs::Decode::load_of))]
 fn load(word: u32) -> Option<Instr>
     requires { opcode_at word ≡ LOAD }
     ensures value { result ≡ load_of word }
@@ -67,7 +68,7 @@ fn load(word: u32) -> Option<Instr>
     })
 }
 
-#[tactic(auto, unfolding(crate::specs::Decode::store_of))]
+#[tactic(auto, unfolding(rv_instr::specs::Decode::store_of))]
 fn store(word: u32) -> Option<Instr>
     requires { opcode_at word ≡ STORE }
     ensures value { result ≡ store_of word }
@@ -81,7 +82,7 @@ fn store(word: u32) -> Option<Instr>
     })
 }
 
-#[tactic(auto, unfolding(crate::specs::Decode::immediate_of, crate::specs::Decode::shift_of))]
+#[tactic(auto, unfolding(rv_instr::specs::Decode::immediate_of, rv_instr::specs::Decode::shift_of))]
 fn immediate(word: u32) -> Option<Instr>
     requires { opcode_at word ≡ OP_IMM }
     ensures value { result ≡ immediate_of word }
@@ -104,7 +105,7 @@ fn immediate(word: u32) -> Option<Instr>
     })
 }
 
-#[tactic(auto, unfolding(crate::specs::Decode::register_of, crate::specs::Decode::muldiv_of))]
+#[tactic(auto, unfolding(rv_instr::specs::Decode::register_of, rv_instr::specs::Decode::muldiv_of))]
 fn register(word: u32) -> Option<Instr>
     requires { opcode_at word ≡ OP }
     ensures value { result ≡ register_of word }
@@ -127,7 +128,7 @@ fn register(word: u32) -> Option<Instr>
     })
 }
 
-#[tactic(auto, unfolding(crate::specs::Decode::atomic_of, crate::specs::Decode::load_reserved_of, crate::specs::Decode::store_conditional_of, crate::specs::Decode::amo_of))]
+#[tactic(auto, unfolding(rv_instr::specs::Decode::atomic_of, rv_instr::specs::Decode::load_reserved_of, rv_instr::specs::Decode::store_conditional_of, rv_instr::specs::Decode::amo_of))]
 fn atomic(word: u32) -> Option<Instr>
     requires { opcode_at word ≡ AMO }
     ensures value { result ≡ atomic_of word }
@@ -158,7 +159,7 @@ fn atomic(word: u32) -> Option<Instr>
 
 /// The instruction that a word spells; `None` where the word is no row of the table
 /// (RISC-V Unprivileged ISA, chapter "RV32/64G Instruction Set Listings").
-#[tactic(auto, unfolding(crate::specs::Decode::decoded, crate::specs::Decode::fence_of, crate::specs::Decode::system_of))]
+#[tactic(auto, unfolding(rv_instr::specs::Decode::decoded, rv_instr::specs::Decode::fence_of, rv_instr::specs::Decode::system_of))]
 pub fn decode(word: u32) -> Option<Instr>
     ensures value { result ≡ decoded word }
     ensures found { IfSome result (λ instr. Spells word instr) }
@@ -189,5 +190,18 @@ pub fn decode(word: u32) -> Option<Instr>
         SYSTEM if word == 0x00100073 => Some(Instr::Ebreak),
         AMO => atomic(word),
         _ => None,
+    }
+}
+
+/// What is found at a pc where memory holds this word; `None` where it holds no whole word.
+#[tactic(auto, unfolding(rv_instr::specs::Decode::op_of_word, rv_instr::specs::Decode::op_of_instr))]
+pub fn decode_op(word: Option<u32>) -> Op
+    ensures value { result ≡ op_of_word word }
+    ensures in_range { OpInRange result }
+{
+    match word.map(decode) {
+        Some(Some(instr)) => Op::Known(instr),
+        Some(None) => Op::Illegal,
+        None => Op::NoWord,
     }
 }

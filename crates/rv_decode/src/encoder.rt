@@ -1,7 +1,7 @@
 //! Instructions written as words: each format lays its fields side by side.
 
 ghost use Rattle.std.specs.Prelude.{◌≡◌, ◌<◌};
-ghost use Rattle.rv_decode.specs.Fields.{
+ghost use Rattle.rv_instr.specs.Fields.{
   opcode_at,
   rd_at,
   rs1_at,
@@ -16,16 +16,16 @@ ghost use Rattle.rv_decode.specs.Fields.{
   imm_u,
   imm_j,
 };
-ghost use Rattle.rv_decode.specs.Table.{Spells, IsInstructionInRange, IsSigned, IsDistance};
-ghost use Rattle.rv_decode.specs.Table.{IsUpper};
+ghost use Rattle.rv_instr.specs.Table.{Spells, IsInstructionInRange, IsSigned, IsDistance};
+ghost use Rattle.rv_instr.specs.Table.{IsUpper};
 
 use crate::fields::bits;
-use crate::instr::{Instr, Ordering, Reg};
 use crate::opcodes::{AMO, AUIPC, BRANCH, JAL, JALR, LOAD, LUI, OP, OP_IMM, STORE};
 use crate::operations::{
     amo_funct5, branch_funct3, immediate_funct3, load_funct3, muldiv_funct3, register_functs,
     shift_functs, store_funct3,
 };
+use rv_instr::{Instr, Ordering, Reg};
 
 fn format_r(opcode: u32, funct7: u32, funct3: u32, rd: Reg, rs1: Reg, rs2: Reg) -> u32
     requires opcode { opcode < 128 }

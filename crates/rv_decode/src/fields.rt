@@ -2,7 +2,7 @@
 //! chapter "RV32I").
 
 ghost use Rattle.std.specs.Prelude.{◌≡◌, ◌<◌, ◌≤◌, ◌*◌, ◌^◌, nat_lt, pos, ◌-ℤ◌, if◌then◌else◌};
-ghost use Rattle.rv_decode.specs.Fields.{
+ghost use Rattle.rv_instr.specs.Fields.{
   bits_at,
   rd_at,
   rs1_at,
@@ -15,7 +15,7 @@ ghost use Rattle.rv_decode.specs.Fields.{
   imm_j,
 };
 
-use crate::instr::{Ordering, Reg};
+use rv_instr::{Ordering, Reg};
 
 /// The `len` bits of a word that begin at bit `low`.
 pub(crate) fn bits(word: u32, low: u32, len: u32) -> u32

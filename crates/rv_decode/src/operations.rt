@@ -1,7 +1,7 @@
 //! The funct fields of each operation, read and written.
 
 ghost use Rattle.std.specs.Prelude.{◌≡◌, ◌<◌, IfSome};
-ghost use Rattle.rv_decode.specs.Table.{
+ghost use Rattle.rv_instr.specs.Table.{
   branch_row,
   load_row,
   store_row,
@@ -11,7 +11,7 @@ ghost use Rattle.rv_decode.specs.Table.{
   muldiv_row,
   amo_row,
 };
-ghost use Rattle.rv_decode.specs.Decode.{
+ghost use Rattle.rv_instr.specs.Decode.{
   branch_op,
   load_op,
   store_op,
@@ -22,10 +22,10 @@ ghost use Rattle.rv_decode.specs.Decode.{
   amo_kind,
 };
 
-use crate::instr::{BranchOp, ImmediateOp, LoadOp, MulDivOp, RegisterOp, ShiftOp, StoreOp};
+use rv_instr::{BranchOp, ImmediateOp, LoadOp, MulDivOp, RegisterOp, ShiftOp, StoreOp};
 use rv_word::AmoKind;
 
-#[tactic(auto, unfolding(crate::specs::Decode::branch_op))]
+#[tactic(auto, unfolding(rv_instr::specs::Decode::branch_op))]
 pub(crate) fn branch_operation(funct3: u32) -> Option<BranchOp>
     ensures value { result ≡ branch_op funct3 }
     ensures found { IfSome result (λ op. funct3 ≡ branch_row op) }
@@ -56,7 +56,7 @@ pub(crate) fn branch_funct3(op: BranchOp) -> u32
     }
 }
 
-#[tactic(auto, unfolding(crate::specs::Decode::load_op))]
+#[tactic(auto, unfolding(rv_instr::specs::Decode::load_op))]
 pub(crate) fn load_operation(funct3: u32) -> Option<LoadOp>
     ensures value { result ≡ load_op funct3 }
     ensures found { IfSome result (λ op. funct3 ≡ load_row op) }
@@ -85,7 +85,7 @@ pub(crate) fn load_funct3(op: LoadOp) -> u32
     }
 }
 
-#[tactic(auto, unfolding(crate::specs::Decode::store_op))]
+#[tactic(auto, unfolding(rv_instr::specs::Decode::store_op))]
 pub(crate) fn store_operation(funct3: u32) -> Option<StoreOp>
     ensures value { result ≡ store_op funct3 }
     ensures found { IfSome result (λ op. funct3 ≡ store_row op) }
@@ -110,7 +110,7 @@ pub(crate) fn store_funct3(op: StoreOp) -> u32
     }
 }
 
-#[tactic(auto, unfolding(crate::specs::Decode::immediate_op))]
+#[tactic(auto, unfolding(rv_instr::specs::Decode::immediate_op))]
 pub(crate) fn immediate_operation(funct3: u32) -> Option<ImmediateOp>
     ensures value { result ≡ immediate_op funct3 }
     ensures found { IfSome result (λ op. funct3 ≡ immediate_row op) }
@@ -141,7 +141,7 @@ pub(crate) fn immediate_funct3(op: ImmediateOp) -> u32
     }
 }
 
-#[tactic(auto, unfolding(crate::specs::Decode::shift_op))]
+#[tactic(auto, unfolding(rv_instr::specs::Decode::shift_op))]
 pub(crate) fn shift_operation(funct7: u32, funct3: u32) -> Option<ShiftOp>
     ensures value { result ≡ shift_op funct7 funct3 }
     ensures found { IfSome result
@@ -170,7 +170,7 @@ pub(crate) fn shift_functs(op: ShiftOp) -> (u32, u32)
     }
 }
 
-#[tactic(auto, unfolding(crate::specs::Decode::register_op))]
+#[tactic(auto, unfolding(rv_instr::specs::Decode::register_op))]
 pub(crate) fn register_operation(funct7: u32, funct3: u32) -> Option<RegisterOp>
     ensures value { result ≡ register_op funct7 funct3 }
     ensures found { IfSome result
@@ -213,7 +213,7 @@ pub(crate) fn register_functs(op: RegisterOp) -> (u32, u32)
     }
 }
 
-#[tactic(auto, unfolding(crate::specs::Decode::muldiv_op))]
+#[tactic(auto, unfolding(rv_instr::specs::Decode::muldiv_op))]
 pub(crate) fn muldiv_operation(funct3: u32) -> Option<MulDivOp>
     ensures value { result ≡ muldiv_op funct3 }
     ensures found { IfSome result (λ op. funct3 ≡ muldiv_row op) }
@@ -248,7 +248,7 @@ pub(crate) fn muldiv_funct3(op: MulDivOp) -> u32
     }
 }
 
-#[tactic(auto, unfolding(crate::specs::Decode::amo_kind))]
+#[tactic(auto, unfolding(rv_instr::specs::Decode::amo_kind))]
 pub(crate) fn amo_operation(funct5: u32) -> Option<AmoKind>
     ensures value { result ≡ amo_kind funct5 }
     ensures found { IfSome result (λ kind. funct5 ≡ amo_row kind) }

@@ -9,7 +9,7 @@ use crate::operations::{
     immediate_value, is_taken, muldiv_value, register_value, shift_value, stored_part,
 };
 use events::Next;
-use rv_decode::{Instr, Op};
+use rv_instr::{Instr, Op};
 use rv_word::add;
 
 /// What is computed at `pc` by what was found there, from the numbers of its first and its second

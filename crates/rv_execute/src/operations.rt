@@ -3,7 +3,7 @@ ghost use Rattle.smt_model.specs.Kinds.{store_size};
 ghost use Rattle.smt_model.specs.Exec.{is_taken, immediate_value, shift_value, register_value};
 ghost use Rattle.smt_model.specs.Exec.{muldiv_value};
 
-use rv_decode::{BranchOp, ImmediateOp, MulDivOp, RegisterOp, ShiftOp, StoreOp};
+use rv_instr::{BranchOp, ImmediateOp, MulDivOp, RegisterOp, ShiftOp, StoreOp};
 
 /// Whether a branch is taken.
 pub fn is_taken(op: BranchOp, a: u32, b: u32) -> bool

@@ -12,7 +12,7 @@ use Rattle.std.proofs.{lemmas.Bool.Decides.nat_tests, lemmas.Fmt.decimal_nonempt
 use Rattle.std.proofs.{lemmas.Int.int_rem_euclid_is, lemmas.List.take_at, lemmas.List.drop_at}
 use Rattle.std.proofs.{lemmas.List.take-append-drop, lemmas.List.Sums.prefix_len-le-length}
 use Rattle.std.proofs.{lemmas.Slice.Eq.bytes_eq-Decides}
-use Rattle.rv_decode.specs.Table.{IsUpper}
+use Rattle.rv_instr.specs.Table.{IsUpper}
 use Rattle.rv_word.specs.Word.{signed, word_of, difference_of}
 use Rattle.text_fields.specs.{declared.read.FieldError.FieldError, Spelling.hex}
 use Rattle.text_fields.specs.Reading.{decimal_field, signed_field, hex_field, is_hex_digit}
@@ -23,7 +23,7 @@ use Rattle.text_fields.proofs.{HexLaws.hex_field-hex, HexLaws.hex_field_only}
 use Rattle.rv_text.specs.{declared.refused.TextRefused.TextRefused}
 use Rattle.rv_text.specs.{declared.refused.TextRefused.TheVariants.WrongOperand}
 use Rattle.rv_text.specs.{declared.refused.TextRefused.TheVariants.OutOfRange}
-use Rattle.rv_text.specs.Spelling.{register_text, signed_text, amount_text, hex_text, upper_of, target_of}
+use Rattle.rv_print.specs.Spelling.{register_text, signed_text, amount_text, hex_text, upper_of, target_of}
 use Rattle.rv_text.specs.Reading.{◌>>=◌, Field, with_refusal, digit_count, hex_digit_count, text_after, register_at}
 use Rattle.rv_text.specs.Reading.{number_len, signed_at, amount_of, amount_at, hex_at, upper_at, distance_of}
 use Rattle.rv_text.specs.Reading.{is_distance, target_at}

@@ -5,25 +5,26 @@ use Rattle.std.specs.{Prelude.IfSome, Prelude.IfNone, List.flat_map, List.positi
 use Rattle.std.proofs.lemmas.List.{length-append}
 use Rattle.rv_word.specs.declared.amo_kind.AmoKind.{AmoKind}
 use Rattle.rv_word.specs.declared.amo_kind.AmoKind.TheVariants as kinds
-use Rattle.rv_decode.specs.{declared.instr.BranchOp.BranchOp, declared.instr.LoadOp.LoadOp}
-use Rattle.rv_decode.specs.{declared.instr.StoreOp.StoreOp, declared.instr.StoreOp.TheVariants.Sb}
-use Rattle.rv_decode.specs.{declared.instr.StoreOp.TheVariants.Sh, declared.instr.StoreOp.TheVariants.Sw}
-use Rattle.rv_decode.specs.{declared.instr.ImmediateOp.ImmediateOp, declared.instr.ShiftOp.ShiftOp}
-use Rattle.rv_decode.specs.{declared.instr.ShiftOp.TheVariants.Slli, declared.instr.ShiftOp.TheVariants.Srli}
-use Rattle.rv_decode.specs.{declared.instr.ShiftOp.TheVariants.Srai, declared.instr.RegisterOp.RegisterOp}
-use Rattle.rv_decode.specs.{declared.instr.MulDivOp.MulDivOp, declared.instr.Ordering.Ordering}
-use Rattle.rv_decode.specs.declared.instr.BranchOp.TheVariants.{Beq, Bne, Blt, Bge, Bltu, Bgeu}
-use Rattle.rv_decode.specs.declared.instr.LoadOp.TheVariants.{Lb, Lh, Lw, Lbu, Lhu}
-use Rattle.rv_decode.specs.declared.instr.ImmediateOp.TheVariants.{Addi, Slti, Sltiu, Xori, Ori, Andi}
-use Rattle.rv_decode.specs.declared.instr.RegisterOp.TheVariants.{Add, Sub, Sll, Slt, Sltu, Xor, Srl, Sra, Or, And}
-use Rattle.rv_decode.specs.declared.instr.MulDivOp.TheVariants.{Mul, Mulh, Mulhsu, Mulhu, Div, Divu, Rem, Remu}
-use Rattle.rv_text.specs.{declared.mnemonic.Mnemonic.Mnemonic, declared.mnemonic.AtomicOp.AtomicOp}
-use Rattle.rv_text.specs.{declared.mnemonic.AtomicOp.TheVariants.LoadReserved}
-use Rattle.rv_text.specs.{declared.mnemonic.AtomicOp.TheVariants.StoreConditional}
-use Rattle.rv_text.specs.{declared.mnemonic.AtomicOp.TheVariants.Amo}
-use Rattle.rv_text.specs.declared.mnemonic.Mnemonic.TheVariants.{Lui, Auipc, Jal, Jalr, Branch, Load, Store, Immediate}
-use Rattle.rv_text.specs.declared.mnemonic.Mnemonic.TheVariants.{Shift, Register, MulDiv, Fence, Ecall, Ebreak, Atomic}
-use Rattle.rv_text.specs.Mnemonic.{mnemonic_name, atomic_name, ordering_name, IsPlain}
+use Rattle.rv_instr.specs.{declared.instr.BranchOp.BranchOp, declared.instr.LoadOp.LoadOp}
+use Rattle.rv_instr.specs.{declared.instr.StoreOp.StoreOp, declared.instr.StoreOp.TheVariants.Sb}
+use Rattle.rv_instr.specs.{declared.instr.StoreOp.TheVariants.Sh, declared.instr.StoreOp.TheVariants.Sw}
+use Rattle.rv_instr.specs.{declared.instr.ImmediateOp.ImmediateOp, declared.instr.ShiftOp.ShiftOp}
+use Rattle.rv_instr.specs.{declared.instr.ShiftOp.TheVariants.Slli, declared.instr.ShiftOp.TheVariants.Srli}
+use Rattle.rv_instr.specs.{declared.instr.ShiftOp.TheVariants.Srai, declared.instr.RegisterOp.RegisterOp}
+use Rattle.rv_instr.specs.{declared.instr.MulDivOp.MulDivOp, declared.instr.Ordering.Ordering}
+use Rattle.rv_instr.specs.declared.instr.BranchOp.TheVariants.{Beq, Bne, Blt, Bge, Bltu, Bgeu}
+use Rattle.rv_instr.specs.declared.instr.LoadOp.TheVariants.{Lb, Lh, Lw, Lbu, Lhu}
+use Rattle.rv_instr.specs.declared.instr.ImmediateOp.TheVariants.{Addi, Slti, Sltiu, Xori, Ori, Andi}
+use Rattle.rv_instr.specs.declared.instr.RegisterOp.TheVariants.{Add, Sub, Sll, Slt, Sltu, Xor, Srl, Sra, Or, And}
+use Rattle.rv_instr.specs.declared.instr.MulDivOp.TheVariants.{Mul, Mulh, Mulhsu, Mulhu, Div, Divu, Rem, Remu}
+use Rattle.rv_print.specs.{declared.mnemonic.Mnemonic.Mnemonic, declared.mnemonic.AtomicOp.AtomicOp}
+use Rattle.rv_print.specs.{declared.mnemonic.AtomicOp.TheVariants.LoadReserved}
+use Rattle.rv_print.specs.{declared.mnemonic.AtomicOp.TheVariants.StoreConditional}
+use Rattle.rv_print.specs.{declared.mnemonic.AtomicOp.TheVariants.Amo}
+use Rattle.rv_print.specs.declared.mnemonic.Mnemonic.TheVariants.{Lui, Auipc, Jal, Jalr, Branch, Load, Store, Immediate}
+use Rattle.rv_print.specs.declared.mnemonic.Mnemonic.TheVariants.{Shift, Register, MulDiv, Fence, Ecall, Ebreak, Atomic}
+use Rattle.rv_print.specs.Mnemonic.{mnemonic_name, atomic_name, ordering_name}
+use Rattle.rv_text.specs.Reading.{IsPlain}
 
 first_named : List ℕ → List Mnemonic → Option Mnemonic
 first_named text [] = None

@@ -4,18 +4,19 @@ use Rattle.std.proofs.Common.{Ok, Err, refl, sym, ◌∙◌, ap, arith}
 use Rattle.std.specs.{Prelude.IfOk, List.prefix_len, List.list_all}
 use Rattle.std.proofs.{lemmas.Bool.and_parts, lemmas.List.take_at, lemmas.List.drop_at, lemmas.List.take-append-drop}
 use Rattle.rv_word.specs.declared.amo_kind.AmoKind.TheVariants as kinds
-use Rattle.rv_decode.specs.{declared.instr.BranchOp.TheVariants.Beq, declared.instr.LoadOp.TheVariants.Lb}
-use Rattle.rv_decode.specs.{declared.instr.StoreOp.TheVariants.Sb, declared.instr.ImmediateOp.TheVariants.Addi}
-use Rattle.rv_decode.specs.{declared.instr.ShiftOp.TheVariants.Slli, declared.instr.RegisterOp.TheVariants.Add}
-use Rattle.rv_decode.specs.{declared.instr.MulDivOp.TheVariants.Mul, declared.instr.Instr.Instr}
-use Rattle.rv_decode.specs.declared.instr.Instr.TheVariants as instr
-use Rattle.rv_text.specs.{declared.refused.TextRefused.TextRefused, declared.mnemonic.Mnemonic.Mnemonic}
-use Rattle.rv_text.specs.{declared.mnemonic.AtomicOp.AtomicOp, declared.mnemonic.AtomicOp.TheVariants.Amo}
-use Rattle.rv_text.specs.{Mnemonic.mnemonic_name, Mnemonic.atomic_name, Mnemonic.width_and_bits, Reading.name_in}
-use Rattle.rv_text.specs.{Reading.behind_name, Reading.instr_at}
-use Rattle.rv_text.specs.declared.mnemonic.Mnemonic.TheVariants.{Branch, Load, Store, Immediate, Shift, Register}
-use Rattle.rv_text.specs.declared.mnemonic.Mnemonic.TheVariants.{MulDiv, Atomic}
-use Rattle.rv_text.specs.Spelling.{mnemonic_of, register_text, operands_of, spelling_of, Says}
+use Rattle.rv_instr.specs.{declared.instr.BranchOp.TheVariants.Beq, declared.instr.LoadOp.TheVariants.Lb}
+use Rattle.rv_instr.specs.{declared.instr.StoreOp.TheVariants.Sb, declared.instr.ImmediateOp.TheVariants.Addi}
+use Rattle.rv_instr.specs.{declared.instr.ShiftOp.TheVariants.Slli, declared.instr.RegisterOp.TheVariants.Add}
+use Rattle.rv_instr.specs.{declared.instr.MulDivOp.TheVariants.Mul, declared.instr.Instr.Instr}
+use Rattle.rv_instr.specs.declared.instr.Instr.TheVariants as instr
+use Rattle.rv_text.specs.{declared.refused.TextRefused.TextRefused}
+use Rattle.rv_print.specs.{declared.mnemonic.Mnemonic.Mnemonic}
+use Rattle.rv_print.specs.{declared.mnemonic.AtomicOp.AtomicOp, declared.mnemonic.AtomicOp.TheVariants.Amo}
+use Rattle.rv_print.specs.{Mnemonic.mnemonic_name, Mnemonic.atomic_name, Mnemonic.width_and_bits}
+use Rattle.rv_text.specs.{Reading.name_in, Reading.behind_name, Reading.instr_at}
+use Rattle.rv_print.specs.declared.mnemonic.Mnemonic.TheVariants.{Branch, Load, Store, Immediate, Shift, Register}
+use Rattle.rv_print.specs.declared.mnemonic.Mnemonic.TheVariants.{MulDiv, Atomic}
+use Rattle.rv_print.specs.Spelling.{mnemonic_of, register_text, operands_of, spelling_of, Says}
 use Rattle.rv_text.proofs.{InstrLaws.instr_takes, InstrLaws.instr_again, Names.name_of-injective}
 
 -- ---- no name has a space, and operands begin with one

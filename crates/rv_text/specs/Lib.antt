@@ -1,3 +1,1 @@
-pub mod Mnemonic
 pub mod Reading
-pub mod Spelling

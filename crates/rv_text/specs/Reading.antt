@@ -6,22 +6,22 @@ use Rattle.std.specs.Prelude.{slice_index, codes, unwrap_or, position, Result, O
 use Rattle.std.specs.{Char.is_ascii_digit, Char.is_ascii_hexdigit, List.position_or_len}
 use Rattle.std.specs.{Str.bytes_eq}
 use Rattle.rv_word.specs.Word.{signed, difference_of}
-use Rattle.rv_decode.specs.{declared.instr.Instr.Instr, declared.instr.Ordering.Ordering}
-use Rattle.rv_decode.specs.declared.instr.Instr.TheVariants as instr
+use Rattle.rv_instr.specs.{declared.instr.Instr.Instr, declared.instr.Ordering.Ordering}
+use Rattle.rv_instr.specs.declared.instr.Instr.TheVariants as instr
 use Rattle.text_fields.specs.{declared.read.FieldError.FieldError, Reading.decimal_field}
 use Rattle.text_fields.specs.{Reading.signed_field, Reading.hex_field}
 use Rattle.text_fields.specs.declared.read.FieldError.TheVariants as fields
 use Rattle.rv_text.specs.{declared.refused.TextRefused.TextRefused}
-use Rattle.rv_text.specs.{declared.mnemonic.Mnemonic.Mnemonic, declared.mnemonic.AtomicOp.AtomicOp}
-use Rattle.rv_text.specs.{declared.mnemonic.AtomicOp.TheVariants.LoadReserved}
-use Rattle.rv_text.specs.{declared.mnemonic.AtomicOp.TheVariants.StoreConditional}
-use Rattle.rv_text.specs.{declared.mnemonic.AtomicOp.TheVariants.Amo}
+use Rattle.rv_print.specs.{declared.mnemonic.Mnemonic.Mnemonic, declared.mnemonic.AtomicOp.AtomicOp}
+use Rattle.rv_print.specs.{declared.mnemonic.AtomicOp.TheVariants.LoadReserved}
+use Rattle.rv_print.specs.{declared.mnemonic.AtomicOp.TheVariants.StoreConditional}
+use Rattle.rv_print.specs.{declared.mnemonic.AtomicOp.TheVariants.Amo}
 use Rattle.rv_text.specs.declared.refused.TextRefused.TheVariants.{UnknownName, WrongOperand}
 use Rattle.rv_text.specs.declared.refused.TextRefused.TheVariants.{OutOfRange, TrailingText}
-use Rattle.rv_text.specs.declared.mnemonic.Mnemonic.TheVariants.{Lui, Auipc, Jal, Jalr, Branch}
-use Rattle.rv_text.specs.declared.mnemonic.Mnemonic.TheVariants.{Load, Store, Immediate, Shift}
-use Rattle.rv_text.specs.declared.mnemonic.Mnemonic.TheVariants.{Register, MulDiv, Fence, Ecall}
-use Rattle.rv_text.specs.declared.mnemonic.Mnemonic.TheVariants.{Ebreak, Atomic}
+use Rattle.rv_print.specs.declared.mnemonic.Mnemonic.TheVariants.{Lui, Auipc, Jal, Jalr, Branch}
+use Rattle.rv_print.specs.declared.mnemonic.Mnemonic.TheVariants.{Load, Store, Immediate, Shift}
+use Rattle.rv_print.specs.declared.mnemonic.Mnemonic.TheVariants.{Register, MulDiv, Fence, Ecall}
+use Rattle.rv_print.specs.declared.mnemonic.Mnemonic.TheVariants.{Ebreak, Atomic}
 
 infixl 10 ◌>>=◌
 abbrev pub ◌>>=◌ : {A B : Type 0} → Result A TextRefused → (A → Result B TextRefused)
@@ -40,6 +40,24 @@ name_in text = take (position_or_len (λ c. c == 32) text) text
 
 abbrev pub behind_name : List ℕ → List ℕ
 behind_name text = drop (position_or_len (λ c. c == 32) text) text
+
+-- ---- rows, as their names are looked for: those whose name has no dot first
+
+-- no atomic
+abbrev pub IsPlain : Mnemonic → Type 0
+IsPlain (Atomic _ _) = ⊥
+IsPlain _ = Unit {0}
+
+-- one of the rows that stand by themselves
+abbrev pub IsAlone : Mnemonic → Type 0
+IsAlone Lui = Unit {0}
+IsAlone Auipc = Unit {0}
+IsAlone Jal = Unit {0}
+IsAlone Jalr = Unit {0}
+IsAlone Fence = Unit {0}
+IsAlone Ecall = Unit {0}
+IsAlone Ebreak = Unit {0}
+IsAlone _ = ⊥
 
 -- ---- fields: a value, and the text behind it
 

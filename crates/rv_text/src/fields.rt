@@ -21,7 +21,7 @@ ghost use Rattle.rv_text.specs.Reading.{
 };
 
 use crate::refused::TextRefused;
-use rv_decode::Reg;
+use rv_instr::Reg;
 use text_fields::{read_decimal, read_hex, read_signed_decimal};
 
 #[tactic(auto, unfolding(crate::specs::Reading::text_after))]

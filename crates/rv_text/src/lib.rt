@@ -1,17 +1,16 @@
-//! The text of instructions: one spelling for each instruction of RV32IMA at its pc, printed and
-//! read.
+//! The text of instructions, read back: exactly the spellings that `rv_print` defines and prints are
+//! read. It hands on the printer.
 //!
-//! Read in this order: `mnemonic` (the names of the rows), `printer`, `refused` (why a text is no
-//! instruction), `fields`, `operands`, `parser`.
+//! Read in this order: `mnemonic` (the row of a name), `refused` (why a text is no instruction),
+//! `fields`, `operands`, `parser`.
 #![tactic(auto)]
 
 mod fields;
-pub mod mnemonic;
+mod mnemonic;
 mod operands;
 pub mod parser;
-pub mod printer;
 pub mod refused;
 
 pub use parser::parse;
-pub use printer::print;
 pub use refused::TextRefused;
+pub use rv_print::print;

@@ -1,10 +1,10 @@
 -- What the kinds of instructions may do where their access has no fault.
 use Rattle.std.proofs.Common.{◌≡◌, ℕ, false, None, refl, arith}
 use Rattle.std.proofs.lemmas.Bool.Decides.{nat_tests}
-use Rattle.elf_image.specs.Image.{ProgramImage}
-use Rattle.rv_decode.specs.{declared.op.Op.Op, declared.op.Op.TheVariants.Known, declared.instr.Instr.Instr}
-use Rattle.rv_decode.specs.{declared.op.Op.TheVariants.Illegal, declared.op.Op.TheVariants.NoWord}
-use Rattle.rv_decode.specs.declared.instr.Instr.TheVariants.{Load, Store}
+use Rattle.program_image.specs.Image.{ProgramImage}
+use Rattle.rv_instr.specs.{declared.op.Op.Op, declared.op.Op.TheVariants.Known, declared.instr.Instr.Instr}
+use Rattle.rv_instr.specs.{declared.op.Op.TheVariants.Illegal, declared.op.Op.TheVariants.NoWord}
+use Rattle.rv_instr.specs.declared.instr.Instr.TheVariants.{Load, Store}
 use Rattle.smt_model.specs.Kinds.{Loading, Reserving, Storing, Conditional, Atomic, kind_of, kind_of_instr, access_size}
 use Rattle.smt_model.specs.Kinds.{is_loading, is_storing, size_of_instr}
 use Rattle.smt_model.specs.Faults.{fault, read_fault, write_fault}

@@ -1,8 +1,8 @@
 -- What a hart does next on the machine is what it does next in a state with which the machine agrees.
 use Rattle.std.proofs.Common.{◌≡◌, ℕ, zero, suc, ◌+◌, ◌<◌, Option, refl, sym, ap, subst, ◌∙◌}
 use Rattle.std.specs.Prelude.{slice_index}
-use Rattle.elf_image.specs.Image.{code_word}
-use Rattle.rv_decode.specs.Decode.{op_of_word}
+use Rattle.program_image.specs.Image.{code_word}
+use Rattle.rv_instr.specs.Decode.{op_of_word}
 use Rattle.shared_memory.specs.Contents.{byte_of, reserved_of}
 use Rattle.smt_model.specs.Words.{Op, Effect, Record}
 use Rattle.smt_model.specs.Kinds.{access_size, first_source, second_source}

@@ -1,7 +1,7 @@
 -- What an instruction of a hart does, told of the machine's own parts.
 use Rattle.std.specs.Prelude.{ℕ, Option, slice_index}
-use Rattle.elf_image.specs.Image.{code_word}
-use Rattle.rv_decode.specs.Decode.{op_of_word}
+use Rattle.program_image.specs.Image.{code_word}
+use Rattle.rv_instr.specs.Decode.{op_of_word}
 use Rattle.shared_memory.specs.Contents.{Contents, byte_of, reserved_of}
 use Rattle.smt_model.specs.Words.{Op, Effect}
 use Rattle.smt_model.specs.Kinds.{first_source, second_source}

@@ -11,8 +11,8 @@ ghost use Rattle.smt_model.specs.Nexts.{is_last};
 ghost use Rattle.sc_machine.specs.Access.{HasNoFault};
 
 use events::{Cause, Next};
-use rv_decode::{Instr, Kind, LoadOp, Op, StoreOp};
 use rv_execute::Computed;
+use rv_instr::{Instr, Kind, LoadOp, Op, StoreOp};
 use shared_memory::{AccessKind, Memory};
 
 /// What is computed of an instruction, with the faults of its access: one that goes on stops where

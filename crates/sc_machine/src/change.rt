@@ -9,7 +9,7 @@ ghost use Rattle.sc_machine.specs.Access.{IsWritable, CanWrite, WritesAlone};
 
 use crate::access::is_last;
 use events::{EffectFields, Written};
-use rv_decode::{Kind, Op};
+use rv_instr::{Kind, Op};
 use shared_memory::Memory;
 
 /// Does what the effect of a hart's instruction at an address says.

@@ -11,8 +11,8 @@ ghost use Rattle.sc_machine.specs.Access.{HasNoFault, CanWrite, WritesAlone};
 
 use crate::access::{access_size, atomic_result, is_last, read};
 use events::{EffectFields, Next, Written};
-use rv_decode::{Kind, Op};
 use rv_execute::Computed;
+use rv_instr::{Kind, Op};
 use shared_memory::Memory;
 
 /// The effect of an instruction of a hart on memory and reservations as they stand. One that ends

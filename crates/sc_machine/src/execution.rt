@@ -1,10 +1,10 @@
 //! What a hart does next, on memory as it stands.
 
 ghost use Rattle.std.specs.Prelude.{◌≡◌, ◌<◌};
-ghost use Rattle.elf_image.specs.Image.{ProgramImage, code_word};
-ghost use Rattle.rv_decode.specs.Decode.{op_of_word};
-ghost use Rattle.rv_decode.specs.Kinds.{first_source, second_source};
-ghost use Rattle.rv_decode.specs.Table.{OpInRange};
+ghost use Rattle.program_image.specs.Image.{ProgramImage, code_word};
+ghost use Rattle.rv_instr.specs.Decode.{op_of_word};
+ghost use Rattle.rv_instr.specs.Kinds.{first_source, second_source};
+ghost use Rattle.rv_instr.specs.Table.{OpInRange};
 ghost use Rattle.decoded_code.specs.Code.{IsCodeOf};
 ghost use Rattle.sc_machine.specs.Execution.{IsNext, IsAllowed};
 
@@ -13,8 +13,8 @@ use crate::effect::effect_of;
 use crate::hart::Hart;
 use decoded_code::Code;
 use events::{Effect, Record};
-use rv_decode::{Op, Reg};
 use rv_execute::execute;
+use rv_instr::{Op, Reg};
 use shared_memory::Memory;
 
 /// An instruction that a hart has yet to execute: what it is, the address that it touches, and its
@@ -57,7 +57,7 @@ pub fn next_execution(memory: &Memory, code: &Code, hart: u8, state: &Hart) -> E
 }
 
 /// The word at a pc and what it is.
-#[tactic(auto, unfolding(rv_decode::specs::Decode::op_of_word))]
+#[tactic(auto, unfolding(rv_instr::specs::Decode::op_of_word))]
 fn fetch(code: &Code, pc: u32) -> (Option<u32>, Op)
     ensures word { (image : ProgramImage) → IsCodeOf image code.now
         → result.0 ≡ code_word image pc }
@@ -72,7 +72,7 @@ fn fetch(code: &Code, pc: u32) -> (Option<u32>, Op)
 }
 
 /// The first register that an instruction reads; 0 for none.
-#[tactic(auto, unfolding(rv_decode::specs::Kinds::first_source))]
+#[tactic(auto, unfolding(rv_instr::specs::Kinds::first_source))]
 fn first_source(op: Op) -> Reg
     requires { OpInRange op }
     ensures value { result ≡ first_source op }
@@ -82,7 +82,7 @@ fn first_source(op: Op) -> Reg
 }
 
 /// The second register that an instruction reads; 0 for none.
-#[tactic(auto, unfolding(rv_decode::specs::Kinds::second_source))]
+#[tactic(auto, unfolding(rv_instr::specs::Kinds::second_source))]
 fn second_source(op: Op) -> Reg
     requires { OpInRange op }
     ensures value { result ≡ second_source op }

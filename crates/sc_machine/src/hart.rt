@@ -4,7 +4,7 @@ ghost use Rattle.smt_model.specs.Plain.{is_going_status, register_after, status_
 ghost use Rattle.sc_machine.specs.Harts.{IsFirst, register_written};
 
 use events::{EffectFields, Next};
-use rv_decode::Reg;
+use rv_instr::Reg;
 use smt_model::Status;
 
 /// What a hart has of its own. x0 stands in its registers as 0.

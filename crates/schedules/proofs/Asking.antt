@@ -4,7 +4,7 @@ use Rattle.std.specs.Prelude.{reverse}
 use Rattle.std.proofs.Common.{refl, sym, ap, ◌∙◌, append-nil}
 use Rattle.std.proofs.lemmas.List.{reverse-append, reverse-reverse, map_push}
 use Rattle.std.proofs.lemmas.List.Concat.{flat_map-append}
-use Rattle.rv_decode.specs.declared.op.UnitKind.TheVariants.{Alu, Mul}
+use Rattle.rv_instr.specs.declared.op.UnitKind.TheVariants.{Alu, Mul}
 use Rattle.smt_model.specs.declared.config.Role.{Role}
 use Rattle.smt_model.specs.Asks.{Ask, AskFetch, AskDecode, AskRename, AskRetire}
 use Rattle.smt_laws.specs.Scripts.{unit_of_kind, with_unit, turn_asks, fetch_asks, script}

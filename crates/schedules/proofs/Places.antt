@@ -5,7 +5,7 @@ use Rattle.std.specs.List.{position, position_or_len}
 use Rattle.std.proofs.Common.{refl, sym, ap, subst, ◌∙◌, inl, inr, arith}
 use Rattle.std.proofs.{lemmas.Bool.cases_eq, lemmas.Bool.Decides.nat_tests, lemmas.List.Elements.filter-append}
 use Rattle.std.proofs.{lemmas.List.Quantifiers.position-Some, lemmas.List.Sums.fails_before_first}
-use Rattle.rv_decode.specs.{Registers.same_unit, declared.op.UnitKind.UnitKind}
+use Rattle.rv_instr.specs.{Registers.same_unit, declared.op.UnitKind.UnitKind}
 use Rattle.smt_model.specs.{declared.config.Role.Role, Setup.unit_of_role, Basics.holds_of, Basics.first}
 use Rattle.smt_model.specs.Basics.{below}
 use Rattle.smt_model.specs.declared.config.Role.TheVariants as role

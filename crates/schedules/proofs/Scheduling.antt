@@ -4,8 +4,8 @@ use Rattle.std.specs.Prelude.{Some, None, All, length, map, reverse}
 use Rattle.std.specs.List.{AllByRecursion}
 use Rattle.std.proofs.Common.{refl, sym, ap, subst, ◌∙◌, arith}
 use Rattle.std.proofs.{lemmas.Bool.Decides.nat_tests, lemmas.List.length-map, lemmas.List.length-reverse}
-use Rattle.rv_decode.specs.declared.op.UnitKind.{UnitKind}
-use Rattle.rv_decode.specs.declared.op.UnitKind.TheVariants.{Alu, Mul, Mem}
+use Rattle.rv_instr.specs.declared.op.UnitKind.{UnitKind}
+use Rattle.rv_instr.specs.declared.op.UnitKind.TheVariants.{Alu, Mul, Mem}
 use Rattle.events.specs.declared.effect.Record.{Record}
 use Rattle.smt_model.specs.{declared.config.Role.Role, Setup.Setup, Setup.is_accepted, Plain.Run, Plain.run}
 use Rattle.smt_laws.specs.{Execution.IsExecution, Execution.RunsAreExecutions}

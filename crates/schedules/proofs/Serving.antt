@@ -6,7 +6,7 @@ use Rattle.std.specs.List.{AllByRecursion}
 use Rattle.std.proofs.Common.{refl, sym, ap, subst, ◌∙◌}
 use Rattle.std.proofs.lemmas.List.{take-append-drop, drop_more}
 use Rattle.std.proofs.lemmas.List.Elements.{recursion_from_All}
-use Rattle.rv_decode.specs.declared.op.UnitKind.{UnitKind}
+use Rattle.rv_instr.specs.declared.op.UnitKind.{UnitKind}
 use Rattle.events.specs.declared.effect.Record.{Record}
 use Rattle.smt_model.specs.{declared.config.Role.Role, Setup.Setup}
 use Rattle.smt_laws.specs.{Shown.HasUnit, Scripts.unit_of_kind}

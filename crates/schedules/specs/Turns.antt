@@ -1,7 +1,7 @@
 -- The lines of a schedule. (This project's own choice: the first unit of each kind does the work,
 -- and actor 0 asks for all else.)
 use Rattle.std.specs.Prelude.{◌≡◌, ℕ, List, [], ◌∷◌, ◌++◌, Option, Some, None, flat_map, map}
-use Rattle.rv_decode.specs.declared.op.UnitKind.TheVariants.{Alu, Mul, Mem}
+use Rattle.rv_instr.specs.declared.op.UnitKind.TheVariants.{Alu, Mul, Mem}
 use Rattle.smt_model.specs.declared.config.Role.{Role}
 use Rattle.smt_laws.specs.Scripts.{unit_of_kind}
 use Rattle.sim_script.specs.{declared.actions.Action.Action, declared.actions.Word.Word}

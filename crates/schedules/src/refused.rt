@@ -1,4 +1,4 @@
-use rv_decode::UnitKind;
+use rv_instr::UnitKind;
 use sc_machine::Stopped;
 use thiserror::Error;
 use unit_names::unit_name;

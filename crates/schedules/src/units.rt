@@ -1,7 +1,7 @@
 //! Which actors do the work of a schedule.
 
 ghost use Rattle.std.specs.Prelude.{◌≡◌, ◌≤◌, ◌<◌, length, position, All, IfSome, IfNone};
-ghost use Rattle.rv_decode.specs.Registers.{same_unit};
+ghost use Rattle.rv_instr.specs.Registers.{same_unit};
 ghost use Rattle.numbers.specs.Sizes.{most_actors};
 ghost use Rattle.smt_model.specs.{Basics.holds_of, Setup.unit_of_role};
 ghost use Rattle.smt_laws.specs.Scripts.{unit_of_kind};
@@ -9,7 +9,8 @@ ghost use Rattle.schedules.specs.Refusals.{unit_of_record, IsServed, IsFirstUnse
 ghost use Rattle.schedules.specs.Turns.{AreUnits};
 
 use events::Record;
-use rv_decode::{Op, UnitKind};
+use rv_decode::decode_op;
+use rv_instr::UnitKind;
 use smt_model::Role;
 
 /// The first actor that is a unit of each kind, where there is one.
@@ -54,7 +55,7 @@ pub fn missing_unit(roles: &[Role], records: &[Record]) -> Option<UnitKind>
 fn unit_of_record(retired: &Record) -> UnitKind
     ensures { result ≡ unit_of_record retired.now }
 {
-    Op::of_word(retired.word).unit()
+    decode_op(retired.word).unit()
 }
 
 /// The first actor that is a unit of this kind.

@@ -4,20 +4,21 @@ use Rattle.std.specs.Prelude.{◌≡◌, ℕ, Bool, true, false, List, [], ◌++
 use Rattle.std.proofs.Common.{refl, sym, subst, ap, ◌∙◌}
 use mathlib.Core.Logic.{inl, inr}
 use Rattle.std.specs.Io.KnownBytes.{Appends}
-use Rattle.elf_image.specs.{Image.ProgramImage, Loaded.IsImageOf}
+use Rattle.program_image.specs.Image.{ProgramImage}
+use Rattle.elf_image.specs.{Loaded.IsImageOf}
 use Rattle.events.specs.{declared.event.Event.Event, declared.effect.Record.Record}
 use Rattle.smt_model.specs.{declared.config.Status.Status, Account.open_job_count, Memory.output}
 use Rattle.smt_model.specs.Setup.{is_accepted}
 use Rattle.core_state.specs.{Setup.setup_of, View.CoreView}
 use Rattle.core_lock.specs.Shown.{Shown}
 use Rattle.sim_inputs.specs.declared.settings.Settings.{Settings}
-use Rattle.sim_report.specs.declared.refused.Refused.{Refused}
-use Rattle.sim_report.specs.declared.refused.Refused.TheVariants as refused
-use Rattle.sim_report.specs.Refusals.{Read, OfFile, PassesAll, IsImageRefusal}
+use Rattle.sim_refusals.specs.declared.refused.Refused.{Refused}
+use Rattle.sim_refusals.specs.declared.refused.Refused.TheVariants as refused
+use Rattle.sim_refusals.specs.Refusals.{Read, OfFile, PassesAll, IsImageRefusal}
 use Rattle.sim_commands.specs.CheckRefusals.{AreCheckInputsRefusedFor, IsTraceOf, IsTraceRefusal, IsHistoryRefusal}
 use Rattle.sim_commands.specs.{CheckTold.IsCheckReported}
 use Rattle.sim_report.specs.{Report.records_text, Report.report_text, Report.status_number}
-use Rattle.sim_commands.specs.Told.{HasTold, statuses_of, retired_of}
+use Rattle.sim_steps.specs.Told.{HasTold, statuses_of, retired_of}
 
 pub image_refusal : (image : Read) (settings : Settings) (trace : Read) (reason : Refused)
     → IsImageRefusal image settings.ram reason → AreCheckInputsRefusedFor image settings trace reason

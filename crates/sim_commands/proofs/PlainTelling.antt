@@ -4,15 +4,16 @@ use Rattle.std.specs.Prelude.{◌≡◌, ℕ, Bool, List, ◌++◌, Option, Ok, 
 use Rattle.std.proofs.Common.{refl}
 use mathlib.Core.Logic.{inl, inr}
 use Rattle.std.specs.Io.KnownBytes.{Appends}
-use Rattle.elf_image.specs.{Image.ProgramImage, Loaded.IsImageOf}
+use Rattle.program_image.specs.Image.{ProgramImage}
+use Rattle.elf_image.specs.{Loaded.IsImageOf}
 use Rattle.core_state.specs.Setup.{setup_of}
 use Rattle.plain_run.specs.{Left.Left, Orders.HasLeft, Orders.OfEachSetup}
 use Rattle.sim_script.specs.Order.{IsOrder}
 use Rattle.sim_inputs.specs.declared.settings.Settings.{Settings}
-use Rattle.sim_report.specs.declared.refused.Refused.{Refused}
-use Rattle.sim_report.specs.declared.refused.Refused.TheVariants.{Image, Config, Script, Order, Step, Memory, File}
-use Rattle.sim_report.specs.declared.refused.Refused.TheVariants.{Output, Thread, Trace, Event, NoUnit, Limit}
-use Rattle.sim_report.specs.Refusals.{Read, OfFile, PassesAll, IsImageRefusal}
+use Rattle.sim_refusals.specs.declared.refused.Refused.{Refused}
+use Rattle.sim_refusals.specs.declared.refused.Refused.TheVariants.{Image, Config, Script, Order, Step, Memory, File}
+use Rattle.sim_refusals.specs.declared.refused.Refused.TheVariants.{Output, Thread, Trace, Event, NoUnit, Limit}
+use Rattle.sim_refusals.specs.Refusals.{Read, OfFile, PassesAll, IsImageRefusal}
 use Rattle.sim_commands.specs.PlainRefusals.{ArePlainInputsRefusedFor, IsOrdering, IsOrderRefusal, IsRunRefusal}
 use Rattle.sim_commands.specs.{PlainTold.IsPlainReported}
 use Rattle.sim_report.specs.{Report.records_text}

@@ -4,7 +4,8 @@ use Rattle.std.specs.Prelude.{◌≡◌, ℕ, List, Option}
 use Rattle.std.proofs.Common.{subst}
 use mathlib.Core.Logic.{inl, inr}
 use Rattle.std.specs.Io.KnownBytes.{Appends}
-use Rattle.elf_image.specs.{Image.ProgramImage, Loaded.IsImageOf}
+use Rattle.program_image.specs.Image.{ProgramImage}
+use Rattle.elf_image.specs.{Loaded.IsImageOf}
 use Rattle.core_state.specs.Setup.{setup_of}
 use Rattle.schedules.specs.Schedules.{IsScheduleOf}
 use Rattle.schedules.specs.declared.refused.ScheduleRefused.{ScheduleRefused}
@@ -12,9 +13,9 @@ use Rattle.schedules.specs.{Refusals.IsScheduleRefusedFor}
 use Rattle.schedules.specs.declared.refused.ScheduleRefused.TheVariants as why
 use Rattle.sim_script.specs.Order.{IsOrder}
 use Rattle.sim_inputs.specs.declared.settings.Settings.{Settings}
-use Rattle.sim_report.specs.declared.refused.Refused.{Refused}
-use Rattle.sim_report.specs.declared.refused.Refused.TheVariants as reason
-use Rattle.sim_report.specs.{Refusals.Read, Refusals.OfFile, Refusals.PassesAll, Refusals.IsImageRefusal}
+use Rattle.sim_refusals.specs.declared.refused.Refused.{Refused}
+use Rattle.sim_refusals.specs.declared.refused.Refused.TheVariants as reason
+use Rattle.sim_refusals.specs.{Refusals.Read, Refusals.OfFile, Refusals.PassesAll, Refusals.IsImageRefusal}
 use Rattle.sim_commands.specs.{PlainRefusals.IsOrderRefusal, ScheduleTold.HasSchedule, ScheduleTold.IsScheduled}
 use Rattle.sim_commands.specs.ScheduleRefusals.{AreScheduleInputsRefusedFor, IsScheduleRefusal, HasNoSchedule}
 

@@ -1,7 +1,8 @@
 -- What the checking of a trace asks of its inputs, and when each refusal comes. (This project's own
 -- choice.)
 use Rattle.std.specs.Prelude.{◌≡◌, ◌⊎◌, ℕ, true, false, List, length, reverse, All, Err}
-use Rattle.elf_image.specs.{Image.ProgramImage, Loaded.IsImageOf}
+use Rattle.program_image.specs.Image.{ProgramImage}
+use Rattle.elf_image.specs.{Loaded.IsImageOf}
 use Rattle.events.specs.{declared.event.Event.Event, Range.IsEventInRange}
 use Rattle.event_text.specs.{Trace.trace_text}
 use Rattle.event_text.specs.Trace.{IsRefusedAt}
@@ -9,10 +10,10 @@ use Rattle.smt_model.specs.{Rules.is_legal, Setup.Setup, Setup.is_accepted}
 use Rattle.core_state.specs.Setup.{setup_of}
 use Rattle.history_check.specs.Checking.{IsFirstBroken}
 use Rattle.sim_inputs.specs.{declared.settings.Settings.Settings}
-use Rattle.sim_report.specs.{declared.refused.Refused.Refused}
-use Rattle.sim_report.specs.declared.refused.Refused.TheVariants as refused
-use Rattle.sim_report.specs.declared.refused.Unread.TheVariants as unread
-use Rattle.sim_report.specs.Refusals.{Read, OfFile, IsFirstFailed, PassesAll}
+use Rattle.sim_refusals.specs.{declared.refused.Refused.Refused}
+use Rattle.sim_refusals.specs.declared.refused.Refused.TheVariants as refused
+use Rattle.sim_refusals.specs.declared.refused.Unread.TheVariants as unread
+use Rattle.sim_refusals.specs.Refusals.{Read, OfFile, IsFirstFailed, PassesAll}
 
 -- The file is the text of these events, each of them in range.
 pub record IsTraceOf (trace : Read) (events : List Event) : Type 0 where

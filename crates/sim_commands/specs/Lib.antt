@@ -1,4 +1,3 @@
-pub mod Told
 pub mod PlainRefusals
 pub mod PlainTold
 pub mod CheckRefusals

@@ -1,16 +1,17 @@
 -- What a run of the plain machine asks of its inputs, and when each refusal comes. (This project's
 -- own choice.)
 use Rattle.std.specs.Prelude.{◌≡◌, ◌⊎◌, ℕ, false, List, Err}
-use Rattle.elf_image.specs.{Image.ProgramImage, Loaded.IsImageOf}
+use Rattle.program_image.specs.Image.{ProgramImage}
+use Rattle.elf_image.specs.{Loaded.IsImageOf}
 use Rattle.sc_machine.specs.{declared.refused.Stopped.Stopped, Steps.are_harts}
 use Rattle.plain_run.specs.Orders.{IsStoppedAt}
 use Rattle.sim_script.specs.Order.{IsOrder, IsFirstNoHart}
 use Rattle.sim_inputs.specs.{declared.settings.Settings.Settings}
-use Rattle.sim_report.specs.{declared.refused.Refused.Refused}
-use Rattle.sim_report.specs.declared.refused.Refused.TheVariants.{Image, Config, Order, Step}
-use Rattle.sim_report.specs.declared.refused.Refused.TheVariants.{Memory, File, Output}
-use Rattle.sim_report.specs.declared.refused.Unread.TheVariants as unread
-use Rattle.sim_report.specs.Refusals.{Read, OfFile, IsFirstFailed, PassesAll}
+use Rattle.sim_refusals.specs.{declared.refused.Refused.Refused}
+use Rattle.sim_refusals.specs.declared.refused.Refused.TheVariants.{Image, Config, Order, Step}
+use Rattle.sim_refusals.specs.declared.refused.Refused.TheVariants.{Memory, File, Output}
+use Rattle.sim_refusals.specs.declared.refused.Unread.TheVariants as unread
+use Rattle.sim_refusals.specs.Refusals.{Read, OfFile, IsFirstFailed, PassesAll}
 
 -- The file is an order of harts.
 abbrev pub IsOrdering : Read → Type 0

@@ -2,13 +2,14 @@
 -- project's own choice.)
 use Rattle.std.specs.Prelude.{◌≡◌, ℕ, Bool, List, ◌++◌, Option, Some, length, map, reverse}
 use Rattle.std.specs.Io.KnownBytes.{Appends}
-use Rattle.elf_image.specs.{Image.ProgramImage, Loaded.IsImageOf}
+use Rattle.program_image.specs.Image.{ProgramImage}
+use Rattle.elf_image.specs.{Loaded.IsImageOf}
 use Rattle.events.specs.declared.effect.Record.{Record}
 use Rattle.smt_model.specs.{declared.config.Status.Status, Basics.below, Plain.Run, Plain.run}
 use Rattle.core_state.specs.Setup.{setup_of}
 use Rattle.sim_script.specs.Order.{IsOrder}
 use Rattle.sim_inputs.specs.declared.settings.Settings.{Settings}
-use Rattle.sim_report.specs.{Refusals.Read, Refusals.OfFile}
+use Rattle.sim_refusals.specs.{Refusals.Read, Refusals.OfFile}
 use Rattle.sim_report.specs.Report.{records_text, plain_report_text, status_number}
 
 -- What the steps of a run have left, the oldest first; and how so many harts stand behind it.

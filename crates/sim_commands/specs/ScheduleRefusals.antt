@@ -1,7 +1,8 @@
 -- What the script of an order asks of its inputs, and when each refusal comes. (This project's own
 -- choice.)
 use Rattle.std.specs.Prelude.{◌≡◌, ◌⊎◌, ℕ, List, Err}
-use Rattle.elf_image.specs.{Image.ProgramImage, Loaded.IsImageOf}
+use Rattle.program_image.specs.Image.{ProgramImage}
+use Rattle.elf_image.specs.{Loaded.IsImageOf}
 use Rattle.smt_model.specs.Setup.{Setup}
 use Rattle.core_state.specs.Setup.{setup_of}
 use Rattle.schedules.specs.{declared.refused.ScheduleRefused.ScheduleRefused}
@@ -9,10 +10,10 @@ use Rattle.schedules.specs.{Refusals.IsScheduleRefusedFor}
 use Rattle.schedules.specs.declared.refused.ScheduleRefused.TheVariants as why
 use Rattle.sim_script.specs.Order.{IsOrder, IsFirstNoHart}
 use Rattle.sim_inputs.specs.{declared.settings.Settings.Settings}
-use Rattle.sim_report.specs.{declared.refused.Refused.Refused}
-use Rattle.sim_report.specs.declared.refused.Refused.TheVariants as reason
-use Rattle.sim_report.specs.declared.refused.Unread.TheVariants as unread
-use Rattle.sim_report.specs.Refusals.{Read, OfFile, IsFirstFailed, PassesAll}
+use Rattle.sim_refusals.specs.{declared.refused.Refused.Refused}
+use Rattle.sim_refusals.specs.declared.refused.Refused.TheVariants as reason
+use Rattle.sim_refusals.specs.declared.refused.Unread.TheVariants as unread
+use Rattle.sim_refusals.specs.Refusals.{Read, OfFile, IsFirstFailed, PassesAll}
 use Rattle.sim_commands.specs.{ScheduleTold.HasSchedule}
 
 -- The order in the one file has no schedule for the core of the image in the other, for this

@@ -1,11 +1,12 @@
 -- What the line that asks for an order's script comes to. (This project's own choice.)
 use Rattle.std.specs.Prelude.{ℕ, List, Option}
-use Rattle.elf_image.specs.{Image.ProgramImage, Loaded.IsImageOf}
+use Rattle.program_image.specs.Image.{ProgramImage}
+use Rattle.elf_image.specs.{Loaded.IsImageOf}
 use Rattle.core_state.specs.Setup.{setup_of}
 use Rattle.schedules.specs.Schedules.{IsScheduleOf}
 use Rattle.sim_script.specs.Order.{IsOrder}
 use Rattle.sim_inputs.specs.declared.settings.Settings.{Settings}
-use Rattle.sim_report.specs.{Refusals.Read, Refusals.OfFile}
+use Rattle.sim_refusals.specs.{Refusals.Read, Refusals.OfFile}
 use Rattle.sim_session.specs.{Session.Prints}
 
 -- The text is a schedule of the order in the one file for the core of the image in the other: a

@@ -2,21 +2,23 @@ ghost use Rattle.std.specs.Prelude.{◌≡◌, IsTrue, OnOk, IfOk, IfErr, Err, l
 ghost use Rattle.std.specs.Prelude.{true, false};
 ghost use Rattle.core_lock.specs.Shown.{Shown};
 ghost use Rattle.core_state.specs.Setup.{setup_of};
-ghost use Rattle.sim_report.specs.declared.refused.Refused.TheVariants.{Output};
-ghost use Rattle.sim_report.specs.Refusals.{as_read, OfFile, PassesAll, refusal_of, says_harts};
+ghost use Rattle.sim_refusals.specs.declared.refused.Refused.TheVariants.{Output};
+ghost use Rattle.sim_refusals.specs.Refusals.{as_read, OfFile, PassesAll, refusal_of};
+ghost use Rattle.exit_statuses.specs.Statuses.{says_harts};
 ghost use Rattle.sim_commands.specs.CheckRefusals.{AreCheckInputsRefusedFor, IsHistoryRefusal};
 ghost use Rattle.sim_commands.specs.CheckRefusals.{IsTraceOf, IsTraceRefusal};
 ghost use Rattle.sim_commands.specs.CheckTold.{IsCheckReported};
-ghost use Rattle.sim_commands.specs.Told.{HasTold};
+ghost use Rattle.sim_steps.specs.Told.{HasTold};
 ghost use Rattle.smt_model.specs.Setup.{is_accepted};
 
-use crate::stepping::read_image;
-use elf_image::Image;
 use event_text::{Trace, TraceRefused, read_trace};
 use events::Event;
 use history_check::{CheckRefused, Checked, check};
+use program_image::Image;
 use sim_inputs::Settings;
-use sim_report::{Refused, Unread, report, status_of};
+use sim_refusals::{Refused, Unread};
+use sim_report::{report, status_of};
+use sim_steps::read_image;
 use std::alloc::Global;
 use std::io::Write;
 

@@ -1,17 +1,19 @@
 ghost use Rattle.std.specs.Prelude.{◌≡◌, IsTrue, OnOk, IfOk, IfErr, Err};
 ghost use Rattle.plain_run.specs.Orders.{HasLeft, OfEachSetup};
 ghost use Rattle.sim_script.specs.Order.{IsOrder};
-ghost use Rattle.sim_report.specs.Refusals.{as_read, OfFile, PassesAll, refusal_of, says_harts};
+ghost use Rattle.sim_refusals.specs.Refusals.{as_read, OfFile, PassesAll, refusal_of};
+ghost use Rattle.exit_statuses.specs.Statuses.{says_harts};
 ghost use Rattle.sim_commands.specs.PlainRefusals.{ArePlainInputsRefusedFor, IsOrderRefusal};
 ghost use Rattle.sim_commands.specs.PlainRefusals.{IsRunRefusal};
 ghost use Rattle.sim_commands.specs.PlainTold.{IsPlainReported};
 
-use crate::stepping::read_image;
-use elf_image::Image;
 use plain_run::{OrderStopped, PlainRun, run_order};
+use program_image::Image;
 use sim_inputs::Settings;
-use sim_report::{Refused, Unread, report_plain, status_of};
+use sim_refusals::{Refused, Unread};
+use sim_report::{report_plain, status_of};
 use sim_script::{OrderRefused, read_order};
+use sim_steps::read_image;
 use std::alloc::Global;
 use std::io::Write;
 

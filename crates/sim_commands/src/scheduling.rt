@@ -3,16 +3,16 @@
 ghost use Rattle.std.specs.Prelude.{◌≡◌, OnOk, IfOk, IfErr, Err};
 ghost use Rattle.core_state.specs.Setup.{setup_of};
 ghost use Rattle.schedules.specs.Schedules.{IsScheduleOf};
-ghost use Rattle.sim_report.specs.Refusals.{as_read, OfFile, PassesAll, refusal_of};
+ghost use Rattle.sim_refusals.specs.Refusals.{as_read, OfFile, PassesAll, refusal_of};
 ghost use Rattle.sim_commands.specs.ScheduleRefusals.{AreScheduleInputsRefusedFor, IsScheduleRefusal};
 ghost use Rattle.sim_commands.specs.ScheduleTold.{IsScheduled};
 
 use crate::plain::read_harts;
-use crate::stepping::read_image;
-use elf_image::Image;
+use program_image::Image;
 use schedules::{Schedule, ScheduleRefused, make_schedule};
 use sim_inputs::Settings;
-use sim_report::{Refused, Unread};
+use sim_refusals::{Refused, Unread};
+use sim_steps::read_image;
 use std::alloc::Global;
 use std::io::Write;
 

@@ -4,9 +4,10 @@ use Rattle.std.specs.List.Sorted.{IsNonDecreasingBy}
 use Rattle.std.proofs.Common.{get_or, sym, ap, ◌∙◌, inl, inr, arith}
 use Rattle.std.proofs.lemmas.List.Sorted.{IsPermutation-sym, IsPermutation-trans}
 use Rattle.elf_image.specs.declared.refusal.LoadRefused.TheVariants.{WrongMemorySize, SegmentsOverlap}
-use Rattle.elf_image.specs.{Image.ProgramImage, Layout.loadable, Loaded.IsImageOf, Loaded.image_from}
+use Rattle.program_image.specs.Image.{ProgramImage}
+use Rattle.elf_image.specs.{Layout.loadable, Loaded.IsImageOf, Loaded.image_from}
 use Rattle.elf_image.proofs.{Pairs.AllPairs-permutation, Rising.AreRising, Rising.same_order}
-use Rattle.sim_report.specs.Refusals.{PassesAll}
+use Rattle.sim_refusals.specs.Refusals.{PassesAll}
 
 apart_differ : (a m b n : ℕ) → 0 < m → 0 < n → (a + m ≤ b) ⊎ (b + n ≤ a) → a ≡ b → ⊥
 apart_differ a m b n some other (inl before) same = omega (arith, some, before, same)

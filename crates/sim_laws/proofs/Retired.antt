@@ -2,7 +2,7 @@
 use Rattle.std.specs.Prelude.{◌≡◌, ◌≤◌, ℕ, List, length, reverse}
 use Rattle.std.proofs.Common.{sym, ap, subst, ◌∙◌, arith}
 use Rattle.std.proofs.{lemmas.List.length-reverse, lemmas.List.reverse-reverse}
-use Rattle.rv_decode.specs.Decode.{decoded}
+use Rattle.rv_instr.specs.Decode.{decoded}
 use Rattle.events.specs.declared.event.Event.{Event}
 use Rattle.smt_model.specs.{Setup.Setup, Account.records, Account.order}
 use Rattle.smt_laws.specs.Scripts.{HasReplied, IsShownByScript}

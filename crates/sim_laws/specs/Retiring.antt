@@ -1,7 +1,7 @@
 -- What a core retires that has answered the script of an order of harts.
 use Rattle.std.specs.Prelude.{◌≡◌, ◌≤◌, ℕ, List, Some, Ok, length, reverse}
 use Rattle.elf_image.specs.Loaded.{IsImageOf}
-use Rattle.rv_decode.specs.Decode.{decoded}
+use Rattle.rv_instr.specs.Decode.{decoded}
 use Rattle.events.specs.declared.event.Event.{Event}
 use Rattle.smt_model.specs.{Setup.Setup, Plain.Run, Plain.run, Account.records, Account.order}
 use Rattle.core_state.specs.{Setup.setup_of, View.CoreView}
@@ -10,7 +10,7 @@ use Rattle.schedules.specs.Schedules.{IsScheduleOf, room_for}
 use Rattle.sim_inputs.specs.declared.settings.Settings.{Settings}
 use Rattle.actors.specs.Prediction.{static_guess}
 use Rattle.sim_commands.specs.{PlainTold.left_by}
-use Rattle.sim_report.specs.{Refusals.Read, Refusals.OfFile, Refusals.PassesAll}
+use Rattle.sim_refusals.specs.{Refusals.Read, Refusals.OfFile, Refusals.PassesAll}
 use Rattle.sim_laws.specs.Replies.{IsFunction}
 use Rattle.sim_session.specs.Session.{AreAskedWith}
 use Rattle.sim_commands.specs.{ScheduleTold.HasSchedule}

@@ -4,7 +4,7 @@ use Rattle.std.proofs.Common.{sym, ◌∙◌, ap, subst, arith}
 use Rattle.std.specs.{Prelude.nat_le, Io.KnownBytes.Appends, declared.option.Option.Option}
 use Rattle.std.proofs.{lemmas.List.flat_map_more, lemmas.List.FromFn.map-range_with_len_more}
 use Rattle.std.proofs.{lemmas.Bool.Decides.nat_tests}
-use Rattle.elf_image.specs.Image.{ProgramImage, code_start, code_size, code_word, word_in}
+use Rattle.program_image.specs.Image.{ProgramImage, code_start, code_size, code_word, word_in}
 use Rattle.sim_report.specs.Listing.{word_addresses}
 use Rattle.sim_script.proofs.Written.{appends_more}
 

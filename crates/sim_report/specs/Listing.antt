@@ -3,9 +3,9 @@ use Rattle.std.specs.Prelude.{ℕ, ◌+◌, ◌*◌, ◌/◌, List, [], ◌∷�
 use Rattle.std.specs.Prelude.{flat_map}
 use Rattle.std.specs.List.{range_with_len}
 use Rattle.text_fields.specs.Spelling.{hex}
-use Rattle.elf_image.specs.Image.{ProgramImage, code_start, code_size, word_in}
-use Rattle.rv_decode.specs.{declared.instr.Instr.Instr, Decode.decoded}
-use Rattle.rv_text.specs.Spelling.{spelling_of}
+use Rattle.program_image.specs.Image.{ProgramImage, code_start, code_size, word_in}
+use Rattle.rv_instr.specs.{declared.instr.Instr.Instr, Decode.decoded}
+use Rattle.rv_print.specs.Spelling.{spelling_of}
 
 -- What a word says at an address: its instruction's spelling there, and `.word` where it is none.
 abbrev pub text_of : Option Instr → ℕ → List ℕ

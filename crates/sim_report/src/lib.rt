@@ -1,15 +1,12 @@
-//! What goes out of a simulation: the report, a line for each record, the listing of an image, and
-//! why there is no report.
+//! What goes out of a simulation: the report, a line for each record, and the listing of an image.
+//! Why there is no report says `sim_refusals`.
 //!
-//! Read in this order: `refused` (why there is none), `recording` (the records' lines), `reporting`,
-//! `listing`.
+//! Read in this order: `recording` (the records' lines), `reporting`, `listing`.
 #![tactic(auto)]
 
 mod listing;
 mod recording;
-mod refused;
 mod reporting;
 
 pub use listing::list;
-pub use refused::{Refused, Unread};
 pub use reporting::{report, report_plain, status_of};

@@ -1,11 +1,11 @@
 ghost use Rattle.std.specs.Prelude.{◌≡◌, ◌+◌, ◌≤◌, ◌++◌, OnOk};
 ghost use Rattle.std.specs.Io.KnownBytes.{Appends};
 ghost use Rattle.arrayvec.specs.ArrayString.{array_string_len};
-ghost use Rattle.rv_decode.specs.Decode.{decoded};
+ghost use Rattle.rv_instr.specs.Decode.{decoded};
 ghost use Rattle.sim_report.specs.Listing.{text_of, field_of, listing_line, listing_text};
 
 use arrayvec::ArrayString;
-use elf_image::Image;
+use program_image::Image;
 use rv_decode::decode;
 use std::io;
 use std::io::Write;
@@ -61,7 +61,7 @@ fn push_text(line: &mut Line, pc: u32, word: u32)
     ensures length { array_string_len line.new ≤ array_string_len line.old + 40 }
 {
     match decode(word) {
-        Some(instr) => line.push_str(rv_text::print(instr, pc).as_str()),
+        Some(instr) => line.push_str(rv_print::print(instr, pc).as_str()),
         None => line.push_str(".word"),
     }
 }

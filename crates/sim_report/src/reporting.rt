@@ -3,7 +3,7 @@ ghost use Rattle.std.specs.List.{list_any, list_all};
 ghost use Rattle.std.specs.Io.KnownBytes.{Appends};
 ghost use Rattle.arrayvec.specs.ArrayString.{array_string_len};
 ghost use Rattle.text_fields.specs.Spelling.{hex};
-ghost use Rattle.sim_report.specs.Refusals.{says_harts};
+ghost use Rattle.exit_statuses.specs.Statuses.{says_harts};
 ghost use Rattle.smt_model.specs.Plain.{is_going_status};
 ghost use Rattle.sim_report.specs.Report.{has_ended_well, status_number, count_line};
 ghost use Rattle.sim_report.specs.Report.{status_text, hart_line, hart_lines, output_line};

@@ -4,20 +4,20 @@ use Rattle.std.proofs.{Common.refl, Common.sym, Common.subst, Common.◌∙◌, 
 use mathlib.Core.Logic.{inl, inr}
 use Rattle.core_state.specs.{Setup.setup_of, View.CoreView}
 use Rattle.smt_model.specs.Setup.{is_accepted}
-use Rattle.elf_image.specs.Image.{ProgramImage}
+use Rattle.program_image.specs.Image.{ProgramImage}
 use Rattle.actors.specs.{Roles.HaveEveryRole, declared.refused.RunRefused.RunRefused}
 use Rattle.actors.specs.declared.refused.RunRefused.TheVariants as refused
 use Rattle.core_lock.specs.Shown.{Shown}
 use Rattle.elf_image.specs.Loaded.{IsImageOf}
 use Rattle.sim_inputs.specs.declared.settings.Settings.{Settings}
-use Rattle.sim_report.specs.declared.refused.Refused.{Refused}
-use Rattle.sim_report.specs.declared.refused.Refused.TheVariants.{Image, Config, Script, Order, Step, Memory, Thread}
-use Rattle.sim_report.specs.declared.refused.Refused.TheVariants.{File, Output, Trace, Event, NoUnit, Limit}
-use Rattle.sim_report.specs.Refusals.{Read, OfFile, PassesAll, AreAccepted, AreRefused, IsImageRefusal}
+use Rattle.sim_refusals.specs.declared.refused.Refused.{Refused}
+use Rattle.sim_refusals.specs.declared.refused.Refused.TheVariants.{Image, Config, Script, Order, Step, Memory, Thread}
+use Rattle.sim_refusals.specs.declared.refused.Refused.TheVariants.{File, Output, Trace, Event, NoUnit, Limit}
+use Rattle.sim_refusals.specs.Refusals.{Read, OfFile, PassesAll, AreAccepted, AreRefused, IsImageRefusal}
 use Rattle.sim_runs.specs.{RunTold.AreRunInputsRefusedFor, RunTold.IsRunReported, RunTold.LackARole}
 use Rattle.sim_runs.specs.RunTold.{run_refusal}
 use Rattle.smt_model.specs.declared.config.Config as configs
-use Rattle.sim_commands.specs.Told.{HasTold}
+use Rattle.sim_steps.specs.Told.{HasTold}
 
 pub image_refusal : (image : Read) (settings : Settings) (reason : Refused)
     → IsImageRefusal image settings.ram reason → AreRunInputsRefusedFor image settings reason

@@ -7,15 +7,15 @@ use Rattle.core_lock.specs.Shown.{Shown}
 use Rattle.actors.specs.{Roles.HaveEveryRole, declared.refused.RunRefused.RunRefused}
 use Rattle.actors.specs.declared.refused.RunRefused.TheVariants as runs
 use Rattle.sim_inputs.specs.declared.settings.Settings.{Settings}
-use Rattle.sim_report.specs.{declared.refused.Refused.Refused}
-use Rattle.sim_report.specs.declared.refused.Refused.TheVariants.{Image, Config, Memory, Thread}
-use Rattle.sim_report.specs.declared.refused.Refused.TheVariants.{File, Output}
-use Rattle.sim_report.specs.declared.refused.Unread.TheVariants as unread
-use Rattle.sim_report.specs.{Refusals.Read, Refusals.OfFile, Refusals.IsFirstFailed}
-use Rattle.sim_report.specs.{Refusals.PassesAll, Refusals.AreAccepted, Refusals.AreRefused}
+use Rattle.sim_refusals.specs.{declared.refused.Refused.Refused}
+use Rattle.sim_refusals.specs.declared.refused.Refused.TheVariants.{Image, Config, Memory, Thread}
+use Rattle.sim_refusals.specs.declared.refused.Refused.TheVariants.{File, Output}
+use Rattle.sim_refusals.specs.declared.refused.Unread.TheVariants as unread
+use Rattle.sim_refusals.specs.{Refusals.Read, Refusals.OfFile, Refusals.IsFirstFailed}
+use Rattle.sim_refusals.specs.{Refusals.PassesAll, Refusals.AreAccepted, Refusals.AreRefused}
 use Rattle.sim_session.specs.{Session.Prints}
 use Rattle.sim_report.specs.{Report.status_number}
-use Rattle.sim_commands.specs.{Told.IsAccount, Told.statuses_of}
+use Rattle.sim_steps.specs.{Told.IsAccount, Told.statuses_of}
 
 -- What a line is refused for whose run is refused.
 abbrev pub run_refusal : RunRefused → Refused

@@ -1,15 +1,16 @@
 ghost use Rattle.std.specs.Prelude.{◌≡◌, IsTrue, OnOk, IfOk, IfErr, Err, true, false};
-ghost use Rattle.sim_commands.specs.Told.{IsKept};
-ghost use Rattle.sim_report.specs.Refusals.{as_read, OfFile, PassesAll, AreAccepted};
-ghost use Rattle.sim_report.specs.Refusals.{refusal_of, says_harts};
+ghost use Rattle.sim_steps.specs.Told.{IsKept};
+ghost use Rattle.sim_refusals.specs.Refusals.{as_read, OfFile, PassesAll, AreAccepted};
+ghost use Rattle.sim_refusals.specs.Refusals.{refusal_of};
+ghost use Rattle.exit_statuses.specs.Statuses.{says_harts};
 ghost use Rattle.sim_runs.specs.RunTold.{AreRunInputsRefusedFor, IsRunReported, LackARole};
 
 use crate::running::run_file;
 use actors::Gate;
 use event_text::Sink;
-use sim_commands::{Wanted, keep_and_tell};
 use sim_inputs::Settings;
-use sim_report::{Refused, Unread};
+use sim_refusals::{Refused, Unread};
+use sim_steps::{Wanted, keep_and_tell};
 use smt_core::Predict;
 use std::alloc::Global;
 use std::io::Write;

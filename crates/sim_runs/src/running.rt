@@ -2,14 +2,14 @@ ghost use Rattle.std.specs.Prelude.{◌≡◌, IsTrue, Ok, Err, IfOk, IfErr, OnO
 ghost use Rattle.elf_image.specs.Loaded.{IsImageOf};
 ghost use Rattle.core_state.specs.Setup.{setup_of};
 ghost use Rattle.core_lock.specs.Shown.{Shown};
-ghost use Rattle.sim_report.specs.Refusals.{as_read, OfFile, PassesAll, AreAccepted, refusal_of};
+ghost use Rattle.sim_refusals.specs.Refusals.{as_read, OfFile, PassesAll, AreAccepted, refusal_of};
 ghost use Rattle.sim_runs.specs.RunTold.{AreRunInputsRefusedFor, LackARole, run_refusal};
 
 use actors::{Gate, RunRefused, run};
 use core_lock::Finished;
-use sim_commands::read_image;
 use sim_inputs::Settings;
-use sim_report::{Refused, Unread};
+use sim_refusals::{Refused, Unread};
+use sim_steps::read_image;
 use smt_core::Predict;
 use std::alloc::Global;
 use std::sync::Wait;

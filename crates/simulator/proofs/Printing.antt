@@ -3,8 +3,8 @@ use Rattle.std.specs.Prelude.{◌≡◌, ℕ, Bool, true, List, length, reverse,
 use Rattle.std.proofs.Common.{subst}
 use Rattle.smt_model.specs.{Setup.is_accepted, Rules.is_legal}
 use Rattle.sim_inputs.specs.declared.settings.Settings.{Settings}
-use Rattle.sim_report.specs.declared.refused.Refused.TheVariants.{Output}
-use Rattle.sim_report.specs.Refusals.{Read, OfFile, PassesAll}
+use Rattle.sim_refusals.specs.declared.refused.Refused.TheVariants.{Output}
+use Rattle.sim_refusals.specs.Refusals.{Read, OfFile, PassesAll}
 use Rattle.sim_commands.specs.{CheckRefusals.AreCheckInputsRefusedFor, CheckTold.IsCheckReported}
 
 -- Of two claims on what a call answers comes a third.

@@ -8,17 +8,18 @@ use Rattle.std.proofs.lemmas.Bool.Decides.{nat_tests}
 use Rattle.sc_machine.specs.Steps.{are_harts}
 use mathlib.Core.Logic.{inl, inr}
 use Rattle.std.specs.Io.KnownBytes.{Appends, Keeps}
-use Rattle.elf_image.specs.Image.{ProgramImage}
+use Rattle.program_image.specs.Image.{ProgramImage}
 use Rattle.sim_inputs.specs.{declared.line.Line.Line, declared.settings.Settings.Settings}
 use Rattle.sim_inputs.specs.{Configuration.IsConfiguration}
 use Rattle.sim_inputs.specs.declared.line.Line.TheVariants as lines
-use Rattle.sim_report.specs.declared.refused.Refused.{Refused}
-use Rattle.sim_report.specs.declared.refused.Refused.TheVariants.{Image, Config, Script, Order, Step, Memory, File}
-use Rattle.sim_report.specs.declared.refused.Refused.TheVariants.{Output, Thread, Trace, Event, NoUnit, Limit}
-use Rattle.sim_report.specs.Refusals.{Read, OfFile, AreRefused}
-use Rattle.sim_report.specs.Refusals.{exit_status_of, refusal_of, says_harts}
-use Rattle.sim_report.specs.declared.refused.Unread.{Unread}
-use Rattle.sim_report.specs.declared.refused.Unread.TheVariants as unread
+use Rattle.sim_refusals.specs.declared.refused.Refused.{Refused}
+use Rattle.sim_refusals.specs.declared.refused.Refused.TheVariants.{Image, Config, Script, Order, Step, Memory, File}
+use Rattle.sim_refusals.specs.declared.refused.Refused.TheVariants.{Output, Thread, Trace, Event, NoUnit, Limit}
+use Rattle.sim_refusals.specs.Refusals.{Read, OfFile, AreRefused}
+use Rattle.sim_refusals.specs.Refusals.{exit_status_of, refusal_of}
+use Rattle.exit_statuses.specs.Statuses.{says_harts}
+use Rattle.sim_refusals.specs.declared.refused.Unread.{Unread}
+use Rattle.sim_refusals.specs.declared.refused.Unread.TheVariants as unread
 use Rattle.simulator.specs.Lines.{IsLineRefusal, IsSettingsRefusal, IsRefusal, OfSettings, IsListed, HasEnded}
 use Rattle.simulator.specs.{Lines.IsReportedBy}
 use Rattle.sim_session.specs.{Session.Prints}

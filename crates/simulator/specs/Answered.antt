@@ -3,10 +3,11 @@
 use Rattle.std.specs.Prelude.{◌≡◌, ℕ, Bool, true, false, IsTrue, List, Option, Result, Err}
 use Rattle.std.specs.Prelude.{OnOk, IfOk, IfErr}
 use Rattle.sim_inputs.specs.{declared.line.Line.Line, declared.settings.Settings.Settings}
-use Rattle.sim_report.specs.declared.refused.Refused.{Refused}
-use Rattle.sim_report.specs.declared.refused.Refused.TheVariants.{Output}
-use Rattle.sim_report.specs.Refusals.{Read, refusal_of, says_harts}
-use Rattle.sim_commands.specs.Told.{IsKept}
+use Rattle.sim_refusals.specs.declared.refused.Refused.{Refused}
+use Rattle.sim_refusals.specs.declared.refused.Refused.TheVariants.{Output}
+use Rattle.sim_refusals.specs.Refusals.{Read, refusal_of}
+use Rattle.exit_statuses.specs.Statuses.{says_harts}
+use Rattle.sim_steps.specs.Told.{IsKept}
 use Rattle.simulator.specs.Lines.{IsLineRefusal, HasEnded, IsUnreported, wants_trace}
 
 -- An unread image is refused for its reason; any refusal is one that comes of this line. Behind an

@@ -1,3 +1,2 @@
-pub mod ProgressLine
 pub mod Lines
 pub mod Answered

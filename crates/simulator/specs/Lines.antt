@@ -2,19 +2,21 @@
 -- project's own choice.)
 use Rattle.std.specs.Prelude.{◌≡◌, ◌⊎◌, ℕ, Bool, false, List, Option, is_some, Err}
 use Rattle.std.specs.Io.KnownBytes.{Appends}
-use Rattle.elf_image.specs.{Image.ProgramImage, Loaded.IsImageOf}
+use Rattle.program_image.specs.Image.{ProgramImage}
+use Rattle.elf_image.specs.{Loaded.IsImageOf}
 use Rattle.core_state.specs.View.{CoreView}
 use Rattle.sim_inputs.specs.{declared.line.Line.Line, declared.settings.Settings.Settings}
 use Rattle.sim_inputs.specs.{Configuration.IsConfiguration}
 use Rattle.sim_inputs.specs.declared.line.Line.TheVariants as lines
 use Rattle.sim_script.specs.{declared.actions.Word.Word, Script.IsScript}
-use Rattle.sim_report.specs.{declared.refused.Refused.Refused, Listing.listing_text}
-use Rattle.sim_report.specs.declared.refused.Refused.TheVariants.{Image, Config, Memory, File}
-use Rattle.sim_report.specs.declared.refused.Refused.TheVariants.{Output}
-use Rattle.sim_report.specs.declared.refused.Unread.TheVariants as unread
-use Rattle.sim_report.specs.Refusals.{Read, OfFile, IsFirstFailed, PassesAll, AreAccepted}
-use Rattle.sim_report.specs.{Refusals.AreInputsRefusedFor}
-use Rattle.sim_commands.specs.{Told.IsReported}
+use Rattle.sim_refusals.specs.{declared.refused.Refused.Refused}
+use Rattle.sim_report.specs.{Listing.listing_text}
+use Rattle.sim_refusals.specs.declared.refused.Refused.TheVariants.{Image, Config, Memory, File}
+use Rattle.sim_refusals.specs.declared.refused.Refused.TheVariants.{Output}
+use Rattle.sim_refusals.specs.declared.refused.Unread.TheVariants as unread
+use Rattle.sim_refusals.specs.Refusals.{Read, OfFile, IsFirstFailed, PassesAll, AreAccepted}
+use Rattle.sim_refusals.specs.{Refusals.AreInputsRefusedFor}
+use Rattle.sim_steps.specs.{Told.IsReported}
 use Rattle.sim_session.specs.{Session.AreAsked, Session.Prints}
 use Rattle.sim_runs.specs.RunTold.{AreRunInputsRefusedFor, IsRunReported, LackARole}
 use Rattle.sim_commands.specs.CheckRefusals.{AreCheckInputsRefusedFor, AreTooMany}

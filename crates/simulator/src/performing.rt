@@ -1,22 +1,23 @@
 ghost use Rattle.std.specs.Prelude.{◌≡◌, IsTrue, OnOk, IfOk, IfErr, Err, ◌⊎◌, true, false};
-ghost use Rattle.sim_report.specs.declared.refused.Refused.{Refused as AnyRefused};
-ghost use Rattle.sim_report.specs.Refusals.{as_read, OfFile, PassesAll};
-ghost use Rattle.sim_report.specs.Refusals.{exit_status_of, refusal_of, says_harts};
+ghost use Rattle.sim_refusals.specs.declared.refused.Refused.{Refused as AnyRefused};
+ghost use Rattle.sim_refusals.specs.Refusals.{as_read, OfFile, PassesAll};
+ghost use Rattle.sim_refusals.specs.Refusals.{exit_status_of, refusal_of};
+ghost use Rattle.exit_statuses.specs.Statuses.{says_harts};
 ghost use Rattle.sim_inputs.specs.Configuration.{IsConfiguration};
 ghost use Rattle.simulator.specs.Answered.{IsAnswered};
 ghost use Rattle.simulator.specs.Lines.{IsListed, IsListRefusal, IsRefusal, IsSettingsRefusal};
 ghost use Rattle.simulator.specs.Lines.{OfSettings, HasEnded, IsUnreported, wants_trace};
-ghost use Rattle.sim_commands.specs.Told.{IsKept};
+ghost use Rattle.sim_steps.specs.Told.{IsKept};
 
-use crate::refusal::refuse;
 use actors::Gate;
 use event_text::Sink;
-use sim_commands::{
-    Wanted, check_and_report, read_image, run_and_report, schedule_and_print, step_and_report,
-};
+use sim_commands::{check_and_report, run_and_report, schedule_and_print};
 use sim_inputs::{ConfigRefused, Line, Settings, read_config};
-use sim_report::{Refused, Unread, list};
+use sim_refusals::{Refused, Unread};
+use sim_report::list;
 use sim_runs::thread_and_report;
+use sim_steps::{Wanted, read_image, step_and_report};
+use sim_words::refuse;
 use smt_core::Predict;
 use std::alloc::Global;
 use std::io::Write;

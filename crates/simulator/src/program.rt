@@ -1,21 +1,20 @@
-ghost use Rattle.std.specs.Prelude.{◌≡◌, ◌⊎◌, ◌≤◌, ◌^◌, IsTrue, Ok, Err, IfOk, IfErr, IfNone, OnOk};
+ghost use Rattle.std.specs.Prelude.{◌≡◌, ◌⊎◌, ◌≤◌, ◌^◌, IsTrue, Ok, Err, IfOk, IfErr, IfNone};
 ghost use Rattle.std.specs.Prelude.{[], IsOkAnd, vec_len};
-ghost use Rattle.std.specs.Io.KnownBytes.{Appends};
 ghost use Rattle.std.specs.IoError.{error_kind};
-ghost use Rattle.sim_report.specs.Refusals.{as_read, says_harts, words_refused, IsWordsStatus};
+ghost use Rattle.sim_refusals.specs.Refusals.{as_read, words_refused, IsWordsStatus};
+ghost use Rattle.exit_statuses.specs.Statuses.{says_harts};
 
-use crate::files::read_file;
 use crate::performing::{Inputs, perform};
-use crate::refusal::refuse;
-use crate::trace_file::TraceFile;
 use actors::Gate;
-use sim_inputs::{Line, WordsRefused, read_words};
-use sim_report::{Refused, Unread};
+use sim_files::{TraceFile, read_file};
+use sim_inputs::{Line, read_words};
+use sim_refusals::{Refused, Unread};
+use sim_words::{collect, refuse, refuse_words, texts, unread_words};
 use smt_core::Predict;
 use std::alloc::{AllocError, Global};
 use std::env::Args;
 use std::io;
-use std::io::{ErrorKind, Write};
+use std::io::Write;
 use std::rt::Files;
 use std::sync::Wait;
 use std::thread::Threads;
@@ -79,16 +78,6 @@ fn answer_words<
     }
 }
 
-/// Why words that couldn't be read are refused: one that is no text is none of a command line.
-fn unread_words(error: &io::Error) -> WordsRefused
-    ensures { result ≡ words_refused (error_kind error.now) }
-{
-    match error.kind() {
-        ErrorKind::OutOfMemory => WordsRefused::Memory,
-        _ => WordsRefused::Refused,
-    }
-}
-
 /// Answers words that are all texts. Fails only where there is no memory to hold them.
 fn collect_and_answer<
     S: Files + Threads + Wait + Sync,
@@ -114,47 +103,6 @@ fn collect_and_answer<
         Ok(line) => Ok(read_and_perform(system, &line, gate, predict, out, err, alloc)),
         Err(refused) => Ok(refuse_words(refused, out, err)),
     }
-}
-
-fn collect(words: Args, alloc: Global) -> Result<Vec<String>, AllocError> {
-    let mut all = Vec::new(alloc);
-    for word in words {
-        all.push(word)?;
-    }
-    Ok(all)
-}
-
-fn texts<'a>(words: &'a [String], alloc: Global) -> Result<Vec<&'a str>, AllocError> {
-    let mut texts = Vec::new(alloc);
-    for word in words {
-        texts.push(word.as_str())?;
-    }
-    Ok(texts)
-}
-
-/// Prints the help that was asked for, or says on one line why nothing is done.
-fn refuse_words<W: Write, E: Write>(refused: WordsRefused, out: &mut W, err: &mut E) -> u8
-    ensures known { IsTrue (says_harts result) ⊎ (result ≡ 2) ⊎ (result ≡ 4) ⊎ (result ≡ 5) }
-    ensures status { IsWordsStatus refused result }
-{
-    match refused {
-        WordsRefused::Help(text) => match print(text.as_str(), out) {
-            Ok(()) => 0,
-            Err(_) => refuse(Refused::Output, err),
-        },
-        WordsRefused::Refused => {
-            let _ = writeln!(err, "smtsim: {refused}");
-            2
-        }
-        WordsRefused::Memory => refuse(Refused::Memory, err),
-    }
-}
-
-fn print<W: Write>(text: &str, out: &mut W) -> io::Result<()>
-    ensures { OnOk result (Appends (W.contents out.old) (W.contents out.new) text.now) }
-{
-    out.write_all(text.as_bytes())?;
-    out.flush()
 }
 
 /// Reads the files that a line names, and performs it.

@@ -2,6 +2,7 @@ ghost use Rattle.std.specs.Prelude.{◌≡◌, ◌∷◌, [], ◌<◌, ◌≤◌
 ghost use Rattle.std.specs.Prelude.{IfSome, IfOk, Err, None, Some, true, false, ℕ, ◌+◌, ◌==◌, ◌&&◌};
 ghost use Rattle.std.specs.Prelude.{nat_lt, if◌then◌else◌};
 ghost use Rattle.numbers.specs.Sizes.{most_actors, most_events};
+ghost use Rattle.core_parts.specs.Agree.{PartsAgree};
 ghost use Rattle.core_state.specs.Setup.{setup_of};
 ghost use Rattle.core_state.specs.View.{CoreView};
 ghost use Rattle.smt_model.specs.Asks.{AskFetch, AskDecode, AskRename, AskIssue, AskComplete};
@@ -10,7 +11,7 @@ ghost use Rattle.smt_model.specs.Account.{records, open_job_count, committed_val
 ghost use Rattle.core_state.specs.Listed.{listed};
 ghost use Rattle.smt_model.specs.Basics.{below, how_many};
 ghost use Rattle.smt_model.specs.Flights.{icount};
-ghost use Rattle.smt_model.specs.Picture.{is_free};
+ghost use Rattle.smt_model.specs.Picture.{is_free, picture};
 ghost use Rattle.smt_model.specs.Registers.{claims};
 ghost use Rattle.smt_model.specs.Memory.{byte_at, reserved, status, output, is_going};
 ghost use Rattle.shared_memory.specs.Contents.{byte_of, reserved_of};
@@ -23,18 +24,17 @@ use crate::account::Account;
 use crate::answer::{Answer, CompleteAnswer, IssueAnswer};
 use crate::predict::Predict;
 use arrayvec::ArrayVec;
+use core_parts::Parts;
 use core_state::{CoreRefused, State};
-use elf_image::Image;
 use events::Event;
 use exec_units::Done;
 use numbers::Phys;
 use numbers::sizes::MOST_REGISTERS;
+use program_image::Image;
 use shared_memory::Memory;
 use smt_laws::laws::{refines_the_plain_machine, writes_at_most_a_word};
 use smt_model::{Config, Status};
 use std::alloc::Global;
-use std::io;
-use std::io::Write;
 use std::marker::Model;
 
 /// A core: each of its calls makes one step of its pipeline, writes the step's event into its
@@ -307,10 +307,12 @@ impl Core {
         self.state.history()
     }
 
-    /// Writes what the core holds, in lines for people to read (docs/FORMATS.md). An error is the
-    /// one that `out` answered.
-    pub fn tables<W: Write>(&self, out: &mut W) -> io::Result<()> {
-        self.state.tables(out)
+    /// What the core holds, for who prints it: its parts, and how many physical registers it has.
+    pub fn parts(&self) -> (&Parts, u32)
+        ensures agrees { PartsAgree (picture self.now.setup self.now.past) result.0.now }
+        ensures registers { result.1 ≡ registers_of self.now.setup }
+    {
+        self.state.parts()
     }
 
     /// Whether the core was made from this image and this configuration.

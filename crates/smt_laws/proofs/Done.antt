@@ -2,10 +2,10 @@
 use Rattle.std.specs.Prelude.{◌≡◌, ℕ, Bool, true, false, ◌==◌, if◌then◌else◌, List, Option, Some, None}
 use Rattle.std.proofs.Common.{◌∙◌, refl, sym, ap, subst, inl, inr, arith}
 use Rattle.std.proofs.{lemmas.Bool.cases_Bool, lemmas.Bool.Decides.nat_tests}
-use Rattle.rv_decode.specs.{declared.op.Op.Op, declared.op.Op.TheVariants.Known, declared.op.Op.TheVariants.Illegal}
-use Rattle.rv_decode.specs.{declared.op.Op.TheVariants.NoWord, declared.instr.Instr.Instr, Registers.op_rd}
-use Rattle.rv_decode.specs.{Registers.rd_of}
-use Rattle.rv_decode.specs.declared.instr.Instr.TheVariants as instr
+use Rattle.rv_instr.specs.{declared.op.Op.Op, declared.op.Op.TheVariants.Known, declared.op.Op.TheVariants.Illegal}
+use Rattle.rv_instr.specs.{declared.op.Op.TheVariants.NoWord, declared.instr.Instr.Instr, Registers.op_rd}
+use Rattle.rv_instr.specs.{Registers.rd_of}
+use Rattle.rv_instr.specs.declared.instr.Instr.TheVariants as instr
 use Rattle.events.specs.{declared.effect.Outcome.Outcome, declared.effect.Effect.Effect, declared.event.Event.Event}
 use Rattle.events.specs.{declared.event.Event.TheVariants.Retire}
 use Rattle.smt_model.specs.{Setup.Setup, Exec.Computed, Nexts.is_last, Outcomes.outcome_of, Outcomes.outcome_by}

@@ -2,8 +2,8 @@
 -- the run in this order, whatever the program.
 use Rattle.std.specs.Prelude.{◌≡◌, ◌⊎◌, ℕ, zero, suc, true, List, [], ◌∷◌, filter, length, Option}
 use Rattle.std.specs.Prelude.{Some, None, is_some, slice_get, option_and_then}
-use Rattle.rv_decode.specs.{Registers.same_unit, declared.op.UnitKind.UnitKind}
-use Rattle.rv_decode.specs.declared.op.UnitKind.TheVariants.{Alu, Mul, Mem}
+use Rattle.rv_instr.specs.{Registers.same_unit, declared.op.UnitKind.UnitKind}
+use Rattle.rv_instr.specs.declared.op.UnitKind.TheVariants.{Alu, Mul, Mem}
 use Rattle.events.specs.declared.event.Event.{Event}
 use Rattle.smt_model.specs.{Basics.holds_of, Basics.first, Basics.below, Setup.Setup}
 use Rattle.smt_model.specs.{Setup.unit_of_role, declared.config.Role.Role, Plain.Run, Plain.run}

@@ -3,7 +3,7 @@
 use Rattle.std.specs.Prelude.{◌≡◌, ℕ, ◌+◌, ◌*◌, ◌<◌, ◌≤◌, true, false, List, [], ◌∷◌, length, map}
 use Rattle.std.specs.Prelude.{Option, Some}
 use Rattle.std.specs.List.{AllByRecursion}
-use Rattle.rv_decode.specs.Registers.{op_unit, same_unit}
+use Rattle.rv_instr.specs.Registers.{op_unit, same_unit}
 use Rattle.events.specs.{declared.event.Event.Event, declared.effect.Record.Record}
 use Rattle.events.specs.declared.event.Event.TheVariants.{Fetch, Rename}
 use Rattle.smt_model.specs.{Basics.holds_of, Setup.Setup, Setup.is_accepted, Jobs.unit_of_actor}

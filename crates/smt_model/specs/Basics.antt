@@ -2,7 +2,7 @@
 use Rattle.std.specs.Prelude.{ℕ, zero, suc, ◌+◌, Bool, true, false, not, ◌==◌, nat_lt}
 use Rattle.std.specs.Prelude.{if◌then◌else◌, List, [], ◌∷◌, ◌++◌, length, filter, Option, Some}
 use Rattle.std.specs.Prelude.{None}
-pub use Rattle.rv_decode.specs.Kinds.{or_zero}
+pub use Rattle.rv_instr.specs.Kinds.{or_zero}
 
 -- The value is there and passes the test.
 abbrev pub holds_of : {A : Type 0} → (A → Bool) → Option A → Bool

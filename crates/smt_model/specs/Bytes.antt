@@ -2,8 +2,8 @@
 use Rattle.std.specs.Prelude.{ℕ, zero, suc, ◌+◌, ◌-◌, ◌*◌, ◌/◌, ◌%◌, ◌^◌, ◌&&◌, nat_le, nat_lt}
 use Rattle.std.specs.Prelude.{if◌then◌else◌, Option, Some, None}
 use Rattle.rv_word.specs.Word.{sign_extended}
-use Rattle.rv_decode.specs.{declared.instr.LoadOp.LoadOp, declared.instr.LoadOp.TheVariants.Lb}
-use Rattle.rv_decode.specs.{declared.instr.LoadOp.TheVariants.Lh}
+use Rattle.rv_instr.specs.{declared.instr.LoadOp.LoadOp, declared.instr.LoadOp.TheVariants.Lb}
+use Rattle.rv_instr.specs.{declared.instr.LoadOp.TheVariants.Lh}
 use Rattle.smt_model.specs.Words.{Op, Known, Instr, Load, Written}
 use Rattle.smt_model.specs.Kinds.{access_size}
 

@@ -9,20 +9,20 @@ use Rattle.rv_word.specs.Word.{signed_right_shift_of, signed_less_of, less_of, e
 use Rattle.rv_word.specs.Word.{or_of, and_of, product_of, signed_high_product_of}
 use Rattle.rv_word.specs.Word.{mixed_high_product_of, high_product_of, signed_quotient_of}
 use Rattle.rv_word.specs.Word.{quotient_of, signed_remainder_of, remainder_of}
-use Rattle.rv_decode.specs.{declared.op.Op.TheVariants.Illegal, declared.instr.BranchOp.BranchOp}
-use Rattle.rv_decode.specs.{declared.instr.ImmediateOp.ImmediateOp, declared.instr.ShiftOp.ShiftOp}
-use Rattle.rv_decode.specs.{declared.instr.ShiftOp.TheVariants.Slli}
-use Rattle.rv_decode.specs.{declared.instr.ShiftOp.TheVariants.Srli}
-use Rattle.rv_decode.specs.{declared.instr.ShiftOp.TheVariants.Srai}
-use Rattle.rv_decode.specs.{declared.instr.RegisterOp.RegisterOp, declared.instr.MulDivOp.MulDivOp}
-use Rattle.rv_decode.specs.declared.instr.Instr.TheVariants as instr
-use Rattle.rv_decode.specs.declared.instr.BranchOp.TheVariants.{Beq, Bne, Blt, Bge, Bltu, Bgeu}
-use Rattle.rv_decode.specs.declared.instr.ImmediateOp.TheVariants.{Addi, Slti, Sltiu, Xori, Ori}
-use Rattle.rv_decode.specs.declared.instr.ImmediateOp.TheVariants.{Andi}
-use Rattle.rv_decode.specs.declared.instr.RegisterOp.TheVariants.{Add, Sub, Sll, Slt, Sltu, Xor}
-use Rattle.rv_decode.specs.declared.instr.RegisterOp.TheVariants.{Srl, Sra, Or, And}
-use Rattle.rv_decode.specs.declared.instr.MulDivOp.TheVariants.{Mul, Mulh, Mulhsu, Mulhu, Div, Divu}
-use Rattle.rv_decode.specs.declared.instr.MulDivOp.TheVariants.{Rem, Remu}
+use Rattle.rv_instr.specs.{declared.op.Op.TheVariants.Illegal, declared.instr.BranchOp.BranchOp}
+use Rattle.rv_instr.specs.{declared.instr.ImmediateOp.ImmediateOp, declared.instr.ShiftOp.ShiftOp}
+use Rattle.rv_instr.specs.{declared.instr.ShiftOp.TheVariants.Slli}
+use Rattle.rv_instr.specs.{declared.instr.ShiftOp.TheVariants.Srli}
+use Rattle.rv_instr.specs.{declared.instr.ShiftOp.TheVariants.Srai}
+use Rattle.rv_instr.specs.{declared.instr.RegisterOp.RegisterOp, declared.instr.MulDivOp.MulDivOp}
+use Rattle.rv_instr.specs.declared.instr.Instr.TheVariants as instr
+use Rattle.rv_instr.specs.declared.instr.BranchOp.TheVariants.{Beq, Bne, Blt, Bge, Bltu, Bgeu}
+use Rattle.rv_instr.specs.declared.instr.ImmediateOp.TheVariants.{Addi, Slti, Sltiu, Xori, Ori}
+use Rattle.rv_instr.specs.declared.instr.ImmediateOp.TheVariants.{Andi}
+use Rattle.rv_instr.specs.declared.instr.RegisterOp.TheVariants.{Add, Sub, Sll, Slt, Sltu, Xor}
+use Rattle.rv_instr.specs.declared.instr.RegisterOp.TheVariants.{Srl, Sra, Or, And}
+use Rattle.rv_instr.specs.declared.instr.MulDivOp.TheVariants.{Mul, Mulh, Mulhsu, Mulhu, Div, Divu}
+use Rattle.rv_instr.specs.declared.instr.MulDivOp.TheVariants.{Rem, Remu}
 use Rattle.smt_model.specs.Words.{Op, Known, NoWord, Instr, Next, Pc, Ended, Stopped}
 use Rattle.smt_model.specs.Kinds.{store_size}
 

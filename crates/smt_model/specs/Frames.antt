@@ -1,7 +1,7 @@
 -- What a step leaves as it was. `p` is the picture before it, `q` the one after.
 use Rattle.std.specs.Prelude.{◌≡◌, ◌≢◌, ℕ, ◌<◌, Bool, true, false, ◌==◌, List, [], Some}
 use Rattle.std.specs.List.{list_any}
-use Rattle.rv_decode.specs.declared.op.Op.{Op}
+use Rattle.rv_instr.specs.declared.op.Op.{Op}
 use Rattle.smt_model.specs.{Kinds.first_source, Kinds.second_source, Picture.Picture}
 use Rattle.smt_model.specs.Fates.{Fetched, is, is_in_flight, Renamed}
 

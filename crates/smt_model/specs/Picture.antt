@@ -2,7 +2,7 @@
 -- where each of its parts is what the picture of the history has for it; `Steps` says what each
 -- event changes in it.
 use Rattle.std.specs.Prelude.{ℕ, ◌&&◌, nat_lt, Bool, List, Option, Some, None}
-use Rattle.rv_decode.specs.declared.op.Op.{Op}
+use Rattle.rv_instr.specs.declared.op.Op.{Op}
 use Rattle.events.specs.{declared.effect.Outcome.Outcome, declared.effect.Record.Record}
 use Rattle.events.specs.{declared.event.Event.Event}
 use Rattle.smt_model.specs.{declared.config.Status.Status, Setup.Setup, Setup.registers_of}

@@ -6,7 +6,7 @@ use Rattle.smt_model.specs.Words.{Op, Event, Rename, Issue, Complete, Retire}
 use Rattle.smt_model.specs.Basics.{holds_of, or_zero, same_number, first, below, how_many, total}
 use Rattle.numbers.specs.{Sizes.renamed_registers, Layout.first_extra}
 pub use Rattle.numbers.specs.Layout.{first_register}
-use Rattle.rv_decode.specs.declared.op.Op.{Op}
+use Rattle.rv_instr.specs.declared.op.Op.{Op}
 use Rattle.events.specs.declared.event.Event.{Event}
 use Rattle.events.specs.declared.event.Event.TheVariants.{Fetch, Decode, Rename, Issue, Complete}
 use Rattle.events.specs.declared.event.Event.TheVariants.{Drop, Retire}

@@ -4,7 +4,7 @@
 use Rattle.std.specs.Prelude.{◌≡◌, ℕ, Bool, not, ◌==◌, ◌&&◌, ◌||◌, nat_lt, if◌then◌else◌, List, []}
 use Rattle.std.specs.Prelude.{◌∷◌, length, Option, Some, None, is_some, is_none}
 use Rattle.std.specs.List.{list_all}
-use Rattle.rv_decode.specs.Registers.{op_unit}
+use Rattle.rv_instr.specs.Registers.{op_unit}
 use Rattle.smt_model.specs.Words.{code_word, Outcome, Effect, Event, Fetch, Decode, Rename, Issue}
 use Rattle.smt_model.specs.Words.{Complete, Drop, Retire}
 use Rattle.smt_model.specs.Basics.{holds_of, same_number, same_truth, or_zero, first, how_many}

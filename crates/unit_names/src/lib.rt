@@ -4,7 +4,7 @@
 ghost use Rattle.std.specs.Prelude.{◌≡◌};
 ghost use Rattle.unit_names.specs.Names.{name_of};
 
-use rv_decode::UnitKind;
+use rv_instr::UnitKind;
 
 /// The name of a kind of unit, as a configuration has it.
 pub fn unit_name(kind: &UnitKind) -> &'static str

@@ -7,14 +7,13 @@ ghost use Rattle.board.specs.Seats.{asked_by, board_of, name_of, seen_by};
 ghost use Rattle.smt_model.specs.Basics.{below};
 
 use crate::board_view::BoardView;
+use crate::counted::Counted;
 use crate::knowledge::{Deal, Knowledge, Look, Post, Stop};
 use crate::reason::Reason;
 use crate::seat::Seat;
 use crate::shared::Board;
 use atomic_table::Table;
-use core_lock::Pass;
 use std::alloc::{AllocError, Global};
-use std::sync::ledger::Ledger;
 
 type Token = atomic_table::Seat<u8, Knowledge>;
 
@@ -42,17 +41,17 @@ impl Board {
         Ok((board, seats))
     }
 
-    /// Stores the pass's count in the actor's own word.
-    pub fn post<L: Ledger>(&self, seat: &mut Seat, pass: &Pass<L>)
+    /// Stores the count of a pass, or of what else counts for an actor, in that actor's own word.
+    pub fn post<C: Counted>(&self, seat: &mut Seat, pass: &C)
         requires board { board_of seat.old ≡ name_of self.now }
-        requires actor { seat.old.place ≡ pass.now.actor }
+        requires actor { seat.old.place ≡ C.actor pass.now }
         requires inside { seat.old.place < 16 }
-        requires rises { seat.old.posted ≤ pass.now.count }
+        requires rises { seat.old.posted ≤ C.counted pass.now }
         ensures board { board_of seat.new ≡ board_of seat.old }
         ensures place { seat.new.place ≡ seat.old.place }
-        ensures posted { seat.new.posted ≡ pass.now.count }
+        ensures posted { seat.new.posted ≡ C.counted pass.now }
         ensures seen { seen_by seat.new
-            ≡ slice_set (seen_by seat.old) seat.old.place pass.now.count }
+            ≡ slice_set (seen_by seat.old) seat.old.place (C.counted pass.now) }
         ensures rises { NoneFalls (seen_by seat.old) (seen_by seat.new) }
         ensures asked { asked_by seat.new ≡ asked_by seat.old }
     {

@@ -5,7 +5,7 @@ use Rattle.std.specs.List.{AllByRecursion}
 use Rattle.std.proofs.Common.{◌∙◌, refl, ap, inl, inr, arith}
 use Rattle.std.proofs.{lemmas.Bool.cases_Bool}
 use Rattle.events.specs.{declared.effect.Outcome.Outcome, declared.effect.Written.Written}
-use Rattle.rv_decode.specs.declared.op.Op.{Op}
+use Rattle.rv_instr.specs.declared.op.Op.{Op}
 use Rattle.retire_squash.specs.{Active.with_stage, declared.active.Active.Active, declared.active.Stage.Stage}
 use Rattle.retire_squash.specs.declared.active.Stage.TheVariants as stage
 use Rattle.smt_model.specs.{Looks.stored_by, Kinds.is_loading, Kinds.is_storing, Kinds.kind_of}

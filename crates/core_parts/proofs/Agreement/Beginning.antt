@@ -12,7 +12,7 @@ use Rattle.issue_queue.specs.Queue.{Queue}
 use Rattle.smt_model.specs.{Picture.picture, Picture.is_free, Registers.is_unclaimed, Registers.first_register}
 use Rattle.smt_model.specs.{Setup.Setup, Setup.first_number}
 use Rattle.smt_model.proofs.Registers.Claims.{IsFlightClaim, IsCommittedClaim, claimant, committed_claimed}
-use Rattle.elf_image.specs.Image.{ProgramImage, byte_in}
+use Rattle.program_image.specs.Image.{ProgramImage, byte_in}
 use Rattle.shared_memory.specs.Contents.{IsStart}
 use Rattle.load_store.specs.Queues.{queues_of, empty}
 use Rattle.core_parts.specs.Accesses.{accesses_of}

@@ -4,7 +4,7 @@ use Rattle.std.specs.List.{AllByRecursion}
 use Rattle.std.proofs.Common.{◌∙◌, refl, sym, ap, inl, inr}
 use Rattle.std.proofs.lemmas.Bool.{cases_Bool}
 use Rattle.issue_queue.specs.{Queue.Queue, declared.entry.Entry.Entry, declared.entry.Source.Source}
-use Rattle.rv_decode.specs.declared.op.Op.{Op}
+use Rattle.rv_instr.specs.declared.op.Op.{Op}
 use Rattle.smt_model.specs.{Kinds.first_source, Kinds.second_source, Fates.is, Fates.Renamed, Picture.Picture}
 use Rattle.smt_model.specs.{Steps.KeepsFetched, Steps.WakesReadings, Steps.woken_reading}
 use Rattle.core_parts.specs.Agree.{IsEntry, QueueAgrees, source_of, source_at, filled_source, filled_entry}

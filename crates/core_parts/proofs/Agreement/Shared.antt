@@ -3,7 +3,7 @@
 use Rattle.std.specs.Prelude.{◌≡◌, ℕ, false, List, [], ◌∷◌, Option, Some, None, slice_index_or}
 use Rattle.std.specs.List.{AllByRecursion}
 use Rattle.std.proofs.Common.{◌∙◌, refl, sym, ap}
-use Rattle.rv_decode.specs.declared.op.Op.{Op}
+use Rattle.rv_instr.specs.declared.op.Op.{Op}
 use Rattle.issue_queue.specs.{Queue.Queue, declared.entry.Entry.Entry}
 use Rattle.smt_model.specs.{Kinds.first_source, Kinds.second_source, Fates.Renamed, Fates.is_in_flight}
 use Rattle.smt_model.specs.{Fates.is as is_fate, Picture.Picture}

@@ -1,11 +1,11 @@
 -- Where the derived comparison of two instructions is true they are one.
 use Rattle.std.proofs.Common.{◌≡◌, ℕ, true, rules, refl, ap, inl, inr}
 use Rattle.std.proofs.lemmas.Bool.{cases_Bool, false≢true}
-use Rattle.rv_decode.specs.{declared.instr.Ordering.Ordering, declared.op.Op.Op, declared.op.Op.TheVariants.Known}
-use Rattle.rv_decode.specs.{declared.op.Op.TheVariants.Illegal, declared.op.Op.TheVariants.NoWord}
-use Rattle.rv_decode.specs.{declared.instr.Instr.Instr, contracts.op.OpPartialEq.TheImpl.eq-value as op_eq}
-use Rattle.rv_decode.specs.{contracts.instr.InstrPartialEq.TheImpl.eq-value as instr_eq}
-use Rattle.rv_decode.specs.declared.instr.Instr.TheVariants as instr
+use Rattle.rv_instr.specs.{declared.instr.Ordering.Ordering, declared.op.Op.Op, declared.op.Op.TheVariants.Known}
+use Rattle.rv_instr.specs.{declared.op.Op.TheVariants.Illegal, declared.op.Op.TheVariants.NoWord}
+use Rattle.rv_instr.specs.{declared.instr.Instr.Instr, contracts.op.OpPartialEq.TheImpl.eq-value as op_eq}
+use Rattle.rv_instr.specs.{contracts.instr.InstrPartialEq.TheImpl.eq-value as instr_eq}
+use Rattle.rv_instr.specs.declared.instr.Instr.TheVariants as instr
 use Rattle.rv_word.specs.{declared.amo_kind.AmoKind.AmoKind, contracts.amo_kind.AmoKind.the_type}
 use Rattle.rv_word.specs.{contracts.amo_kind.AmoKindPartialEq.TheImpl.eq-value as kind_eq}
 use denote.Enum.Bare.{same_true}

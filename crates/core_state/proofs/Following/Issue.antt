@@ -7,7 +7,7 @@ use Rattle.std.proofs.{lemmas.Bool.and_parts, lemmas.Bool.cases_Bool, lemmas.Boo
 use Rattle.std.proofs.{lemmas.Option.none-some, lemmas.Bool.Decides.nat_tests}
 use Rattle.events.specs.{declared.event.Event.Event, declared.event.Event.TheVariants.Issue}
 use Rattle.issue_queue.specs.{Entry.has_values, Entry.can_issue, declared.entry.Entry.Entry, Queue.AreEntriesRising}
-use Rattle.rv_decode.specs.{Registers.op_unit, Registers.same_unit, declared.op.UnitKind.UnitKind}
+use Rattle.rv_instr.specs.{Registers.op_unit, Registers.same_unit, declared.op.UnitKind.UnitKind}
 use Rattle.smt_model.specs.{Picture.picture, Setup.Setup, Basics.holds_of}
 use Rattle.smt_model.specs.{Jobs.is_actor, Jobs.job, Jobs.unit_of_actor, Registers.is_ready}
 use Rattle.smt_model.specs.Fates.{fate, is, op_at, op_of_fetched, stage, Renamed}

@@ -8,21 +8,22 @@ ghost use Rattle.smt_model.specs.Account.{records, open_job_count, committed_val
 ghost use Rattle.smt_model.specs.Basics.{how_many};
 ghost use Rattle.smt_model.specs.Flights.{icount};
 ghost use Rattle.smt_model.specs.Memory.{byte_at, reserved, status, output};
-ghost use Rattle.smt_model.specs.Picture.{is_free};
+ghost use Rattle.smt_model.specs.Picture.{is_free, picture};
 ghost use Rattle.smt_model.specs.Registers.{claims};
 ghost use Rattle.smt_model.specs.Rules.{is_legal};
 ghost use Rattle.smt_model.specs.Setup.{registers_of};
+ghost use Rattle.core_parts.specs.Agree.{PartsAgree};
 ghost use Rattle.core_parts.specs.Listed.{listed};
 ghost use Rattle.core_state.specs.Setup.{setup_of};
 
 use super::State;
 use crate::sizes::is_same_config;
 use arrayvec::ArrayVec;
-use core_parts::{count_jobs, registers_in, value_of};
-use elf_image::Image;
+use core_parts::{Parts, count_jobs, registers_in, value_of};
 use events::{Event, Record};
 use numbers::sizes::MOST_REGISTERS;
-use numbers::{Phys, Reg};
+use numbers::{Phys, Reg, first_extra};
+use program_image::Image;
 use shared_memory::Memory;
 use smt_model::{Config, Status};
 
@@ -50,6 +51,15 @@ impl State {
         ensures reserved { (h : ℕ) → reserved_of result.now h ≡ reserved self.now.past h }
     {
         &self.parts.memory
+    }
+
+    /// What the core holds, for who prints it: its parts, and how many physical registers it has.
+    pub fn parts(&self) -> (&Parts, u32)
+        ensures agrees { PartsAgree (picture self.now.setup self.now.past) result.0.now }
+        ensures registers { result.1 ≡ registers_of self.now.setup }
+    {
+        let registers = u32::from(first_extra(self.config.harts)) + u32::from(self.config.extra);
+        (&self.parts, registers)
     }
 
     /// How hart `hart` stands; none where there is no such hart.

@@ -3,9 +3,10 @@
 
 use crate::files::{FIRST, file_of};
 use arrayvec::ArrayVec;
-use elf_image::{Image, RamSize, load};
+use elf_image::load;
 use event_text::read_event_line;
 use events::Event;
+use program_image::{Image, RamSize};
 use smt_core::{Answer, CompleteAnswer, Config, Core, Done, IssueAnswer, Predict, Role, work};
 use std::alloc::Global;
 

@@ -2,7 +2,8 @@
 
 use super::{EXIT_WITH_5, Placed, file_of};
 use crate::rows::refuses;
-use elf_image::{LoadRefused, RamSize, load};
+use elf_image::{LoadRefused, load};
+use program_image::RamSize;
 use std::alloc::Global;
 
 /// Why a file is refused, where there is such a size of RAM.

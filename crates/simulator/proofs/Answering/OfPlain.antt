@@ -5,8 +5,9 @@ use Rattle.std.specs.Borrow.{Bor}
 use Rattle.std.proofs.lemmas.Result.{IfErr-weaker}
 use Rattle.sim_inputs.specs.{declared.settings.Settings.Settings}
 use Rattle.sim_inputs.specs.declared.line.Line.TheVariants as lines
-use Rattle.sim_report.specs.{declared.refused.Refused.Refused, declared.refused.Unread.Unread}
-use Rattle.sim_report.specs.Refusals.{Read, OfFile, PassesAll, as_read, refusal_of, says_harts}
+use Rattle.sim_refusals.specs.{declared.refused.Refused.Refused, declared.refused.Unread.Unread}
+use Rattle.sim_refusals.specs.Refusals.{Read, OfFile, PassesAll, as_read, refusal_of}
+use Rattle.exit_statuses.specs.Statuses.{says_harts}
 use Rattle.sim_script.specs.Order.{IsOrder}
 use Rattle.sim_commands.specs.PlainRefusals.{ArePlainInputsRefusedFor, IsOrdering}
 use Rattle.sim_commands.specs.PlainTold.{IsPlainReported}

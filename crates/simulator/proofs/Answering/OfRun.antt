@@ -6,10 +6,11 @@ use Rattle.std.proofs.Common.{subst}
 use Rattle.std.proofs.lemmas.Result.{IfErr-weaker}
 use Rattle.sim_inputs.specs.{declared.settings.Settings.Settings}
 use Rattle.sim_inputs.specs.declared.line.Line.TheVariants as lines
-use Rattle.sim_report.specs.{declared.refused.Refused.Refused, declared.refused.Unread.Unread}
-use Rattle.sim_report.specs.Refusals.{Read, AreAccepted, OfFile, PassesAll, as_read, refusal_of, says_harts}
-use Rattle.sim_commands.specs.declared.core_lines.Wanted.{Wanted}
-use Rattle.sim_commands.specs.Told.{IsKept}
+use Rattle.sim_refusals.specs.{declared.refused.Refused.Refused, declared.refused.Unread.Unread}
+use Rattle.sim_refusals.specs.Refusals.{Read, AreAccepted, OfFile, PassesAll, as_read, refusal_of}
+use Rattle.exit_statuses.specs.Statuses.{says_harts}
+use Rattle.sim_steps.specs.declared.core_lines.Wanted.{Wanted}
+use Rattle.sim_steps.specs.Told.{IsKept}
 use Rattle.sim_runs.specs.RunTold.{AreRunInputsRefusedFor, IsRunReported, LackARole}
 use Rattle.simulator.specs.Answered.{IsAnswered}
 use Rattle.simulator.proofs.Answering.Untraced.{unread_too, on_both, with_status}

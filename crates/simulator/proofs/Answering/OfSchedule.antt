@@ -5,8 +5,8 @@ use Rattle.std.specs.Borrow.{Bor}
 use Rattle.std.proofs.lemmas.Result.{IfErr-weaker}
 use Rattle.sim_inputs.specs.{declared.settings.Settings.Settings}
 use Rattle.sim_inputs.specs.declared.line.Line.TheVariants as lines
-use Rattle.sim_report.specs.{declared.refused.Refused.Refused, declared.refused.Unread.Unread}
-use Rattle.sim_report.specs.Refusals.{Read, OfFile, PassesAll, as_read, refusal_of}
+use Rattle.sim_refusals.specs.{declared.refused.Refused.Refused, declared.refused.Unread.Unread}
+use Rattle.sim_refusals.specs.Refusals.{Read, OfFile, PassesAll, as_read, refusal_of}
 use Rattle.sim_commands.specs.ScheduleRefusals.{AreScheduleInputsRefusedFor}
 use Rattle.sim_commands.specs.ScheduleTold.{IsScheduled}
 use Rattle.simulator.specs.Answered.{IsAnswered}

@@ -5,10 +5,11 @@ use Rattle.std.specs.Borrow.{Bor}
 use Rattle.std.proofs.Common.{refl, sym, subst, ◌∙◌}
 use Rattle.std.proofs.lemmas.Bool.{true≢false}
 use Rattle.sim_inputs.specs.{declared.line.Line.Line, declared.settings.Settings.Settings}
-use Rattle.sim_report.specs.{declared.refused.Refused.Refused, declared.refused.Unread.Unread}
-use Rattle.sim_report.specs.declared.refused.Refused.TheVariants.{Output}
-use Rattle.sim_report.specs.Refusals.{Read, as_read, refusal_of, says_harts}
-use Rattle.sim_commands.specs.Told.{IsKept}
+use Rattle.sim_refusals.specs.{declared.refused.Refused.Refused, declared.refused.Unread.Unread}
+use Rattle.sim_refusals.specs.declared.refused.Refused.TheVariants.{Output}
+use Rattle.sim_refusals.specs.Refusals.{Read, as_read, refusal_of}
+use Rattle.exit_statuses.specs.Statuses.{says_harts}
+use Rattle.sim_steps.specs.Told.{IsKept}
 use Rattle.simulator.specs.Lines.{IsLineRefusal, HasEnded}
 use Rattle.simulator.specs.Answered.{IsAnswered}
 

@@ -3,9 +3,9 @@
 use Rattle.std.specs.Prelude.{◌≡◌, ℕ, suc, ◌+◌, ◌*◌, ◌≤◌, true, ◌==◌, ◌&&◌, List, [], ◌∷◌, length, Some}
 use Rattle.std.proofs.Common.{◌∙◌, refl, sym, ap, subst, inl, inr, arith}
 use Rattle.std.proofs.{lemmas.Bool.cases_eq, lemmas.Bool.cases_lt}
-use Rattle.rv_decode.specs.declared.op.Op.{Op}
-use Rattle.elf_image.specs.Image.{code_word}
-use Rattle.rv_decode.specs.Decode.{op_of_word}
+use Rattle.rv_instr.specs.declared.op.Op.{Op}
+use Rattle.program_image.specs.Image.{code_word}
+use Rattle.rv_instr.specs.Decode.{op_of_word}
 use Rattle.events.specs.{declared.event.Event.Event}
 use Rattle.events.specs.declared.event.Event.TheVariants.{Decode, Rename, Retire}
 use Rattle.smt_model.specs.{Setup.Setup, Jobs.is_actor, Account.order, Flights.in_decode, Flights.live}

@@ -4,8 +4,8 @@ use Rattle.std.specs.Prelude.{◌≡◌, ℕ, suc, Bool, true, false, ◌==◌, 
 use Rattle.std.specs.Prelude.{Some, None, is_some, slice_get, option_and_then}
 use Rattle.std.proofs.Common.{◌∙◌, refl, sym, ap, subst, inl, inr, arith}
 use Rattle.std.proofs.{lemmas.Bool.cases_eq, lemmas.Bool.Decides.nat_tests}
-use Rattle.rv_decode.specs.{Registers.op_unit, Registers.same_unit, declared.op.UnitKind.UnitKind, declared.op.Op.Op}
-use Rattle.rv_decode.specs.declared.op.UnitKind.TheVariants.{Alu, Mul, Mem}
+use Rattle.rv_instr.specs.{Registers.op_unit, Registers.same_unit, declared.op.UnitKind.UnitKind, declared.op.Op.Op}
+use Rattle.rv_instr.specs.declared.op.UnitKind.TheVariants.{Alu, Mul, Mem}
 use Rattle.events.specs.{declared.event.Event.Event}
 use Rattle.events.specs.declared.event.Event.TheVariants.{Issue, Complete, Drop}
 use Rattle.smt_model.specs.{Basics.holds_of, Basics.below, Setup.Setup, Setup.unit_of_role}

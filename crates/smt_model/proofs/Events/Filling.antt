@@ -3,7 +3,7 @@
 use Rattle.std.specs.Prelude.{◌≡◌, ◌≢◌, ℕ, ◌≤◌, Bool, true, false, ◌==◌, if◌then◌else◌, List, ◌∷◌, Option, Some, None}
 use Rattle.std.proofs.Common.{◌∙◌, refl, sym, ap, subst, inl, inr, arith}
 use Rattle.std.proofs.{lemmas.Bool.cases_Bool, lemmas.Bool.cases_eq, lemmas.Bool.Decides.nat_tests}
-use Rattle.rv_decode.specs.declared.op.Op.{Op}
+use Rattle.rv_instr.specs.declared.op.Op.{Op}
 use Rattle.events.specs.{declared.event.Event.Event, Event.seq_of}
 use Rattle.smt_model.specs.{Basics.same_number, Setup.Setup, Rules.refused, Rules.is_legal, Picture.picture}
 use Rattle.smt_model.specs.{Picture.source_register_in, Steps.WakesReadings, Steps.woken_reading, Steps.filled_value}

@@ -3,7 +3,7 @@ use Rattle.std.specs.Prelude.{◌≡◌, ◌≢◌, ℕ, ◌≤◌, Bool, true, 
 use Rattle.std.specs.Prelude.{Some, None}
 use Rattle.std.proofs.Common.{◌∙◌, refl, sym, ap, subst, inl, inr, arith}
 use Rattle.std.proofs.{lemmas.Bool.cases_Bool, lemmas.Bool.Decides.nat_tests}
-use Rattle.rv_decode.specs.declared.op.Op.{Op}
+use Rattle.rv_instr.specs.declared.op.Op.{Op}
 use Rattle.events.specs.declared.event.Event.{Event}
 use Rattle.smt_model.specs.{Setup.Setup, Setup.registers_of, Kinds.first_source, Kinds.second_source, Rules.refused}
 use Rattle.smt_model.specs.{Rules.is_legal, Picture.picture, Picture.source_register_in, Picture.is_free}

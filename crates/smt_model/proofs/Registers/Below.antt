@@ -1,8 +1,8 @@
 -- The registers that an instruction names are below 32.
 use Rattle.std.specs.Prelude.{ℕ, ◌<◌, Option, Some, None, IfSome}
 use Rattle.std.proofs.Common.{arith}
-use Rattle.rv_decode.specs.{Decode.op_of_word, Registers.op_rd, Registers.op_rs1, Registers.op_rs2}
-use Rattle.rv_decode.proofs.DecodedLemmas.{op_of_word_in_range, op_rd_below, op_rs1_below, op_rs2_below}
+use Rattle.rv_instr.specs.{Decode.op_of_word, Registers.op_rd, Registers.op_rs1, Registers.op_rs2}
+use Rattle.rv_instr.proofs.DecodedLemmas.{op_of_word_in_range, op_rd_below, op_rs1_below, op_rs2_below}
 use Rattle.smt_model.specs.{Basics.or_zero, Kinds.destination, Kinds.first_source, Kinds.second_source}
 
 or_zero-below : (o : Option ℕ) → IfSome o (λ r. r < 32) → or_zero o < 32

@@ -2,16 +2,16 @@
 -- where a history and the plain machine leave off.
 use Rattle.std.specs.Prelude.{ℕ, ◌/◌, ◌%◌, ◌^◌, List, [], ◌∷◌, ◌++◌, length, map, option_map, take, reverse, Option}
 use Rattle.std.specs.Prelude.{Some, None}
-use Rattle.elf_image.specs.Image.{ProgramImage, byte_in, code_segment, code_start, code_size, word_in, code_word}
+use Rattle.program_image.specs.Image.{ProgramImage, byte_in, code_segment, code_start, code_size, word_in, code_word}
 use Rattle.rv_word.specs.Word.{sum_of, difference_of, left_shift_of, right_shift_of, signed_right_shift_of}
 use Rattle.rv_word.specs.Word.{signed_less_of, less_of, product_of, signed_high_product_of, mixed_high_product_of}
 use Rattle.rv_word.specs.Word.{high_product_of, signed_quotient_of, quotient_of, signed_remainder_of, remainder_of}
 use Rattle.rv_word.specs.Word.{atomic_result_of, sign_extended}
-use Rattle.rv_decode.specs.Decode.{branch_op, load_op, store_op, immediate_op, shift_op, register_op, muldiv_op}
-use Rattle.rv_decode.specs.Decode.{amo_kind, jalr_of, branch_of, load_of, store_of, shift_of, immediate_of, muldiv_of}
-use Rattle.rv_decode.specs.Decode.{register_of, fence_of, system_of, load_reserved_of, store_conditional_of, amo_of}
-use Rattle.rv_decode.specs.Decode.{atomic_of, decoded, op_of_instr, op_of_word}
-use Rattle.rv_decode.specs.Registers.{rd_of, rs1_of, rs2_of, unit_of, op_rd, op_rs1, op_rs2, op_unit}
+use Rattle.rv_instr.specs.Decode.{branch_op, load_op, store_op, immediate_op, shift_op, register_op, muldiv_op}
+use Rattle.rv_instr.specs.Decode.{amo_kind, jalr_of, branch_of, load_of, store_of, shift_of, immediate_of, muldiv_of}
+use Rattle.rv_instr.specs.Decode.{register_of, fence_of, system_of, load_reserved_of, store_conditional_of, amo_of}
+use Rattle.rv_instr.specs.Decode.{atomic_of, decoded, op_of_instr, op_of_word}
+use Rattle.rv_instr.specs.Registers.{rd_of, rs1_of, rs2_of, unit_of, op_rd, op_rs1, op_rs2, op_unit}
 use Rattle.events.specs.{declared.effect.Next.Next, declared.effect.Outcome.Outcome, declared.effect.Effect.Effect}
 use Rattle.events.specs.{declared.effect.Record.Record, declared.event.Event.Event}
 use Rattle.smt_model.specs.{declared.config.Role.Role, declared.config.Status.Status, Basics.below, Setup.Setup}

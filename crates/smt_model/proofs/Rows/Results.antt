@@ -1,8 +1,8 @@
 -- What instructions compute: words of each group with their operands and results, found by hand from the manual.
 -- [RISC-V Unprivileged ISA, chapters "RV32I", "M" and "A"; calls and stops are this project's own choice]
 use Rattle.std.specs.Prelude.{◌≡◌, ℕ, List, [], ◌∷◌, map, Option, Some, None, refl}
-use Rattle.rv_decode.specs.{Decode.op_of_word, declared.op.Op.Op, declared.op.Op.TheVariants.Known}
-use Rattle.rv_decode.specs.{declared.op.Op.TheVariants.Illegal, declared.op.Op.TheVariants.NoWord}
+use Rattle.rv_instr.specs.{Decode.op_of_word, declared.op.Op.Op, declared.op.Op.TheVariants.Known}
+use Rattle.rv_instr.specs.{declared.op.Op.TheVariants.Illegal, declared.op.Op.TheVariants.NoWord}
 use Rattle.events.specs.{declared.effect.Next.Next, declared.effect.Next.TheVariants.Pc}
 use Rattle.events.specs.{declared.effect.Next.TheVariants.Ended, declared.effect.Next.TheVariants.Stopped}
 use Rattle.smt_model.specs.{Exec.Computed, Exec.computed_of, Effects.atomic_result}

@@ -4,7 +4,7 @@ use Rattle.std.specs.Prelude.{None, is_none}
 use Rattle.std.specs.List.{filter}
 use Rattle.std.proofs.Common.{◌∙◌, refl, sym, ap, arith}
 use Rattle.std.proofs.{lemmas.Bool.Decides.nat_tests, lemmas.List.append-nil}
-use Rattle.rv_decode.specs.declared.op.Op.{Op}
+use Rattle.rv_instr.specs.declared.op.Op.{Op}
 use Rattle.events.specs.{declared.event.Event.Event, declared.event.Event.TheVariants.Issue}
 use Rattle.smt_model.specs.{Setup.Setup, Kinds.first_source, Kinds.second_source, Rules.refused, Rules.is_legal}
 use Rattle.smt_model.specs.{Jobs.job, Picture.picture, Steps.IsIssue}

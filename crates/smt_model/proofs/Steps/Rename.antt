@@ -6,7 +6,7 @@ use Rattle.std.specs.List.{filter}
 use Rattle.std.proofs.Common.{◌∙◌, refl, sym, ap, subst, inl, inr, arith}
 use Rattle.std.proofs.{lemmas.Bool.cases_Bool, lemmas.Bool.cases_eq, lemmas.Bool.cases_lt}
 use Rattle.std.proofs.{lemmas.Bool.Decides.nat_tests, lemmas.List.append-nil}
-use Rattle.rv_decode.specs.declared.op.Op.{Op}
+use Rattle.rv_instr.specs.declared.op.Op.{Op}
 use Rattle.events.specs.{declared.event.Event.Event, declared.event.Event.TheVariants.Rename}
 use Rattle.smt_model.specs.{Basics.same_number, Setup.Setup, Setup.registers_of, Kinds.first_source}
 use Rattle.smt_model.specs.{Kinds.second_source, Kinds.writes_register, Rules.refused, Rules.is_legal, Picture.picture}

@@ -3,7 +3,7 @@ use Rattle.std.specs.Prelude.{◌≡◌, ◌≢◌, ℕ, ◌<◌, ◌≤◌, Boo
 use Rattle.std.specs.Prelude.{None}
 use Rattle.std.proofs.Common.{◌∙◌, refl, sym, ap, subst, inl, inr, arith}
 use Rattle.std.proofs.{lemmas.Bool.cases_Bool, lemmas.Bool.cases_lt, lemmas.Bool.Decides.nat_tests}
-use Rattle.rv_decode.specs.declared.op.Op.{Op}
+use Rattle.rv_instr.specs.declared.op.Op.{Op}
 use Rattle.events.specs.{declared.event.Event.Event, declared.event.Event.TheVariants.Rename}
 use Rattle.smt_model.specs.{Basics.holds_of, Basics.or_zero, Setup.Setup, Kinds.destination, Kinds.writes_register}
 use Rattle.smt_model.specs.{Rules.refused, Rules.is_legal, Picture.source_register_in, Steps.renamed_map}

@@ -4,7 +4,7 @@ use Rattle.std.specs.Prelude.{◌≡◌, ◌≢◌, ℕ, ◌<◌, ◌≤◌, Boo
 use Rattle.std.specs.Prelude.{List, [], ◌∷◌, None, is_some}
 use Rattle.std.proofs.Common.{◌∙◌, refl, sym, ap, subst, arith}
 use Rattle.std.proofs.lemmas.Bool.Decides.{nat_tests}
-use Rattle.rv_decode.specs.declared.op.Op.{Op}
+use Rattle.rv_instr.specs.declared.op.Op.{Op}
 use Rattle.events.specs.{declared.effect.Effect.Effect, declared.event.Event.Event}
 use Rattle.events.specs.{declared.event.Event.TheVariants.Retire}
 use Rattle.smt_model.specs.{Basics.how_many, Setup.Setup, Setup.registers_of, Kinds.destination, Kinds.first_source}

@@ -5,7 +5,7 @@ use Rattle.std.specs.Prelude.{None, is_some}
 use Rattle.std.specs.List.{filter}
 use Rattle.std.proofs.Common.{◌∙◌, refl, sym, ap, subst, inl, inr, arith}
 use Rattle.std.proofs.{lemmas.Bool.cases_Bool, lemmas.Bool.Decides.nat_tests, lemmas.List.append-nil}
-use Rattle.rv_decode.specs.declared.op.Op.{Op}
+use Rattle.rv_instr.specs.declared.op.Op.{Op}
 use Rattle.events.specs.{declared.effect.Effect.Effect, declared.event.Event.Event}
 use Rattle.events.specs.{declared.event.Event.TheVariants.Retire}
 use Rattle.smt_model.specs.{Setup.Setup, Setup.registers_of, Kinds.destination, Kinds.first_source, Kinds.second_source}

@@ -1,6 +1,6 @@
 use Rattle.std.proofs.Common.{◌≡◌, ◌==◌, false, arith}
 use Rattle.std.proofs.lemmas.Bool.Decides.{nat_tests}
-use Rattle.rv_decode.specs.Fields.{opcode_at}
+use Rattle.rv_instr.specs.Fields.{opcode_at}
 use Rattle.actors.proofs.GoingBehind.{goes_behind}
 use Rattle.actors.proofs.static_predictor.may_have_target.Goals as goal
 

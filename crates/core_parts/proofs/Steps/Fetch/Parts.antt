@@ -2,7 +2,7 @@
 use Rattle.std.specs.Prelude.{◌≡◌, ◌≢◌, ℕ, ◌+◌, [], ◌∷◌, ◌++◌, map}
 use Rattle.std.specs.List.{AllByRecursion}
 use Rattle.std.proofs.Common.{◌∙◌, subst, sym, ap}
-use Rattle.rv_decode.specs.Decode.{op_of_word}
+use Rattle.rv_instr.specs.Decode.{op_of_word}
 use Rattle.rename_map.specs.Maps.{lookup, committed_of}
 use Rattle.core_parts.specs.{Agree.IsSlot, Agree.IsActive, Agree.HartAgrees, Fetch.IsFetchedInto, Fetch.fetched_of}
 use Rattle.core_parts.specs.{declared.slot.Slot.Slot, declared.hart.HartState.HartState}

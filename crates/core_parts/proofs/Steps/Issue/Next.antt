@@ -6,7 +6,7 @@ use Rattle.std.specs.List.{AllByRecursion, list_all, list_any}
 use Rattle.std.proofs.Common.{◌∙◌, refl, sym, ap, subst, inl, inr, arith}
 use Rattle.std.proofs.{lemmas.Bool.and_parts, lemmas.Bool.cases_Bool, lemmas.Bool.cases_eq}
 use Rattle.std.proofs.{lemmas.Bool.Decides.nat_tests}
-use Rattle.rv_decode.specs.{Registers.op_unit, declared.op.UnitKind.UnitKind}
+use Rattle.rv_instr.specs.{Registers.op_unit, declared.op.UnitKind.UnitKind}
 use Rattle.issue_queue.specs.{Entry.has_values, Entry.is_value, Entry.can_issue, Queue.AreEntriesRising}
 use Rattle.issue_queue.specs.{Queue.first_ready, declared.entry.Entry.Entry}
 use Rattle.issue_queue.proofs.Rising.{IsOldest-first_ready}

@@ -3,7 +3,7 @@ use Rattle.std.specs.Prelude.{◌≡◌, ℕ, ◌<◌, Bool, true, List, [], ◌
 use Rattle.std.specs.List.{AllByRecursion}
 use Rattle.std.proofs.Common.{◌∙◌, refl, sym, ap, subst, inl, inr}
 use Rattle.std.proofs.{lemmas.Bool.cases_Bool, lemmas.List.length-map}
-use Rattle.rv_decode.specs.declared.op.Op.{Op}
+use Rattle.rv_instr.specs.declared.op.Op.{Op}
 use Rattle.smt_model.specs.{Kinds.kind_of, Kinds.is_loading, Kinds.is_storing, Picture.Picture}
 use Rattle.smt_model.specs.Steps.{op_in}
 use Rattle.load_store.specs.Queues.{Queues, queues_of, Above, numbers}

@@ -7,8 +7,8 @@ use Rattle.std.specs.List.{AllByRecursion}
 use Rattle.std.proofs.Common.{◌∙◌, refl, sym, ap, subst, inl, inr, arith}
 use Rattle.std.proofs.{lemmas.Bool.cases_Bool, lemmas.Bool.cases_eq, lemmas.Bool.Decides.nat_tests}
 use Rattle.std.proofs.lemmas.List.{get_or_default, map_push, length-set, get_or-set_same, get_or-set_other}
-use Rattle.rv_decode.specs.{Registers.op_rs1, Registers.op_rs2, Table.OpInRange, declared.op.Op.Op}
-use Rattle.rv_decode.proofs.DecodedLemmas.{op_of_word_in_range, op_rs1_below, op_rs2_below}
+use Rattle.rv_instr.specs.{Registers.op_rs1, Registers.op_rs2, Table.OpInRange, declared.op.Op.Op}
+use Rattle.rv_instr.proofs.DecodedLemmas.{op_of_word_in_range, op_rs1_below, op_rs2_below}
 use Rattle.free_list.specs.Flags.{holds}
 use Rattle.issue_queue.specs.{Queue.Queue, Queue.has_number, declared.entry.Entry.Entry, declared.entry.Source.Source}
 use Rattle.issue_queue.specs.Queue as entries

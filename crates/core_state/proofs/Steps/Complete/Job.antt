@@ -6,7 +6,7 @@ use Rattle.std.proofs.Common.{◌∙◌, refl, sym, ap, subst, inl, inr, arith}
 use Rattle.std.proofs.{lemmas.Bool.cases_Bool, lemmas.Bool.cases_lt, lemmas.Bool.false≢true}
 use Rattle.std.proofs.{lemmas.Bool.Decides.nat_tests, lemmas.List.get_or_past, lemmas.Option.none-some}
 use Rattle.std.proofs.{lemmas.Option.same_Some}
-use Rattle.rv_decode.specs.Decode.{op_of_word}
+use Rattle.rv_instr.specs.Decode.{op_of_word}
 use Rattle.events.specs.declared.event.Event.{Event}
 use Rattle.exec_units.specs.Job.{JobView}
 use Rattle.smt_model.specs.{Basics.holds_of, Setup.Setup, Kinds.first_source, Kinds.second_source, Flights.flight}

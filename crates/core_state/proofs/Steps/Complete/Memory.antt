@@ -2,7 +2,7 @@
 use Rattle.std.specs.Prelude.{◌≡◌, ℕ, ◌<◌, List, [], ◌∷◌, length, Some, None, slice_index_or}
 use Rattle.std.proofs.Common.{◌∙◌, sym, ap, arith}
 use Rattle.events.specs.{declared.effect.Outcome.Outcome, declared.event.Event.Event}
-use Rattle.rv_decode.specs.declared.op.Op.{Op}
+use Rattle.rv_instr.specs.declared.op.Op.{Op}
 use Rattle.exec_units.specs.Job.{JobView, outcome_of_job}
 use Rattle.smt_model.specs.{Bytes.read, Exec.Computed, Faults.checked, Looks.first_look, Outcomes.outcome_of}
 use Rattle.smt_model.specs.{Fates.op_of_fetched, Picture.picture, Rules.outcome_now, Setup.Setup}

@@ -4,7 +4,7 @@ use Rattle.std.specs.Prelude.{is_none}
 use Rattle.std.specs.List.{list_all, list_any}
 use Rattle.std.proofs.Common.{◌∙◌, refl, sym, ap, subst, arith}
 use Rattle.std.proofs.{lemmas.Bool.and_parts, lemmas.Bool.and_from, lemmas.Bool.Decides.nat_tests}
-use Rattle.rv_decode.specs.{Registers.op_unit, declared.op.UnitKind.UnitKind}
+use Rattle.rv_instr.specs.{Registers.op_unit, declared.op.UnitKind.UnitKind}
 use Rattle.events.specs.{declared.event.Event.Event, declared.event.Event.TheVariants.Issue}
 use Rattle.issue_queue.specs.declared.entry.Entry.{Entry}
 use Rattle.smt_model.specs.{Basics.holds_of, Setup.Setup, Kinds.same_unit, Flights.all_numbers, Flights.queue}

@@ -4,7 +4,7 @@ use Rattle.std.specs.Prelude.{◌≡◌, ℕ, ◌<◌, ◌≤◌, ◌==◌, true
 use Rattle.std.specs.Prelude.{slice_index_or, option_and_then, IfSome, IfNone}
 use Rattle.std.proofs.Common.{◌∙◌, refl, sym, ap, subst, arith}
 use Rattle.std.proofs.{lemmas.Bool.Decides.nat_tests, lemmas.Option.slice_get_past, lemmas.Option.slice_get_read}
-use Rattle.rv_decode.specs.declared.op.UnitKind.{UnitKind}
+use Rattle.rv_instr.specs.declared.op.UnitKind.{UnitKind}
 use Rattle.events.specs.{History.EventList, declared.event.Event.Event}
 use Rattle.events.specs.declared.event.Event.TheVariants.{Fetch, Decode, Rename, Issue, Complete, Drop, Retire}
 use Rattle.exec_units.specs.Job.{JobView}

@@ -12,7 +12,7 @@ use Rattle.events.specs.declared.effect.Next.TheVariants as nexts
 use Rattle.events.specs.declared.event.Event.TheVariants.{Fetch, Decode, Rename, Issue, Complete, Drop, Retire}
 use Rattle.retire_squash.specs.{declared.active.Active.Active, declared.active.Stage.Stage}
 use Rattle.retire_squash.specs.declared.active.Stage.TheVariants as stages
-use Rattle.rv_decode.specs.Decode.{op_of_word}
+use Rattle.rv_instr.specs.Decode.{op_of_word}
 use Rattle.smt_model.specs.{Asks.AskRetire, Basics.first, Setup.Setup}
 use Rattle.smt_model.specs.{Setup.registers_of, Nexts.is_last, Nexts.pc_after, Fetching.fetch_pc, Steps.IsReplay}
 use Rattle.smt_model.specs.{Flights.flight, Picture.Picture, Picture.picture}

@@ -3,15 +3,15 @@ use Rattle.std.specs.Prelude.{◌≡◌, ℕ, Bool, true, false, Option, Some, N
 use Rattle.std.specs.Prelude.{option_map, unwrap_or}
 use Rattle.std.proofs.Common.{refl, sym, ap, subst, inl, inr, arith}
 use Rattle.std.proofs.lemmas.Bool.{cases_Bool}
-use Rattle.elf_image.specs.Image.{ProgramImage}
+use Rattle.program_image.specs.Image.{ProgramImage}
 use Rattle.events.specs.{declared.effect.Next.Next, declared.effect.Next.TheVariants.Stopped}
 use Rattle.events.specs.{declared.effect.Written.Written, Width.HasWidth}
-use Rattle.rv_decode.specs.{declared.op.Op.Op, declared.op.Op.TheVariants.Known, declared.op.Op.TheVariants.Illegal}
-use Rattle.rv_decode.specs.{declared.op.Op.TheVariants.NoWord, declared.instr.Instr.Instr}
-use Rattle.rv_decode.specs.{declared.instr.LoadOp.LoadOp, declared.instr.StoreOp.StoreOp}
-use Rattle.rv_decode.specs.declared.instr.Instr.TheVariants.{Load, Store}
-use Rattle.rv_decode.specs.declared.instr.LoadOp.TheVariants.{Lb, Lh, Lw, Lbu, Lhu}
-use Rattle.rv_decode.specs.declared.instr.StoreOp.TheVariants.{Sb, Sh, Sw}
+use Rattle.rv_instr.specs.{declared.op.Op.Op, declared.op.Op.TheVariants.Known, declared.op.Op.TheVariants.Illegal}
+use Rattle.rv_instr.specs.{declared.op.Op.TheVariants.NoWord, declared.instr.Instr.Instr}
+use Rattle.rv_instr.specs.{declared.instr.LoadOp.LoadOp, declared.instr.StoreOp.StoreOp}
+use Rattle.rv_instr.specs.declared.instr.Instr.TheVariants.{Load, Store}
+use Rattle.rv_instr.specs.declared.instr.LoadOp.TheVariants.{Lb, Lh, Lw, Lbu, Lhu}
+use Rattle.rv_instr.specs.declared.instr.StoreOp.TheVariants.{Sb, Sh, Sw}
 use Rattle.smt_model.specs.{Exec.Computed, Effects.effect_by, Effects.effect_of, Nexts.is_last}
 use Rattle.smt_model.specs.{Faults.checked, Faults.fault, Faults.fault_of, Faults.write_fault}
 use Rattle.smt_model.specs.Kinds.{Kind, Computing, Loading, Storing, Reserving, Conditional, Atomic}

@@ -2,7 +2,7 @@ ghost use Rattle.std.specs.Prelude.{◌≡◌, ◌==◌, ◌&&◌, not, nat_lt, 
 ghost use Rattle.std.specs.List.{list_all};
 ghost use Rattle.events.specs.declared.event.Event.TheVariants.{Issue};
 ghost use Rattle.issue_queue.specs.{Entry.can_issue, Queue.AreEntriesRising};
-ghost use Rattle.rv_decode.specs.Registers.{op_unit, same_unit};
+ghost use Rattle.rv_instr.specs.Registers.{op_unit, same_unit};
 ghost use Rattle.smt_model.specs.Fates.{fate, is, Renamed};
 ghost use Rattle.smt_model.specs.Jobs.{is_actor};
 ghost use Rattle.smt_model.specs.Picture.{picture};
@@ -14,7 +14,7 @@ use crate::state::State;
 use core_parts::unit_of;
 use issue_queue::Entry;
 use numbers::Seq;
-use rv_decode::{Op, UnitKind};
+use rv_instr::{Op, UnitKind};
 
 impl State {
     /// The first rule that an issue of instruction `seq` by actor `actor` breaks.

@@ -15,7 +15,7 @@ use core_parts::{loads, stores};
 use numbers::sizes::MOST_ACCESSES;
 use numbers::{Phys, Seq};
 use retire_squash::Active;
-use rv_decode::Op;
+use rv_instr::Op;
 
 impl State {
     /// The hart whose instruction `seq` actor `actor` may rename, with the register `phys` where it

@@ -1,8 +1,8 @@
 use Rattle.std.proofs.Common.{rules}
-use Rattle.rv_decode.specs.{Decode.atomic_of}
-use Rattle.rv_decode.specs.{Decode.load_reserved_of}
-use Rattle.rv_decode.specs.{Decode.store_conditional_of}
-use Rattle.rv_decode.specs.{Decode.amo_of}
+use Rattle.rv_instr.specs.{Decode.atomic_of}
+use Rattle.rv_instr.specs.{Decode.load_reserved_of}
+use Rattle.rv_instr.specs.{Decode.store_conditional_of}
+use Rattle.rv_instr.specs.{Decode.amo_of}
 use Rattle.rv_decode.proofs.decoder.atomic.Goals as goal
 
 pub returns-in-2-clause-value : goal.returns-in-2-clause-value

@@ -1,7 +1,7 @@
 use Rattle.std.proofs.Common.{rules}
-use Rattle.rv_decode.specs.{Decode.decoded}
-use Rattle.rv_decode.specs.{Decode.fence_of}
-use Rattle.rv_decode.specs.{Decode.system_of}
+use Rattle.rv_instr.specs.{Decode.decoded}
+use Rattle.rv_instr.specs.{Decode.fence_of}
+use Rattle.rv_instr.specs.{Decode.system_of}
 use Rattle.rv_decode.proofs.decoder.decode.Goals as goal
 
 pub returns-in-115-clause-value : goal.returns-in-115-clause-value

@@ -1,5 +1,5 @@
 use Rattle.std.proofs.Common.{rules}
-use Rattle.rv_decode.specs.{Decode.shift_op}
+use Rattle.rv_instr.specs.{Decode.shift_op}
 use Rattle.rv_decode.proofs.operations.shift_operation.Goals as goal
 
 pub returns-in-32-eq5-clause-value : goal.returns-in-32-eq5-clause-value

@@ -1,7 +1,7 @@
 use Rattle.std.proofs.Common.{◌≡◌, ◌∙◌, refl, lit<}
 use Rattle.std.proofs.lemmas.Option.{IfSome_then}
 use Rattle.std.proofs.lemmas.Str.Pattern.{split_parts, split_once_first}
-use Rattle.rv_text.specs.{declared.mnemonic.Mnemonic.TheVariants.Atomic, Mnemonic.mnemonic_name}
+use Rattle.rv_print.specs.{declared.mnemonic.Mnemonic.TheVariants.Atomic, Mnemonic.mnemonic_name}
 use Rattle.rv_text.proofs.Names.{only_named, only_plain}
 use Rattle.rv_text.proofs.mnemonic.mnemonic_named.Goals as goal
 

@@ -1,6 +1,6 @@
 use Rattle.std.proofs.Common.{◌+◌, ◌*◌, ℕ, refl, subst}
 use Rattle.std.specs.Io.KnownBytes.{Appends}
-use Rattle.elf_image.specs.Image.{word_in}
+use Rattle.program_image.specs.Image.{word_in}
 use Rattle.sim_report.specs.Listing.{listing_line}
 use Rattle.sim_report.proofs.WordLines.{has_word, word_is, lines_step}
 use Rattle.sim_report.proofs.listing.list.Goals as goal

@@ -1,6 +1,6 @@
 use Rattle.std.proofs.Common.{flat_map}
 use Rattle.std.specs.Io.KnownBytes.{Appends}
-use Rattle.elf_image.specs.Image.{word_in}
+use Rattle.program_image.specs.Image.{word_in}
 use Rattle.sim_report.specs.Listing.{listing_line, word_addresses}
 use Rattle.sim_report.proofs.listing.list.Given as goal
 

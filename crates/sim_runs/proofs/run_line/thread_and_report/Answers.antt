@@ -1,5 +1,5 @@
 use Rattle.std.proofs.lemmas.Result.{IfErr-weaker, IfOk-weaker}
-use Rattle.sim_report.specs.Refusals.{as_read}
+use Rattle.sim_refusals.specs.Refusals.{as_read}
 use Rattle.sim_runs.proofs.RunTelling.{told_refusal, reported}
 use Rattle.sim_runs.proofs.run_line.thread_and_report.Goals as goal
 

@@ -1,4 +1,4 @@
-use Rattle.sim_report.specs.Refusals.{as_read}
+use Rattle.sim_refusals.specs.Refusals.{as_read}
 use Rattle.sim_runs.proofs.RunTelling.{image_refusal, ran_refusal, same_setup, are_accepted, are_manned}
 use Rattle.sim_runs.proofs.RunTelling.{for_sizes, for_roles}
 use Rattle.sim_runs.proofs.running.run_file.Goals as goal

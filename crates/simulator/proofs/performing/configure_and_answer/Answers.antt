@@ -1,8 +1,8 @@
 -- Each return as a whole: behind settings that can't be read, behind a refusal, and before and behind
 -- the flush.
-use Rattle.sim_report.specs.Refusals.{as_read}
-use Rattle.sim_report.specs.declared.refused.Refused.TheVariants.{Output}
-use Rattle.sim_commands.proofs.FilesRead.{was_read, still_unread}
+use Rattle.sim_refusals.specs.Refusals.{as_read}
+use Rattle.sim_refusals.specs.declared.refused.Refused.TheVariants.{Output}
+use Rattle.sim_steps.proofs.FilesRead.{was_read, still_unread}
 use Rattle.simulator.proofs.Answering.Untraced.{unfailed}
 use Rattle.simulator.proofs.Refusing.{line_refusal, settings_refusal, ended}
 use Rattle.std.proofs.Common.{refl}

@@ -1,5 +1,5 @@
 use Rattle.std.proofs.Common.{◌∷◌, [], ap}
-use Rattle.core_lock.proofs.Laid.{four_more}
+use Rattle.board.proofs.Laid.{four_more}
 use Rattle.board.proofs.shared.Board.new.Goals as goal
 
 pub returns-clause-places : goal.returns-clause-places

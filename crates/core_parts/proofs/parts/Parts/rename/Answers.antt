@@ -6,7 +6,7 @@ use Rattle.load_store.specs.Queues.{Changes}
 use Rattle.core_parts.specs.Accesses.{with_access}
 use Rattle.core_parts.proofs.Steps.Rename.Accesses.{room_at, place_at}
 use Rattle.core_parts.proofs.Steps.Rename.Parts.{same_hart, ready_at, parts_renamed, known_range, same_entry}
-use Rattle.rv_decode.specs.{declared.op.Op.TheVariants.Known, declared.instr.Instr.TheVariants.Lui}
+use Rattle.rv_instr.specs.{declared.op.Op.TheVariants.Known, declared.instr.Instr.TheVariants.Lui}
 use Rattle.core_parts.proofs.parts.Parts.rename.Goals as goal
 
 pub source-requires-clause-below : goal.source-requires-clause-below

@@ -1,0 +1,183 @@
+//! The core's tables: what each of its parts holds, in lines for people to read.
+#![tactic(auto)]
+
+use core_parts::{HartState, OpenJob, Parts, Slot, count_jobs, registers_in, value_of};
+use free_list::FreeList;
+use issue_queue::Entry;
+use numbers::Phys;
+use numbers::sizes::MOST_REGISTERS;
+use rename_map::HartMaps;
+use retire_squash::{Active, Stage};
+use shared_memory::Memory;
+use smt_model::Status;
+use std::io;
+use std::io::Write;
+
+/// Writes what a core of so many physical registers holds, in lines for people to read
+/// (docs/FORMATS.md): six lines for each hart, then the issue queue, the open jobs, the free
+/// registers, and a line for each register that isn't free. A list of nothing is a dash.
+///
+/// An error is the one that `out` answered; what was written before it has gone out.
+pub fn write_tables<W: Write>(parts: &Parts, registers: u32, out: &mut W) -> io::Result<()> {
+    write_harts(parts.harts.as_slice(), &parts.memory, out)?;
+    write_queue(parts.queue.entries(), out)?;
+    write_jobs(&parts.jobs, out)?;
+    write_free(&parts.free, out)?;
+    write_registers(registers, &parts.free, &parts.values, out)
+}
+
+fn write_harts<W: Write>(harts: &[HartState], memory: &Memory, out: &mut W) -> io::Result<()> {
+    for (hart, state) in harts.iter().enumerate() {
+        write_standing(hart, state, reservation(memory, hart), out)?;
+        write_latch("fetched", state.decode_latch.as_slice(), out)?;
+        write_latch("decoded", state.rename_latch.as_slice(), out)?;
+        write_flight(state.active.items(), out)?;
+        write_map(&state.maps, out)?;
+        write_committed(&state.maps, out)?;
+    }
+    Ok(())
+}
+
+/// The word that a hart has reserved.
+fn reservation(memory: &Memory, hart: usize) -> Option<u32> {
+    match hart {
+        0..8 => memory.reservation(hart as u8),
+        _ => None,
+    }
+}
+
+/// How a hart stands, where it is fetched next, its ICOUNT, and the word that it has reserved.
+fn write_standing<W: Write>(
+    hart: usize,
+    state: &HartState,
+    reserved: Option<u32>,
+    out: &mut W,
+) -> io::Result<()> {
+    write!(out, "hart {hart} ")?;
+    write_status(state.status, out)?;
+    let pc = state.fetch_pc;
+    let icount = state.icount;
+    write!(out, " pc {pc:08x} icount {icount} reserved ")?;
+    match reserved {
+        Some(addr) => writeln!(out, "{addr:08x}"),
+        None => writeln!(out, "-"),
+    }
+}
+
+fn write_status<W: Write>(status: Status, out: &mut W) -> io::Result<()> {
+    match status {
+        Status::Going => write!(out, "going"),
+        Status::Ended(number) => write!(out, "ended {number}"),
+        Status::Stopped(cause) => write!(out, "stopped {cause}"),
+    }
+}
+
+/// The numbers of the instructions in a latch, oldest first.
+fn write_latch<W: Write>(name: &str, latch: &[Slot], out: &mut W) -> io::Result<()> {
+    write!(out, "{name}")?;
+    for slot in latch {
+        write!(out, " {}", slot.seq)?;
+    }
+    end_list(latch.is_empty(), out)
+}
+
+fn write_flight<W: Write>(flight: &[Active], out: &mut W) -> io::Result<()> {
+    write!(out, "flight")?;
+    for active in flight {
+        write_active(active, out)?;
+    }
+    end_list(flight.is_empty(), out)
+}
+
+/// An instruction in flight: its number, its stage's letter and its register.
+fn write_active<W: Write>(active: &Active, out: &mut W) -> io::Result<()> {
+    write!(out, " {}:{}:", active.seq, stage_letter(active.stage))?;
+    match active.phys {
+        Some(phys) => write!(out, "{phys}"),
+        None => write!(out, "-"),
+    }
+}
+
+fn stage_letter(stage: Stage) -> char {
+    match stage {
+        Stage::Renamed => 'r',
+        Stage::Issued => 'i',
+        Stage::Completed(_) => 'c',
+    }
+}
+
+/// Where the youngest values of x1 to x31 are.
+fn write_map<W: Write>(maps: &HartMaps, out: &mut W) -> io::Result<()> {
+    write!(out, "map")?;
+    for register in 1..32 {
+        write!(out, " {}", maps.lookup(register))?;
+    }
+    writeln!(out)
+}
+
+/// Where the retired values of x1 to x31 are.
+fn write_committed<W: Write>(maps: &HartMaps, out: &mut W) -> io::Result<()> {
+    write!(out, "committed")?;
+    for register in 1..32 {
+        write!(out, " {}", maps.committed(register))?;
+    }
+    writeln!(out)
+}
+
+/// The instructions that wait, by rising number, and their harts.
+fn write_queue<W: Write>(entries: &[Entry], out: &mut W) -> io::Result<()> {
+    write!(out, "queue")?;
+    for entry in entries {
+        write!(out, " {}.{}", entry.seq, entry.hart)?;
+    }
+    end_list(entries.is_empty(), out)
+}
+
+/// The actors that have a job, rising, and its number.
+fn write_jobs<W: Write>(jobs: &[Option<OpenJob>], out: &mut W) -> io::Result<()> {
+    write!(out, "jobs")?;
+    for (actor, job) in jobs.iter().enumerate() {
+        if let Some(job) = job {
+            write!(out, " {actor}:{}", job.seq)?;
+        }
+    }
+    end_list(count_jobs(jobs) == 0, out)
+}
+
+fn write_free<W: Write>(free: &FreeList, out: &mut W) -> io::Result<()> {
+    let registers = registers_in(free);
+    write!(out, "free")?;
+    for register in registers.as_slice() {
+        write!(out, " {register}")?;
+    }
+    end_list(registers.is_empty(), out)
+}
+
+/// A line for each of the core's first `registers` registers that isn't free.
+fn write_registers<W: Write>(
+    registers: u32,
+    free: &FreeList,
+    values: &[Option<u32>; MOST_REGISTERS],
+    out: &mut W,
+) -> io::Result<()> {
+    for register in 0..MOST_REGISTERS as Phys {
+        if u32::from(register) < registers && !free.holds(register) {
+            write_register(register, value_of(values, register), out)?;
+        }
+    }
+    Ok(())
+}
+
+fn write_register<W: Write>(register: Phys, value: Option<u32>, out: &mut W) -> io::Result<()> {
+    match value {
+        Some(value) => writeln!(out, "reg {register} {value:08x}"),
+        None => writeln!(out, "reg {register} -"),
+    }
+}
+
+fn end_list<W: Write>(is_empty: bool, out: &mut W) -> io::Result<()> {
+    if is_empty {
+        write!(out, " -")?;
+    }
+    writeln!(out)
+}

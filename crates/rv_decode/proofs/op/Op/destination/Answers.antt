@@ -1,7 +1,0 @@
-use Rattle.std.proofs.Common.{rules}
-use Rattle.rv_decode.specs.Kinds.{destination}
-use Rattle.rv_decode.proofs.op.Op.destination.Goals as goal
-
-pub returns-clause-value : goal.returns-clause-value
-unfolding destination
-returns-clause-value c = search rules

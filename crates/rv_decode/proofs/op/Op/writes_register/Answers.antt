@@ -1,5 +1,0 @@
-use Rattle.std.proofs.Common.{rules}
-use Rattle.rv_decode.proofs.op.Op.writes_register.Goals as goal
-
-pub returns : goal.returns
-returns c = search rules

@@ -1,0 +1,4 @@
+pub mod Telling
+pub mod InputsRefused
+pub mod ScriptsRead
+pub mod FilesRead

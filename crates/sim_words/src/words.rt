@@ -1,0 +1,72 @@
+ghost use Rattle.std.specs.Prelude.{◌≡◌, ◌⊎◌, IsTrue, IfOk, OnOk, map, string_bytes};
+ghost use Rattle.std.specs.Vec.Iter.{into_iter_items};
+ghost use Rattle.std.specs.Io.KnownBytes.{Appends};
+ghost use Rattle.std.specs.IoError.{error_kind};
+ghost use Rattle.sim_refusals.specs.Refusals.{words_refused, IsWordsStatus};
+ghost use Rattle.exit_statuses.specs.Statuses.{says_harts};
+
+use crate::refusal::refuse;
+use sim_inputs::WordsRefused;
+use sim_refusals::Refused;
+use std::alloc::{AllocError, Global};
+use std::env::Args;
+use std::io;
+use std::io::{ErrorKind, Write};
+
+/// Why words that couldn't be read are refused: one that is no text is none of a command line.
+pub fn unread_words(error: &io::Error) -> WordsRefused
+    ensures { result ≡ words_refused (error_kind error.now) }
+{
+    match error.kind() {
+        ErrorKind::OutOfMemory => WordsRefused::Memory,
+        _ => WordsRefused::Refused,
+    }
+}
+
+/// All words, in their order. Fails only where there is no memory to hold them.
+pub fn collect(words: Args, alloc: Global) -> Result<Vec<String>, AllocError>
+    ensures { IfOk result (λ all. all.items ≡ into_iter_items words) }
+{
+    let mut all = Vec::new(alloc);
+    for word in words {
+        all.push(word)?;
+    }
+    Ok(all)
+}
+
+/// The text of each word, in their order. Fails only where there is no memory to hold them.
+pub fn texts<'a>(words: &'a [String], alloc: Global) -> Result<Vec<&'a str>, AllocError>
+    ensures { IfOk result
+        (λ texts. map (λ text. text.now) texts.items ≡ map string_bytes words.entry.now) }
+{
+    let mut texts = Vec::new(alloc);
+    for word in words {
+        texts.push(word.as_str())?;
+    }
+    Ok(texts)
+}
+
+/// Prints the help that was asked for, or says on one line why nothing is done.
+pub fn refuse_words<W: Write, E: Write>(refused: WordsRefused, out: &mut W, err: &mut E) -> u8
+    ensures known { IsTrue (says_harts result) ⊎ (result ≡ 2) ⊎ (result ≡ 4) ⊎ (result ≡ 5) }
+    ensures status { IsWordsStatus refused result }
+{
+    match refused {
+        WordsRefused::Help(text) => match print(text.as_str(), out) {
+            Ok(()) => 0,
+            Err(_) => refuse(Refused::Output, err),
+        },
+        WordsRefused::Refused => {
+            let _ = writeln!(err, "smtsim: {refused}");
+            2
+        }
+        WordsRefused::Memory => refuse(Refused::Memory, err),
+    }
+}
+
+fn print<W: Write>(text: &str, out: &mut W) -> io::Result<()>
+    ensures { OnOk result (Appends (W.contents out.old) (W.contents out.new) text.now) }
+{
+    out.write_all(text.as_bytes())?;
+    out.flush()
+}

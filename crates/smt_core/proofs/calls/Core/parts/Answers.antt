@@ -1,0 +1,4 @@
+use Rattle.smt_core.proofs.calls.Core.parts.Goals as goal
+
+pub returns-clause-agrees : goal.returns-clause-agrees
+returns-clause-agrees c = rw (← c.self.view_is) c.parts.ensures.agrees
