@@ -4,21 +4,19 @@
 Where there are words, it first shows on standard error what the program will print on them, unproved (tools/preview.sh). The proofs begin
 meanwhile, with less of a claim to the processors, and say how far they are once that has been shown.
 
-It has the merge gate, `rt ci`, prove the program and the crates that it stands on, in copies that have neither their must-fail edits
-nor any tests: so crates that don't stand on one another are proved side by side, and each loads what those below it state and not
-how that is proved. What the gate has passed on this machine, of the same files, isn't proved again, nor does the gate prove again
-what was proved here. The logs are crates/smtsim/out/build*.log. Ends with 0 where the program is built, else with 1.
+Each crate of the program is proved by `rattle build`, which makes nothing unless the crate is proved, from its sources and from what the
+crates below it state. It looks at no must-fail edit, test or layout: the merge gate does. What `rt ci` adds for its own sake, sums of
+all crates below each crate on each path that leads there, is some minutes of one processor here, and this has none of it.
 
-How long it takes is decided by the longest chain of crates that stand on one another, which goes through the core and its lock. So
-these and what they stand on are proved first, by a run of their own, which gives a crate that nothing else is ready beside two jobs.
-Meanwhile a second run proves what the command `step` needs besides the lock, one job a crate, with what is left of the processors. A
-last run, of all crates, takes from both what they have proved, proves the rest and builds the program.
+How long it takes is decided by the longest chain of crates that stand on one another, which goes through the core, its lock and the
+actors (docs/GATE.md has the seconds of each crate, and this reads them there). A crate of that chain begins as soon as it can, with a
+higher claim to the processors, and with two jobs where these pay; the others have what is left, those with the longest chain above
+them first. The log is crates/smtsim/out/build.log. Ends with 0 where the program is built, else with 1.
 """
 
 import contextlib
 import os
 import re
-import shutil
 import signal
 import subprocess
 import sys
@@ -28,124 +26,186 @@ import time
 
 ROOT = os.path.dirname(os.path.dirname(os.path.abspath(__file__)))
 PROGRAM = "smtsim"
-# The crate up to which the longest chain of crates is proved first.
-FIRST = "core_lock"
-# What this crate stands on besides is proved meanwhile: it is what the next of the chain stands on too.
-BESIDE = "sim_steps"
-# What a line of `rt ci` says of a crate that is done.
-DONE = re.compile(r"^rt: (\w+) (?:proved|is kept)\b")
+# The seconds from which on a crate of the longest chain gets two jobs, and the crates below it from which on these no longer pay:
+# each job loads for itself what all of them state.
+LONG, MANY = 45, 30
+# What a job takes of memory at the most, in bytes.
+MEMORY = 2 << 30
 
 
-def crate_lines():
-    """The lines of crates.txt by the crates' names, and the crates that each uses."""
-    lines, uses = {}, {}
-    for line in open(f"{ROOT}/crates.txt", encoding="utf-8"):
-        name, colon, names = line.partition("#")[0].partition(":")
-        if colon:
-            lines[name.split()[0]], uses[name.split()[0]] = line, names.split()
-    return lines, {name: [it for it in used if it in uses] for name, used in uses.items()}
+class Crates:
+    """The crates that the program stands on, and itself: what each uses, and how long its proof takes."""
+
+    def __init__(self):
+        uses = {}
+        for line in open(f"{ROOT}/crates.txt", encoding="utf-8"):
+            name, colon, names = line.partition("#")[0].partition(":")
+            if colon:
+                uses[name.split()[0]] = names.split()
+        names = [name for name in uses if name in self.reached(PROGRAM, uses)]
+        self.of_kit = {name: ["std", *(it for it in uses[name] if it not in uses)] for name in names}
+        self.uses = {name: [it for it in uses[name] if it in uses] for name in names}
+        self.below = {name: self.reached(name, self.uses) - {name} for name in names}
+        text = open(f"{ROOT}/docs/GATE.md", encoding="utf-8").read()
+        told = {name: int(proof) for name, proof in re.findall(r"^\| `(\w+)` \| (\d+) \|", text, re.M)}
+        self.seconds = {name: told.get(name, 30) for name in names}
+        # Those of the crate and of the longest chain of crates above it: a crate comes after all that are below it.
+        self.ahead = {}
+        for name in sorted(names, key=lambda it: -len(self.below[it])):
+            above = [self.ahead[it] for it in self.ahead if name in self.uses[it]]
+            self.ahead[name] = self.seconds[name] + max(above, default=0)
+
+    @staticmethod
+    def reached(top, uses):
+        found, to_see = {top}, [top]
+        while to_see:
+            for name in uses[to_see.pop()]:
+                if name in uses and name not in found:
+                    found.add(name)
+                    to_see.append(name)
+        return found
+
+    def to_go(self, done):
+        """The seconds that all others still take on these processors, at the least: those of the longest chain, or of all."""
+        left = [name for name in self.seconds if name not in done]
+        return max([self.ahead[it] for it in left] + [sum(self.seconds[it] for it in left) / processors()])
 
 
-def below(top, uses):
-    """A crate and all that it stands on, by name."""
-    found, to_see = {top}, [top]
-    while to_see:
-        for name in uses[to_see.pop()]:
-            if name not in found:
-                found.add(name)
-                to_see.append(name)
-    return found
+class Prover:
+    """The command `rattle` of the kit that `rt` is of, and the folder for what it makes."""
 
+    def __init__(self, crates, room):
+        said = subprocess.run(["rt", "doc"], capture_output=True, text=True, check=True).stdout
+        self.crates, self.room, self.kit = crates, room, os.path.dirname(said.strip())
 
-def seconds_of(names):
-    """The seconds that the proof of each crate takes, by the table of docs/GATE.md."""
-    text = open(f"{ROOT}/docs/GATE.md", encoding="utf-8").read()
-    told = {name: int(proof) for name, proof in re.findall(r"^\| `(\w+)` \| (\d+) \|", text, re.M)}
-    return {name: told.get(name, 30) for name in names}
+    def words(self, name, jobs):
+        """Those that have it prove a crate. Of a library it makes what others may know of it, and of the program an object file."""
+        is_program = name == PROGRAM
+        words = [f"{self.kit}/bin/rattle", "build", "--crate-name", name, "src/main.rt" if is_program else "src/lib.rt"]
+        words += [it for library in self.crates.of_kit[name] for it in ("--extern", f"{library}={self.kit}/rlibs/{library}.rlib")]
+        words += [it for library in self.crates.uses[name] for it in ("--extern", f"{library}={self.room}/{library}.rlib")]
+        words += ["-L", f"dependency={self.kit}/rlibs", "-L", f"dependency={self.room}"]
+        words += ["--antt-project", f"{self.kit}/rattle/logic/antt-project.json", "--logic-built", f"{self.kit}/logic_built"]
+        words += ["--jobs", str(jobs), "--links", f"{name}="]
+        made = ["--toolchain", f"{self.kit}/toolchain", "-o", f"{self.room}/{name}.o"]
+        return words + (made if is_program else ["--statements", "-o", f"{self.room}/{name}.rlib"])
 
-
-class Gate:
-    """The gate, run over a repository of some crates alone, without their edits and tests."""
-
-    def __init__(self, room, lines, names):
-        self.room, self.running = room, None
-        os.makedirs(f"{room}/crates")
-        # `rt ci` wants to stand at the top of one.
-        os.mkdir(f"{room}/.git")
-        shutil.copy(f"{ROOT}/HANDLES", room)
-        with open(f"{room}/crates.txt", "w", encoding="utf-8") as to:
-            to.writelines(line for name, line in lines.items() if name in names)
-        for name in names:
-            shutil.copytree(f"{ROOT}/crates/{name}", f"{room}/crates/{name}", ignore=shutil.ignore_patterns("out", "must-fail"))
-
-    def start(self, progress, log, niceness, at_once=None):
-        """Starts it; what it says goes into the log. With `at_once`, so many crates at once, and one job a crate; else it decides by what is ready."""
-        how = {"stdin": subprocess.DEVNULL, "stdout": subprocess.PIPE, "stderr": subprocess.STDOUT, "text": True, "errors": "replace"}
-        around = {**os.environ, **({"RT_JOBS": str(at_once)} if at_once else {})}
+    def start(self, name, jobs, niceness, log):
         # A process group of its own, so that it can be stopped with all that it has started.
-        words = ["nice", "-n", str(niceness), "rt", "ci"]
-        self.running = subprocess.Popen(words, cwd=self.room, env=around, preexec_fn=os.setpgrp, **how)
-        self.reader = threading.Thread(target=self.read, args=(progress, log), daemon=True)
-        self.reader.start()
+        words = ["nice", "-n", str(niceness), *self.words(name, jobs)]
+        how = {"cwd": f"{ROOT}/crates/{name}", "stdin": subprocess.DEVNULL, "stdout": log, "stderr": subprocess.STDOUT}
+        return subprocess.Popen(words, preexec_fn=os.setpgrp, **how)
 
-    def read(self, progress, log):
-        with open(log, "w", encoding="utf-8") as to:
-            for line in self.running.stdout:
-                to.write(line)
-                to.flush()
-                done = DONE.match(line)
-                if done:
-                    progress.add(done[1])
+    def link(self, to, log):
+        """Links the program, and answers whether it could."""
+        words = [f"{self.kit}/bin/rattle-link", "--target", "x86_64-unknown-linux-gnu", "--toolchain", f"{self.kit}/toolchain"]
+        words += ["-o", to, f"{self.room}/{PROGRAM}.o", f"{self.kit}/c/libos_c.a", f"{self.kit}/c/liblibc_c.a"]
+        return subprocess.run(words, stdin=subprocess.DEVNULL, stdout=log, stderr=subprocess.STDOUT, check=False).returncode == 0
 
-    def wait(self):
-        """Answers whether all is proved, once it has ended."""
-        return self.running.wait() == 0
 
-    def wait_for_program(self):
-        """Answers whether the program is proved and built, once it is, or the gate has ended.
+class Running:
+    """A proof that runs: its process, how many jobs it has, and what it says."""
 
-        When all is proved, the gate has LLVM compile the program, links it and looks at what it calls. Then it has another compiler
-        do the same, and runs both; that isn't waited for.
-        """
-        program, was = f"{self.room}/crates/{PROGRAM}/out/{PROGRAM}", None
-        while self.running.poll() is None:
-            time.sleep(1)
-            now = os.path.getsize(program) if os.path.isfile(program) else None
-            if now and now == was:
-                return True
-            was = now
-        return self.running.returncode == 0
+    def __init__(self, prover, name, jobs, niceness):
+        self.name, self.jobs, self.begun = name, jobs, time.time()
+        self.said = tempfile.TemporaryFile("w+", encoding="utf-8", errors="replace")
+        self.process = prover.start(name, jobs, niceness, self.said)
+
+    def ended(self, log):
+        """None where it still runs; else whether the crate is proved, and then what it said and took is in the log."""
+        found, status, usage = os.wait4(self.process.pid, os.WNOHANG)
+        if not found:
+            return None
+        self.process.returncode = os.waitstatus_to_exitcode(status)
+        self.said.seek(0)
+        took = f"{time.time() - self.begun:.0f} seconds by the clock, {usage.ru_utime + usage.ru_stime:.0f} of the processors, {self.jobs} at once"
+        print(f"== {self.name}\n{self.said.read()}== {self.name}: {took}", file=log, flush=True)
+        return self.process.returncode == 0
 
     def stop(self):
-        if self.running:
-            if self.running.poll() is None:
-                with contextlib.suppress(ProcessLookupError):
-                    os.killpg(self.running.pid, signal.SIGTERM)
-                self.running.wait()
-            self.reader.join()
+        with contextlib.suppress(ProcessLookupError):
+            os.killpg(self.process.pid, signal.SIGTERM)
+        self.process.wait()
+
+
+class Build:
+    """The proofs that run, and the crates that are proved."""
+
+    def __init__(self, crates, prover, log, progress):
+        self.crates, self.prover, self.log, self.progress = crates, prover, log, progress
+        self.done, self.running = set(), {}
+
+    def is_ready(self, name):
+        return name not in self.done and name not in self.running and self.done >= set(self.crates.uses[name])
+
+    def start_ready(self):
+        """Starts what can be: the crate with the longest chain at once, the others as processors and memory are free."""
+        longest = max(ahead for name, ahead in self.crates.ahead.items() if name not in self.done)
+        for name in sorted(filter(self.is_ready, self.crates.ahead), key=lambda it: -self.crates.ahead[it]):
+            is_longest = self.crates.ahead[name] > 0.95 * longest
+            is_large = self.crates.seconds[name] >= LONG and len(self.crates.below[name]) < MANY
+            free = processors() - sum(it.jobs for it in self.running.values())
+            if self.running and (free_memory() < MEMORY or free < 1 and not is_longest):
+                continue
+            jobs = 2 if is_longest and is_large else 1
+            self.running[name] = Running(self.prover, name, jobs, 10 if is_longest else 19)
+
+    def end_ended(self):
+        """Takes out those that have ended. Answers whether all of these are proved."""
+        for running in [*self.running.values()]:
+            is_proved = running.ended(self.log)
+            if is_proved is None:
+                continue
+            del self.running[running.name]
+            if not is_proved:
+                return False
+            self.done.add(running.name)
+            self.progress.tell(self.done)
+        return True
+
+    def run(self):
+        """Answers whether all crates are proved."""
+        try:
+            while len(self.done) < len(self.crates.seconds):
+                self.start_ready()
+                time.sleep(0.1)
+                if not self.end_ended():
+                    return False
+            return True
+        finally:
+            for running in self.running.values():
+                running.stop()
+
+
+def processors():
+    return len(os.sched_getaffinity(0))
+
+
+def free_memory():
+    found = re.search(r"MemAvailable:\s+(\d+)", open("/proc/meminfo", encoding="utf-8").read())
+    return 1024 * int(found[1]) if found else MEMORY
 
 
 class Progress:
     """Says how many crates are proved and how long the others may still take, once it is shown."""
 
-    def __init__(self, seconds):
-        self.seconds, self.begun, self.done, self.is_shown = seconds, time.time(), set(), False
+    def __init__(self, crates):
+        self.crates, self.begun, self.is_shown = crates, time.time(), False
 
     def show(self, log):
         self.is_shown = True
         print(f"{PROGRAM}: proving and building it, some minutes the first time; log: {log}", file=sys.stderr, flush=True)
 
-    def add(self, name):
-        if name not in self.seconds or name in self.done:
-            return
-        self.done.add(name)
+    def tell(self, done):
         if not self.is_shown:
             return
-        proved = sum(self.seconds[it] for it in self.done)
-        rest = sum(self.seconds.values()) - proved
-        minutes = (time.time() - self.begun) * rest / max(proved, 1) / 60
-        hint = f", about {minutes:.0f} minutes to go" if len(self.done) > 3 and minutes >= 1 else ""
-        print(f"{PROGRAM}: {len(self.done)} of {len(self.seconds)} crates proved{hint}", file=sys.stderr, flush=True)
+        whole, to_go = self.crates.to_go(set()), self.crates.to_go(done)
+        # Until a fifth is done the seconds of the table say more than those of this machine.
+        gone = whole - to_go
+        pace = (time.time() - self.begun) / gone if gone > whole / 5 else 1
+        minutes = to_go * pace / 60
+        hint = f", about {minutes:.0f} minutes to go" if minutes >= 1 else ""
+        print(f"{PROGRAM}: {len(done)} of {len(self.crates.seconds)} crates proved{hint}", file=sys.stderr, flush=True)
 
 
 class FirstLook:
@@ -164,47 +224,28 @@ class FirstLook:
         threading.Thread(target=lambda: (self.wait(), call()), daemon=True).start()
 
 
-def prove_all(top, out, progress):
-    """Proves all crates of the program, in copies below `top`, and builds it. Answers whether it has."""
-    lines, uses = crate_lines()
-    every, first = below(PROGRAM, uses), below(FIRST, uses)
-    rest = {name for name in below(BESIDE, uses) if FIRST not in below(name, uses)}
-    chain, others, whole = (Gate(f"{top}/{name}", lines, names) for name, names in (("first", first), ("rest", rest), ("all", every)))
-    processors = os.cpu_count() or 1
-    try:
-        # The first look, and whatever else runs here, goes before all of them.
-        chain.start(progress, f"{out}/build-first.log", 10)
-        others.start(progress, f"{out}/build-rest.log", 19, max(1, processors - 1))
-        chain.wait()
-        # What stands on the lock are crates side by side, and small ones: a second job would take longer to load what they stand on than it saves.
-        whole.start(progress, f"{out}/build.log", 10, processors)
-        is_built = whole.wait_for_program()
-        if is_built:
-            os.replace(f"{whole.room}/crates/{PROGRAM}/out/{PROGRAM}", f"{out}/{PROGRAM}")
-        return is_built
-    finally:
-        for gate in (whole, others, chain):
-            gate.stop()
-
-
 def why_not(path):
-    """What the gate says is wrong, the first lines; where no crate is to blame, it says at its end why it stopped."""
+    """What the prover says is wrong, the first lines; where no crate is to blame, it says at its end why it stopped."""
     lines = open(path, encoding="utf-8", errors="replace").read().split("\n")
-    wrong = [line for line in lines if re.search(r"error|no proof|not proved|NOT PROVED|^rt: FAILED", line)]
+    wrong = [line for line in lines if re.search(r"error|no proof|not proved|no verdict", line)]
     return "\n".join(wrong[:20] or lines[-6:]).rstrip()
 
 
 def main():
     out = f"{ROOT}/crates/{PROGRAM}/out"
     os.makedirs(out, exist_ok=True)
-    log = f"{out}/build.log"
-    look, progress = FirstLook(sys.argv[1:]), Progress(seconds_of(below(PROGRAM, crate_lines()[1])))
-    look.then(lambda: progress.show(os.path.relpath(log, ROOT)))
+    path, crates = f"{out}/build.log", Crates()
+    look, progress = FirstLook(sys.argv[1:]), Progress(crates)
+    look.then(lambda: progress.show(os.path.relpath(path, ROOT)))
     with tempfile.TemporaryDirectory(prefix="smtsim-build-", dir=out, ignore_cleanup_errors=True) as room:
-        is_built = prove_all(room, out, progress)
+        with open(path, "w", encoding="utf-8") as log:
+            prover = Prover(crates, room)
+            is_built = Build(crates, prover, log, progress).run() and prover.link(f"{room}/{PROGRAM}", log)
+        if is_built:
+            os.replace(f"{room}/{PROGRAM}", f"{out}/{PROGRAM}")
     look.wait()
     if not is_built:
-        print(why_not(log), file=sys.stderr)
+        print(why_not(path), file=sys.stderr)
         return 1
     os.utime(f"{out}/{PROGRAM}")
     return 0

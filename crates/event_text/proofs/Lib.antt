@@ -2,10 +2,10 @@ pub mod Fields
 pub mod Joining
 pub mod LineEnds
 pub mod LineOnly
+pub mod QuickLaws
 pub mod RangeLaws
 pub mod ReadBack
 pub mod ReadOnly
 pub mod SinkLaws
 pub mod TraceLaws
 pub mod FieldCounts
-pub mod NextTaken

@@ -18,7 +18,7 @@ use events::{
 };
 use text_fields::{
     FieldError, field_count, read_decimal, read_hex, read_optional_decimal, read_optional_hex,
-    skip_field, split_field, take_decimal, take_hex, take_optional_hex,
+    split_field, take_decimal, take_hex, take_optional_hex,
 };
 use thiserror::Error;
 
@@ -49,7 +49,6 @@ impl Rule {
 }
 
 // The first field as an actor, and the text of the others.
-#[inline]
 fn take_actor(text: &[u8]) -> Result<(u8, &[u8]), FieldError>
     ensures taken { IfOk result (λ p. IsTaken (decimal_field 15) text.now p.0 p.1.now) }
     ensures refused { IfErr result (λ error. decimal_field 15 (field 32 text.now) ≡ Err error) }
@@ -58,7 +57,6 @@ fn take_actor(text: &[u8]) -> Result<(u8, &[u8]), FieldError>
     Ok((actor as u8, others))
 }
 
-#[inline]
 fn take_hart(text: &[u8]) -> Result<(u8, &[u8]), FieldError>
     ensures taken { IfOk result (λ p. IsTaken (decimal_field 7) text.now p.0 p.1.now) }
     ensures refused { IfErr result (λ error. decimal_field 7 (field 32 text.now) ≡ Err error) }
@@ -67,7 +65,6 @@ fn take_hart(text: &[u8]) -> Result<(u8, &[u8]), FieldError>
     Ok((hart as u8, others))
 }
 
-#[inline]
 fn take_seq(text: &[u8]) -> Result<(Seq, &[u8]), FieldError>
     ensures taken { IfOk result (λ p. IsTaken (decimal_field 16777215) text.now p.0 p.1.now) }
     ensures refused { IfErr result
@@ -202,28 +199,12 @@ fn read_next(text: &[u8]) -> Result<Next, FieldError>
 }
 
 // What comes next as the first field, and the text of the others.
-#[inline(always)]
 fn take_next(text: &[u8]) -> Result<(Next, &[u8]), FieldError>
     ensures taken { IfOk result (λ p. IsTaken next_field text.now p.0 p.1.now) }
     ensures refused { IfErr result (λ error. next_field (field 32 text.now) ≡ Err error) }
 {
-    if text.is_empty() || text[0] != b'p' {
-        return Ok((any_next(text)?, skip_field(text)));
-    }
-    match take_hex(&text[1..], 8) {
-        Ok((pc, others)) => Ok((Next::Pc(pc), others)),
-        Err(error) => Err(error),
-    }
-}
-
-// What comes next as the first field of any text, in more steps.
-#[cold]
-#[inline(never)]
-fn any_next(text: &[u8]) -> Result<Next, FieldError>
-    ensures { result ≡ next_field (field 32 text.now) }
-{
-    let (first, _) = split_field(text, b' ');
-    read_next(first)
+    let (first, others) = split_field(text, b' ');
+    Ok((read_next(first)?, others))
 }
 
 // The number of a write, and of how many bytes it is.
@@ -251,7 +232,6 @@ fn read_optional_sized(text: &[u8]) -> Result<Option<(u8, u32)>, FieldError>
 }
 
 // The number of a write as the first field, and the text of the others.
-#[inline(always)]
 fn take_optional_sized(text: &[u8]) -> Result<(Option<(u8, u32)>, &[u8]), FieldError>
     ensures taken { IfOk result
         (λ p. IsTaken (optional_field sized_field) text.now p.0 p.1.now) }
@@ -259,20 +239,8 @@ fn take_optional_sized(text: &[u8]) -> Result<(Option<(u8, u32)>, &[u8]), FieldE
     ensures refused { IfErr result
         (λ error. optional_field sized_field (field 32 text.now) ≡ Err error) }
 {
-    if text.len() > 1 && text[0] == b'-' && text[1] == b' ' {
-        return Ok((None, &text[2..]));
-    }
-    Ok((any_optional_sized(text)?, skip_field(text)))
-}
-
-// The number of a write as the first field of any text, in more steps.
-#[inline(never)]
-fn any_optional_sized(text: &[u8]) -> Result<Option<(u8, u32)>, FieldError>
-    ensures value { result ≡ optional_field sized_field (field 32 text.now) }
-    ensures sized { IfOk result (λ number. IfSome number (λ some. IsWidth some.0)) }
-{
-    let (first, _) = split_field(text, b' ');
-    read_optional_sized(first)
+    let (first, others) = split_field(text, b' ');
+    Ok((read_optional_sized(first)?, others))
 }
 
 fn written(addr: Option<u32>, number: Option<(u8, u32)>) -> Result<Option<Written>, FieldError>

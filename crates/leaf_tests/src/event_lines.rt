@@ -129,7 +129,7 @@ macro_rules! written {
 }
 
 /// Stores, bytes put out, stops, and what is dropped, renamed or fetched without a word.
-fn others() -> [(Event, &'static str); 10] {
+pub fn others() -> [(Event, &'static str); 10] {
     [
         (
             complete!(5, 5, None, BEHIND, Some(0x8000_1001), Some(0xaa)),

@@ -1,11 +1,11 @@
 use crate::rows::holds;
 use arrayvec::ArrayString;
 use text_fields::{
-    FieldError, field_count, push_ascii, push_dash, push_decimal, push_hex, push_number,
-    push_optional_decimal, push_optional_hex, push_small_number, push_spaced_dash,
-    push_spaced_decimal, push_spaced_number, push_word_after, read_decimal, read_hex,
-    read_optional_decimal, read_optional_hex, read_signed_decimal, skip_field, split_field,
-    take_decimal, take_hex, take_optional_hex,
+    FieldError, field_count, front_dash, front_decimal, front_hex, front_optional_hex, front_small,
+    push_ascii, push_dash, push_decimal, push_hex, push_number, push_optional_decimal,
+    push_optional_hex, push_small_number, push_spaced_dash, push_spaced_decimal,
+    push_spaced_number, push_word_after, read_decimal, read_hex, read_optional_decimal,
+    read_optional_hex, read_signed_decimal, split_field, take_decimal, take_hex, take_optional_hex,
 };
 
 #[test]
@@ -214,7 +214,6 @@ fn cuts_a_text_at_its_first_separator(rt: HostRuntime) {
         let (first, others) = split_field(text, b' ');
         holds(&rt, cut.text, first == cut.first.as_bytes());
         holds(&rt, cut.text, others == cut.others.as_bytes());
-        holds(&rt, cut.text, skip_field(text) == cut.others.as_bytes());
     }
 }
 
@@ -294,4 +293,83 @@ fn takes_a_dash_as_no_number_from_the_front(rt: HostRuntime) {
     for (text, want) in &TAKEN_OPTIONAL {
         holds(&rt, text, take_optional_hex(text.as_bytes(), 2) == *want);
     }
+}
+
+/// A text, and the number that it begins with and the text behind what ends that number, where it is
+/// read at once.
+type Front<N> = (&'static str, Option<(N, &'static [u8])>);
+
+/// Numbers of 24 bits before a newline.
+static FRONT_DECIMAL: [Front<u32>; 8] = [
+    ("7\nD 1 8\n", Some((7, b"D 1 8\n"))),
+    ("1234567\nD 1 8\n", Some((1_234_567, b"D 1 8\n"))),
+    ("0\nD 1 8\n", Some((0, b"D 1 8\n"))),
+    ("07\nD 1 8\n", None),
+    ("12 34567\n", None),
+    ("\n1234567\n", None),
+    ("12345678\n", None),
+    ("7\n", None),
+];
+
+#[test]
+fn reads_a_decimal_number_that_a_newline_ends(rt: HostRuntime) {
+    for (text, want) in &FRONT_DECIMAL {
+        holds(
+            &rt,
+            text,
+            front_decimal(text.as_bytes(), 16_777_215, b'\n') == *want,
+        );
+    }
+}
+
+/// Numbers up to 15 before a space.
+static FRONT_SMALL: [Front<u32>; 5] = [
+    ("9 1", Some((9, b"1"))),
+    ("15 1 2 3", Some((15, b"1 2 3"))),
+    ("16 1 2 3", None),
+    ("9\n", None),
+    ("a 1", None),
+];
+
+#[test]
+fn reads_a_small_number_that_a_space_ends(rt: HostRuntime) {
+    for (text, want) in &FRONT_SMALL {
+        holds(&rt, text, front_small(text.as_bytes(), 15, b' ') == *want);
+    }
+}
+
+/// Numbers of eight digits before a space.
+static FRONT_HEX: [Front<u32>; 4] = [
+    ("8000000c 1", Some((0x8000_000c, b"1"))),
+    ("8000000c\n", None),
+    ("8000000C 1", None),
+    ("800000c 1", None),
+];
+
+#[test]
+fn reads_a_hexadecimal_number_that_a_space_ends(rt: HostRuntime) {
+    for (text, want) in &FRONT_HEX {
+        holds(&rt, text, front_hex(text.as_bytes(), 8, b' ') == *want);
+    }
+}
+
+/// Numbers of two digits, or none, before a newline.
+static FRONT_OPTIONAL: [Front<Option<u32>>; 4] = [
+    ("-\nI", Some((None, b"I"))),
+    ("0a\nI", Some((Some(10), b"I"))),
+    ("- I", None),
+    ("0\nI", None),
+];
+
+#[test]
+fn reads_a_dash_that_a_newline_ends_as_no_number(rt: HostRuntime) {
+    for (text, want) in &FRONT_OPTIONAL {
+        holds(
+            &rt,
+            text,
+            front_optional_hex(text.as_bytes(), 2, b'\n') == *want,
+        );
+    }
+    holds(&rt, "-\nI", front_dash(b"-\nI", b'\n') == Some(b"I"));
+    holds(&rt, "-I", front_dash(b"-I", b'\n').is_none());
 }

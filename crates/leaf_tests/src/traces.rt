@@ -1,4 +1,4 @@
-use crate::event_lines::trace;
+use crate::event_lines::{others, trace};
 use crate::rows::{holds, holds_at};
 use event_text::{Over, TraceRefused, print_trace, read_trace};
 use events::Event;
@@ -29,6 +29,30 @@ fn a_trace_is_read_and_printed_again(rt: HostRuntime) -> Result<(), Fail> {
     let mut sink = Over::new(Vec::new(rt.alloc()));
     print_trace(read.events(), &mut sink)?;
     assert!(rt; sink.into_inner().as_slice() == text.as_slice());
+    Ok(())
+}
+
+/// Whether a trace of this line, and of the line again before others, is that of this event, so that
+/// the line is read where other lines follow and where none does.
+fn is_read(event: &Event, line: &str, alloc: Global) -> Result<bool, Fail> {
+    let mut text = Vec::new(alloc);
+    for piece in ["smt-trace 1\n", line, "\nD 0 1234567\n", line, "\n"] {
+        text.extend_from_slice(piece.as_bytes())?;
+    }
+    let decode = Event::Decode {
+        actor: 0,
+        seq: 1_234_567,
+    };
+    let read = read_trace(text.as_slice(), alloc)?;
+    Ok(read.events() == [*event, decode, *event].as_slice())
+}
+
+#[test]
+fn each_kind_of_line_is_read_from_a_trace(rt: HostRuntime) -> Result<(), Fail> {
+    for (event, line) in trace().iter().chain(&others()) {
+        let is = is_read(event, line, rt.alloc())?;
+        holds(&rt, line, is);
+    }
     Ok(())
 }
 

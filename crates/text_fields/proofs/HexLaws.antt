@@ -96,7 +96,7 @@ pub digits_small : (text : List ℕ) → list_all is_hex_digit text ≡ true →
 digits_small text digits = (weighs 0 text digits).rest
 
 -- digits are the spelling of the number that they write
-hex-hex_after : (v : ℕ) (text : List ℕ) → list_all is_hex_digit text ≡ true
+pub hex-hex_after : (v : ℕ) (text : List ℕ) → list_all is_hex_digit text ≡ true
     → hex (length text) (hex_after v text) ≡ text
 hex-hex_after v [] digits = refl
 hex-hex_after v (c ∷ cs) digits =

@@ -2,6 +2,7 @@ pub mod DecimalLaws
 pub mod DecimalLemmas
 pub mod DigitLemmas
 pub mod DigitTable
+pub mod FrontLemmas
 pub mod HexLaws
 pub mod HexLemmas
 pub mod LacksLaws
@@ -9,4 +10,3 @@ pub mod OptionalLaws
 pub mod PairLemmas
 pub mod SignedLaws
 pub mod SplittingLaws
-pub mod TakingLemmas
