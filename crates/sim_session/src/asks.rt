@@ -16,7 +16,7 @@ use smt_core::{Core, IssueAnswer, Predict, work};
 /// Fetches, and appends the line of the answer.
 #[inline(never)]
 pub fn fetch<P: Predict>(core: &mut Core, actor: u8, predict: &mut P, lines: &mut Lines)
-    requires { array_string_len lines.old + 70 ≤ 4096 }
+    requires { array_string_len lines.old + 70 ≤ 3072 }
     ensures { IsFetchTold P.predicts actor core.old core.new predict.old predict.new
         (Some lines.old.bytes) (Some lines.new.bytes) }
 {
@@ -26,7 +26,7 @@ pub fn fetch<P: Predict>(core: &mut Core, actor: u8, predict: &mut P, lines: &mu
 /// Decodes, and appends the line of the answer.
 #[inline(never)]
 pub fn decode(core: &mut Core, actor: u8, hart: u8, lines: &mut Lines)
-    requires { array_string_len lines.old + 70 ≤ 4096 }
+    requires { array_string_len lines.old + 70 ≤ 3072 }
     ensures { IsTold (AskDecode actor hart) core.old core.new
         (Some lines.old.bytes) (Some lines.new.bytes) }
 {
@@ -36,7 +36,7 @@ pub fn decode(core: &mut Core, actor: u8, hart: u8, lines: &mut Lines)
 /// Renames, and appends the line of the answer.
 #[inline(never)]
 pub fn rename(core: &mut Core, actor: u8, hart: u8, lines: &mut Lines)
-    requires { array_string_len lines.old + 70 ≤ 4096 }
+    requires { array_string_len lines.old + 70 ≤ 3072 }
     ensures { IsTold (AskRename actor hart) core.old core.new
         (Some lines.old.bytes) (Some lines.new.bytes) }
 {
@@ -46,7 +46,7 @@ pub fn rename(core: &mut Core, actor: u8, hart: u8, lines: &mut Lines)
 /// Retires, and appends the line of the answer.
 #[inline(never)]
 pub fn retire(core: &mut Core, actor: u8, hart: u8, lines: &mut Lines)
-    requires { array_string_len lines.old + 70 ≤ 4096 }
+    requires { array_string_len lines.old + 70 ≤ 3072 }
     ensures { IsTold (AskRetire actor hart) core.old core.new
         (Some lines.old.bytes) (Some lines.new.bytes) }
 {
@@ -56,7 +56,7 @@ pub fn retire(core: &mut Core, actor: u8, hart: u8, lines: &mut Lines)
 /// Issues. A job that comes is worked at once, and what was done is held. Tells whether one came.
 #[inline(never)]
 pub fn issue(core: &mut Core, hands: &mut Hands, actor: u8, lines: &mut Lines) -> bool
-    requires { array_string_len lines.old + 70 ≤ 4096 }
+    requires { array_string_len lines.old + 70 ≤ 3072 }
     ensures told { Tells core.old core.new (Some lines.old.bytes) (Some lines.new.bytes)
         (IsIssue actor result hands.old.held hands.new.held) }
     ensures length { array_string_len lines.new ≤ array_string_len lines.old + 70 }
@@ -81,7 +81,7 @@ pub fn issue(core: &mut Core, hands: &mut Hands, actor: u8, lines: &mut Lines) -
 /// Hands back what the actor holds; where it holds nothing, no ask is made.
 #[inline(never)]
 pub fn hand_back(core: &mut Core, hands: &mut Hands, actor: u8, lines: &mut Lines)
-    requires { array_string_len lines.old + 70 ≤ 4096 }
+    requires { array_string_len lines.old + 70 ≤ 3072 }
     ensures { Tells core.old core.new (Some lines.old.bytes) (Some lines.new.bytes)
         (HandsBack actor hands.old.held hands.new.held) }
 {

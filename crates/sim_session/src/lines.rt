@@ -8,7 +8,10 @@ use arrayvec::ArrayString;
 use std::io::Write;
 
 /// Whole lines that are held back, to be written together: a write costs more than a line.
-pub type Lines = ArrayString<4096>;
+///
+/// No other text has this room, so LLVM finds one caller of what prints an event into it, and puts
+/// it there.
+pub type Lines = ArrayString<3072>;
 
 /// The room that the lines of one action take: at most two, each of an event.
 const ROOM: usize = 140;
@@ -20,7 +23,7 @@ pub struct Unwritten;
 /// Writes the lines that are held back, where those of one more action might not fit beside them.
 #[inline(always)]
 pub fn make_room<W: Write>(lines: &mut Lines, out: &mut W) -> Result<(), Unwritten>
-    ensures room { OnOk result (array_string_len lines.new + 140 ≤ 4096) }
+    ensures room { OnOk result (array_string_len lines.new + 140 ≤ 3072) }
     ensures kept { OnOk result (Keeps (append_known (W.contents out.old) lines.old.bytes)
         (append_known (W.contents out.new) lines.new.bytes)) }
 {

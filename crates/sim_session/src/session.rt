@@ -111,7 +111,7 @@ fn make_action<P: Predict>(
     predict: &mut P,
     lines: &mut Lines,
 )
-    requires { array_string_len lines.old + 140 ≤ 4096 }
+    requires { array_string_len lines.old + 140 ≤ 3072 }
     ensures { Exchanges P.predicts session.old.core session.new.core predict.old predict.new
         (Some lines.old.bytes) (Some lines.new.bytes)
         (IsMade action session.old.hands.held session.new.hands.held) }
@@ -132,7 +132,7 @@ fn make_action<P: Predict>(
 
 /// Issues and, where a job came, hands it back.
 fn issue_and_hand_back(core: &mut Core, hands: &mut Hands, actor: u8, lines: &mut Lines)
-    requires { array_string_len lines.old + 140 ≤ 4096 }
+    requires { array_string_len lines.old + 140 ≤ 3072 }
     ensures { Tells core.old core.new (Some lines.old.bytes) (Some lines.new.bytes)
         (IsUnit actor hands.old.held hands.new.held) }
 {
