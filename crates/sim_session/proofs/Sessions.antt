@@ -1,9 +1,10 @@
 -- One action after another, and the asks of a unit.
 use Rattle.std.specs.Prelude.{◌≡◌, ℕ, ◌+◌, ◌<◌, zero, suc, Bool, true}
 use Rattle.std.specs.Prelude.{false, List, [], ◌∷◌, ◌++◌, length, take, flat_map}
-use Rattle.std.specs.Prelude.{get_or, replicate, codes, slice_index_or, slice_set, Option, Some, None, Ok, Err}
+use Rattle.std.specs.Prelude.{get_or, replicate, codes, slice_index_or, slice_set, Option, Some, None}
 use Rattle.std.proofs.Common.{refl, sym, ap, subst, ◌∙◌, append_assoc, arith}
-use Rattle.std.specs.Io.KnownBytes.{Appends}
+use Rattle.std.specs.Io.KnownBytes.{Appends, Keeps as StaysKnown, append_known}
+use Rattle.std.proofs.KnownBytes.{append_known-grown}
 use Rattle.std.proofs.lemmas.Grind.{common_steps}
 use Rattle.std.proofs.lemmas.List.{take_more, flat_map_more}
 use Rattle.exec_units.specs.Job.{DoneView}
@@ -76,6 +77,21 @@ module _ {P : Type 0} (predicts : P → ℕ → ℕ → ℕ → ℕ → P → Ty
   pub exchanged_none : (core : CoreView) (predictor : P) (out : Option (List ℕ)) → Appends out out []
       → HasExchanged predicts [] core core predictor predictor out out
   exchanged_none core predictor out same = record { answered = refl; guessed = refl; printed = same }
+
+  -- What is printed behind the lines that are held back is printed behind all that was printed before them.
+  pub held_behind : (Holds : List Exchange → Type 0) (old new : CoreView) (before after : P)
+      (was known : Option (List ℕ)) (held more : List ℕ) → StaysKnown was (append_known known held)
+      → Exchanges predicts old new before after (Some held) (Some more) Holds
+      → Exchanges predicts old new before after was (append_known known more) Holds
+  held_behind Holds old new before after was known held more kept made = (
+    made.0,
+    made.1,
+    record {
+      answered = made.2.answered;
+      guessed = made.2.guessed;
+      printed = append_known-grown was known held more (flat_map exchange_line made.0) kept made.2.printed;
+    },
+  )
 
 -- ---- All of one list of actions, and then all of another
 

@@ -3,97 +3,91 @@
 //! Each kind of ask has a function of its own that isn't put into its caller, so that none pays for
 //! the locals of the others.
 
-ghost use Rattle.std.specs.Prelude.{OnOk, IfOk};
+ghost use Rattle.std.specs.Prelude.{◌+◌, ◌≤◌, Some};
+ghost use Rattle.arrayvec.specs.ArrayString.{array_string_len};
 ghost use Rattle.smt_model.specs.Asks.{AskDecode, AskRename, AskRetire};
 ghost use Rattle.sim_session.specs.Session.{IsTold, IsFetchTold, Tells, IsIssue, HandsBack};
 
-use crate::answers::{Unwritten, write_answer, write_completion, write_event, write_text};
+use crate::answers::{push_answer, push_completion, push_done};
 use crate::hands::Hands;
+use crate::lines::Lines;
 use smt_core::{Core, IssueAnswer, Predict, work};
-use std::io::Write;
 
-/// Fetches, and writes the line of the answer.
+/// Fetches, and appends the line of the answer.
 #[inline(never)]
-pub fn fetch<P: Predict, W: Write>(
-    core: &mut Core,
-    actor: u8,
-    predict: &mut P,
-    out: &mut W,
-) -> Result<(), Unwritten>
-    ensures { OnOk result (IsFetchTold P.predicts actor core.old core.new predict.old predict.new
-        (W.contents out.old) (W.contents out.new)) }
+pub fn fetch<P: Predict>(core: &mut Core, actor: u8, predict: &mut P, lines: &mut Lines)
+    requires { array_string_len lines.old + 70 ≤ 3072 }
+    ensures { IsFetchTold P.predicts actor core.old core.new predict.old predict.new
+        (Some lines.old.bytes) (Some lines.new.bytes) }
 {
-    write_answer(&core.fetch(actor, predict), out)
+    push_answer(lines, &core.fetch(actor, predict));
 }
 
-/// Decodes, and writes the line of the answer.
+/// Decodes, and appends the line of the answer.
 #[inline(never)]
-pub fn decode<W: Write>(core: &mut Core, actor: u8, hart: u8, out: &mut W) -> Result<(), Unwritten>
-    ensures { OnOk result (IsTold (AskDecode actor hart) core.old core.new
-        (W.contents out.old) (W.contents out.new)) }
+pub fn decode(core: &mut Core, actor: u8, hart: u8, lines: &mut Lines)
+    requires { array_string_len lines.old + 70 ≤ 3072 }
+    ensures { IsTold (AskDecode actor hart) core.old core.new
+        (Some lines.old.bytes) (Some lines.new.bytes) }
 {
-    write_answer(&core.decode(actor, hart), out)
+    push_answer(lines, &core.decode(actor, hart));
 }
 
-/// Renames, and writes the line of the answer.
+/// Renames, and appends the line of the answer.
 #[inline(never)]
-pub fn rename<W: Write>(core: &mut Core, actor: u8, hart: u8, out: &mut W) -> Result<(), Unwritten>
-    ensures { OnOk result (IsTold (AskRename actor hart) core.old core.new
-        (W.contents out.old) (W.contents out.new)) }
+pub fn rename(core: &mut Core, actor: u8, hart: u8, lines: &mut Lines)
+    requires { array_string_len lines.old + 70 ≤ 3072 }
+    ensures { IsTold (AskRename actor hart) core.old core.new
+        (Some lines.old.bytes) (Some lines.new.bytes) }
 {
-    write_answer(&core.rename(actor, hart), out)
+    push_answer(lines, &core.rename(actor, hart));
 }
 
-/// Retires, and writes the line of the answer.
+/// Retires, and appends the line of the answer.
 #[inline(never)]
-pub fn retire<W: Write>(core: &mut Core, actor: u8, hart: u8, out: &mut W) -> Result<(), Unwritten>
-    ensures { OnOk result (IsTold (AskRetire actor hart) core.old core.new
-        (W.contents out.old) (W.contents out.new)) }
+pub fn retire(core: &mut Core, actor: u8, hart: u8, lines: &mut Lines)
+    requires { array_string_len lines.old + 70 ≤ 3072 }
+    ensures { IsTold (AskRetire actor hart) core.old core.new
+        (Some lines.old.bytes) (Some lines.new.bytes) }
 {
-    write_answer(&core.retire(actor, hart), out)
+    push_answer(lines, &core.retire(actor, hart));
 }
 
 /// Issues. A job that comes is worked at once, and what was done is held. Tells whether one came.
 #[inline(never)]
-pub fn issue<W: Write>(
-    core: &mut Core,
-    hands: &mut Hands,
-    actor: u8,
-    out: &mut W,
-) -> Result<bool, Unwritten>
-    ensures { IfOk result (λ came. Tells core.old core.new (W.contents out.old) (W.contents out.new)
-        (IsIssue actor came hands.old.held hands.new.held)) }
+pub fn issue(core: &mut Core, hands: &mut Hands, actor: u8, lines: &mut Lines) -> bool
+    requires { array_string_len lines.old + 70 ≤ 3072 }
+    ensures told { Tells core.old core.new (Some lines.old.bytes) (Some lines.new.bytes)
+        (IsIssue actor result hands.old.held hands.new.held) }
+    ensures length { array_string_len lines.new ≤ array_string_len lines.old + 70 }
 {
     match core.issue(actor) {
         IssueAnswer::Job(job, event) => {
             hands.put(actor, work(job));
-            write_event(&event, out)?;
-            Ok(true)
+            push_done(lines, &event);
+            true
         }
         IssueAnswer::Idle => {
-            write_text(b"idle\n", out)?;
-            Ok(false)
+            lines.push_str("idle\n");
+            false
         }
         IssueAnswer::Full => {
-            write_text(b"full\n", out)?;
-            Ok(false)
+            lines.push_str("full\n");
+            false
         }
     }
 }
 
 /// Hands back what the actor holds; where it holds nothing, no ask is made.
 #[inline(never)]
-pub fn hand_back<W: Write>(
-    core: &mut Core,
-    hands: &mut Hands,
-    actor: u8,
-    out: &mut W,
-) -> Result<(), Unwritten>
-    ensures { OnOk result (Tells core.old core.new (W.contents out.old) (W.contents out.new)
-        (HandsBack actor hands.old.held hands.new.held)) }
+pub fn hand_back(core: &mut Core, hands: &mut Hands, actor: u8, lines: &mut Lines)
+    requires { array_string_len lines.old + 70 ≤ 3072 }
+    ensures { Tells core.old core.new (Some lines.old.bytes) (Some lines.new.bytes)
+        (HandsBack actor hands.old.held hands.new.held) }
 {
     let Some(done) = hands.take(actor) else {
-        return write_text(b"none\n", out);
+        lines.push_str("none\n");
+        return;
     };
-    write_completion(&core.complete(actor, done), out)
+    push_completion(lines, &core.complete(actor, done));
 }

@@ -1,12 +1,14 @@
 //! The asks of a script's words, one after another.
 
-ghost use Rattle.std.specs.Prelude.{◌≡◌, OnOk, IfOk};
+ghost use Rattle.std.specs.Prelude.{◌≡◌, ◌+◌, ◌≤◌, Some, OnOk, IfOk};
+ghost use Rattle.std.specs.Io.KnownBytes.{append_known};
+ghost use Rattle.arrayvec.specs.ArrayString.{array_string_len};
 ghost use Rattle.sim_session.specs.Session.{IsMade, IsUnit, AreMade, Tells, Exchanges};
 ghost use Rattle.sim_session.specs.Session.{repeated, actions_of, nobody, Holding};
 
-use crate::answers::Unwritten;
 use crate::asks::{decode, fetch, hand_back, issue, rename, retire};
 use crate::hands::Hands;
+use crate::lines::{Lines, Unwritten, make_room, write_lines};
 use sim_script::{Action, Word};
 use smt_core::{Core, Predict};
 use std::io::Write;
@@ -55,12 +57,12 @@ pub fn ask_core<P: Predict, W: Write>(
         (λ exchanges. (held : Holding) × AreMade (actions_of words.now) nobody held exchanges)) }
 {
     let mut session = Session::new(core);
-    let told = make_asks(&mut session, words, predict, out);
+    let mut lines = Lines::new();
+    let told = make_asks(&mut session, words, predict, &mut lines, out);
     let core = session.finish();
-    match told {
-        Ok(()) => Ok(core),
-        Err(error) => Err(error),
-    }
+    told?;
+    write_lines(&mut lines, out)?;
+    Ok(core)
 }
 
 // Makes the asks of all words, in order, and prints a line for each.
@@ -68,14 +70,16 @@ fn make_asks<P: Predict, W: Write>(
     session: &mut Session,
     words: &[Word],
     predict: &mut P,
+    lines: &mut Lines,
     out: &mut W,
 ) -> Result<(), Unwritten>
     ensures { OnOk result (Exchanges P.predicts session.old.core session.new.core
-        predict.old predict.new (W.contents out.old) (W.contents out.new)
+        predict.old predict.new (append_known (W.contents out.old) lines.old.bytes)
+        (append_known (W.contents out.new) lines.new.bytes)
         (AreMade (actions_of words.now) session.old.hands.held session.new.hands.held)) }
 {
     for word in words {
-        repeat_action(session, *word, predict, out)?;
+        repeat_action(session, *word, predict, lines, out)?;
     }
     Ok(())
 }
@@ -85,55 +89,54 @@ fn repeat_action<P: Predict, W: Write>(
     session: &mut Session,
     word: Word,
     predict: &mut P,
+    lines: &mut Lines,
     out: &mut W,
 ) -> Result<(), Unwritten>
     ensures { OnOk result (Exchanges P.predicts session.old.core session.new.core
-        predict.old predict.new (W.contents out.old) (W.contents out.new)
+        predict.old predict.new (append_known (W.contents out.old) lines.old.bytes)
+        (append_known (W.contents out.new) lines.new.bytes)
         (AreMade (repeated word) session.old.hands.held session.new.hands.held)) }
 {
     for turn in 0..word.repeat {
-        make_action(session, word.action, predict, out)?;
+        make_room(lines, out)?;
+        make_action(session, word.action, predict, lines);
     }
     Ok(())
 }
 
-fn make_action<P: Predict, W: Write>(
+// Makes the asks of one action, and appends a line for each.
+fn make_action<P: Predict>(
     session: &mut Session,
     action: Action,
     predict: &mut P,
-    out: &mut W,
-) -> Result<(), Unwritten>
-    ensures { OnOk result (Exchanges P.predicts session.old.core session.new.core
-        predict.old predict.new (W.contents out.old) (W.contents out.new)
-        (IsMade action session.old.hands.held session.new.hands.held)) }
+    lines: &mut Lines,
+)
+    requires { array_string_len lines.old + 140 ≤ 3072 }
+    ensures { Exchanges P.predicts session.old.core session.new.core predict.old predict.new
+        (Some lines.old.bytes) (Some lines.new.bytes)
+        (IsMade action session.old.hands.held session.new.hands.held) }
 {
     let Session { core, hands } = session;
     match action {
-        Action::Fetch { actor } => fetch(core, actor, predict, out),
-        Action::Decode { actor, hart } => decode(core, actor, hart, out),
-        Action::Rename { actor, hart } => rename(core, actor, hart, out),
-        Action::Retire { actor, hart } => retire(core, actor, hart, out),
-        Action::Issue { actor } => match issue(core, hands, actor, out) {
-            Ok(_) => Ok(()),
-            Err(error) => Err(error),
-        },
-        Action::Complete { actor } => hand_back(core, hands, actor, out),
-        Action::Unit { actor } => issue_and_hand_back(core, hands, actor, out),
+        Action::Fetch { actor } => fetch(core, actor, predict, lines),
+        Action::Decode { actor, hart } => decode(core, actor, hart, lines),
+        Action::Rename { actor, hart } => rename(core, actor, hart, lines),
+        Action::Retire { actor, hart } => retire(core, actor, hart, lines),
+        Action::Issue { actor } => {
+            issue(core, hands, actor, lines);
+        }
+        Action::Complete { actor } => hand_back(core, hands, actor, lines),
+        Action::Unit { actor } => issue_and_hand_back(core, hands, actor, lines),
     }
 }
 
 /// Issues and, where a job came, hands it back.
-fn issue_and_hand_back<W: Write>(
-    core: &mut Core,
-    hands: &mut Hands,
-    actor: u8,
-    out: &mut W,
-) -> Result<(), Unwritten>
-    ensures { OnOk result (Tells core.old core.new (W.contents out.old) (W.contents out.new)
-        (IsUnit actor hands.old.held hands.new.held)) }
+fn issue_and_hand_back(core: &mut Core, hands: &mut Hands, actor: u8, lines: &mut Lines)
+    requires { array_string_len lines.old + 140 ≤ 3072 }
+    ensures { Tells core.old core.new (Some lines.old.bytes) (Some lines.new.bytes)
+        (IsUnit actor hands.old.held hands.new.held) }
 {
-    if issue(core, hands, actor, out)? {
-        return hand_back(core, hands, actor, out);
+    if issue(core, hands, actor, lines) {
+        hand_back(core, hands, actor, lines);
     }
-    Ok(())
 }

@@ -1,9 +1,8 @@
-use Rattle.std.proofs.lemmas.Result.{on_ok_weaker}
+use Rattle.std.specs.Prelude.{Some}
 use Rattle.sim_session.proofs.Sessions.{unit_both}
 use Rattle.sim_session.proofs.session.issue_and_hand_back.Goals as goal
 
-pub returns-then-branch : goal.returns-then-branch
-returns-then-branch g c =
-    on_ok_weaker c.hand_back.result
-    (λ back. unit_both c.args.actor _ _ _ _ _ _ _ _ _ c.in_ok-issue.field-0 c.if-branch.true c.in_ok-issue.ensures back)
-    c.hand_back.ensures
+pub returns-then-issue : goal.returns-then-issue
+returns-then-issue c =
+    unit_both c.args.actor _ _ _ _ _ _ (Some c.args.lines.now.bytes) (Some c.issue.new.lines.bytes)
+    (Some c.hand_back.new.lines.bytes) c.issue.result c.if-issue.true c.issue.ensures.told c.hand_back.ensures

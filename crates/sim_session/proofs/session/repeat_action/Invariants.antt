@@ -1,4 +1,5 @@
 use Rattle.std.specs.Prelude.{replicate}
+use Rattle.std.specs.Io.KnownBytes.{append_known}
 use Rattle.sim_session.specs.Session.{AreMade, Exchanges}
 use Rattle.sim_session.proofs.session.repeat_action.Given as goal
 
@@ -6,5 +7,6 @@ use Rattle.sim_session.proofs.session.repeat_action.Given as goal
 abbrev pub invariant-loop-turn : goal.invariant-loop-turn
 invariant-loop-turn g l =
     Exchanges g.P.Predict.predicts l.fn.session.core l.session.core l.fn.predict l.predict
-    (g.W.Write.contents l.fn.out) (g.W.Write.contents l.out)
+    (append_known (g.W.Write.contents l.fn.out) l.fn.lines.bytes)
+    (append_known (g.W.Write.contents l.out) l.lines.bytes)
     (AreMade (replicate l.turn l.word.action) l.fn.session.hands.held l.session.hands.held)
