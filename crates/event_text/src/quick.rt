@@ -30,8 +30,16 @@ pub(crate) fn quick_event(text: &[u8]) -> Option<(Event, &[u8])>
         return None;
     }
     let (actor, fields) = front_small(&text[2..], LAST_ACTOR, b' ')?;
-    let actor = actor as u8;
-    match text[0] {
+    quick_fields(text[0], actor as u8, fields)
+}
+
+// The event of a letter and an actor, from the fields behind them.
+#[inline(always)]
+fn quick_fields(letter: u8, actor: u8, fields: &[u8]) -> Option<(Event, &[u8])>
+    requires { actor < 16 }
+    ensures { IfSome result (λ p. IsRest letter actor fields.now p.0 p.1.now) }
+{
+    match letter {
         b'F' => quick_fetch(actor, fields),
         b'D' => quick_decode(actor, fields),
         b'R' => quick_rename(actor, fields),
