@@ -47,7 +47,7 @@ class Crates:
         self.uses = {name: [it for it in uses[name] if it in uses] for name in names}
         self.below = {name: self.reached(name, self.uses) - {name} for name in names}
         text = open(f"{ROOT}/docs/GATE.md", encoding="utf-8").read()
-        told = {name: int(proof) for name, proof in re.findall(r"^\| `(\w+)` \| (\d+) \|", text, re.M)}
+        told = {name: int(proof) for name, proof in re.findall(r"^\| `(\w+)` \| (\d+)[*°]? \|", text, re.M)}
         self.seconds = {name: told.get(name, 30) for name in names}
         # Those of the crate and of the longest chain of crates above it: a crate comes after all that are below it.
         self.ahead = {}
@@ -131,8 +131,8 @@ class Running:
 class Build:
     """The proofs that run, and the crates that are proved."""
 
-    def __init__(self, crates, prover, log, progress):
-        self.crates, self.prover, self.log, self.progress = crates, prover, log, progress
+    def __init__(self, crates, prover, log, progress, look):
+        self.crates, self.prover, self.log, self.progress, self.look = crates, prover, log, progress, look
         self.done, self.running = set(), {}
 
     def is_ready(self, name):
@@ -144,7 +144,7 @@ class Build:
         for name in sorted(filter(self.is_ready, self.crates.ahead), key=lambda it: -self.crates.ahead[it]):
             is_longest = self.crates.ahead[name] > 0.95 * longest
             is_large = self.crates.seconds[name] >= LONG and len(self.crates.below[name]) < MANY
-            free = processors() - sum(it.jobs for it in self.running.values())
+            free = processors() - self.look.processes() - sum(it.jobs for it in self.running.values())
             if self.running and (free_memory() < MEMORY or free < 1 and not is_longest):
                 continue
             jobs = 2 if is_longest and is_large else 1
@@ -219,6 +219,10 @@ class FirstLook:
         if self.running:
             self.running.wait()
 
+    def processes(self):
+        """How many processors are left to it: `rt try` makes two runs at once."""
+        return 2 if self.running and self.running.poll() is None else 0
+
     def then(self, call):
         """Calls `call` once all is shown, and goes on meanwhile."""
         threading.Thread(target=lambda: (self.wait(), call()), daemon=True).start()
@@ -232,6 +236,9 @@ def why_not(path):
 
 
 def main():
+    # So that what it has started ends with it.
+    for number in (signal.SIGTERM, signal.SIGHUP):
+        signal.signal(number, lambda *_: sys.exit(1))
     out = f"{ROOT}/crates/{PROGRAM}/out"
     os.makedirs(out, exist_ok=True)
     path, crates = f"{out}/build.log", Crates()
@@ -240,7 +247,7 @@ def main():
     with tempfile.TemporaryDirectory(prefix="smtsim-build-", dir=out, ignore_cleanup_errors=True) as room:
         with open(path, "w", encoding="utf-8") as log:
             prover = Prover(crates, room)
-            is_built = Build(crates, prover, log, progress).run() and prover.link(f"{room}/{PROGRAM}", log)
+            is_built = Build(crates, prover, log, progress, look).run() and prover.link(f"{room}/{PROGRAM}", log)
         if is_built:
             os.replace(f"{room}/{PROGRAM}", f"{out}/{PROGRAM}")
     look.wait()
