@@ -1,7 +1,7 @@
 #!/usr/bin/env python3
 """Proves and builds the program `smtsim`, and says on standard error how far it is: tools/build.py [WORD ..]
 
-Where there are words, it first shows on standard error what the program will print on them, unproved (tools/preview.sh). The proofs begin
+Where there are words, it first shows on standard error what the program will print on them, unproved (tools/first_look.py). The proofs begin
 meanwhile, with less of a claim to the processors, and say how far they are once that has been shown.
 
 Each crate of the program is proved by `rattle build`, which makes nothing unless the crate is proved, from its sources and from what the
@@ -24,46 +24,38 @@ import tempfile
 import threading
 import time
 
-ROOT = os.path.dirname(os.path.dirname(os.path.abspath(__file__)))
+from crate_list import ROOT, CrateList, kit
+
 PROGRAM = "smtsim"
 # The seconds from which on a crate of the longest chain gets two jobs, and the crates below it from which on these no longer pay:
 # each job loads for itself what all of them state.
 LONG, MANY = 45, 30
+# A chain of crates that is at least so much of the longest counts as the longest.
+NEAR = 0.9
 # What a job takes of memory at the most, in bytes.
 MEMORY = 2 << 30
 
 
-class Crates:
+class Crates(CrateList):
     """The crates that the program stands on, and itself: what each uses, and how long its proof takes."""
 
     def __init__(self):
-        uses = {}
-        for line in open(f"{ROOT}/crates.txt", encoding="utf-8"):
-            name, colon, names = line.partition("#")[0].partition(":")
-            if colon:
-                uses[name.split()[0]] = names.split()
-        names = [name for name in uses if name in self.reached(PROGRAM, uses)]
-        self.of_kit = {name: ["std", *(it for it in uses[name] if it not in uses)] for name in names}
-        self.uses = {name: [it for it in uses[name] if it in uses] for name in names}
-        self.below = {name: self.reached(name, self.uses) - {name} for name in names}
+        super().__init__()
+        names = self.reached([PROGRAM])
+        self.below = {name: self.reached([name]) - {name} for name in names}
         text = open(f"{ROOT}/docs/GATE.md", encoding="utf-8").read()
         told = {name: int(proof) for name, proof in re.findall(r"^\| `(\w+)` \| (\d+)[*°]? \|", text, re.M)}
         self.seconds = {name: told.get(name, 30) for name in names}
-        # Those of the crate and of the longest chain of crates above it: a crate comes after all that are below it.
+        # Those of the crate and of the longest chain of crates above it, by the clock: a crate comes after all that are below it.
         self.ahead = {}
         for name in sorted(names, key=lambda it: -len(self.below[it])):
             above = [self.ahead[it] for it in self.ahead if name in self.uses[it]]
-            self.ahead[name] = self.seconds[name] + max(above, default=0)
+            # Two jobs take two thirds of the time of one.
+            self.ahead[name] = self.seconds[name] * (2 / 3 if self.gains(name) else 1) + max(above, default=0)
 
-    @staticmethod
-    def reached(top, uses):
-        found, to_see = {top}, [top]
-        while to_see:
-            for name in uses[to_see.pop()]:
-                if name in uses and name not in found:
-                    found.add(name)
-                    to_see.append(name)
-        return found
+    def gains(self, name):
+        """Whether a second job pays for the crate."""
+        return self.seconds[name] >= LONG and len(self.below[name]) < MANY
 
     def to_go(self, done):
         """The seconds that all others still take on these processors, at the least: those of the longest chain, or of all."""
@@ -75,8 +67,7 @@ class Prover:
     """The command `rattle` of the kit that `rt` is of, and the folder for what it makes."""
 
     def __init__(self, crates, room):
-        said = subprocess.run(["rt", "doc"], capture_output=True, text=True, check=True).stdout
-        self.crates, self.room, self.kit = crates, room, os.path.dirname(said.strip())
+        self.crates, self.room, self.kit = crates, room, kit()
 
     def words(self, name, jobs):
         """Those that have it prove a crate. Of a library it makes what others may know of it, and of the program an object file."""
@@ -142,12 +133,13 @@ class Build:
         """Starts what can be: the crate with the longest chain at once, the others as processors and memory are free."""
         longest = max(ahead for name, ahead in self.crates.ahead.items() if name not in self.done)
         for name in sorted(filter(self.is_ready, self.crates.ahead), key=lambda it: -self.crates.ahead[it]):
-            is_longest = self.crates.ahead[name] > 0.95 * longest
-            is_large = self.crates.seconds[name] >= LONG and len(self.crates.below[name]) < MANY
+            is_longest = self.crates.ahead[name] > NEAR * longest
             free = processors() - self.look.processes() - sum(it.jobs for it in self.running.values())
             if self.running and (free_memory() < MEMORY or free < 1 and not is_longest):
                 continue
-            jobs = 2 if is_longest and is_large else 1
+            jobs = 2 if is_longest and self.crates.gains(name) else 1
+            # Nothing is left beside the program.
+            jobs = processors() if name == PROGRAM else jobs
             self.running[name] = Running(self.prover, name, jobs, 10 if is_longest else 19)
 
     def end_ended(self):
@@ -213,15 +205,15 @@ class FirstLook:
 
     def __init__(self, words):
         how = {"stdin": subprocess.DEVNULL, "stdout": sys.stderr.fileno()}
-        self.running = subprocess.Popen([f"{ROOT}/tools/preview.sh", *words], **how) if words else None
+        self.running = subprocess.Popen([f"{ROOT}/tools/first_look.py", *words], **how) if words else None
 
     def wait(self):
         if self.running:
             self.running.wait()
 
     def processes(self):
-        """How many processors are left to it: `rt try` makes two runs at once."""
-        return 2 if self.running and self.running.poll() is None else 0
+        """How many processors are left to it."""
+        return 1 if self.running and self.running.poll() is None else 0
 
     def then(self, call):
         """Calls `call` once all is shown, and goes on meanwhile."""

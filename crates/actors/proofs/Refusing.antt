@@ -7,8 +7,8 @@ use Rattle.smt_model.specs.{Setup.Setup, declared.config.Role.Role}
 use Rattle.smt_model.specs.declared.config.Config.{Config as CoreConfig}
 use Rattle.core_state.specs.{Setup.setup_of, declared.refused.CoreRefused.CoreRefused}
 use Rattle.core_state.specs.declared.refused.CoreRefused.TheVariants as refused
-use Rattle.actors.specs.declared.refused.RunRefused.{RunRefused}
-use Rattle.actors.specs.declared.refused.RunRefused.TheVariants.{Config, Memory, Roles, Thread}
+use Rattle.threaded_runs.specs.declared.refused.RunRefused.{RunRefused}
+use Rattle.threaded_runs.specs.declared.refused.RunRefused.TheVariants.{Config, Memory, Roles, Thread}
 
 -- This refusal is that one, of a call that answers an A.
 abbrev pub IsErr : (A : Type 0) {E : Type 0} → E → E → Type 0

@@ -1,13 +1,8 @@
--- What the passes' counts say of a history, where they are told right; and what a run leaves.
-use Rattle.std.specs.Prelude.{◌≡◌, ℕ, List, Some, IsTrue, length, slice_get, sum}
-use Rattle.events.specs.declared.event.Event.{Event}
-use Rattle.smt_model.specs.Account.{event_count}
+-- What a run leaves.
+use Rattle.std.specs.Prelude.{◌≡◌, IsTrue, length, sum}
 use Rattle.core_state.specs.View.{CoreView}
-use Rattle.core_lock.specs.{declared.finished.Finished.Finished, Shown.Shown}
-
--- At each place stands how many events the actor of that place has made.
-abbrev pub AreCounts : List Event → List ℕ → Type 0
-AreCounts past counts = (k n : ℕ) → slice_get counts k ≡ Some n → n ≡ event_count k past
+use Rattle.finished_core.specs.declared.finished.Finished.{Finished}
+use Rattle.finished_core.specs.{Counts.AreCounts, Shown.Shown}
 
 -- The actors of a run have asked this core, and nothing else did: it is of the same setup and
 -- limit still. The counts add up to its events, and each is its actor's where that is told.

@@ -1,5 +1,3 @@
 pub mod Counts
 pub mod Naming
-pub mod Prediction
-pub mod Roles
 pub mod Turns

@@ -1,5 +1,5 @@
--- The board that is named where no board is.
-use Rattle.std.specs.Prelude.{[]}
+-- Seats at a board: which fits an actor, and the board that is named where no board is.
+use Rattle.std.specs.Prelude.{◌≡◌, ℕ, ◌<◌, ◌≤◌, []}
 use Rattle.atomic_table.specs.Seated.{TableId}
 
 -- A table of no words.
@@ -14,3 +14,8 @@ no_board =
       offset = 0;
       slot_names = [];
     }
+
+-- An actor with so many events and a seat of this place that has posted so many: it is the actor's
+-- own seat, and the actor may post there what it has made.
+abbrev pub Fits : ℕ → ℕ → ℕ → ℕ → Type 0
+Fits actor count place posted = (actor ≡ place) × (place < 16) × (posted ≤ count)

@@ -1,36 +1,39 @@
 ghost use Rattle.std.specs.Prelude.{◌≡◌, ◌≤◌, ◌+◌, nat_lt, if◌then◌else◌};
+ghost use Rattle.actors.specs.Naming.{Fits};
 ghost use Rattle.actors.specs.Turns.{IsTurn};
 
 use crate::desk::{Desk, Naming, Placed};
-use crate::gate::{Gate, Point};
 use crate::progress::Progress;
-use crate::turns::{decode_and_rename, execute, fetch, retire};
+use crate::turns::{decode_and_rename, execute, make};
 use board::{BoardView, Reason};
-use core_lock::{LockedCore, Origin, Pass};
+use core_lock::{Ask, LockedCore, Origin, Pass};
 use smt_core::{Predict, Role};
 use std::sync::Wait;
 use std::thread;
+use threaded_runs::{Gate, Point};
 
 /// What all actors of a run share.
 #[derive(Drop)]
-pub(crate) struct Shared<L: Origin, N: Naming> {
-    pub core: LockedCore<L>,
+pub(crate) struct Shared<'a, N: Naming, G: Gate> {
+    pub core: LockedCore<N>,
     pub desk: Desk<N>,
+    /// What each asks whether it may go on.
+    pub gate: &'a G,
+    /// The role of each actor.
+    pub roles: &'a [Role],
     /// How many harts there are.
     pub harts: u8,
     /// How many turns each actor has at most.
     pub turns: u64,
 }
 
-/// Takes the turns of an actor until the run is over. Before each turn it reads the board and asks
-/// its gate; after each it posts what it has made.
-pub(crate) fn act<L: Origin, N: Naming, G: Gate, P: Predict + Copy, R: Wait>(
+/// Takes the turns of an actor until the run is over.
+pub(crate) fn act<N: Naming, G: Gate, P: Predict + Copy, R: Wait>(
     rt: &R,
-    shared: &Shared<L, N>,
-    gate: &G,
+    shared: &Shared<'_, N, G>,
     role: Role,
     predict: P,
-    pass: &mut Pass<L>,
+    pass: &mut Pass<N>,
     placed: &mut Placed<N>,
 ) {
     // Nothing is known of what lies in rows side by side, so it is asked here.
@@ -41,39 +44,52 @@ pub(crate) fn act<L: Origin, N: Naming, G: Gate, P: Predict + Copy, R: Wait>(
     let mut predict = predict;
     let mut hart = 0;
     for _turn in 0..shared.turns {
-        let seen = shared.desk.read(placed);
-        if seen.stop != 0 {
+        if !goes_on(rt, shared, role, hart, &mut predict, pass, placed) {
             return;
-        }
-        if !gate.at(pass.actor(), Point::Turn, &seen) {
-            shared.desk.stop(placed, Reason::Asked);
-            return;
-        }
-        let progress = take_turn(
-            rt,
-            &shared.core,
-            gate,
-            role,
-            hart,
-            &seen,
-            pass,
-            &mut predict,
-        );
-        shared.desk.post(placed, pass);
-        match progress {
-            Progress::Made => {}
-            Progress::Idle => thread::yield_now(),
-            Progress::Over(reason) => {
-                shared.desk.stop(placed, reason);
-                return;
-            }
         }
         hart = next_hart(hart, shared.harts);
     }
     shared.desk.stop(placed, Reason::Turns);
 }
 
-/// One turn of an actor of this role.
+/// Reads the board, asks the gate, takes a turn and posts what it has made. Tells whether the actor
+/// has a next turn.
+fn goes_on<N: Naming, G: Gate, P: Predict, R: Wait>(
+    rt: &R,
+    shared: &Shared<'_, N, G>,
+    role: Role,
+    hart: u8,
+    predict: &mut P,
+    pass: &mut Pass<N>,
+    placed: &mut Placed<N>,
+) -> bool
+    requires { Fits pass.old.actor pass.old.count placed.old.seat.place placed.old.seat.posted }
+    ensures { Fits pass.new.actor pass.new.count placed.new.seat.place placed.new.seat.posted }
+{
+    let seen = shared.desk.read(placed);
+    if seen.stop != 0 {
+        return false;
+    }
+    let mut progress = Progress::Over(Reason::Asked);
+    if shared.gate.at(pass.actor(), Point::Turn, &seen) {
+        let gate = shared.gate;
+        progress = take_turn(rt, &shared.core, gate, role, hart, &seen, pass, predict);
+        shared.desk.post(placed, pass);
+    }
+    match progress {
+        Progress::Made => true,
+        Progress::Idle => {
+            thread::yield_now();
+            true
+        }
+        Progress::Over(reason) => {
+            shared.desk.stop(placed, reason);
+            false
+        }
+    }
+}
+
+/// One turn of an actor of this role: a fetch, a decode and a rename, a retirement, or a job.
 fn take_turn<L: Origin, G: Gate, P: Predict, R: Wait>(
     rt: &R,
     core: &LockedCore<L>,
@@ -91,9 +107,9 @@ fn take_turn<L: Origin, G: Gate, P: Predict, R: Wait>(
         (record { count = pass.new.count; last = pass.new.last }) }
 {
     match role {
-        Role::Fetch => fetch(rt, core, pass, predict),
+        Role::Fetch => make(rt, core, pass, Ask::Fetch, predict),
         Role::Front => decode_and_rename(rt, core, pass, hart, predict),
-        Role::Retire => retire(rt, core, pass, hart, predict),
+        Role::Retire => make(rt, core, pass, Ask::Retire(hart), predict),
         Role::Alu | Role::Mul | Role::Mem => execute(rt, core, pass, gate, seen, predict),
     }
 }

@@ -1,14 +1,14 @@
 ghost use Rattle.std.specs.Prelude.{◌≡◌, ◌≤◌, ◌<◌, ◌↔◌, All, IsTrue};
 ghost use Rattle.board.specs.Seats.{board_of, name_of};
+ghost use Rattle.actors.specs.Naming.{Fits};
 
 use board::{Board, BoardView, Reason, Seat};
-use core_lock::Pass;
+use core_lock::{Origin, Pass};
 use std::alloc::{AllocError, Global};
 use std::marker::{Brand, PhantomData};
-use std::sync::ledger::Ledger;
 
-/// Which board the seats of a run are at.
-pub(crate) trait Naming {
+/// Which core the actors of a run ask, and at which board their seats are.
+pub(crate) trait Naming: Origin {
     ghost use Rattle.atomic_table.specs.Seated.{TableId};
 
     ghost board: { TableId };
@@ -50,10 +50,9 @@ impl<N: Naming> Placed<N> {
 
     /// Whether this is the seat of the pass's actor, and it posted no more than the pass has
     /// counted.
-    pub(crate) fn is_of<L: Ledger>(&self, pass: &Pass<L>) -> bool
+    pub(crate) fn is_of(&self, pass: &Pass<N>) -> bool
         ensures { IsTrue result
-            ↔ (pass.now.actor ≡ self.now.seat.place) × (self.now.seat.place < 16)
-            × (self.now.seat.posted ≤ pass.now.count) }
+            ↔ Fits pass.now.actor pass.now.count self.now.seat.place self.now.seat.posted }
     {
         self.seat.place() == pass.actor()
             && self.seat.place() < 16
@@ -81,7 +80,7 @@ impl<N: Naming> Desk<N> {
     }
 
     /// Posts what the pass has counted.
-    pub(crate) fn post<L: Ledger>(&self, placed: &mut Placed<N>, pass: &Pass<L>)
+    pub(crate) fn post(&self, placed: &mut Placed<N>, pass: &Pass<N>)
         requires place { pass.now.actor ≡ placed.old.seat.place }
         requires within { placed.old.seat.place < 16 }
         requires rising { placed.old.seat.posted ≤ pass.now.count }

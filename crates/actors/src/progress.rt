@@ -5,7 +5,7 @@ use board::Reason;
 use core_lock::Said;
 
 /// How far the asks of a turn came.
-#[derive(Clone, Copy, Debug, PartialEq, Eq, Drop)]
+#[derive(Clone, Copy, Drop)]
 pub enum Progress {
     /// At least one event was made.
     Made,

@@ -4,19 +4,19 @@ ghost use Rattle.std.specs.Prelude.{length, sum};
 ghost use Rattle.smt_model.specs.Setup.{is_accepted};
 ghost use Rattle.core_state.specs.Setup.{setup_of};
 ghost use Rattle.board.specs.Seats.{board_of, name_of};
-ghost use Rattle.core_lock.specs.Shown.{Shown};
-ghost use Rattle.actors.specs.Counts.{AreCounts, HasRun};
-ghost use Rattle.actors.specs.Roles.{HaveEveryRole, has_role};
+ghost use Rattle.finished_core.specs.Shown.{Shown};
+ghost use Rattle.finished_core.specs.Counts.{AreCounts};
+ghost use Rattle.actors.specs.Counts.{HasRun};
+ghost use Rattle.threaded_runs.specs.Roles.{HaveEveryRole, has_role};
 ghost use Rattle.core_state.specs.declared.refused.CoreRefused.TheVariants as core_refused;
-ghost use Rattle.actors.specs.declared.refused.RunRefused.TheVariants as refused;
+ghost use Rattle.threaded_runs.specs.declared.refused.RunRefused.TheVariants as refused;
 
 use crate::actor::Shared;
-use crate::desk::{Desk, Naming, Placed, place_all};
-use crate::gate::Gate;
-use crate::refused::RunRefused;
+use crate::desk::{Desk, Naming};
 use crate::start::start;
 use board::{Board, Seat};
-use core_lock::{Finished, LockedCore, Origin};
+use core_lock::LockedCore;
+use finished_core::Finished;
 use program_image::Image;
 use smt_core::{Config, Core, CoreRefused, Predict, Role};
 use std::alloc::Global;
@@ -24,15 +24,15 @@ use std::marker::Brand;
 use std::sync::Wait;
 use std::sync::ledger::Blank;
 use std::thread::Threads;
+use threaded_runs::{Gate, RunRefused};
 
 /// What a run is made of.
 #[derive(Drop)]
-struct Plan<'a, G: Gate, P: Predict + Copy> {
+struct Plan<'a, G: Gate> {
     image: &'a Image,
     config: &'a Config,
     turns: u64,
     gate: &'a G,
-    predict: P,
 }
 
 /// Runs an image to its end, with a thread for each actor of the configuration. Each actor has a
@@ -68,7 +68,15 @@ pub fn run<G: Gate + Sync, P: Predict + Copy + Send, R: Threads + Wait + Sync>(
 {
     // Each refusal is handed on as it is: a `?` would leave the prover to find what it becomes.
     match make_core(image, &config, limit, alloc) {
-        Ok(core) => run_made(rt, core, image, &config, turns, gate, predict, alloc),
+        Ok(core) => {
+            let plan = Plan {
+                image,
+                config: &config,
+                turns,
+                gate,
+            };
+            run_made(rt, core, &plan, predict, alloc)
+        }
         Err(refused) => Err(refused),
     }
 }
@@ -77,29 +85,23 @@ pub fn run<G: Gate + Sync, P: Predict + Copy + Send, R: Threads + Wait + Sync>(
 fn run_made<G: Gate + Sync, P: Predict + Copy + Send, R: Threads + Wait + Sync>(
     rt: &R,
     core: Core,
-    image: &Image,
-    config: &Config,
-    turns: u64,
-    gate: &G,
+    plan: &Plan<'_, G>,
     predict: P,
     alloc: Global,
 ) -> Result<Finished, RunRefused>
-    requires { core.setup ≡ setup_of image.now config.now }
+    requires { core.setup ≡ setup_of plan.now.image.now plan.now.config.now }
     ensures refused { IfErr result (λ why. (why ≡ refused.Memory) ⊎ (why ≡ refused.Thread)) }
     ensures made { IfOk result (HasRun core) }
 {
     let (board, seats) = match Board::new(alloc) {
         Ok(made) => made,
-        Err(_) => return Err(RunRefused::Memory),
+        Err(_) => {
+            let_go(core);
+            return Err(RunRefused::Memory);
+        }
     };
-    let plan = Plan {
-        image,
-        config,
-        turns,
-        gate,
-        predict,
-    };
-    run_core::<Brand, Brand, G, P, R>(rt, core, Blank::new(16), board, seats, plan, alloc)
+    let blank = Blank::new(16);
+    run_core::<Brand, G, P, R>(rt, core, blank, board, seats, plan, predict, alloc)
 }
 
 /// The core of a run, where all of its roles are there.
@@ -116,7 +118,10 @@ fn make_core(image: &Image, config: &Config, limit: u32, alloc: Global) -> Resul
     let complete = has_every_role(config);
     match new_core(image, config, limit, alloc) {
         Ok(core) if complete => Ok(core),
-        Ok(_) => Err(RunRefused::Roles),
+        Ok(core) => {
+            let_go(core);
+            Err(RunRefused::Roles)
+        }
         Err(CoreRefused::Config) => Err(RunRefused::Config),
         Err(CoreRefused::Memory) if complete => Err(RunRefused::Memory),
         Err(CoreRefused::Memory) => Err(RunRefused::Roles),
@@ -164,9 +169,8 @@ fn contain(roles: &[Role], role: Role) -> bool
     roles.contains(&role)
 }
 
-/// Gives each seat its place, and has the actors run.
+/// Puts the core behind a lock, has the actors run, and gives up the lock.
 fn run_core<
-    L: Origin + Send + Sync,
     N: Naming + Send + Sync,
     G: Gate + Sync,
     P: Predict + Copy + Send,
@@ -177,75 +181,48 @@ fn run_core<
     blank: Blank,
     board: Board,
     seats: [Seat; 17],
-    plan: Plan<'_, G, P>,
+    plan: &Plan<'_, G>,
+    predict: P,
     alloc: Global,
 ) -> Result<Finished, RunRefused>
-    requires name { blank.name ≡ L.name }
-    requires parts { (blank.parts ≡ L.parts) × (L.parts ≡ 16) }
-    requires origin { (core.setup ≡ L.setup) × (core.limit ≡ L.limit) }
+    requires name { blank.name ≡ N.name }
+    requires parts { (blank.parts ≡ N.parts) × (N.parts ≡ 16) }
+    requires origin { (core.setup ≡ N.setup) × (core.limit ≡ N.limit) }
     requires board { name_of board ≡ N.board }
     requires seats { All (λ seat. board_of seat ≡ N.board) seats }
-    requires image { core.setup ≡ setup_of plan.image.now plan.config.now }
+    requires image { core.setup ≡ setup_of plan.now.image.now plan.now.config.now }
     ensures refused { IfErr result (λ why. (why ≡ refused.Memory) ⊎ (why ≡ refused.Thread)) }
     ensures made { IfOk result (HasRun core) }
 {
-    match place_all::<N>(seats, alloc) {
-        Ok(seats) => run_placed::<L, N, G, P, R>(rt, core, blank, board, seats, plan),
-        Err(_) => Err(RunRefused::Memory),
-    }
-}
-
-/// Puts the core behind a lock, has the actors run, and gives up the lock.
-fn run_placed<
-    L: Origin + Send + Sync,
-    N: Naming + Send + Sync,
-    G: Gate + Sync,
-    P: Predict + Copy + Send,
-    R: Threads + Wait + Sync,
->(
-    rt: &R,
-    core: Core,
-    blank: Blank,
-    board: Board,
-    mut seats: Vec<Placed<N>>,
-    plan: Plan<'_, G, P>,
-) -> Result<Finished, RunRefused>
-    requires name { blank.name ≡ L.name }
-    requires parts { (blank.parts ≡ L.parts) × (L.parts ≡ 16) }
-    requires origin { (core.setup ≡ L.setup) × (core.limit ≡ L.limit) }
-    requires board { name_of board ≡ N.board }
-    requires image { core.setup ≡ setup_of plan.image.now plan.config.now }
-    ensures refused { IfErr result (λ why. why ≡ refused.Thread) }
-    ensures made { IfOk result (HasRun core) }
-{
-    let (core, mut passes) = LockedCore::<L>::new(core, blank);
+    let (core, mut passes) = LockedCore::<N>::new(core, blank);
     let shared = Shared {
         core,
-        desk: Desk::<N>::new(board),
+        desk: Desk::new(board),
+        gate: plan.gate,
+        roles: plan.config.roles.as_slice(),
         harts: plan.config.harts,
         turns: plan.turns,
     };
-    let all_started = start(
-        rt,
-        &shared,
-        plan.gate,
-        plan.config.roles.as_slice(),
-        plan.predict,
-        &mut passes,
-        seats.as_mut_slice(),
-    );
+    let started = start(rt, &shared, predict, &mut passes, seats, alloc);
     let Shared { core, .. } = shared;
-    only_if(all_started, core.finish(passes, plan.image, plan.config))
+    only_if(started, core.finish(passes, plan.image, plan.config))
 }
 
 /// What is left of a run, where all of its threads were started.
-fn only_if(all_started: bool, finished: Finished) -> Result<Finished, RunRefused>
-    ensures refused { IfErr result (λ why. why ≡ refused.Thread) }
+fn only_if(started: Result<(), RunRefused>, finished: Finished) -> Result<Finished, RunRefused>
+    ensures refused { IfErr result (λ why. started ≡ Err why) }
     ensures made { IfOk result (λ left. left ≡ finished) }
 {
-    if all_started {
-        Ok(finished)
-    } else {
-        Err(RunRefused::Thread)
+    match started {
+        Ok(()) => Ok(finished),
+        Err(refused) => {
+            let Finished { core, .. } = finished;
+            let_go(core);
+            Err(refused)
+        }
     }
 }
+
+/// Drops the core of a run that is refused. Each function that drops one is proved over all that a
+/// core is made of, so there is only this one.
+fn let_go(_core: Core) {}

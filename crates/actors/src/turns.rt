@@ -3,28 +3,12 @@ ghost use Rattle.core_lock.specs.Asks.{asked_of, is_issue, is_reply};
 ghost use Rattle.core_lock.specs.declared.ask.Ask.TheVariants as ask;
 ghost use Rattle.actors.specs.Turns.{IsAnswered, Counts, Asks, AsksBoth, Issues, IsUnitTurn, job_in};
 
-use crate::gate::{Gate, Point};
 use crate::progress::Progress;
 use board::{BoardView, Reason};
 use core_lock::{Ask, LockedCore, Origin, Pass, Said};
 use smt_core::{Job, Predict, work};
 use std::sync::Wait;
-
-/// A fetcher's turn: one fetch.
-pub(crate) fn fetch<L: Origin, P: Predict, R: Wait>(
-    rt: &R,
-    core: &LockedCore<L>,
-    pass: &mut Pass<L>,
-    predict: &mut P,
-) -> Progress
-    ensures actor { pass.new.actor ≡ pass.old.actor }
-    ensures rises { pass.old.count ≤ pass.new.count }
-    ensures asked { Asks L.setup L.limit pass.old.actor ask.Fetch
-        (record { count = pass.old.count; last = pass.old.last }) result
-        (record { count = pass.new.count; last = pass.new.last }) }
-{
-    make(rt, core, pass, Ask::Fetch, predict)
-}
+use threaded_runs::{Gate, Point};
 
 /// A front end's turn: a decode and a rename for one hart.
 pub(crate) fn decode_and_rename<L: Origin, P: Predict, R: Wait>(
@@ -43,23 +27,6 @@ pub(crate) fn decode_and_rename<L: Origin, P: Predict, R: Wait>(
     let decoded = make(rt, core, pass, Ask::Decode(hart), predict);
     let renamed = make(rt, core, pass, Ask::Rename(hart), predict);
     decoded.then(renamed)
-}
-
-/// A retirer's turn: a retirement of one hart.
-pub(crate) fn retire<L: Origin, P: Predict, R: Wait>(
-    rt: &R,
-    core: &LockedCore<L>,
-    pass: &mut Pass<L>,
-    hart: u8,
-    predict: &mut P,
-) -> Progress
-    ensures actor { pass.new.actor ≡ pass.old.actor }
-    ensures rises { pass.old.count ≤ pass.new.count }
-    ensures asked { Asks L.setup L.limit pass.old.actor (ask.Retire hart)
-        (record { count = pass.old.count; last = pass.old.last }) result
-        (record { count = pass.new.count; last = pass.new.last }) }
-{
-    make(rt, core, pass, Ask::Retire(hart), predict)
 }
 
 /// A unit's turn: an issue and, where a job came, its work and its completion. The gate is asked
@@ -121,7 +88,7 @@ fn job_of(said: Said) -> Option<Job>
 }
 
 /// Makes an ask to which no job comes.
-fn make<L: Origin, P: Predict, R: Wait>(
+pub(crate) fn make<L: Origin, P: Predict, R: Wait>(
     rt: &R,
     core: &LockedCore<L>,
     pass: &mut Pass<L>,

@@ -1,5 +1,5 @@
 /// The words of a board, each as it stood when it was loaded.
-#[derive(Clone, Copy, Debug, PartialEq, Eq, Drop)]
+#[derive(Clone, Copy, PartialEq, Eq, Drop)]
 pub struct BoardView {
     /// What each actor has posted last; 0 for an actor that has posted nothing.
     pub counts: [u64; 16],

@@ -1,4 +1,3 @@
-pub mod Counting
 pub mod Laid
 pub mod Replies
 pub mod Same

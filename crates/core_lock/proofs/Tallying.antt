@@ -1,33 +1,14 @@
 -- What the history holds of each actor, event by event.
-use Rattle.std.proofs.Common.{◌≡◌, ◌∙◌, ℕ, ◌<◌, ◌≤◌, ◌==◌, Bool, true, false, List, [], ◌∷◌, length, get_or}
-use Rattle.std.proofs.Common.{reverse, Option, ap, sym, subst, arith}
+use Rattle.std.proofs.Common.{◌≡◌, ◌∙◌, ℕ, ◌<◌, List, length, get_or, reverse, Option, ap, sym, subst, arith}
 use Rattle.std.proofs.lemmas.Option.{slice_get-get_or}
-use Rattle.events.specs.{declared.event.Event.Event, Event.actor_of}
+use Rattle.events.specs.declared.event.Event.{Event}
 use Rattle.smt_model.specs.Account.{event_count, last_event_of}
-use Rattle.core_lock.specs.Tallies.{AreCounts, AreCountsBelow}
 use Rattle.core_lock.specs.{Passes.IsTold, Tallies.AreTallies, Tallies.AreBelow, declared.tally.Tally.Tally}
-use Rattle.core_lock.proofs.Counting.{one, count_cons}
-
--- No actor has made more events than there are.
-one_at_most : (b : Bool) → one b ≤ 1
-one_at_most true = omega arith
-one_at_most false = omega arith
-
-made_within : (k : ℕ) (past : List Event) → event_count k past ≤ length past
-made_within k [] = omega arith
-made_within k (e ∷ past) =
-    let here = count_cons (λ x. actor_of x == k) e past in
-    let rest = made_within k past in
-    let small = one_at_most (actor_of e == k) in
-    omega (arith, here, rest, small)
+use Rattle.finished_core.proofs.Counting.{made_within}
 
 pub few : (past : List Event) (tallies : List Tally) (n : ℕ) → length past < n → AreTallies past tallies
     → AreBelow n tallies
 few past tallies n short are k t at = omega (arith, (are k t at).counts, made_within k past, short)
-
-pub few_counts : (past : List Event) (counts : List ℕ) (most : ℕ) → length past < most → AreCounts past counts
-    → AreCountsBelow most counts
-few_counts past counts most short are k n at = omega (arith, are k n at, made_within k past, short)
 
 -- A pass lies at its actor's place and has counted what stands there: it was told all, and no other was.
 pub lies_told : (past : List Event) (k a c : ℕ) (l : Option Event) (t : Tally) → a ≡ k → IsTold past k t.count t.last

@@ -1,6 +1,6 @@
 -- What a pass counts of its actor, and when that is all that the history holds of it.
-use Rattle.std.specs.Prelude.{◌≡◌, ℕ, ◌+◌, nat_le, List, Option, Some, None}
-use Rattle.events.specs.{declared.event.Event.Event, Event.actor_of}
+use Rattle.std.specs.Prelude.{◌≡◌, ℕ, ◌+◌, List, Option, Some, None}
+use Rattle.events.specs.declared.event.Event.{Event}
 use Rattle.smt_model.specs.{Basics.below, Basics.how_many, Account.event_count}
 use Rattle.smt_model.specs.{Account.last_event_of, Memory.is_going}
 use Rattle.core_state.specs.View.{CoreView}
@@ -22,10 +22,6 @@ pub record IsTold (past : List Event) (actor count : ℕ) (last : Option Event) 
 -- A pass that is dealt is this actor's, and was told all that the history holds of it.
 abbrev pub IsDealt : List Event → ℕ → ℕ → ℕ → Option Event → Type 0
 IsDealt past k actor count last = (actor ≡ k) × IsTold past k count last
-
--- How many events are by this actor or one of a greater number.
-abbrev pub made_from : ℕ → List Event → ℕ
-made_from k past = how_many (λ e. nat_le k (actor_of e)) past
 
 -- How many harts are going.
 abbrev pub going_in : CoreView → ℕ

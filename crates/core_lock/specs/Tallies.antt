@@ -1,7 +1,6 @@
 -- What a history holds of each actor, at the actor's place in a row.
 use Rattle.std.specs.Prelude.{◌≡◌, ℕ, ◌<◌, List, Some, slice_get}
 use Rattle.events.specs.declared.event.Event.{Event}
-use Rattle.smt_model.specs.Account.{event_count}
 use Rattle.core_lock.specs.{Passes.IsTold, declared.tally.Tally.Tally}
 
 -- At each place k stand the count and the last event of actor k.
@@ -12,10 +11,3 @@ AreTallies past tallies =
 -- Each count is below n.
 abbrev pub AreBelow : ℕ → List Tally → Type 0
 AreBelow n tallies = (k : ℕ) (t : Tally) → slice_get tallies k ≡ Some t → t.count < n
-
--- At each place k stands the number of actor k's events.
-abbrev pub AreCounts : List Event → List ℕ → Type 0
-AreCounts past counts = (k n : ℕ) → slice_get counts k ≡ Some n → n ≡ event_count k past
-
-abbrev pub AreCountsBelow : ℕ → List ℕ → Type 0
-AreCountsBelow most counts = (k n : ℕ) → slice_get counts k ≡ Some n → n < most

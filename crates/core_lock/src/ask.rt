@@ -21,7 +21,7 @@ pub enum Ask {
 }
 
 /// An ask without what it hands over.
-#[derive(Clone, Copy, Debug, PartialEq, Eq, Drop)]
+#[derive(Clone, Copy, PartialEq, Eq, Drop)]
 pub enum Asked {
     Fetch,
     Decode(u8),

@@ -5,8 +5,9 @@ ghost use Rattle.core_state.specs.Setup.{setup_of};
 ghost use Rattle.smt_model.specs.Account.{event_count, last_event_of};
 ghost use Rattle.core_lock.specs.Asks.{Replied, IssueReplied, CompleteReplied, IsPredictedBy};
 ghost use Rattle.core_lock.specs.Asks.{plain_said, asked_of, event_in, grown_by, is_reply};
-ghost use Rattle.core_lock.specs.Passes.{IsDealt, IsTold, more, later, made_from, going_in, places};
-ghost use Rattle.core_lock.specs.Shown.{Shown};
+ghost use Rattle.core_lock.specs.Passes.{IsDealt, IsTold, more, later, going_in, places};
+ghost use Rattle.finished_core.specs.Counts.{made_from};
+ghost use Rattle.finished_core.specs.Shown.{Shown};
 ghost use Rattle.core_lock.specs.Tallies.{AreTallies};
 
 mod counted;
@@ -14,15 +15,14 @@ mod passes;
 mod replies;
 
 use crate::ask::{Ask, Asked, Said};
-use crate::finished::Finished;
 use crate::origin::Origin;
 use crate::reader::CoreReader;
 use crate::tally::{Tally, tallies_of, tally_at, tally_of};
 use events::Event;
 use exec_units::Done;
+use finished_core::{Finished, show};
 use program_image::Image;
 use smt_core::{Answer, CompleteAnswer, Config, Core, IssueAnswer, Predict};
-use smt_laws::laws::refines_the_plain_machine;
 use std::marker::PhantomData;
 use std::sync::ledger::{Blank, Book, Ledger, Share};
 
@@ -172,15 +172,6 @@ impl<L: Origin> Held<L> {
             own,
         }
     }
-}
-
-/// The headline, of this core. It does nothing: it is there for its contract.
-pub(crate) fn show(core: &Core)
-    ensures shown { Shown core.now }
-    ensures few { length core.now.past ≤ 16777216 }
-{
-    refines_the_plain_machine();
-    let _events = core.history().len();
 }
 
 /// What the history holds of each actor, told in one pass over it.

@@ -9,7 +9,7 @@ ghost use Rattle.core_lock.specs.Tallies.{AreTallies, AreBelow};
 use events::Event;
 
 /// What a history holds of one actor: how many events it made, and the last of them.
-#[derive(Clone, Copy, Debug, PartialEq, Eq, Drop)]
+#[derive(Clone, Copy, Drop)]
 pub struct Tally {
     pub count: u64,
     pub last: Option<Event>,

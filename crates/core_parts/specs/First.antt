@@ -3,7 +3,7 @@ use Rattle.std.specs.Prelude.{◌≡◌, ℕ, ◌+◌, ◌-◌, ◌<◌, ◌&&�
 use Rattle.std.specs.Prelude.{Option, Some}
 use Rattle.numbers.specs.Layout.{first_extra}
 use Rattle.program_image.specs.Image.{ProgramImage}
-use Rattle.rename_map.specs.Maps.{lookup, committed_of}
+use Rattle.register_renaming.specs.Maps.{lookup, committed_of}
 use Rattle.smt_model.specs.{declared.config.Status.TheVariants.Going, Picture.picture}
 use Rattle.smt_model.specs.{Registers.first_register, Setup.Setup, Setup.first_number}
 use Rattle.core_parts.specs.{Agree.PartsAgree, declared.hart.HartState.HartState}

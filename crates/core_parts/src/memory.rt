@@ -2,16 +2,16 @@
 
 ghost use Rattle.std.specs.Prelude.{◌≡◌, ℕ, ◌<◌, ◌==◌, if◌then◌else◌, IfSome};
 ghost use Rattle.numbers.specs.Sizes.{most_harts};
-ghost use Rattle.shared_memory.specs.Contents.{byte_of, reserved_of};
+ghost use Rattle.memory_system.specs.Contents.{byte_of, reserved_of};
 ghost use Rattle.smt_model.specs.Bytes.{byte_after};
 ghost use Rattle.smt_model.specs.Kinds.{kind_of};
 ghost use Rattle.smt_model.specs.Reservations.{own_reservation, reservation_after_write};
 ghost use Rattle.core_parts.specs.Accesses.{address_at, CanWrite};
 
 use events::Written;
+use memory_system::Memory;
 use retire_squash::Stage;
 use rv_instr::{Kind, Op};
-use shared_memory::Memory;
 
 /// What an instruction that goes on does with memory as it retires: LR reserves the word at `addr`,
 /// SC ends its hart's reservation, and then what is to be written is written.

@@ -1,5 +1,5 @@
 /// Why there is no core.
-#[derive(Clone, Copy, Debug, PartialEq, Eq, Drop)]
+#[derive(Clone, Copy, PartialEq, Eq, Drop)]
 pub enum CoreRefused {
     /// The configuration or the limit isn't one of a core.
     Config,

@@ -32,7 +32,7 @@ use decoded_code::Code;
 use events::{Effect, Event, History, Outcome, Record};
 use exec_units::{Done, Job};
 use issue_queue::Entry;
-use memory_effects::effect;
+use memory_system::effect;
 use numbers::Seq;
 use program_image::Image;
 use retire_squash::Active;

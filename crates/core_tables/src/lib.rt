@@ -2,13 +2,12 @@
 #![tactic(auto)]
 
 use core_parts::{HartState, OpenJob, Parts, Slot, count_jobs, registers_in, value_of};
-use free_list::FreeList;
 use issue_queue::Entry;
+use memory_system::Memory;
 use numbers::Phys;
 use numbers::sizes::MOST_REGISTERS;
-use rename_map::HartMaps;
+use register_renaming::{FreeList, HartMaps};
 use retire_squash::{Active, Stage};
-use shared_memory::Memory;
 use smt_model::Status;
 use std::io;
 use std::io::Write;

@@ -7,12 +7,13 @@ mod meeting;
 
 use crate::asks_of_a_core::{End, FIRST_END, end_of, first_image, one_of_each};
 use crate::counting::{Miscount, counts, first_miscount};
-use actors::{Gate, Open, RunRefused, StaticPredictor, run};
-use core_lock::Finished;
+use actors::run;
+use finished_core::Finished;
 use smt_core::{Config, Status};
 use std::alloc::Global;
 use std::sync::Wait;
 use std::thread::Threads;
+use threaded_runs::{Gate, Open, RunRefused, StaticPredictor};
 
 /// More turns than any run here takes.
 const MANY_TURNS: u64 = 1_000_000_000;

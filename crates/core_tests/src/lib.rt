@@ -18,6 +18,8 @@ mod following;
 #[cfg(test)]
 mod locking;
 #[cfg(test)]
+mod open_runs;
+#[cfg(test)]
 mod plain_runs;
 #[cfg(test)]
 mod posting;

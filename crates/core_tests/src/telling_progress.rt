@@ -1,14 +1,14 @@
 //! The gate that shows on a terminal how far a run is, with a clock and a terminal of the test's
 //! own.
 
-use actors::{Gate, Point};
 use board::BoardView;
-use simulator::Progress;
+use run_progress::Progress;
 use std::alloc::{AllocError, Global};
 use std::io;
 use std::io::Write;
 use std::sync::atomic::{AtomicU64, AtomicUsize, Ordering};
 use std::time::{Clock, Duration};
+use threaded_runs::{Gate, Point};
 
 /// A clock that goes on by as many milliseconds with each reading, from 0 on.
 #[derive(Drop)]

@@ -9,7 +9,7 @@ mod threading;
 mod tracing;
 
 use crate::files::file_of;
-use actors::Open;
+use crate::open_runs::OpenRuns;
 use event_text::{Over, Sink};
 use sim_inputs::Line;
 use simulator::{Inputs, perform};
@@ -54,7 +54,7 @@ fn kept<P: Predict + Copy + Send, S: Sink, W: Write, R: Threads + Wait + Sync>(
 {
     let mut err = Vec::new(alloc);
     let status = perform(
-        rt, line, inputs, &Open, predict, trace, out, &mut err, alloc,
+        rt, &OpenRuns, line, inputs, predict, trace, out, &mut err, alloc,
     );
     Told { status, err }
 }

@@ -11,14 +11,14 @@ use rv_instr::Op;
 use std::alloc::{AllocError, Global};
 
 /// A word of the code, and what it is.
-#[derive(Clone, Copy, Debug, Drop)]
+#[derive(Clone, Copy, Drop)]
 pub struct Fetched {
     pub word: u32,
     pub op: Op,
 }
 
 /// The words of the code from the address `start` on, four bytes each.
-#[derive(Debug, Drop)]
+#[derive(Drop)]
 pub struct Code {
     pub start: u32,
     pub words: Vec<Fetched>,

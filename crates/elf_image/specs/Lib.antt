@@ -2,4 +2,3 @@ pub mod Layout
 pub mod Refusal
 pub mod Checks
 pub mod Loaded
-pub mod Written

@@ -14,13 +14,13 @@ const LOADABLE: u32 = 1;
 
 /// The fields of a program header, without p_paddr and p_align, which nothing here reads.
 #[derive(Clone, Copy, Default)]
-pub(crate) struct ProgramHeader {
-    pub(crate) kind: u32,
-    pub(crate) offset: u32,
-    pub(crate) address: u32,
-    pub(crate) file_size: u32,
-    pub(crate) memory_size: u32,
-    pub(crate) flags: u32,
+pub struct ProgramHeader {
+    pub kind: u32,
+    pub offset: u32,
+    pub address: u32,
+    pub file_size: u32,
+    pub memory_size: u32,
+    pub flags: u32,
 }
 
 /// The program header at a place.

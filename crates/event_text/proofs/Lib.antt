@@ -1,7 +1,9 @@
 pub mod Fields
 pub mod Joining
+pub mod Lengths
 pub mod LineEnds
 pub mod LineOnly
+pub mod NotingLaws
 pub mod QuickLaws
 pub mod RangeLaws
 pub mod ReadBack

@@ -1,4 +1,5 @@
 pub mod Line
+pub mod Noting
 pub mod Quick
 pub mod Reading
 pub mod Refusals

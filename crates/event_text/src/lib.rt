@@ -1,11 +1,13 @@
 //! The text of events: the line of an event or of a record, and a trace, which is a line for each
 //! event.
 //!
-//! Read in this order: `print` and `read` (a line), `quick` (a line as it mostly is, read in fewer
-//! steps), `trace` and `sink` (a whole text), `laws` (printing and reading are each other's inverse).
+//! Read in this order: `print` (a line), `noting` and `read` (its fields, and a line), `quick` (a line
+//! as it mostly is, read in fewer steps), `trace` and `sink` (a whole text), `laws` (printing and
+//! reading are each other's inverse).
 #![tactic(auto)]
 
 pub mod laws;
+mod noting;
 pub mod print;
 mod quick;
 pub mod read;

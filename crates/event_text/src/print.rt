@@ -18,22 +18,6 @@ use text_fields::{
 /// Room for any line that is printed here, without its newline.
 pub type Line = ArrayString<64>;
 
-fn push_small_field<const N: usize>(line: &mut ArrayString<N>, value: u8)
-    requires { array_string_len line.old + 4 ≤ N }
-    ensures spelled { line.new.bytes ≡ line.old.bytes ++ after_space (decimal value) }
-    ensures length { array_string_len line.new ≤ array_string_len line.old + 4 }
-{
-    push_spaced_number(line, value);
-}
-
-fn push_number_field<const N: usize>(line: &mut ArrayString<N>, value: u32)
-    requires { array_string_len line.old + 11 ≤ N }
-    ensures spelled { line.new.bytes ≡ line.old.bytes ++ after_space (decimal value) }
-    ensures length { array_string_len line.new ≤ array_string_len line.old + 11 }
-{
-    push_spaced_decimal(line, value);
-}
-
 fn push_optional_number_field<const N: usize>(line: &mut ArrayString<N>, value: Option<Phys>)
     requires { array_string_len line.old + 11 ≤ N }
     ensures spelled { line.new.bytes ≡ line.old.bytes ++ after_space (optional decimal value) }
@@ -41,16 +25,8 @@ fn push_optional_number_field<const N: usize>(line: &mut ArrayString<N>, value: 
 {
     match value {
         None => push_spaced_dash(line),
-        Some(number) => push_number_field(line, u32::from(number)),
+        Some(number) => push_spaced_decimal(line, u32::from(number)),
     }
-}
-
-fn push_word_field<const N: usize>(line: &mut ArrayString<N>, value: u32)
-    requires { array_string_len line.old + 9 ≤ N }
-    ensures spelled { line.new.bytes ≡ line.old.bytes ++ after_space (hex 8 value) }
-    ensures length { array_string_len line.new ≤ array_string_len line.old + 9 }
-{
-    push_word_after(line, b' ', value);
 }
 
 fn push_optional_word_field<const N: usize>(line: &mut ArrayString<N>, value: Option<u32>)
@@ -60,7 +36,7 @@ fn push_optional_word_field<const N: usize>(line: &mut ArrayString<N>, value: Op
 {
     match value {
         None => push_spaced_dash(line),
-        Some(number) => push_word_field(line, number),
+        Some(number) => push_word_after(line, b' ', number),
     }
 }
 
@@ -130,7 +106,7 @@ fn push_write_fields<const N: usize>(line: &mut ArrayString<N>, write: Option<Wr
             push_spaced_dash(line);
         }
         Some(written) => {
-            push_word_field(line, written.addr);
+            push_word_after(line, b' ', written.addr);
             push_ascii(line, b' ');
             push_hex(line, written.datum, 2 * usize::from(written.n));
         }
@@ -168,8 +144,8 @@ fn push_step<const N: usize>(line: &mut ArrayString<N>, letter: u8, actor: u8, s
     ensures length { array_string_len line.new ≤ array_string_len line.old + 16 }
 {
     push_ascii(line, letter);
-    push_small_field(line, actor);
-    push_number_field(line, seq);
+    push_spaced_number(line, actor);
+    push_spaced_decimal(line, seq);
 }
 
 fn push_fetch<const N: usize>(
@@ -187,12 +163,12 @@ fn push_fetch<const N: usize>(
     ensures length { array_string_len line.new ≤ array_string_len line.old + 64 }
 {
     push_ascii(line, b'F');
-    push_small_field(line, actor);
-    push_small_field(line, hart);
-    push_number_field(line, seq);
-    push_word_field(line, pc);
+    push_spaced_number(line, actor);
+    push_spaced_number(line, hart);
+    push_spaced_decimal(line, seq);
+    push_word_after(line, b' ', pc);
     push_optional_word_field(line, word);
-    push_word_field(line, predicted);
+    push_word_after(line, b' ', predicted);
 }
 
 fn push_rename<const N: usize>(line: &mut ArrayString<N>, actor: u8, seq: Seq, phys: Option<Phys>)
@@ -268,7 +244,7 @@ pub fn push_record<const N: usize>(line: &mut ArrayString<N>, record: &Record)
     ensures length { array_string_len line.new ≤ array_string_len line.old + 64 }
 {
     push_small_number(line, record.hart);
-    push_word_field(line, record.pc);
+    push_word_after(line, b' ', record.pc);
     push_optional_word_field(line, record.word);
     push_effect(line, &record.effect);
 }

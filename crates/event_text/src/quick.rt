@@ -9,17 +9,9 @@ ghost use Rattle.event_text.specs.Line.{next_text, address_text, datum_text};
 ghost use Rattle.event_text.specs.Quick.{HasFirst, IsRest, IsOutcomeRest, IsEffectRest, IsSized};
 ghost use Rattle.text_fields.specs.Spelling.{hex};
 
+use crate::read::{LAST_ACTOR, LAST_HART, LAST_PHYS, LAST_SEQ};
 use events::{Effect, EffectFields, Event, Next, Outcome, OutcomeFields, Phys, Written};
 use text_fields::{front_dash, front_decimal, front_hex, front_optional_hex, front_small};
-
-/// The greatest number of an actor, of a hart, of an instruction and of a register in a trace.
-const LAST_ACTOR: u32 = 15;
-
-const LAST_HART: u32 = 7;
-
-const LAST_SEQ: u32 = 16_777_215;
-
-const LAST_PHYS: u32 = 503;
 
 /// The event of the first line, and the text behind that line.
 #[inline(always)]

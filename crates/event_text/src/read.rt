@@ -1,35 +1,43 @@
 //! Reading: the event of a line.
 
-ghost use Rattle.std.specs.Prelude.{◌≡◌, ◌<◌, ◌==◌, IfOk, IfErr, IfSome, Err, if◌then◌else◌};
-ghost use Rattle.text_fields.specs.Splitting.{field, field_count};
-ghost use Rattle.text_fields.specs.Taking.{IsTaken};
+ghost use Rattle.std.specs.Prelude.{◌≡◌, ◌==◌, IfOk, IfSome, Err, if◌then◌else◌};
+ghost use Rattle.text_fields.specs.Splitting.{field_count};
 ghost use Rattle.events.specs.Kind.{fields_after};
 ghost use Rattle.event_text.specs.declared.read.Rule.TheVariants.{FieldCount};
 ghost use Rattle.text_fields.specs.Reading.{decimal_field, hex_field, optional_field};
 ghost use Rattle.events.specs.Width.{HasWidth, IsWidth};
+ghost use Rattle.event_text.specs.Noting.{Notes};
 ghost use Rattle.event_text.specs.Reading.{rule_number, next_field, pc_field, ended_of, stopped_of};
-ghost use Rattle.event_text.specs.Reading.{sized_field, written_of, outcome_of, effect_of, fetch_of};
-ghost use Rattle.event_text.specs.Reading.{decode_of, rename_of, issue_of, complete_of, drop_of};
+ghost use Rattle.event_text.specs.Reading.{sized_field, written_of, write_fields, outcome_of, effect_of};
+ghost use Rattle.event_text.specs.Reading.{fetch_of, decode_of, rename_of, issue_of, complete_of, drop_of};
 ghost use Rattle.event_text.specs.Reading.{retire_of, event_fields, kind_named, event_of};
 ghost use Rattle.event_text.specs.Reading.{of_fields};
 
-use events::{
-    Effect, EffectFields, Event, EventKind, Next, Outcome, OutcomeFields, Phys, Seq, Written,
+use crate::noting::{
+    first_next, first_number, first_optional_word, first_word, first_write, noted, number,
 };
+use events::{Effect, EffectFields, Event, EventKind, Next, Outcome, OutcomeFields, Phys, Written};
+use std::fmt;
 use text_fields::{
     FieldError, field_count, read_decimal, read_hex, read_optional_decimal, read_optional_hex,
-    split_field, take_decimal, take_hex, take_optional_hex,
+    split_field,
 };
 use thiserror::Error;
+
+/// The greatest number of an actor, of a hart, of an instruction and of a register in a trace.
+pub(crate) const LAST_ACTOR: u32 = 15;
+
+pub(crate) const LAST_HART: u32 = 7;
+
+pub(crate) const LAST_SEQ: u32 = 16_777_215;
+
+pub(crate) const LAST_PHYS: u32 = 503;
 
 /// The first rule that a line of a trace breaks.
 #[derive(Clone, Copy, Debug, PartialEq, Eq, Drop, Error)]
 pub enum Rule {
-    #[error("unknown letter")]
     UnknownLetter,
-    #[error("wrong number of fields")]
     FieldCount,
-    #[error("a field is {0}")]
     Field(FieldError),
 }
 
@@ -48,41 +56,21 @@ impl Rule {
     }
 }
 
-// The first field as an actor, and the text of the others.
-fn take_actor(text: &[u8]) -> Result<(u8, &[u8]), FieldError>
-    ensures taken { IfOk result (λ p. IsTaken (decimal_field 15) text.now p.0 p.1.now) }
-    ensures refused { IfErr result (λ error. decimal_field 15 (field 32 text.now) ≡ Err error) }
-{
-    let (actor, others) = take_decimal(text, 15)?;
-    Ok((actor as u8, others))
-}
-
-fn take_hart(text: &[u8]) -> Result<(u8, &[u8]), FieldError>
-    ensures taken { IfOk result (λ p. IsTaken (decimal_field 7) text.now p.0 p.1.now) }
-    ensures refused { IfErr result (λ error. decimal_field 7 (field 32 text.now) ≡ Err error) }
-{
-    let (hart, others) = take_decimal(text, 7)?;
-    Ok((hart as u8, others))
-}
-
-fn take_seq(text: &[u8]) -> Result<(Seq, &[u8]), FieldError>
-    ensures taken { IfOk result (λ p. IsTaken (decimal_field 16777215) text.now p.0 p.1.now) }
-    ensures refused { IfErr result
-        (λ error. decimal_field 16777215 (field 32 text.now) ≡ Err error) }
-{
-    take_decimal(text, 16_777_215)
-}
-
-fn read_seq(text: &[u8]) -> Result<Seq, FieldError>
-    ensures { result ≡ decimal_field 16777215 text.now }
-{
-    read_decimal(text, 16_777_215)
+impl fmt::Display for Rule {
+    fn fmt<W: fmt::Write>(&self, f: &mut fmt::Formatter<W>) -> fmt::Result {
+        f.write_str(match self {
+            Rule::UnknownLetter => "unknown letter",
+            Rule::FieldCount => "wrong number of fields",
+            Rule::Field(FieldError::Misspelled) => "a field is spelled otherwise",
+            Rule::Field(FieldError::OutOfRange) => "a field is out of range",
+        })
+    }
 }
 
 fn read_phys(text: &[u8]) -> Result<Option<Phys>, FieldError>
     ensures { result ≡ optional_field (decimal_field 503) text.now }
 {
-    Ok(match read_optional_decimal(text, 503)? {
+    Ok(match read_optional_decimal(text, LAST_PHYS)? {
         None => None,
         Some(number) => Some(number as Phys),
     })
@@ -97,69 +85,64 @@ fn read_optional_byte(text: &[u8]) -> Result<Option<u8>, FieldError>
     })
 }
 
-#[tactic(auto, unfolding(crate::specs::Reading::decode_of))]
-fn read_decode(fields: &[u8]) -> Result<Event, FieldError>
-    ensures { result ≡ decode_of fields.now }
+fn read_decode(fields: &[u8], refused: &mut Option<FieldError>) -> Event
+    ensures { Notes (decode_of fields.now) result refused.old refused.new }
 {
-    let (actor, seq) = take_actor(fields)?;
-    Ok(Event::Decode {
-        actor,
-        seq: read_seq(seq)?,
-    })
+    let (actor, seq) = first_number(fields, LAST_ACTOR, refused);
+    Event::Decode {
+        actor: actor as u8,
+        seq: number(seq, LAST_SEQ, refused),
+    }
 }
 
-#[tactic(auto, unfolding(crate::specs::Reading::rename_of))]
-fn read_rename(fields: &[u8]) -> Result<Event, FieldError>
-    ensures { result ≡ rename_of fields.now }
+fn read_rename(fields: &[u8], refused: &mut Option<FieldError>) -> Event
+    ensures { Notes (rename_of fields.now) result refused.old refused.new }
 {
-    let (actor, fields) = take_actor(fields)?;
-    let (seq, phys) = take_seq(fields)?;
-    Ok(Event::Rename {
-        actor,
+    let (actor, fields) = first_number(fields, LAST_ACTOR, refused);
+    let (seq, phys) = first_number(fields, LAST_SEQ, refused);
+    Event::Rename {
+        actor: actor as u8,
         seq,
-        phys: read_phys(phys)?,
-    })
+        phys: noted(read_phys(phys), None, refused),
+    }
 }
 
-#[tactic(auto, unfolding(crate::specs::Reading::issue_of))]
-fn read_issue(fields: &[u8]) -> Result<Event, FieldError>
-    ensures { result ≡ issue_of fields.now }
+fn read_issue(fields: &[u8], refused: &mut Option<FieldError>) -> Event
+    ensures { Notes (issue_of fields.now) result refused.old refused.new }
 {
-    let (actor, seq) = take_actor(fields)?;
-    Ok(Event::Issue {
-        actor,
-        seq: read_seq(seq)?,
-    })
+    let (actor, seq) = first_number(fields, LAST_ACTOR, refused);
+    Event::Issue {
+        actor: actor as u8,
+        seq: number(seq, LAST_SEQ, refused),
+    }
 }
 
-#[tactic(auto, unfolding(crate::specs::Reading::drop_of))]
-fn read_drop(fields: &[u8]) -> Result<Event, FieldError>
-    ensures { result ≡ drop_of fields.now }
+fn read_drop(fields: &[u8], refused: &mut Option<FieldError>) -> Event
+    ensures { Notes (drop_of fields.now) result refused.old refused.new }
 {
-    let (actor, seq) = take_actor(fields)?;
-    Ok(Event::Drop {
-        actor,
-        seq: read_seq(seq)?,
-    })
+    let (actor, seq) = first_number(fields, LAST_ACTOR, refused);
+    Event::Drop {
+        actor: actor as u8,
+        seq: number(seq, LAST_SEQ, refused),
+    }
 }
 
-#[tactic(auto, unfolding(crate::specs::Reading::fetch_of))]
-fn read_fetch(fields: &[u8]) -> Result<Event, FieldError>
-    ensures { result ≡ fetch_of fields.now }
+fn read_fetch(fields: &[u8], refused: &mut Option<FieldError>) -> Event
+    ensures { Notes (fetch_of fields.now) result refused.old refused.new }
 {
-    let (actor, fields) = take_actor(fields)?;
-    let (hart, fields) = take_hart(fields)?;
-    let (seq, fields) = take_seq(fields)?;
-    let (pc, fields) = take_hex(fields, 8)?;
-    let (word, predicted) = take_optional_hex(fields, 8)?;
-    Ok(Event::Fetch {
-        actor,
-        hart,
+    let (actor, fields) = first_number(fields, LAST_ACTOR, refused);
+    let (hart, fields) = first_number(fields, LAST_HART, refused);
+    let (seq, fields) = first_number(fields, LAST_SEQ, refused);
+    let (pc, fields) = first_word(fields, refused);
+    let (word, predicted) = first_optional_word(fields, refused);
+    Event::Fetch {
+        actor: actor as u8,
+        hart: hart as u8,
         seq,
         pc,
         word,
-        predicted: read_hex(predicted, 8)?,
-    })
+        predicted: noted(read_hex(predicted, 8), 0, refused),
+    }
 }
 
 #[tactic(auto, unfolding(crate::specs::Reading::pc_field))]
@@ -187,7 +170,7 @@ fn read_stopped(digits: &[u8]) -> Result<Next, FieldError>
 }
 
 #[tactic(auto, unfolding(crate::specs::Reading::next_field))]
-fn read_next(text: &[u8]) -> Result<Next, FieldError>
+pub(crate) fn read_next(text: &[u8]) -> Result<Next, FieldError>
     ensures { result ≡ next_field text.now }
 {
     match text.first() {
@@ -196,15 +179,6 @@ fn read_next(text: &[u8]) -> Result<Next, FieldError>
         Some(b's') => read_stopped(&text[1..]),
         _ => Err(FieldError::Misspelled),
     }
-}
-
-// What comes next as the first field, and the text of the others.
-fn take_next(text: &[u8]) -> Result<(Next, &[u8]), FieldError>
-    ensures taken { IfOk result (λ p. IsTaken next_field text.now p.0 p.1.now) }
-    ensures refused { IfErr result (λ error. next_field (field 32 text.now) ≡ Err error) }
-{
-    let (first, others) = split_field(text, b' ');
-    Ok((read_next(first)?, others))
 }
 
 // The number of a write, and of how many bytes it is.
@@ -231,18 +205,6 @@ fn read_optional_sized(text: &[u8]) -> Result<Option<(u8, u32)>, FieldError>
     Ok(Some(read_sized(text)?))
 }
 
-// The number of a write as the first field, and the text of the others.
-fn take_optional_sized(text: &[u8]) -> Result<(Option<(u8, u32)>, &[u8]), FieldError>
-    ensures taken { IfOk result
-        (λ p. IsTaken (optional_field sized_field) text.now p.0 p.1.now) }
-    ensures sized { IfOk result (λ p. IfSome p.0 (λ some. IsWidth some.0)) }
-    ensures refused { IfErr result
-        (λ error. optional_field sized_field (field 32 text.now) ≡ Err error) }
-{
-    let (first, others) = split_field(text, b' ');
-    Ok((read_optional_sized(first)?, others))
-}
-
 fn written(addr: Option<u32>, number: Option<(u8, u32)>) -> Result<Option<Written>, FieldError>
     requires { IfSome number (λ some. IsWidth some.0) }
     ensures value { result ≡ written_of addr number }
@@ -255,76 +217,92 @@ fn written(addr: Option<u32>, number: Option<(u8, u32)>) -> Result<Option<Writte
     }
 }
 
-#[tactic(auto, unfolding(crate::specs::Reading::outcome_of))]
-fn read_outcome(fields: &[u8]) -> Result<Outcome, FieldError>
-    ensures { result ≡ outcome_of fields.now }
+// The two fields of a write, or of none.
+#[tactic(auto, unfolding(crate::specs::Reading::write_fields))]
+pub(crate) fn read_write(address: &[u8], datum: &[u8]) -> Result<Option<Written>, FieldError>
+    ensures value { result ≡ write_fields address.now datum.now }
+    ensures sized { IfOk result (λ write. IfSome write HasWidth) }
 {
-    let (value, fields) = take_optional_hex(fields, 8)?;
-    let (next, fields) = take_next(fields)?;
-    let (addr, fields) = take_optional_hex(fields, 8)?;
-    let (datum, out) = take_optional_hex(fields, 8)?;
-    Ok(Outcome::new(OutcomeFields {
+    let addr = read_optional_hex(address, 8)?;
+    written(addr, read_optional_sized(datum)?)
+}
+
+fn read_outcome(fields: &[u8], refused: &mut Option<FieldError>) -> Outcome
+    ensures { Notes (outcome_of fields.now) result refused.old refused.new }
+{
+    let (value, fields) = first_optional_word(fields, refused);
+    let (next, fields) = first_next(fields, refused);
+    let (addr, fields) = first_optional_word(fields, refused);
+    let (datum, out) = first_optional_word(fields, refused);
+    Outcome::new(OutcomeFields {
         value,
         next,
         addr,
         datum,
-        out: read_optional_byte(out)?,
-    }))
+        out: noted(read_optional_byte(out), None, refused),
+    })
 }
 
-#[tactic(auto, unfolding(crate::specs::Reading::effect_of, crate::specs::Reading::write_fields))]
-fn read_effect(fields: &[u8]) -> Result<Effect, FieldError>
-    ensures { result ≡ effect_of fields.now }
+fn read_effect(fields: &[u8], refused: &mut Option<FieldError>) -> Effect
+    ensures { Notes (effect_of fields.now) result refused.old refused.new }
 {
-    let (value, fields) = take_optional_hex(fields, 8)?;
-    let (next, fields) = take_next(fields)?;
-    let (addr, fields) = take_optional_hex(fields, 8)?;
-    let (number, out) = take_optional_sized(fields)?;
-    Ok(Effect::new(EffectFields {
+    let (value, fields) = first_optional_word(fields, refused);
+    let (next, fields) = first_next(fields, refused);
+    let (write, out) = first_write(fields, refused);
+    Effect::new(EffectFields {
         value,
         next,
-        write: written(addr, number)?,
-        out: read_optional_byte(out)?,
-    }))
-}
-
-#[tactic(auto, unfolding(crate::specs::Reading::complete_of))]
-fn read_complete(fields: &[u8]) -> Result<Event, FieldError>
-    ensures { result ≡ complete_of fields.now }
-{
-    let (actor, fields) = take_actor(fields)?;
-    let (seq, outcome) = take_seq(fields)?;
-    Ok(Event::Complete {
-        actor,
-        seq,
-        outcome: read_outcome(outcome)?,
+        write,
+        out: noted(read_optional_byte(out), None, refused),
     })
 }
 
-#[tactic(auto, unfolding(crate::specs::Reading::retire_of))]
-fn read_retire(fields: &[u8]) -> Result<Event, FieldError>
-    ensures { result ≡ retire_of fields.now }
+fn read_complete(fields: &[u8], refused: &mut Option<FieldError>) -> Event
+    ensures { Notes (complete_of fields.now) result refused.old refused.new }
 {
-    let (actor, fields) = take_actor(fields)?;
-    let (seq, effect) = take_seq(fields)?;
-    Ok(Event::Retire {
-        actor,
+    let (actor, fields) = first_number(fields, LAST_ACTOR, refused);
+    let (seq, outcome) = first_number(fields, LAST_SEQ, refused);
+    Event::Complete {
+        actor: actor as u8,
         seq,
-        effect: read_effect(effect)?,
-    })
+        outcome: read_outcome(outcome, refused),
+    }
+}
+
+fn read_retire(fields: &[u8], refused: &mut Option<FieldError>) -> Event
+    ensures { Notes (retire_of fields.now) result refused.old refused.new }
+{
+    let (actor, fields) = first_number(fields, LAST_ACTOR, refused);
+    let (seq, effect) = first_number(fields, LAST_SEQ, refused);
+    Event::Retire {
+        actor: actor as u8,
+        seq,
+        effect: read_effect(effect, refused),
+    }
+}
+
+fn read_kind(kind: EventKind, fields: &[u8], refused: &mut Option<FieldError>) -> Event
+    ensures { Notes (event_fields kind fields.now) result refused.old refused.new }
+{
+    match kind {
+        EventKind::Fetch => read_fetch(fields, refused),
+        EventKind::Decode => read_decode(fields, refused),
+        EventKind::Rename => read_rename(fields, refused),
+        EventKind::Issue => read_issue(fields, refused),
+        EventKind::Complete => read_complete(fields, refused),
+        EventKind::Drop => read_drop(fields, refused),
+        EventKind::Retire => read_retire(fields, refused),
+    }
 }
 
 fn read_fields(kind: EventKind, fields: &[u8]) -> Result<Event, FieldError>
     ensures { result ≡ event_fields kind fields.now }
 {
-    match kind {
-        EventKind::Fetch => read_fetch(fields),
-        EventKind::Decode => read_decode(fields),
-        EventKind::Rename => read_rename(fields),
-        EventKind::Issue => read_issue(fields),
-        EventKind::Complete => read_complete(fields),
-        EventKind::Drop => read_drop(fields),
-        EventKind::Retire => read_retire(fields),
+    let mut refused = None;
+    let event = read_kind(kind, fields, &mut refused);
+    match refused {
+        None => Ok(event),
+        Some(error) => Err(error),
     }
 }
 

@@ -13,7 +13,7 @@ use std::marker::Model;
 pub type Cause = u8;
 
 /// What comes after an instruction: another one at a pc, or the end of its hart.
-#[derive(Clone, Copy, Debug, PartialEq, Eq, Drop)]
+#[derive(Clone, Copy, PartialEq, Eq, Drop)]
 pub enum Next {
     /// The hart goes on at this pc.
     Pc(u32),
@@ -25,7 +25,7 @@ pub enum Next {
 
 /// A write to memory: `n` is 1, 2 or 4 bytes from `addr`, which is a multiple of it, and `datum`
 /// their number.
-#[derive(Clone, Copy, Debug, PartialEq, Eq, Drop)]
+#[derive(Clone, Copy, PartialEq, Eq, Drop)]
 pub struct Written {
     pub addr: u32,
     pub n: u8,
@@ -33,7 +33,7 @@ pub struct Written {
 }
 
 /// The fields of an `Outcome`, each by itself: to make one of them, and to take one apart.
-#[derive(Clone, Copy, Debug, PartialEq, Eq, Drop)]
+#[derive(Clone, Copy, PartialEq, Eq, Drop)]
 pub struct OutcomeFields {
     /// The number for its register, where there is one already.
     pub value: Option<u32>,
@@ -47,7 +47,7 @@ pub struct OutcomeFields {
 }
 
 /// The fields of an `Effect`, each by itself: to make one of them, and to take one apart.
-#[derive(Clone, Copy, Debug, PartialEq, Eq, Drop)]
+#[derive(Clone, Copy, PartialEq, Eq, Drop)]
 pub struct EffectFields {
     pub value: Option<u32>,
     pub next: Next,
@@ -59,7 +59,7 @@ pub struct EffectFields {
 ///
 /// The numbers lie beside tags that say which are there, so that an event is small; a number that
 /// isn't there is 0.
-#[derive(Clone, Copy, Debug, Drop)]
+#[derive(Clone, Copy, Drop)]
 pub struct Outcome {
     value: u32,
     next: u32,
@@ -92,7 +92,7 @@ impl Model for Outcome {
 /// What an instruction has done when it retires. A clause sees its fields.
 ///
 /// It lies as an `Outcome` does. A width is there where there is a write.
-#[derive(Clone, Copy, Debug, Drop)]
+#[derive(Clone, Copy, Drop)]
 pub struct Effect {
     value: u32,
     next: u32,
@@ -122,7 +122,7 @@ impl Model for Effect {
 }
 
 /// Which of a `Next` a number is.
-#[derive(Clone, Copy, Debug, PartialEq, Eq, Drop)]
+#[derive(Clone, Copy, PartialEq, Eq, Drop)]
 enum NextKind {
     Pc,
     Ended,
@@ -130,7 +130,7 @@ enum NextKind {
 }
 
 /// How many bytes a write puts.
-#[derive(Clone, Copy, Debug, PartialEq, Eq, Drop)]
+#[derive(Clone, Copy, PartialEq, Eq, Drop)]
 enum Width {
     Byte,
     Half,
@@ -138,7 +138,7 @@ enum Width {
 }
 
 /// A retired instruction: where it stood, its word, and what it did.
-#[derive(Clone, Copy, Debug, PartialEq, Eq, Drop)]
+#[derive(Clone, Copy, PartialEq, Eq, Drop)]
 pub struct Record {
     pub hart: u8,
     pub pc: u32,

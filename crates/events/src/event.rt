@@ -5,7 +5,7 @@ use crate::kind::EventKind;
 pub use numbers::{Phys, Seq};
 
 /// One atomic step of the core. `actor` made it; `seq` is the instruction that it moves on.
-#[derive(Clone, Copy, Debug, PartialEq, Eq, Drop)]
+#[derive(Clone, Copy, PartialEq, Eq, Drop)]
 pub enum Event {
     Fetch {
         actor: u8,

@@ -31,7 +31,7 @@ impl Model for History {
 }
 
 /// The history has as many events as its limit allows.
-#[derive(Debug, Clone, Copy, PartialEq, Eq, Drop)]
+#[derive(Clone, Copy, PartialEq, Eq, Drop)]
 pub struct Full;
 
 impl History {

@@ -3,7 +3,7 @@ ghost use Rattle.events.specs.declared.kind.EventKind.{EventKind};
 ghost use Rattle.events.specs.Kind.{letter_of, fields_after, kind_of_letter};
 
 /// What an event does to its instruction.
-#[derive(Clone, Copy, Debug, PartialEq, Eq, Drop)]
+#[derive(Clone, Copy, PartialEq, Eq, Drop)]
 pub enum EventKind {
     Fetch,
     Decode,

@@ -23,7 +23,7 @@ use std::alloc::Global;
 use std::marker::Model;
 
 /// Why a list of events isn't accepted.
-#[derive(Clone, Copy, Debug, PartialEq, Eq, Drop)]
+#[derive(Clone, Copy, PartialEq, Eq, Drop)]
 pub enum CheckRefused {
     /// The configuration isn't one of a core, or there are more than 16,777,216 events.
     BadConfig,

@@ -5,7 +5,7 @@ use numbers::{Phys, Seq};
 use rv_instr::{Op, UnitKind};
 
 /// An operand of an instruction that waits.
-#[derive(Clone, Copy, Debug, PartialEq, Eq, Drop)]
+#[derive(Clone, Copy, PartialEq, Eq, Drop)]
 pub enum Source {
     /// Its value is known. A source that is x0, and one that the instruction doesn't have, is 0.
     Value(u32),
@@ -34,7 +34,7 @@ impl Source {
 }
 
 /// An instruction that waits in the queue.
-#[derive(Clone, Copy, Debug, PartialEq, Eq, Drop)]
+#[derive(Clone, Copy, PartialEq, Eq, Drop)]
 pub struct Entry {
     pub seq: Seq,
     pub hart: u8,

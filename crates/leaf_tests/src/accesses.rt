@@ -6,10 +6,8 @@ ghost use Rattle.std.specs.Prelude.{◌<◌};
 use crate::memories::{first_memory, put};
 use crate::rows::holds_at;
 use events::{EffectFields, Next, OutcomeFields, Written};
-use load_store::LoadStore;
-use memory_effects::{completion, effect};
+use memory_system::{LoadStore, Memory, completion, effect};
 use rv_decode::decode_op;
-use shared_memory::Memory;
 use std::test::Fail;
 
 // Each reads its address from x6, gives its number to x5, and takes what it writes from x7.

@@ -1,5 +1,6 @@
 use crate::rows::{holds, holds_at, instr_of, word_and_text};
-use rv_decode::{decode, decode_op, encode};
+use rv_decode::{decode, decode_op};
+use rv_encode::encode;
 use rv_instr::{Instr, Op, Reg, UnitKind};
 
 /// Words that the GNU assembler 2.40 and its linker make of the text beside each (-march=rv32ima)

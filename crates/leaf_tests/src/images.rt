@@ -3,7 +3,8 @@
 mod refusing;
 
 use crate::rows::holds_at;
-use elf_image::{load, write};
+use elf_image::load;
+use elf_writer::write;
 use program_image::{Image, RamSize};
 use std::alloc::{AllocError, Global};
 use std::process::Abort;

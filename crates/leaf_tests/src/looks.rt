@@ -1,11 +1,10 @@
 //! The two looks of a load, by hand: stores in flight over memory, byte by byte.
 
-ghost use Rattle.shared_memory.specs.Contents.{IsSize};
+ghost use Rattle.memory_system.specs.Contents.{IsSize};
 ghost use Rattle.std.specs.Prelude.{◌<◌};
 
 use crate::memories::{first_memory, get, put};
-use load_store::LoadStore;
-use shared_memory::{AccessKind, Memory};
+use memory_system::{AccessKind, LoadStore, Memory};
 use std::test::Fail;
 
 /// A load's first and second look, or none where it faults.

@@ -1,4 +1,4 @@
-use rename_map::HartMaps;
+use register_renaming::HartMaps;
 
 #[test]
 fn a_hart_begins_in_its_own_31_physical_registers(rt: HostRuntime) {

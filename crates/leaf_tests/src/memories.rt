@@ -1,10 +1,10 @@
 //! The memory that all harts share, by numbers worked by hand from the manual's byte order.
 
-ghost use Rattle.shared_memory.specs.Contents.{IsSize};
+ghost use Rattle.memory_system.specs.Contents.{IsSize};
 ghost use Rattle.std.specs.Prelude.{◌<◌};
 
 use crate::images::{EXIT_WITH_5, image_of};
-use shared_memory::{AccessKind, Memory};
+use memory_system::{AccessKind, Memory};
 use std::alloc::Global;
 use std::test::Fail;
 

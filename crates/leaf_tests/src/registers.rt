@@ -1,5 +1,5 @@
 use crate::rows::holds_at;
-use free_list::FreeList;
+use register_renaming::FreeList;
 
 #[test]
 fn the_least_free_register_is_taken_and_one_given_back_is_taken_again(rt: HostRuntime) {

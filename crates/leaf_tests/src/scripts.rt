@@ -34,11 +34,32 @@ static WORDS: [Word; 7] = [
     },
 ];
 
+/// The letter of an action, its actor, and its hart where it is for one.
+fn parts_of(action: Action) -> (u8, u8, Option<u8>) {
+    match action {
+        Action::Fetch { actor } => (b'F', actor, None),
+        Action::Decode { actor, hart } => (b'D', actor, Some(hart)),
+        Action::Rename { actor, hart } => (b'R', actor, Some(hart)),
+        Action::Retire { actor, hart } => (b'T', actor, Some(hart)),
+        Action::Issue { actor } => (b'I', actor, None),
+        Action::Complete { actor } => (b'C', actor, None),
+        Action::Unit { actor } => (b'U', actor, None),
+    }
+}
+
+/// Whether two words are the same action, as often.
+fn is_same(word: &Word, wanted: &Word) -> bool {
+    parts_of(word.action) == parts_of(wanted.action) && word.repeat == wanted.repeat
+}
+
 #[test]
 fn a_script_is_read_word_by_word(rt: HostRuntime) -> Result<(), Fail> {
     let text = b" F0 D1.0\nR15.7*2 T2.0*100000\n\nI3 C4*1 U5 ";
     let words = read_script(text, rt.alloc())?;
-    assert!(rt; words.as_slice() == WORDS.as_slice());
+    assert!(rt; words.len() == WORDS.len());
+    for (word, wanted) in words.iter().zip(&WORDS) {
+        assert!(rt; is_same(word, wanted));
+    }
     Ok(())
 }
 

@@ -14,7 +14,7 @@ use std::alloc::AllocError;
 use std::marker::Model;
 
 /// What memory holds at the start, where the code is, and the entry. `elf_image::load` makes one of a file.
-#[derive(Debug, Drop)]
+#[derive(Drop)]
 pub struct Image {
     ram: RamSize,
     entry: u32,

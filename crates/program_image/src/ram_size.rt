@@ -9,7 +9,7 @@ use std::marker::Model;
 pub const RAM_START: u32 = 0x8000_0000;
 
 /// A size of RAM in bytes: a multiple of 4096 from 4096 to 16,777,216.
-#[derive(Clone, Copy, Debug, PartialEq, Eq)]
+#[derive(Clone, Copy, PartialEq, Eq)]
 pub struct RamSize {
     bytes: u32,
 }

@@ -8,7 +8,7 @@ use std::alloc::AllocError;
 use std::marker::Model;
 
 /// Where a segment starts, its bytes in memory, and its flags: X 1, W 2 and R 4.
-#[derive(Debug, Drop)]
+#[derive(Drop)]
 pub struct Segment {
     address: u32,
     bytes: Vec<u8>,

@@ -5,7 +5,7 @@ use numbers::{Phys, Reg, Seq};
 use rv_instr::Op;
 
 /// How far an instruction in flight has come.
-#[derive(Clone, Copy, Debug, PartialEq, Eq, Drop)]
+#[derive(Clone, Copy, PartialEq, Eq, Drop)]
 pub enum Stage {
     /// It waits for its operands, or for a unit.
     Renamed,
@@ -16,7 +16,7 @@ pub enum Stage {
 }
 
 /// An instruction in flight: renamed, and not yet retired or squashed.
-#[derive(Clone, Copy, Debug, PartialEq, Eq, Drop)]
+#[derive(Clone, Copy, PartialEq, Eq, Drop)]
 pub struct Active {
     pub seq: Seq,
     /// The register that it writes, 1 to 31; 0 where it writes none.

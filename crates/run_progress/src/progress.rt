@@ -2,13 +2,13 @@ ghost use Rattle.std.specs.Prelude.{◌≡◌, ◌%◌, ◌^◌, true, sum};
 ghost use Rattle.std.specs.Bool.{then_some};
 ghost use Rattle.run_progress.specs.ProgressLine.{progress_line};
 
-use actors::{Gate, Point};
 use arrayvec::ArrayString;
 use board::BoardView;
 use std::io::Write;
 use std::sync::atomic::{AtomicBool, AtomicU64, Ordering};
 use std::time::Clock;
 use text_fields::{push_ascii, push_decimal};
+use threaded_runs::{Gate, Point};
 
 /// How many turns its actor takes from one look at the clock to the next.
 const TURNS_A_LOOK: u64 = 1024;

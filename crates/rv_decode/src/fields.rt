@@ -18,7 +18,7 @@ ghost use Rattle.rv_instr.specs.Fields.{
 use rv_instr::{Ordering, Reg};
 
 /// The `len` bits of a word that begin at bit `low`.
-pub(crate) fn bits(word: u32, low: u32, len: u32) -> u32
+pub fn bits(word: u32, low: u32, len: u32) -> u32
     requires low { low < 32 }
     requires len { len < 32 }
     ensures { result ≡ bits_at word low len }

@@ -1,17 +1,16 @@
-//! The instruction words of RV32IMA, read and written.
+//! The instruction words of RV32IMA, read. `rv_encode` writes them.
 //!
 //! What an instruction is, and which word spells it, `rv_instr` says. Read in this order: `opcodes`,
-//! `operations` and `fields` (the parts of a word), `decoder`, `encoder`.
+//! `operations` and `fields` (the parts of a word), `decoder`.
 #![tactic(auto)]
 
 mod decoder;
-mod encoder;
 mod fields;
-mod opcodes;
+pub mod opcodes;
 mod operations;
 
 pub use decoder::{decode, decode_op};
-pub use encoder::encode;
+pub use fields::bits;
 pub use rv_instr::{
     BranchOp, ImmediateOp, Instr, LoadOp, MulDivOp, Op, Ordering, Reg, RegisterOp, ShiftOp,
     StoreOp, UnitKind,

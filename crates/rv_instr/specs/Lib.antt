@@ -3,3 +3,4 @@ pub mod Table
 pub mod Decode
 pub mod Registers
 pub mod Kinds
+pub mod UnitNames

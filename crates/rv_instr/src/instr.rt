@@ -2,7 +2,7 @@ pub use numbers::Reg;
 use rv_word::AmoKind;
 
 /// The condition of a conditional branch.
-#[derive(Clone, Copy, Debug, PartialEq, Eq, Drop)]
+#[derive(Clone, Copy, PartialEq, Eq, Drop)]
 pub enum BranchOp {
     Beq,
     Bne,
@@ -13,7 +13,7 @@ pub enum BranchOp {
 }
 
 /// What a load reads, and how it is extended to a word.
-#[derive(Clone, Copy, Debug, PartialEq, Eq, Drop)]
+#[derive(Clone, Copy, PartialEq, Eq, Drop)]
 pub enum LoadOp {
     Lb,
     Lh,
@@ -23,7 +23,7 @@ pub enum LoadOp {
 }
 
 /// What a store writes.
-#[derive(Clone, Copy, Debug, PartialEq, Eq, Drop)]
+#[derive(Clone, Copy, PartialEq, Eq, Drop)]
 pub enum StoreOp {
     Sb,
     Sh,
@@ -31,7 +31,7 @@ pub enum StoreOp {
 }
 
 /// An operation of a register and a 12-bit immediate.
-#[derive(Clone, Copy, Debug, PartialEq, Eq, Drop)]
+#[derive(Clone, Copy, PartialEq, Eq, Drop)]
 pub enum ImmediateOp {
     Addi,
     Slti,
@@ -42,7 +42,7 @@ pub enum ImmediateOp {
 }
 
 /// A shift by a constant.
-#[derive(Clone, Copy, Debug, PartialEq, Eq, Drop)]
+#[derive(Clone, Copy, PartialEq, Eq, Drop)]
 pub enum ShiftOp {
     Slli,
     Srli,
@@ -50,7 +50,7 @@ pub enum ShiftOp {
 }
 
 /// An operation of two registers, of RV32I.
-#[derive(Clone, Copy, Debug, PartialEq, Eq, Drop)]
+#[derive(Clone, Copy, PartialEq, Eq, Drop)]
 pub enum RegisterOp {
     Add,
     Sub,
@@ -65,7 +65,7 @@ pub enum RegisterOp {
 }
 
 /// An operation of two registers, of the extension M.
-#[derive(Clone, Copy, Debug, PartialEq, Eq, Drop)]
+#[derive(Clone, Copy, PartialEq, Eq, Drop)]
 pub enum MulDivOp {
     Mul,
     Mulh,
@@ -79,7 +79,7 @@ pub enum MulDivOp {
 
 /// The ordering bits of an atomic instruction. They are read, written and printed, and have no
 /// other effect here.
-#[derive(Clone, Copy, Debug, PartialEq, Eq, Drop)]
+#[derive(Clone, Copy, PartialEq, Eq, Drop)]
 pub struct Ordering {
     pub aq: bool,
     pub rl: bool,
@@ -89,7 +89,7 @@ pub struct Ordering {
 ///
 /// Registers are 0 to 31. `offset` and `imm` of the I, S, B and J forms are signed; `imm` of the U
 /// form is the whole word, its low twelve bits 0; `amount` is 0 to 31.
-#[derive(Clone, Copy, Debug, PartialEq, Eq, Drop)]
+#[derive(Clone, Copy, PartialEq, Eq, Drop)]
 pub enum Instr {
     Lui {
         rd: Reg,

@@ -7,7 +7,7 @@ use crate::instr::{Instr, Reg};
 use crate::op::Op;
 
 /// What an instruction does with memory (RISC-V Unprivileged ISA, chapters "RV32I" and "A").
-#[derive(Clone, Copy, Debug, PartialEq, Eq, Drop)]
+#[derive(Clone, Copy, PartialEq, Eq, Drop)]
 pub enum Kind {
     /// Nothing: all but the others, illegal words and missing words among them.
     Computing,

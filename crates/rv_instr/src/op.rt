@@ -1,7 +1,7 @@
 use crate::instr::Instr;
 
 /// What is found at a pc: an instruction, a word of no instruction, or no word at all.
-#[derive(Clone, Copy, Debug, PartialEq, Eq, Drop)]
+#[derive(Clone, Copy, PartialEq, Eq, Drop)]
 pub enum Op {
     Known(Instr),
     Illegal,

@@ -1,6 +1,6 @@
 /// What an atomic memory operation makes of the old word and its operand
 /// (RISC-V Unprivileged ISA, chapter "A").
-#[derive(Clone, Copy, Debug, PartialEq, Eq, Drop)]
+#[derive(Clone, Copy, PartialEq, Eq, Drop)]
 pub enum AmoKind {
     Swap,
     Add,

@@ -2,7 +2,7 @@
 //! faults.
 
 ghost use Rattle.std.specs.Prelude.{◌≡◌, None};
-ghost use Rattle.shared_memory.specs.Contents.{IsSize, byte_of};
+ghost use Rattle.memory_system.specs.Contents.{IsSize, byte_of};
 ghost use Rattle.smt_model.specs.Kinds.{load_size, store_size, access_size};
 ghost use Rattle.smt_model.specs.Bytes.{load_value, read_value, read};
 ghost use Rattle.smt_model.specs.Effects.{atomic_result};
@@ -11,9 +11,9 @@ ghost use Rattle.smt_model.specs.Nexts.{is_last};
 ghost use Rattle.sc_machine.specs.Access.{HasNoFault};
 
 use events::{Cause, Next};
+use memory_system::{AccessKind, Memory};
 use rv_execute::Computed;
 use rv_instr::{Instr, Kind, LoadOp, Op, StoreOp};
-use shared_memory::{AccessKind, Memory};
 
 /// What is computed of an instruction, with the faults of its access: one that goes on stops where
 /// its access faults.

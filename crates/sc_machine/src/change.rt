@@ -1,7 +1,7 @@
 //! What an effect changes in memory and in the reservations.
 
 ghost use Rattle.std.specs.Prelude.{◌≡◌, ℕ, ◌<◌, ◌==◌, if◌then◌else◌, IfSome};
-ghost use Rattle.shared_memory.specs.Contents.{IsSize, byte_of, reserved_of};
+ghost use Rattle.memory_system.specs.Contents.{IsSize, byte_of, reserved_of};
 ghost use Rattle.smt_model.specs.Bytes.{byte_after};
 ghost use Rattle.smt_model.specs.Reservations.{own_reservation, reservation_after};
 ghost use Rattle.smt_model.specs.Reservations.{reservation_after_write};
@@ -9,8 +9,8 @@ ghost use Rattle.sc_machine.specs.Access.{IsWritable, CanWrite, WritesAlone};
 
 use crate::access::is_last;
 use events::{EffectFields, Written};
+use memory_system::Memory;
 use rv_instr::{Kind, Op};
-use shared_memory::Memory;
 
 /// Does what the effect of a hart's instruction at an address says.
 pub fn change_memory(memory: &mut Memory, hart: u8, op: Op, addr: u32, effect: EffectFields)

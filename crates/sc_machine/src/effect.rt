@@ -2,7 +2,7 @@
 
 ghost use Rattle.std.specs.Prelude.{◌≡◌, ◌<◌, Bool, if◌then◌else◌, IfSome};
 ghost use Rattle.events.specs.Width.{HasWidth};
-ghost use Rattle.shared_memory.specs.Contents.{byte_of, reserved_of};
+ghost use Rattle.memory_system.specs.Contents.{byte_of, reserved_of};
 ghost use Rattle.smt_model.specs.Bytes.{read, write_of};
 ghost use Rattle.smt_model.specs.Effects.{effect_of, last_effect};
 ghost use Rattle.smt_model.specs.Outcomes.{given};
@@ -11,9 +11,9 @@ ghost use Rattle.sc_machine.specs.Access.{HasNoFault, CanWrite, WritesAlone};
 
 use crate::access::{access_size, atomic_result, is_last, read};
 use events::{EffectFields, Next, Written};
+use memory_system::Memory;
 use rv_execute::Computed;
 use rv_instr::{Kind, Op};
-use shared_memory::Memory;
 
 /// The effect of an instruction of a hart on memory and reservations as they stand. One that ends
 /// or stops its hart does nothing else.

@@ -13,13 +13,13 @@ use crate::effect::effect_of;
 use crate::hart::Hart;
 use decoded_code::Code;
 use events::{Effect, Record};
+use memory_system::Memory;
 use rv_execute::execute;
 use rv_instr::{Op, Reg};
-use shared_memory::Memory;
 
 /// An instruction that a hart has yet to execute: what it is, the address that it touches, and its
 /// record.
-#[derive(Clone, Copy, Debug, Drop)]
+#[derive(Clone, Copy, Drop)]
 pub struct Execution {
     pub op: Op,
     pub addr: u32,

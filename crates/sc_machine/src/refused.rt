@@ -2,7 +2,7 @@ ghost use Rattle.std.specs.Prelude.{◌≡◌};
 ghost use Rattle.sc_machine.specs.Refusals.{number_of};
 
 /// Why there is no machine.
-#[derive(Clone, Copy, Debug, PartialEq, Eq, Drop)]
+#[derive(Clone, Copy, PartialEq, Eq, Drop)]
 pub enum PlainRefused {
     /// There are not 1 to 8 harts.
     Harts,
@@ -35,7 +35,7 @@ impl Stopped {
 }
 
 /// The first step of an order that isn't made, and why.
-#[derive(Clone, Copy, Debug, PartialEq, Eq, Drop)]
+#[derive(Clone, Copy, PartialEq, Eq, Drop)]
 pub struct StoppedAt {
     /// The place of the step in the order; the steps before it are done.
     pub index: usize,

@@ -1,7 +1,6 @@
-use rv_instr::UnitKind;
+use rv_instr::{UnitKind, unit_name};
 use sc_machine::Stopped;
 use thiserror::Error;
-use unit_names::unit_name;
 
 /// Why an order of harts has no schedule.
 #[derive(Clone, Copy, Debug, PartialEq, Eq, Drop, Error)]

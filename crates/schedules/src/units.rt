@@ -14,7 +14,7 @@ use rv_instr::UnitKind;
 use smt_model::Role;
 
 /// The first actor that is a unit of each kind, where there is one.
-#[derive(Clone, Copy, Debug, PartialEq, Eq, Drop)]
+#[derive(Clone, Copy, PartialEq, Eq, Drop)]
 pub struct Units {
     pub alu: Option<u8>,
     pub mul: Option<u8>,

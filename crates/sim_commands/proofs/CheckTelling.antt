@@ -10,7 +10,7 @@ use Rattle.events.specs.{declared.event.Event.Event, declared.effect.Record.Reco
 use Rattle.smt_model.specs.{declared.config.Status.Status, Account.open_job_count, Memory.output}
 use Rattle.smt_model.specs.Setup.{is_accepted}
 use Rattle.core_state.specs.{Setup.setup_of, View.CoreView}
-use Rattle.core_lock.specs.Shown.{Shown}
+use Rattle.finished_core.specs.Shown.{Shown}
 use Rattle.sim_inputs.specs.declared.settings.Settings.{Settings}
 use Rattle.sim_refusals.specs.declared.refused.Refused.{Refused}
 use Rattle.sim_refusals.specs.declared.refused.Refused.TheVariants as refused

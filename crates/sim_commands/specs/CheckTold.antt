@@ -4,7 +4,7 @@ use Rattle.std.specs.Prelude.{◌≡◌, ℕ, Bool, true, false, List, length, r
 use Rattle.elf_image.specs.Loaded.{IsImageOf}
 use Rattle.events.specs.declared.event.Event.{Event}
 use Rattle.core_state.specs.{Setup.setup_of, View.CoreView}
-use Rattle.core_lock.specs.Shown.{Shown}
+use Rattle.finished_core.specs.Shown.{Shown}
 use Rattle.smt_model.specs.Setup.{is_accepted}
 use Rattle.sim_inputs.specs.declared.settings.Settings.{Settings}
 use Rattle.sim_refusals.specs.{Refusals.Read, Refusals.OfFile}

@@ -1,6 +1,6 @@
 ghost use Rattle.std.specs.Prelude.{◌≡◌, IsTrue, OnOk, IfOk, IfErr, Err, length, reverse};
 ghost use Rattle.std.specs.Prelude.{true, false};
-ghost use Rattle.core_lock.specs.Shown.{Shown};
+ghost use Rattle.finished_core.specs.Shown.{Shown};
 ghost use Rattle.core_state.specs.Setup.{setup_of};
 ghost use Rattle.sim_refusals.specs.declared.refused.Refused.TheVariants.{Output};
 ghost use Rattle.sim_refusals.specs.Refusals.{as_read, OfFile, PassesAll, refusal_of};

@@ -35,3 +35,8 @@ pub none_in : (m : ArgMatches) (name : Text) (rows : List Row) (line : Option Li
     → IfNone line ((l : Line) → IsLineOf name rows l → ⊥) →
     IfNone line ((l : Line) → Names (subcommand_rows_of m) l → ⊥)
 none_in m name rows line named has none = rw (named_rows m name rows named has) none
+
+pub never_in : (m : ArgMatches) (name : Text) (rows : List Row) → subcommand_name_of m ≡ Some name
+    → option_map (λ (p : Text × List Row). p.1) (subcommand_rows_of m) ≡ Some rows
+    → ((l : Line) → IsLineOf name rows l → ⊥) → (l : Line) → Names (subcommand_rows_of m) l → ⊥
+never_in m name rows named has never = rw (named_rows m name rows named has) never

@@ -1,7 +1,7 @@
 -- The command line as data, and what its words ask for.
 use Rattle.std.specs.Prelude.{None, ◌≡◌, ◌≢◌, Bool, true, false, List, [], ◌∷◌, Option, Some}
 use Rattle.std.specs.Prelude.{IsSomeAnd, option_map, codes}
-use Rattle.std.specs.{Option.option_map_or, Str.bytes_eq}
+use Rattle.std.specs.{Borrow.Bor, List.fold, Option.option_map_or, Str.bytes_eq}
 use Rattle.clap.specs.Words.{App, Row, Rule, Text, IsAmong, app_of, rule_of, fault_of, first_of}
 use Rattle.clap.specs.Words.{new_app, new_rule, subcommand_of, with_rule, with_subcommand}
 use Rattle.clap.specs.{declared.builder.arg.Arg.Arg, declared.builder.command.Command.Command}
@@ -51,38 +51,34 @@ show_rule = flag_rule (codes "show")
 abbrev pub kept_rule : Rule
 kept_rule = file_option_rule (codes "trace")
 
--- A command begins with the files that it reads: the image, and for most of them one more.
-abbrev pub image_command : Text → App
-image_command name = with_rule (new_app name) image_rule
+-- A subcommand of this name, with its arguments in order.
+abbrev pub subcommand : Text → List Rule → App
+subcommand name rules = fold with_rule (new_app name) rules
 
--- The options of each command that prints a report: `--config FILE` and `--records`.
-abbrev pub with_report_options : App → App
-with_report_options app = with_rule (with_rule app config_rule) records_rule
-
--- `step IMAGE SCRIPT`, with the options of a report, `--show` and `--trace FILE`.
+-- `step IMAGE SCRIPT`, with `--config FILE`, `--records`, `--show` and `--trace FILE`.
 abbrev pub step_command : App
-step_command = let files = with_rule (image_command (codes "step")) script_rule in
-    with_rule (with_rule (with_report_options files) show_rule) kept_rule
+step_command = subcommand (codes "step") (image_rule ∷ script_rule ∷ config_rule ∷ records_rule
+    ∷ show_rule ∷ kept_rule ∷ [])
 
--- `run IMAGE`, with the options of a report and `--trace FILE`.
+-- `run IMAGE`, with `--config FILE`, `--records` and `--trace FILE`.
 abbrev pub run_command : App
-run_command = with_rule (with_report_options (image_command (codes "run"))) kept_rule
+run_command = subcommand (codes "run") (image_rule ∷ config_rule ∷ records_rule ∷ kept_rule ∷ [])
 
--- `check IMAGE TRACE`, with the options of a report.
+-- `check IMAGE TRACE`, with `--config FILE` and `--records`.
 abbrev pub check_command : App
-check_command = with_report_options (with_rule (image_command (codes "check")) trace_rule)
+check_command = subcommand (codes "check") (image_rule ∷ trace_rule ∷ config_rule ∷ records_rule ∷ [])
 
--- `plain IMAGE ORDER`, with the options of a report.
+-- `plain IMAGE ORDER`, with `--config FILE` and `--records`.
 abbrev pub plain_command : App
-plain_command = with_report_options (with_rule (image_command (codes "plain")) order_rule)
+plain_command = subcommand (codes "plain") (image_rule ∷ order_rule ∷ config_rule ∷ records_rule ∷ [])
 
--- `schedule IMAGE ORDER`, with the option `--config FILE`.
+-- `schedule IMAGE ORDER`, with `--config FILE`.
 abbrev pub schedule_command : App
-schedule_command = with_rule (with_rule (image_command (codes "schedule")) order_rule) config_rule
+schedule_command = subcommand (codes "schedule") (image_rule ∷ order_rule ∷ config_rule ∷ [])
 
--- `list IMAGE`, with the option `--config FILE`.
+-- `list IMAGE`, with `--config FILE`.
 abbrev pub list_command : App
-list_command = with_rule (image_command (codes "list")) config_rule
+list_command = subcommand (codes "list") (image_rule ∷ config_rule ∷ [])
 
 -- The whole command line: one of the six subcommands must be there. `clap` adds `--help` and
 -- `help`.
@@ -90,17 +86,9 @@ abbrev pub top : App
 top = let app =
     new_app (codes "smtsim") in record app { top = record app.top { subcommand_required = true } }
 
--- The first three run a core or check what one has done.
-abbrev pub with_core_commands : App → App
-with_core_commands app =
-    with_subcommand
-    (with_subcommand (with_subcommand app step_command.top) run_command.top) check_command.top
-
 abbrev pub smtsim : App
-smtsim =
-    with_subcommand
-    (with_subcommand (with_subcommand (with_core_commands top) plain_command.top)
-    schedule_command.top) list_command.top
+smtsim = fold (λ app sub. with_subcommand app sub.top) top (step_command ∷ run_command
+    ∷ check_command ∷ plain_command ∷ schedule_command ∷ list_command ∷ [])
 
 -- What `clap` is told: an argument and a command as data, neither of them for the commands below
 -- too.
@@ -116,6 +104,11 @@ pub record IsCommand (described : App) (command : Command) : Type 0 where
 abbrev pub is_flag_set : Text → List Row → Bool
 is_flag_set name rows =
     option_map_or (λ value. bytes_eq value (codes "true")) (first_of name rows) false
+
+-- The image and the configuration that were found for a subcommand.
+pub record HasFiles (image : Bor Text) (config : Option (Bor Text)) (rows : List Row) : Type 0 where
+  pub image_row : first_of (codes "IMAGE") rows ≡ Some image.now
+  pub config_row : first_of (codes "config") rows ≡ option_map (λ file. file.now) config
 
 -- A subcommand of this name, with what was found for its arguments and options, is the line.
 abbrev pub IsLineOf : Text → List Row → Line → Type 0

@@ -3,7 +3,7 @@ ghost use Rattle.std.specs.Prelude.{◌≡◌, option_map};
 use thiserror::Error;
 
 /// What the program is asked to do, with the names of its files and its options.
-#[derive(Clone, Copy, Debug, PartialEq, Eq, Drop)]
+#[derive(Clone, Copy, Drop)]
 pub enum Line<'a> {
     /// `step IMAGE SCRIPT`: the script's asks are made in order, without threads.
     Step {

@@ -4,7 +4,7 @@ use program_image::RamSize;
 use smt_model::{Config, Role};
 
 /// What a simulation is made with, beside its image.
-#[derive(Debug, Drop)]
+#[derive(Drop)]
 pub struct Settings {
     /// The sizes of the core.
     pub config: Config,

@@ -1,7 +1,7 @@
 ghost use Rattle.std.specs.Prelude.{◌≡◌, List, codes, map, IfOk, IfErr, IfSome, IfNone};
 ghost use Rattle.clap.specs.Words.{found_of, kind_of, rows_of, subcommand_rows_of};
 ghost use Rattle.sim_inputs.specs.declared.line.Line.{Line as AnyLine};
-ghost use Rattle.sim_inputs.specs.CommandLine.{is_flag_set, IsLineOf, Names, Asks};
+ghost use Rattle.sim_inputs.specs.CommandLine.{is_flag_set, HasFiles, IsLineOf, Names, Asks};
 ghost use Rattle.sim_inputs.specs.CommandLine.{AreWordsRefusedFor, IsRefusalOf};
 
 use crate::description::describe;
@@ -30,43 +30,53 @@ fn line_in<'a>(matches: &ArgMatches<'a>) -> Option<Line<'a>>
     ensures none { IfNone result ((line : AnyLine) → Names (subcommand_rows_of matches.now) line
         → ⊥) }
 {
-    if let Some(step) = matches.subcommand_matches("step") {
-        return step_line(step);
-    }
-    if let Some(run) = matches.subcommand_matches("run") {
-        return run_line(run);
-    }
-    if let Some(check) = matches.subcommand_matches("check") {
-        return check_line(check);
-    }
-    if let Some(plain) = matches.subcommand_matches("plain") {
-        return plain_line(plain);
-    }
-    if let Some(schedule) = matches.subcommand_matches("schedule") {
-        return schedule_line(schedule);
-    }
-    let Some(list) = matches.subcommand_matches("list") else {
+    let Some((name, found)) = matches.subcommand() else {
         return None;
     };
-    list_line(list)
+    let Some(image) = found.get_str("IMAGE") else {
+        return None;
+    };
+    line_named(name, image, found.get_str("config"), found)
 }
 
-/// The line of the subcommand `step`, from what was found for its arguments.
-fn step_line<'a>(step: &ArgMatches<'a>) -> Option<Line<'a>>
-    ensures held { IfSome result (IsLineOf (codes "step") (rows_of (found_of step.now))) }
+/// The line of the subcommand of this name, from what was found for its arguments: the image and
+/// the configuration, which each has, and all.
+fn line_named<'a>(
+    name: &str,
+    image: &'a str,
+    config: Option<&'a str>,
+    found: &ArgMatches<'a>,
+) -> Option<Line<'a>>
+    ensures held { HasFiles image.entry config.entry (rows_of (found_of found.now))
+        → IfSome result (IsLineOf name.now (rows_of (found_of found.now))) }
+    ensures none { IfNone result
+        ((line : AnyLine) → IsLineOf name.now (rows_of (found_of found.now)) line → ⊥) }
+{
+    match name {
+        "step" => step_line(image, config, found),
+        "run" => Some(run_line(image, config, found)),
+        "check" => check_line(image, config, found),
+        "plain" => plain_line(image, config, found),
+        "schedule" => schedule_line(image, config, found),
+        "list" => Some(Line::List { image, config }),
+        _ => None,
+    }
+}
+
+/// The line of the subcommand `step`.
+fn step_line<'a>(image: &'a str, config: Option<&'a str>, step: &ArgMatches<'a>) -> Option<Line<'a>>
+    ensures held { HasFiles image.entry config.entry (rows_of (found_of step.now))
+        → IfSome result (IsLineOf (codes "step") (rows_of (found_of step.now))) }
     ensures none { IfNone result
         ((line : AnyLine) → IsLineOf (codes "step") (rows_of (found_of step.now)) line → ⊥) }
 {
-    let Some(image) = step.get_str("IMAGE") else {
-        return None;
-    };
     let Some(script) = step.get_str("SCRIPT") else {
         return None;
     };
     Some(Line::Step {
         image,
         script,
-        config: step.get_str("config"),
+        config,
         records: is_set(step, "records"),
         show: is_set(step, "show"),
         trace: step.get_str("trace"),
@@ -74,94 +84,80 @@ fn step_line<'a>(step: &ArgMatches<'a>) -> Option<Line<'a>>
 }
 
 /// The line of the subcommand `run`.
-fn run_line<'a>(run: &ArgMatches<'a>) -> Option<Line<'a>>
-    ensures held { IfSome result (IsLineOf (codes "run") (rows_of (found_of run.now))) }
-    ensures none { IfNone result
-        ((line : AnyLine) → IsLineOf (codes "run") (rows_of (found_of run.now)) line → ⊥) }
+fn run_line<'a>(image: &'a str, config: Option<&'a str>, run: &ArgMatches<'a>) -> Line<'a>
+    ensures { HasFiles image.entry config.entry (rows_of (found_of run.now))
+        → IsLineOf (codes "run") (rows_of (found_of run.now)) result }
 {
-    let Some(image) = run.get_str("IMAGE") else {
-        return None;
-    };
-    Some(Line::Run {
+    Line::Run {
         image,
-        config: run.get_str("config"),
+        config,
         records: is_set(run, "records"),
         trace: run.get_str("trace"),
-    })
+    }
 }
 
 /// The line of the subcommand `check`.
-fn check_line<'a>(check: &ArgMatches<'a>) -> Option<Line<'a>>
-    ensures held { IfSome result (IsLineOf (codes "check") (rows_of (found_of check.now))) }
+fn check_line<'a>(
+    image: &'a str,
+    config: Option<&'a str>,
+    check: &ArgMatches<'a>,
+) -> Option<Line<'a>>
+    ensures held { HasFiles image.entry config.entry (rows_of (found_of check.now))
+        → IfSome result (IsLineOf (codes "check") (rows_of (found_of check.now))) }
     ensures none { IfNone result
         ((line : AnyLine) → IsLineOf (codes "check") (rows_of (found_of check.now)) line → ⊥) }
 {
-    let Some(image) = check.get_str("IMAGE") else {
-        return None;
-    };
     let Some(trace) = check.get_str("TRACE") else {
         return None;
     };
     Some(Line::Check {
         image,
         trace,
-        config: check.get_str("config"),
+        config,
         records: is_set(check, "records"),
     })
 }
 
 /// The line of the subcommand `plain`.
-fn plain_line<'a>(plain: &ArgMatches<'a>) -> Option<Line<'a>>
-    ensures held { IfSome result (IsLineOf (codes "plain") (rows_of (found_of plain.now))) }
+fn plain_line<'a>(
+    image: &'a str,
+    config: Option<&'a str>,
+    plain: &ArgMatches<'a>,
+) -> Option<Line<'a>>
+    ensures held { HasFiles image.entry config.entry (rows_of (found_of plain.now))
+        → IfSome result (IsLineOf (codes "plain") (rows_of (found_of plain.now))) }
     ensures none { IfNone result
         ((line : AnyLine) → IsLineOf (codes "plain") (rows_of (found_of plain.now)) line → ⊥) }
 {
-    let Some(image) = plain.get_str("IMAGE") else {
-        return None;
-    };
     let Some(order) = plain.get_str("ORDER") else {
         return None;
     };
     Some(Line::Plain {
         image,
         order,
-        config: plain.get_str("config"),
+        config,
         records: is_set(plain, "records"),
     })
 }
 
 /// The line of the subcommand `schedule`.
-fn schedule_line<'a>(schedule: &ArgMatches<'a>) -> Option<Line<'a>>
-    ensures held { IfSome result (IsLineOf (codes "schedule") (rows_of (found_of schedule.now))) }
+fn schedule_line<'a>(
+    image: &'a str,
+    config: Option<&'a str>,
+    schedule: &ArgMatches<'a>,
+) -> Option<Line<'a>>
+    ensures held { HasFiles image.entry config.entry (rows_of (found_of schedule.now))
+        → IfSome result (IsLineOf (codes "schedule") (rows_of (found_of schedule.now))) }
     ensures none { IfNone result
-        ((line : AnyLine) → IsLineOf (codes "schedule") (rows_of (found_of schedule.now)) line
-        → ⊥) }
+        ((line : AnyLine) → IsLineOf (codes "schedule") (rows_of (found_of schedule.now)) line → ⊥) }
 {
-    let Some(image) = schedule.get_str("IMAGE") else {
-        return None;
-    };
     let Some(order) = schedule.get_str("ORDER") else {
         return None;
     };
     Some(Line::Schedule {
         image,
         order,
-        config: schedule.get_str("config"),
-    })
-}
-
-/// The line of the subcommand `list`.
-fn list_line<'a>(list: &ArgMatches<'a>) -> Option<Line<'a>>
-    ensures held { IfSome result (IsLineOf (codes "list") (rows_of (found_of list.now))) }
-    ensures none { IfNone result
-        ((line : AnyLine) → IsLineOf (codes "list") (rows_of (found_of list.now)) line → ⊥) }
-{
-    let Some(image) = list.get_str("IMAGE") else {
-        return None;
-    };
-    Some(Line::List {
-        image,
-        config: list.get_str("config"),
+        config,
     })
 }
 

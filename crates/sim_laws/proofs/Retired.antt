@@ -9,7 +9,7 @@ use Rattle.smt_laws.specs.Scripts.{HasReplied, IsShownByScript}
 use Rattle.core_state.specs.{Setup.setup_of, View.CoreView}
 use Rattle.sim_script.specs.Unambiguous.{ScriptsAreUnambiguous}
 use Rattle.schedules.specs.{Asks.asks_of, Asks.HasNoIssue, Schedules.IsScheduleOf, Schedules.room_for}
-use Rattle.actors.specs.Prediction.{static_guess}
+use Rattle.threaded_runs.specs.Prediction.{static_guess}
 use Rattle.sim_session.specs.Session.{AreAskedWith}
 use Rattle.sim_laws.specs.Replies.{predictor_of, IsFunction, FillsNoMoreThanItsScript}
 use Rattle.sim_laws.specs.Retiring.{RetiresOrder, SchedulesAreRetired, PrintedSchedulesAreRetired}

@@ -8,7 +8,7 @@ use Rattle.core_state.specs.{Setup.setup_of, View.CoreView}
 use Rattle.sim_script.specs.Order.{IsOrder}
 use Rattle.schedules.specs.Schedules.{IsScheduleOf, room_for}
 use Rattle.sim_inputs.specs.declared.settings.Settings.{Settings}
-use Rattle.actors.specs.Prediction.{static_guess}
+use Rattle.threaded_runs.specs.Prediction.{static_guess}
 use Rattle.sim_commands.specs.{PlainTold.left_by}
 use Rattle.sim_refusals.specs.{Refusals.Read, Refusals.OfFile, Refusals.PassesAll}
 use Rattle.sim_laws.specs.Replies.{IsFunction}

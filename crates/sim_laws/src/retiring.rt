@@ -1,14 +1,14 @@
 //! What a core retires by a schedule: the order that the schedule was made of. The functions do
 //! nothing: each is there for its contract.
 
-ghost use Rattle.actors.specs.declared.static_predictor.StaticPredictor.{StaticPredictor as Static};
+ghost use Rattle.threaded_runs.specs.declared.static_predictor.StaticPredictor.{StaticPredictor as Static};
 ghost use Rattle.sim_laws.specs.Retiring.{SchedulesAreRetired, PrintedSchedulesAreRetired};
 ghost use Rattle.sim_laws.specs.Retiring.{OfFunctions, guesses_statically};
 
 use crate::replies::replies_to_its_script;
-use actors::StaticPredictor;
 use sim_script::laws::scripts_are_unambiguous;
 use smt_core::Predict;
+use threaded_runs::StaticPredictor;
 
 /// A core that was asked by the schedule of an order, of its own setup and limit, retires the
 /// records that the plain machine leaves on this order, in this order, and is never full: its

@@ -2,10 +2,9 @@ ghost use Rattle.std.specs.Prelude.{◌≡◌, false};
 ghost use Rattle.sim_refusals.specs.Refusals.{exit_status_of, refusal_of};
 ghost use Rattle.exit_statuses.specs.Statuses.{says_harts};
 
-use rv_instr::UnitKind;
+use rv_instr::{UnitKind, unit_name};
 use sc_machine::Stopped;
 use thiserror::Error;
-use unit_names::unit_name;
 
 /// Why a simulation was not made, or not told whole.
 #[derive(Clone, Copy, Debug, PartialEq, Eq, Drop, Error)]
@@ -72,7 +71,7 @@ impl Refused {
 }
 
 /// Why there are no bytes of a file.
-#[derive(Clone, Copy, Debug, PartialEq, Eq, Drop)]
+#[derive(Clone, Copy, PartialEq, Eq, Drop)]
 pub enum Unread {
     /// It can't be read, or it is too long.
     File,

@@ -1,13 +1,13 @@
 -- Refusals of a run of threads, and what such a line comes to.
-use Rattle.std.specs.Prelude.{◌≡◌, ◌⊎◌, ◌↔◌, ℕ, Bool, true, false, List, Option, Result, Ok, Err}
+use Rattle.std.specs.Prelude.{◌≡◌, ◌⊎◌, ◌↔◌, ℕ, Bool, true, false, List, Option, Result, Ok, Err, OnOk}
 use Rattle.std.proofs.{Common.refl, Common.sym, Common.subst, Common.◌∙◌, lemmas.Bool.cases_Bool}
 use mathlib.Core.Logic.{inl, inr}
 use Rattle.core_state.specs.{Setup.setup_of, View.CoreView}
 use Rattle.smt_model.specs.Setup.{is_accepted}
 use Rattle.program_image.specs.Image.{ProgramImage}
-use Rattle.actors.specs.{Roles.HaveEveryRole, declared.refused.RunRefused.RunRefused}
-use Rattle.actors.specs.declared.refused.RunRefused.TheVariants as refused
-use Rattle.core_lock.specs.Shown.{Shown}
+use Rattle.threaded_runs.specs.{Roles.HaveEveryRole, declared.refused.RunRefused.RunRefused}
+use Rattle.threaded_runs.specs.declared.refused.RunRefused.TheVariants as refused
+use Rattle.finished_core.specs.Shown.{Shown}
 use Rattle.elf_image.specs.Loaded.{IsImageOf}
 use Rattle.sim_inputs.specs.declared.settings.Settings.{Settings}
 use Rattle.sim_refusals.specs.declared.refused.Refused.{Refused}
@@ -109,6 +109,11 @@ pub same_setup : (program : ProgramImage) (config copy : configs.Config)
     → (copy.harts ≡ config.harts) × (copy.extra ≡ config.extra) × (copy.queue ≡ config.queue)
     → copy.roles.items ≡ config.roles.items → setup_of program copy ≡ setup_of program config
 same_setup program config copy sizes roles = rw (sizes.0, sizes.1, sizes.2, roles) refl
+
+-- What holds anyway holds behind an exit status.
+pub on_status : (answer : Result ℕ Refused) (P : Type 0) → P → OnOk answer P
+on_status (Ok status) P holds = holds
+on_status (Err reason) P holds = tt
 
 pub told_refusal : (image : Read) (settings : Settings) (reason : Refused)
     → OfFile image (λ file. PassesAll file settings.ram) → AreAccepted settings → (LackARole settings → ⊥)

@@ -3,9 +3,9 @@
 use Rattle.std.specs.Prelude.{◌≡◌, ◌⊎◌, ℕ, Bool, false, List, Option, Err}
 use Rattle.elf_image.specs.Loaded.{IsImageOf}
 use Rattle.core_state.specs.{Setup.setup_of, View.CoreView}
-use Rattle.core_lock.specs.Shown.{Shown}
-use Rattle.actors.specs.{Roles.HaveEveryRole, declared.refused.RunRefused.RunRefused}
-use Rattle.actors.specs.declared.refused.RunRefused.TheVariants as runs
+use Rattle.finished_core.specs.Shown.{Shown}
+use Rattle.threaded_runs.specs.{Roles.HaveEveryRole, declared.refused.RunRefused.RunRefused}
+use Rattle.threaded_runs.specs.declared.refused.RunRefused.TheVariants as runs
 use Rattle.sim_inputs.specs.declared.settings.Settings.{Settings}
 use Rattle.sim_refusals.specs.{declared.refused.Refused.Refused}
 use Rattle.sim_refusals.specs.declared.refused.Refused.TheVariants.{Image, Config, Memory, Thread}

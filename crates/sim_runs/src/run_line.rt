@@ -6,33 +6,25 @@ ghost use Rattle.exit_statuses.specs.Statuses.{says_harts};
 ghost use Rattle.sim_runs.specs.RunTold.{AreRunInputsRefusedFor, IsRunReported, LackARole};
 
 use crate::running::run_file;
-use actors::Gate;
 use event_text::Sink;
 use sim_inputs::Settings;
 use sim_refusals::{Refused, Unread};
 use sim_steps::{Wanted, keep_and_tell};
-use smt_core::Predict;
 use std::alloc::Global;
 use std::io::Write;
 use std::sync::Wait;
 use std::thread::Threads;
+use threaded_runs::Runner;
 
 /// Runs the core with a thread for each actor, keeps its trace where it is wanted, and writes its
 /// report.
 #[inline(never)]
-pub fn thread_and_report<
-    G: Gate + Sync,
-    P: Predict + Copy + Send,
-    S: Sink,
-    W: Write,
-    R: Threads + Wait + Sync,
->(
+pub fn thread_and_report<X: Runner, S: Sink, W: Write, R: Threads + Wait + Sync>(
     rt: &R,
+    runner: &X,
     image: Result<&[u8], Unread>,
     settings: &Settings,
     wanted: Wanted,
-    gate: &G,
-    predict: P,
     trace: &mut S,
     out: &mut W,
     alloc: Global,
@@ -54,7 +46,7 @@ pub fn thread_and_report<
     ensures unreported { S.has_failed trace.new ≡ true
         → W.contents out.new ≡ W.contents out.old }
 {
-    let finished = match run_file(rt, image, settings, gate, predict, alloc) {
+    let finished = match run_file(rt, runner, image, settings, alloc) {
         Ok(finished) => finished,
         Err(refused) => return Err(refused),
     };

@@ -1,31 +1,29 @@
 ghost use Rattle.std.specs.Prelude.{◌≡◌, IsTrue, Ok, Err, IfOk, IfErr, OnOk, length, sum};
 ghost use Rattle.elf_image.specs.Loaded.{IsImageOf};
 ghost use Rattle.core_state.specs.Setup.{setup_of};
-ghost use Rattle.core_lock.specs.Shown.{Shown};
+ghost use Rattle.finished_core.specs.Shown.{Shown};
 ghost use Rattle.sim_refusals.specs.Refusals.{as_read, OfFile, PassesAll, AreAccepted, refusal_of};
 ghost use Rattle.sim_runs.specs.RunTold.{AreRunInputsRefusedFor, LackARole, run_refusal};
 
-use actors::{Gate, RunRefused, run};
-use core_lock::Finished;
+use finished_core::Finished;
 use sim_inputs::Settings;
 use sim_refusals::{Refused, Unread};
 use sim_steps::read_image;
-use smt_core::Predict;
 use std::alloc::Global;
 use std::sync::Wait;
 use std::thread::Threads;
+use threaded_runs::{RunRefused, Runner};
 
 /// Runs the core of an image, with a thread for each actor of the configuration, until no hart is
-/// going or the history, the turns or the gate end it.
+/// going or the history, the turns or a gate end it.
 ///
 /// Refused are, in this order, the image, the sizes of the core, and a configuration without an
 /// actor of some role; want of memory and a thread that can't be started whenever they come.
-pub fn run_bytes<G: Gate + Sync, P: Predict + Copy + Send, R: Threads + Wait + Sync>(
+pub fn run_bytes<X: Runner, R: Threads + Wait + Sync>(
     rt: &R,
+    runner: &X,
     image: &[u8],
     settings: &Settings,
-    gate: &G,
-    predict: P,
     alloc: Global,
 ) -> Result<Finished, Refused>
     ensures refused { IfErr result (AreRunInputsRefusedFor (Ok image.now) settings.now) }
@@ -41,16 +39,15 @@ pub fn run_bytes<G: Gate + Sync, P: Predict + Copy + Send, R: Threads + Wait + S
     ensures counted { IfOk result (λ finished. sum finished.counts ≡ length finished.core.past) }
     ensures shown { IfOk result (λ finished. Shown finished.core) }
 {
-    run_file(rt, Ok(image), settings, gate, predict, alloc)
+    run_file(rt, runner, Ok(image), settings, alloc)
 }
 
 /// The same, of a file as it was read.
-pub(crate) fn run_file<G: Gate + Sync, P: Predict + Copy + Send, R: Threads + Wait + Sync>(
+pub(crate) fn run_file<X: Runner, R: Threads + Wait + Sync>(
     rt: &R,
+    runner: &X,
     image: Result<&[u8], Unread>,
     settings: &Settings,
-    gate: &G,
-    predict: P,
     alloc: Global,
 ) -> Result<Finished, Refused>
     ensures unread { IfErr image.entry (λ why. result ≡ Err (refusal_of why)) }
@@ -74,10 +71,7 @@ pub(crate) fn run_file<G: Gate + Sync, P: Predict + Copy + Send, R: Threads + Wa
     };
     let config = settings.config.copied();
     let (limit, turns) = (settings.limit, settings.turns);
-    gate.begin(limit);
-    let ran = run(rt, &image, config, limit, turns, gate, predict, alloc);
-    gate.rest();
-    match ran {
+    match runner.run(rt, &image, config, limit, turns, alloc) {
         Ok(finished) => Ok(finished),
         Err(why) => Err(refused_run(why)),
     }

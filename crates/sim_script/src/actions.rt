@@ -1,5 +1,5 @@
 /// What an actor, 0 to 15, is asked to do, some of it for one hart, 0 to 7.
-#[derive(Clone, Copy, Debug, PartialEq, Eq, Drop)]
+#[derive(Clone, Copy, Drop)]
 pub enum Action {
     Fetch { actor: u8 },
     Decode { actor: u8, hart: u8 },
@@ -12,7 +12,7 @@ pub enum Action {
 }
 
 /// An action, and how often it is made, 1 to 100000 times.
-#[derive(Clone, Copy, Debug, PartialEq, Eq, Drop)]
+#[derive(Clone, Copy, Drop)]
 pub struct Word {
     pub action: Action,
     pub repeat: u32,

@@ -1,7 +1,8 @@
-ghost use Rattle.std.specs.Prelude.{◌≡◌, Some, IfSome};
+ghost use Rattle.std.specs.Prelude.{◌≡◌, ◌≢◌, ◌≤◌, ◌∷◌, ◌++◌, Some, IfSome, IfNone};
+ghost use Rattle.std.specs.Fmt.{decimal};
 ghost use Rattle.sim_script.specs.declared.actions.Action.{Action as AnyAction};
 ghost use Rattle.sim_script.specs.declared.actions.Word.{Word as AnyWord};
-ghost use Rattle.sim_script.specs.Script.{SpellsAction, SpellsWord};
+ghost use Rattle.sim_script.specs.Script.{IsInRange, SpellsAction, SpellsWord, action_text};
 
 use crate::actions::{Action, Word};
 use crate::numbers::{read_actor, read_actor_and_hart, read_number};
@@ -32,15 +33,43 @@ fn read_action(text: &[u8]) -> Option<Action>
     ensures found { IfSome result (SpellsAction text.now) }
     ensures only { (action : AnyAction) → SpellsAction text.now action → result ≡ Some action }
 {
-    let (letter, text) = text.split_first()?;
+    let (letter, numbers) = text.split_first()?;
     match letter {
-        b'F' => read_actor(text).map(|actor| Action::Fetch { actor }),
-        b'D' => read_actor_and_hart(text).map(|(actor, hart)| Action::Decode { actor, hart }),
-        b'R' => read_actor_and_hart(text).map(|(actor, hart)| Action::Rename { actor, hart }),
-        b'T' => read_actor_and_hart(text).map(|(actor, hart)| Action::Retire { actor, hart }),
-        b'I' => read_actor(text).map(|actor| Action::Issue { actor }),
-        b'C' => read_actor(text).map(|actor| Action::Complete { actor }),
-        b'U' => read_actor(text).map(|actor| Action::Unit { actor }),
+        b'D' | b'R' | b'T' => {
+            let (actor, hart) = read_actor_and_hart(numbers)?;
+            action_for_hart(*letter, actor, hart)
+        }
+        _ => action_of_actor(*letter, read_actor(numbers)?),
+    }
+}
+
+/// The action of this letter that is made for a hart.
+fn action_for_hart(letter: u8, actor: u8, hart: u8) -> Option<Action>
+    ensures found { IfSome result
+        (λ action. action_text action ≡ letter ∷ (decimal actor ++ 46 ∷ decimal hart)) }
+    ensures in_range { actor ≤ 15 → hart ≤ 7 → IfSome result IsInRange }
+    ensures none { IfNone result ((letter ≢ 68) × (letter ≢ 82) × (letter ≢ 84)) }
+{
+    match letter {
+        b'D' => Some(Action::Decode { actor, hart }),
+        b'R' => Some(Action::Rename { actor, hart }),
+        b'T' => Some(Action::Retire { actor, hart }),
+        _ => None,
+    }
+}
+
+/// The action of this letter that is made for none.
+fn action_of_actor(letter: u8, actor: u8) -> Option<Action>
+    ensures found { IfSome result (λ action. action_text action ≡ letter ∷ decimal actor) }
+    ensures in_range { actor ≤ 15 → IfSome result IsInRange }
+    ensures none { IfNone result
+        ((letter ≢ 70) × (letter ≢ 73) × (letter ≢ 67) × (letter ≢ 85)) }
+{
+    match letter {
+        b'F' => Some(Action::Fetch { actor }),
+        b'I' => Some(Action::Issue { actor }),
+        b'C' => Some(Action::Complete { actor }),
+        b'U' => Some(Action::Unit { actor }),
         _ => None,
     }
 }

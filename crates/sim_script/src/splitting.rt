@@ -1,4 +1,4 @@
-ghost use Rattle.std.specs.Prelude.{◌≡◌, ◌≢◌, ◌<◌, ◌≤◌, ◌∷◌, ◌++◌, [], All, IfSome, IfNone, length};
+ghost use Rattle.std.specs.Prelude.{◌≡◌, ◌≢◌, ◌==◌, ◌<◌, ◌≤◌, ◌∷◌, ◌++◌, [], All, IfSome, IfNone, length};
 ghost use Rattle.std.specs.Prelude.{position};
 ghost use Rattle.sim_script.specs.Script.{is_separator, is_inside, pieces};
 
@@ -8,8 +8,17 @@ pub fn split_at_byte(text: &[u8], byte: u8) -> Option<(&[u8], &[u8])>
     ensures first { IfSome result (λ p. All (λ b. b ≢ byte) p.0.now) }
     ensures none { IfNone result (All (λ b. b ≢ byte) text.now) }
 {
-    let place = text.iter().position(|b| *b == byte)?;
+    let Some(place) = place_of(text, byte) else {
+        return None;
+    };
     Some((&text[..place], &text[place + 1..]))
+}
+
+/// Where the first byte of this kind stands.
+fn place_of(text: &[u8], byte: u8) -> Option<usize>
+    ensures { result ≡ position (λ b. b == byte) text.now }
+{
+    text.iter().position(|b| *b == byte)
 }
 
 /// The first piece of the text, and the text behind it.

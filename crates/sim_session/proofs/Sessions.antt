@@ -2,6 +2,8 @@
 use Rattle.std.specs.Prelude.{◌≡◌, ℕ, ◌+◌, ◌<◌, zero, suc, Bool, true}
 use Rattle.std.specs.Prelude.{false, List, [], ◌∷◌, ◌++◌, length, take, flat_map}
 use Rattle.std.specs.Prelude.{get_or, replicate, codes, slice_index_or, slice_set, Option, Some, None}
+use Rattle.std.specs.Prelude.{Result, Ok, Err, IfOk, OnOk}
+use Rattle.std.specs.Result.{result_and}
 use Rattle.std.proofs.Common.{refl, sym, ap, subst, ◌∙◌, append_assoc, arith}
 use Rattle.std.specs.Io.KnownBytes.{Appends, Keeps as StaysKnown, append_known}
 use Rattle.std.proofs.KnownBytes.{append_known-grown}
@@ -49,7 +51,45 @@ answered_apart [] b old new all = (old, refl, all)
 answered_apart (x ∷ others) b old new all =
     let rest = answered_apart others b all.0 new all.2 in (rest.0, (all.0, all.1, rest.1), rest.2)
 
--- Of any predictor.
+-- ---- The core is made of what it was, and may have as many events
+
+record IsSameCore (old new : CoreView) : Type 0 where
+  pub setup : new.setup ≡ old.setup
+  pub limit : new.limit ≡ old.limit
+
+same : (old new : CoreView) → new ≡ old → IsSameCore old new
+same old new is = record { setup = ap (λ c. c.setup) is; limit = ap (λ c. c.limit) is }
+
+answered_same : (x : Exchange) (old new : CoreView) → IsAnswered x old new → IsSameCore old new
+answered_same (Plain ask (plain.Done e)) old new is =
+    record { setup = ap (λ c. c.setup) is.grows; limit = ap (λ c. c.limit) is.grows }
+answered_same (Plain ask plain.Idle) old new is = same old new is.unchanged
+answered_same (Plain ask plain.Full) old new is = same old new is.unchanged
+answered_same (Issued actor (issue.Job job e)) old new is =
+    record { setup = ap (λ c. c.setup) is.made.grows; limit = ap (λ c. c.limit) is.made.grows }
+answered_same (Issued actor issue.Idle) old new is = same old new is.unchanged
+answered_same (Issued actor issue.Full) old new is = same old new is.unchanged
+answered_same (HandedBack actor done (complete.Done e)) old new is =
+    record { setup = ap (λ c. c.setup) is.made.grows; limit = ap (λ c. c.limit) is.made.grows }
+answered_same (HandedBack actor done complete.Stranger) old new is = same old new is.unchanged
+answered_same (HandedBack actor done complete.Full) old new is = same old new is.unchanged
+answered_same NothingHeld old new is = same old new is
+
+all_same : (a : List Exchange) (old new : CoreView) → AreAnswered a old new → IsSameCore old new
+all_same [] old new is = same old new is
+all_same (x ∷ others) old new is =
+    let first = answered_same x old is.0 is.1 in
+    let rest = all_same others is.0 new is.2 in
+    record { setup = rest.setup ∙ first.setup; limit = rest.limit ∙ first.limit }
+
+pub setup_stays : (a : List Exchange) (old new : CoreView) → AreAnswered a old new → new.setup ≡ old.setup
+setup_stays a old new is = (all_same a old new is).setup
+
+pub limit_stays : (a : List Exchange) (old new : CoreView) → AreAnswered a old new → new.limit ≡ old.limit
+limit_stays a old new is = (all_same a old new is).limit
+
+-- ---- Of any predictor
+
 module _ {P : Type 0} (predicts : P → ℕ → ℕ → ℕ → ℕ → P → Type 0) where
   pub guessed_both : (a b : List Exchange) (before mid after : P) → AreGuessed predicts a before mid
       → AreGuessed predicts b mid after → AreGuessed predicts (a ++ b) before after
@@ -157,6 +197,31 @@ module _ {P : Type 0} (predicts : P → ℕ → ℕ → ℕ → ℕ → P → Ty
       subst (λ l. Exchanges predicts old new before after was out (AreMade l held now)) (sym more)
       (both (actions_of (take i words)) (repeated (get_or words i d)) held between now old mid new before at after
       was then out one two)
+
+  -- ---- All words, of a core whose actors hold nothing
+
+  pub asked_whole : {A E : Type 0} (told : Result A E) (words : List Word) (core left : CoreView) (held now : Holding)
+      (before after : P) (was out : Option (List ℕ)) → held ≡ nobody
+      → OnOk told (Exchanges predicts core left before after was out (AreMade (actions_of words) held now))
+      → IfOk (result_and told (Ok left)) (λ end. Exchanges predicts core end before after was out
+      (λ exchanges. (last : Holding) × AreMade (actions_of words) nobody last exchanges))
+  asked_whole (Ok value) words core left held now before after was out none made =
+      (made.0, (now, subst (λ first. AreMade (actions_of words) first now made.0) none made.1), made.2)
+  asked_whole (Err error) words core left held now before after was out none made = tt
+
+  pub setup_left : {A E : Type 0} (told : Result A E) (core left : CoreView) (before after : P)
+      (was out : Option (List ℕ)) (Holds : List Exchange → Type 0)
+      → OnOk told (Exchanges predicts core left before after was out Holds)
+      → IfOk (result_and told (Ok left)) (λ end. end.setup ≡ core.setup)
+  setup_left (Ok value) core left before after was out Holds made = setup_stays made.0 core left made.2.answered
+  setup_left (Err error) core left before after was out Holds made = tt
+
+  pub limit_left : {A E : Type 0} (told : Result A E) (core left : CoreView) (before after : P)
+      (was out : Option (List ℕ)) (Holds : List Exchange → Type 0)
+      → OnOk told (Exchanges predicts core left before after was out Holds)
+      → IfOk (result_and told (Ok left)) (λ end. end.limit ≡ core.limit)
+  limit_left (Ok value) core left before after was out Holds made = limit_stays made.0 core left made.2.answered
+  limit_left (Err error) core left before after was out Holds made = tt
 
   -- ---- One action
 
@@ -342,43 +407,6 @@ pub complete_printable : (actor : ℕ) (done : DoneView) (old : CoreView) (answe
 complete_printable actor done old (complete.Done e) new answered = answered.made.printable
 complete_printable actor done old complete.Stranger new answered = tt
 complete_printable actor done old complete.Full new answered = tt
-
--- ---- The core is made of what it was, and may have as many events
-
-record IsSameCore (old new : CoreView) : Type 0 where
-  pub setup : new.setup ≡ old.setup
-  pub limit : new.limit ≡ old.limit
-
-same : (old new : CoreView) → new ≡ old → IsSameCore old new
-same old new is = record { setup = ap (λ c. c.setup) is; limit = ap (λ c. c.limit) is }
-
-answered_same : (x : Exchange) (old new : CoreView) → IsAnswered x old new → IsSameCore old new
-answered_same (Plain ask (plain.Done e)) old new is =
-    record { setup = ap (λ c. c.setup) is.grows; limit = ap (λ c. c.limit) is.grows }
-answered_same (Plain ask plain.Idle) old new is = same old new is.unchanged
-answered_same (Plain ask plain.Full) old new is = same old new is.unchanged
-answered_same (Issued actor (issue.Job job e)) old new is =
-    record { setup = ap (λ c. c.setup) is.made.grows; limit = ap (λ c. c.limit) is.made.grows }
-answered_same (Issued actor issue.Idle) old new is = same old new is.unchanged
-answered_same (Issued actor issue.Full) old new is = same old new is.unchanged
-answered_same (HandedBack actor done (complete.Done e)) old new is =
-    record { setup = ap (λ c. c.setup) is.made.grows; limit = ap (λ c. c.limit) is.made.grows }
-answered_same (HandedBack actor done complete.Stranger) old new is = same old new is.unchanged
-answered_same (HandedBack actor done complete.Full) old new is = same old new is.unchanged
-answered_same NothingHeld old new is = same old new is
-
-all_same : (a : List Exchange) (old new : CoreView) → AreAnswered a old new → IsSameCore old new
-all_same [] old new is = same old new is
-all_same (x ∷ others) old new is =
-    let first = answered_same x old is.0 is.1 in
-    let rest = all_same others is.0 new is.2 in
-    record { setup = rest.setup ∙ first.setup; limit = rest.limit ∙ first.limit }
-
-pub setup_stays : (a : List Exchange) (old new : CoreView) → AreAnswered a old new → new.setup ≡ old.setup
-setup_stays a old new is = (all_same a old new is).setup
-
-pub limit_stays : (a : List Exchange) (old new : CoreView) → AreAnswered a old new → new.limit ≡ old.limit
-limit_stays a old new is = (all_same a old new is).limit
 
 -- ---- The words of a script that was read
 

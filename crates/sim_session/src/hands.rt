@@ -49,23 +49,18 @@ impl Hands {
     pub fn abandon_all(self) {
         let Hands { held } = self;
         let [a, b, c, d, e, f, g, h, i, j, k, l, m, n, o, p] = held;
-        abandon(a);
-        abandon(b);
-        abandon(c);
-        abandon(d);
-        abandon(e);
-        abandon(f);
-        abandon(g);
-        abandon(h);
-        abandon(i);
-        abandon(j);
-        abandon(k);
-        abandon(l);
-        abandon(m);
-        abandon(n);
-        abandon(o);
-        abandon(p);
+        abandon_four(a, b, c, d);
+        abandon_four(e, f, g, h);
+        abandon_four(i, j, k, l);
+        abandon_four(m, n, o, p);
     }
+}
+
+fn abandon_four(a: Option<Done>, b: Option<Done>, c: Option<Done>, d: Option<Done>) {
+    abandon(a);
+    abandon(b);
+    abandon(c);
+    abandon(d);
 }
 
 fn abandon(done: Option<Done>) {

@@ -17,7 +17,7 @@ pub type Lines = ArrayString<3072>;
 const ROOM: usize = 140;
 
 /// The writer failed. Its error is dropped where it comes: it is large, and nothing is told of it.
-#[derive(Clone, Copy, Debug, PartialEq, Eq, Drop)]
+#[derive(Clone, Copy, PartialEq, Eq, Drop)]
 pub struct Unwritten;
 
 /// Writes the lines that are held back, where those of one more action might not fit beside them.

@@ -19,28 +19,6 @@ struct Session {
     hands: Hands,
 }
 
-impl Session {
-    /// A core whose actors hold nothing.
-    fn new(core: Core) -> Session
-        ensures core { result.core ≡ core }
-        ensures held { result.hands.held ≡ nobody }
-    {
-        Session {
-            core,
-            hands: Hands::empty(),
-        }
-    }
-
-    /// Gives up all that is held, for the core.
-    fn finish(self) -> Core
-        ensures { result ≡ self.core }
-    {
-        let Session { core, hands } = self;
-        hands.abandon_all();
-        core
-    }
-}
-
 /// Makes the asks of a core whose actors hold nothing, one for each action of the words, in order,
 /// and writes a line for each: what the core answers. Gives the core back. `Unwritten` is answered
 /// where `out` failed; then the core is lost.
@@ -56,32 +34,32 @@ pub fn ask_core<P: Predict, W: Write>(
         (W.contents out.old) (W.contents out.new)
         (λ exchanges. (held : Holding) × AreMade (actions_of words.now) nobody held exchanges)) }
 {
-    let mut session = Session::new(core);
-    let mut lines = Lines::new();
-    let told = make_asks(&mut session, words, predict, &mut lines, out);
-    let core = session.finish();
-    told?;
-    write_lines(&mut lines, out)?;
-    Ok(core)
+    let mut session = Session {
+        core,
+        hands: Hands::empty(),
+    };
+    let told = make_asks(&mut session, words, predict, out);
+    let Session { core, hands } = session;
+    hands.abandon_all();
+    told.and(Ok(core))
 }
 
-// Makes the asks of all words, in order, and prints a line for each.
+// Makes the asks of all words, in order, and writes a line for each.
 fn make_asks<P: Predict, W: Write>(
     session: &mut Session,
     words: &[Word],
     predict: &mut P,
-    lines: &mut Lines,
     out: &mut W,
 ) -> Result<(), Unwritten>
     ensures { OnOk result (Exchanges P.predicts session.old.core session.new.core
-        predict.old predict.new (append_known (W.contents out.old) lines.old.bytes)
-        (append_known (W.contents out.new) lines.new.bytes)
+        predict.old predict.new (W.contents out.old) (W.contents out.new)
         (AreMade (actions_of words.now) session.old.hands.held session.new.hands.held)) }
 {
+    let mut lines = Lines::new();
     for word in words {
-        repeat_action(session, *word, predict, lines, out)?;
+        repeat_action(session, *word, predict, &mut lines, out)?;
     }
-    Ok(())
+    write_lines(&mut lines, out)
 }
 
 /// Makes the asks of one word as often as it says.

@@ -4,7 +4,7 @@ use Rattle.std.specs.Prelude.{length}
 use Rattle.std.proofs.{Common.refl, Common.sym, Common.ap, Common.subst, Common.◌∙◌, lemmas.Bool.false≢true}
 use Rattle.std.specs.Io.KnownBytes.{Appends}
 use Rattle.core_state.specs.{Setup.setup_of, View.CoreView}
-use Rattle.core_lock.specs.Shown.{Shown}
+use Rattle.finished_core.specs.Shown.{Shown}
 use Rattle.elf_image.specs.Loaded.{IsImageOf}
 use Rattle.sim_inputs.specs.declared.settings.Settings.{Settings}
 use Rattle.sim_refusals.specs.{Refusals.Read, Refusals.OfFile}

@@ -7,7 +7,7 @@ use Rattle.events.specs.declared.effect.Record.{Record}
 use Rattle.smt_model.specs.{declared.config.Status.Status, Basics.below, Account.records}
 use Rattle.smt_model.specs.{Account.open_job_count, Memory.status, Memory.output}
 use Rattle.core_state.specs.{Setup.setup_of, View.CoreView}
-use Rattle.core_lock.specs.Shown.{Shown}
+use Rattle.finished_core.specs.Shown.{Shown}
 use Rattle.sim_inputs.specs.declared.settings.Settings.{Settings}
 use Rattle.event_text.specs.{Sinking.HasPut, Trace.trace_text}
 use Rattle.sim_refusals.specs.{Refusals.Read, Refusals.OfFile}

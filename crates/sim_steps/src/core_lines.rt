@@ -22,7 +22,7 @@ use std::alloc::{AllocError, Global};
 use std::io::Write;
 
 /// What is wanted beside the asks and the report.
-#[derive(Clone, Copy, Debug, PartialEq, Eq, Drop)]
+#[derive(Clone, Copy, PartialEq, Eq, Drop)]
 pub struct Wanted {
     /// A line for each retired instruction, before the report.
     pub records: bool,

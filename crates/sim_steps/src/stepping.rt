@@ -2,7 +2,7 @@ ghost use Rattle.std.specs.Prelude.{◌≡◌, List, [], All, IsTrue, Ok, Err, I
 ghost use Rattle.std.specs.Prelude.{length, sum};
 ghost use Rattle.elf_image.specs.Loaded.{IsImageOf};
 ghost use Rattle.core_state.specs.Setup.{setup_of};
-ghost use Rattle.core_lock.specs.Shown.{Shown};
+ghost use Rattle.finished_core.specs.Shown.{Shown};
 ghost use Rattle.sim_script.specs.declared.actions.Word.{Word as AnyWord};
 ghost use Rattle.sim_script.specs.Script.{IsScript, IsInRange};
 ghost use Rattle.sim_session.specs.Session.{Holding, AreMade, Exchanges, AreAskedWith, Prints};
@@ -12,8 +12,8 @@ ghost use Rattle.sim_refusals.specs.Refusals.{as_read, OfFile, PassesAll, AreAcc
 ghost use Rattle.sim_refusals.specs.Refusals.{AreInputsRefusedFor, IsImageRefusal, IsConfigRefusal};
 ghost use Rattle.sim_refusals.specs.Refusals.{IsScriptRefusal, refusal_of};
 
-use core_lock::Finished;
 use elf_image::{LoadRefused, load};
+use finished_core::Finished;
 use program_image::Image;
 use sim_inputs::Settings;
 use sim_refusals::{Refused, Unread};

@@ -3,7 +3,7 @@
 //!
 //! Read in this order: `performing` (all that the program does once its files are read), `program`
 //! (all that it does). How files are read and a trace is written stands in `sim_files`, what is said
-//! of words and of refusals in `sim_words`, and how far a run is, on a terminal, in `run_progress`.
+//! of words and of refusals in `sim_words`, and what runs threads in `threaded_runs`.
 //! What the commands come to stands in `sim_commands` and, of `run`, in `sim_runs`; the asks of a
 //! script stand in `sim_session`, and what goes out in `sim_report`.
 #![tactic(auto)]
@@ -11,11 +11,8 @@
 mod performing;
 mod program;
 
-pub use actors::{Open, StaticPredictor};
-pub use core_lock::Finished;
 pub use performing::{Inputs, perform};
 pub use program::run;
-pub use run_progress::Progress;
 pub use sim_commands::{check_and_report, schedule_and_print};
 pub use sim_files::{read_file, read_to_end};
 pub use sim_refusals::{Refused, Unread};

@@ -9,7 +9,6 @@ ghost use Rattle.simulator.specs.Lines.{IsListed, IsListRefusal, IsRefusal, IsSe
 ghost use Rattle.simulator.specs.Lines.{OfSettings, HasEnded, IsUnreported, wants_trace};
 ghost use Rattle.sim_steps.specs.Told.{IsKept};
 
-use actors::Gate;
 use event_text::Sink;
 use sim_commands::{check_and_report, run_and_report, schedule_and_print};
 use sim_inputs::{ConfigRefused, Line, Settings, read_config};
@@ -23,6 +22,7 @@ use std::alloc::Global;
 use std::io::Write;
 use std::sync::Wait;
 use std::thread::Threads;
+use threaded_runs::Runner;
 
 /// The files that a line names, as they were read.
 #[derive(Clone, Copy, Drop)]
@@ -43,18 +43,11 @@ pub struct Inputs<'a> {
 /// The trace of a core goes into `trace`, a sink that hasn't failed, where the line names a file
 /// for it: behind the last ask, and before the tables and the report. Where the sink fails, neither
 /// is printed.
-pub fn perform<
-    G: Gate + Sync,
-    P: Predict + Copy + Send,
-    S: Sink,
-    W: Write,
-    E: Write,
-    R: Threads + Wait + Sync,
->(
+pub fn perform<X: Runner, P: Predict + Copy, S: Sink, W: Write, E: Write, R: Threads + Wait + Sync>(
     rt: &R,
+    runner: &X,
     line: &Line<'_>,
     inputs: &Inputs<'_>,
-    gate: &G,
     predict: P,
     trace: &mut S,
     out: &mut W,
@@ -76,24 +69,18 @@ pub fn perform<
     ensures unreported { S.has_failed trace.new ≡ true → IsUnreported line.now
         (as_read inputs.now.second) (W.contents out.old) (W.contents out.new) }
 {
-    match configure_and_answer(rt, line, inputs, gate, predict, trace, out, alloc) {
+    match configure_and_answer(rt, runner, line, inputs, predict, trace, out, alloc) {
         Ok(status) => status,
         Err(refused) => refuse(refused, err),
     }
 }
 
 /// The exit status of a line whose inputs are accepted, with all flushed that it prints.
-fn configure_and_answer<
-    G: Gate + Sync,
-    P: Predict + Copy + Send,
-    S: Sink,
-    W: Write,
-    R: Threads + Wait + Sync,
->(
+fn configure_and_answer<X: Runner, P: Predict + Copy, S: Sink, W: Write, R: Threads + Wait + Sync>(
     rt: &R,
+    runner: &X,
     line: &Line<'_>,
     inputs: &Inputs<'_>,
-    gate: &G,
     predict: P,
     trace: &mut S,
     out: &mut W,
@@ -118,7 +105,7 @@ fn configure_and_answer<
         Err(refused) => return Err(refused),
     };
     let status = match answer(
-        rt, line, inputs, &settings, gate, predict, trace, out, alloc,
+        rt, runner, line, inputs, &settings, predict, trace, out, alloc,
     ) {
         Ok(answered) => answered,
         Err(refused) => return Err(refused),
@@ -147,12 +134,12 @@ fn read_settings(config: Result<&[u8], Unread>, alloc: Global) -> Result<Setting
 }
 
 /// The same, of a line with its settings.
-fn answer<G: Gate + Sync, P: Predict + Copy + Send, S: Sink, W: Write, R: Threads + Wait + Sync>(
+fn answer<X: Runner, P: Predict + Copy, S: Sink, W: Write, R: Threads + Wait + Sync>(
     rt: &R,
+    runner: &X,
     line: &Line<'_>,
     inputs: &Inputs<'_>,
     settings: &Settings,
-    gate: &G,
     predict: P,
     trace: &mut S,
     out: &mut W,
@@ -181,9 +168,7 @@ fn answer<G: Gate + Sync, P: Predict + Copy + Send, S: Sink, W: Write, R: Thread
         } => {
             let wanted = Wanted::new(*records, false, *kept);
             let image = inputs.image;
-            thread_and_report(
-                rt, image, settings, wanted, gate, predict, trace, out, alloc,
-            )
+            thread_and_report(rt, runner, image, settings, wanted, trace, out, alloc)
         }
         Line::Check { records, .. } => {
             check_and_report(inputs.image, settings, inputs.second, *records, out, alloc)

@@ -5,9 +5,8 @@ ghost use Rattle.sim_refusals.specs.Refusals.{as_read, words_refused, IsWordsSta
 ghost use Rattle.exit_statuses.specs.Statuses.{says_harts};
 
 use crate::performing::{Inputs, perform};
-use actors::Gate;
 use sim_files::{TraceFile, read_file};
-use sim_inputs::{Line, read_words};
+use sim_inputs::{Line, WordsRefused, read_words};
 use sim_refusals::{Refused, Unread};
 use sim_words::{collect, refuse, refuse_words, texts, unread_words};
 use smt_core::Predict;
@@ -18,6 +17,7 @@ use std::io::Write;
 use std::rt::Files;
 use std::sync::Wait;
 use std::thread::Threads;
+use threaded_runs::Runner;
 
 /// Does all that the program does with its words, its own name first, and answers its exit status:
 /// what the words ask for is printed on `out`, and why it isn't on `err`. 0 for help, 2 for a wrong
@@ -25,14 +25,14 @@ use std::thread::Threads;
 /// that are no text are a wrong command line. A trace is written to the file that the words name.
 pub fn run<
     S: Files + Threads + Wait + Sync,
-    G: Gate + Sync,
-    P: Predict + Copy + Send,
+    X: Runner,
+    P: Predict + Copy,
     W: Write + Drop,
     E: Write,
 >(
     system: &S,
     words: io::Result<Args>,
-    gate: &G,
+    runner: &X,
     predict: P,
     out: io::Result<W>,
     err: &mut E,
@@ -44,21 +44,16 @@ pub fn run<
         (λ error. IsWordsStatus (words_refused (error_kind error)) result)) }
 {
     match out {
-        Ok(mut out) => answer_words(system, words, gate, predict, &mut out, err, alloc),
+        Ok(mut out) => answer_words(system, words, runner, predict, &mut out, err, alloc),
         Err(_) => refuse(Refused::Memory, err),
     }
 }
 
-fn answer_words<
-    S: Files + Threads + Wait + Sync,
-    G: Gate + Sync,
-    P: Predict + Copy + Send,
-    W: Write,
-    E: Write,
->(
+/// Does what the words ask for, or says why it isn't done.
+fn answer_words<S: Files + Threads + Wait + Sync, X: Runner, P: Predict + Copy, W: Write, E: Write>(
     system: &S,
     words: io::Result<Args>,
-    gate: &G,
+    runner: &X,
     predict: P,
     out: &mut W,
     err: &mut E,
@@ -68,65 +63,112 @@ fn answer_words<
     ensures unread { IfErr words
         (λ error. IsWordsStatus (words_refused (error_kind error)) result) }
 {
-    let words = match words {
+    let words = match take_words(words, alloc) {
         Ok(words) => words,
-        Err(error) => return refuse_words(unread_words(&error), out, err),
+        Err(refused) => return refuse_words(refused, out, err),
     };
-    match collect_and_answer(system, words, gate, predict, out, err, alloc) {
+    match answer_texts(system, words.as_slice(), runner, predict, out, err, alloc) {
         Ok(status) => status,
-        Err(AllocError) => refuse(Refused::Memory, err),
+        Err(refused) => refuse_words(refused, out, err),
     }
 }
 
-/// Answers words that are all texts. Fails only where there is no memory to hold them.
-fn collect_and_answer<
-    S: Files + Threads + Wait + Sync,
-    G: Gate + Sync,
-    P: Predict + Copy + Send,
-    W: Write,
-    E: Write,
->(
+/// The words, where all are texts and there is memory to hold them.
+fn take_words(words: io::Result<Args>, alloc: Global) -> Result<Vec<String>, WordsRefused>
+    ensures { IfErr words (λ error. result ≡ Err (words_refused (error_kind error))) }
+{
+    let words = match words {
+        Ok(words) => words,
+        Err(error) => return Err(unread_words(&error)),
+    };
+    match collect(words, alloc) {
+        Ok(words) => Ok(words),
+        Err(AllocError) => Err(WordsRefused::Memory),
+    }
+}
+
+/// Does what words that are texts ask for, or answers why it isn't done.
+fn answer_texts<S: Files + Threads + Wait + Sync, X: Runner, P: Predict + Copy, W: Write, E: Write>(
     system: &S,
-    words: Args,
-    gate: &G,
+    words: &[String],
+    runner: &X,
     predict: P,
     out: &mut W,
     err: &mut E,
     alloc: Global,
-) -> Result<u8, AllocError>
+) -> Result<u8, WordsRefused>
     ensures { IfOk result
         (λ status. IsTrue (says_harts status) ⊎ (status ≡ 2) ⊎ (status ≡ 4) ⊎ (status ≡ 5)) }
 {
-    let words = collect(words, alloc)?;
-    let texts = texts(words.as_slice(), alloc)?;
+    let texts = match texts(words, alloc) {
+        Ok(texts) => texts,
+        Err(AllocError) => return Err(WordsRefused::Memory),
+    };
     match read_words(texts.as_slice(), alloc) {
-        Ok(line) => Ok(read_and_perform(system, &line, gate, predict, out, err, alloc)),
-        Err(refused) => Ok(refuse_words(refused, out, err)),
+        Ok(line) => Ok(read_and_perform(system, &line, runner, predict, out, err, alloc)),
+        Err(refused) => Err(refused),
     }
 }
 
 /// Reads the files that a line names, and performs it.
 fn read_and_perform<
     S: Files + Threads + Wait + Sync,
-    G: Gate + Sync,
-    P: Predict + Copy + Send,
+    X: Runner,
+    P: Predict + Copy,
     W: Write,
     E: Write,
->(system: &S, line: &Line<'_>, gate: &G, predict: P, out: &mut W, err: &mut E, alloc: Global) -> u8
+>(
+    system: &S,
+    line: &Line<'_>,
+    runner: &X,
+    predict: P,
+    out: &mut W,
+    err: &mut E,
+    alloc: Global,
+) -> u8
     ensures { IsTrue (says_harts result) ⊎ (result ≡ 2) ⊎ (result ≡ 4) ⊎ (result ≡ 5) }
 {
-    let config = read_named(system, line.config(), alloc);
-    let image = read_file(system, line.image(), alloc);
-    let second = read_named(system, line.second(), alloc);
-    let inputs = Inputs {
-        config: lent(&config),
-        image: lent(&image),
-        second: lent(&second),
-    };
+    let read = ReadInputs::of(system, line, alloc);
     let mut trace = TraceFile::new(system, line.kept());
     perform(
-        system, line, &inputs, gate, predict, &mut trace, out, err, alloc,
+        system,
+        runner,
+        line,
+        &read.lent(),
+        predict,
+        &mut trace,
+        out,
+        err,
+        alloc,
     )
+}
+
+/// What the files hold that a line names, or why they couldn't be read.
+#[derive(Drop)]
+struct ReadInputs {
+    config: Result<Vec<u8>, Unread>,
+    image: Result<Vec<u8>, Unread>,
+    second: Result<Vec<u8>, Unread>,
+}
+
+impl ReadInputs {
+    /// Reads the files of a line.
+    fn of<S: Files>(system: &S, line: &Line<'_>, alloc: Global) -> ReadInputs {
+        ReadInputs {
+            config: read_named(system, line.config(), alloc),
+            image: read_file(system, line.image(), alloc),
+            second: read_named(system, line.second(), alloc),
+        }
+    }
+
+    /// The same, lent.
+    fn lent(&self) -> Inputs<'_> {
+        Inputs {
+            config: lent(&self.config),
+            image: lent(&self.image),
+            second: lent(&self.second),
+        }
+    }
 }
 
 /// The bytes of a file that the line names; none where it names none.

@@ -2,7 +2,7 @@ use events::Event;
 use exec_units::Job;
 
 /// What a step that needs no more than its actor and hart answers.
-#[derive(Clone, Copy, Debug, PartialEq, Eq, Drop)]
+#[derive(Clone, Copy, PartialEq, Eq, Drop)]
 pub enum Answer {
     /// The step was made, and the history has this event more.
     Done(Event),
@@ -20,7 +20,7 @@ pub enum IssueAnswer {
 }
 
 /// What a completion answers.
-#[derive(Clone, Copy, Debug, PartialEq, Eq, Drop)]
+#[derive(Clone, Copy, PartialEq, Eq, Drop)]
 pub enum CompleteAnswer {
     /// The event is a completion, or a drop where the instruction was squashed meanwhile.
     Done(Event),

@@ -4,7 +4,7 @@ use crate::calls::Core;
 use events::Event;
 
 /// What a core answers that is given an event to follow.
-#[derive(Clone, Copy, Debug, PartialEq, Eq, Drop)]
+#[derive(Clone, Copy, PartialEq, Eq, Drop)]
 pub enum Followed {
     /// The event may come next, and the history has it more.
     Done,

@@ -7,7 +7,7 @@ use numbers::sizes::MOST_ACTORS;
 
 /// What an actor does in its turns. Only `Alu`, `Mul` and `Mem` issue instructions, each for its
 /// own kind of unit; every other step may be made by any actor.
-#[derive(Clone, Copy, Debug, PartialEq, Eq, Default, Drop)]
+#[derive(Clone, Copy, PartialEq, Eq, Default, Drop)]
 pub enum Role {
     #[default]
     Fetch,
@@ -20,7 +20,7 @@ pub enum Role {
 
 /// The sizes of a core: 1 to 8 harts, 1 to 256 extra physical registers beside the 31 of each hart,
 /// 4 to 64 entries in the issue queue, and the roles of its 1 to 16 actors.
-#[derive(Debug, Drop)]
+#[derive(Drop)]
 pub struct Config {
     pub harts: u8,
     pub extra: u16,
@@ -56,7 +56,7 @@ fn copy_of(roles: &[Role]) -> ArrayVec<Role, MOST_ACTORS>
 }
 
 /// How a hart stands.
-#[derive(Clone, Copy, Debug, PartialEq, Eq, Drop)]
+#[derive(Clone, Copy, PartialEq, Eq, Drop)]
 pub enum Status {
     Going,
     /// It has ended with this number.

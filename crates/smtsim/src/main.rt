@@ -1,20 +1,28 @@
 //! The program `smtsim`: has `simulator` do all that its words ask for, with its files, standard
-//! output and standard error.
+//! output and standard error, and `actors` run its threads.
 #![tactic(auto)]
 
-use simulator::{Progress, StaticPredictor, run};
+mod shown_runs;
+
+use crate::shown_runs::ShownRuns;
+use run_progress::Progress;
+use simulator::run;
 use std::io::{BufWriter, IsTerminal};
 use std::process::ExitCode;
 use std::{env, io};
+use threaded_runs::StaticPredictor;
 
 fn main(rt: HostRuntime) -> ExitCode {
     let mut err = rt.stderr();
     // Only a terminal is told how far a run is, so what is kept of standard error stays as it is.
     let progress = Progress::new(&rt, err, err.is_terminal());
+    let runs = ShownRuns {
+        progress: &progress,
+    };
     ExitCode::from(run(
         &rt,
         env::args(&rt),
-        &progress,
+        &runs,
         StaticPredictor,
         BufWriter::new(rt.alloc(), io::writer(&rt)),
         &mut err,

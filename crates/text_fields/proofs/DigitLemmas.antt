@@ -83,3 +83,7 @@ pub longer_digits : (n a b c d : ℕ) (front : List ℕ) → 10000 ≤ n → n <
     d ≡ 48 + n % 10000 % 100 % 10 → front ++ a ∷ b ∷ c ∷ d ∷ [] ≡ decimal n
 longer_digits n a b c d front low high is p q r s =
     rw (is, bytes_four (n % 10000) a b c d p q r s) (sym (decimal_longer n low (omega arith)))
+
+-- what is appended is no longer than the room for it
+pub grown : (old new more room : ℕ) → new ≡ old + more → more ≤ room → new ≤ old + room
+grown old new more room is fits = omega (arith, is, fits)

@@ -1,7 +1,7 @@
 -- A field that stands at the front of a text, read byte by byte up to the byte that ends it.
 
 use Rattle.std.proofs.Common.{◌≡◌, ◌≢◌, ℕ, zero, suc, ◌+◌, ◌-◌, ◌*◌, ◌^◌, ◌<◌, ◌≤◌, true, List, [], ◌∷◌, ◌++◌, length}
-use Rattle.std.proofs.Common.{get_or, take, drop, drop-cons, refl, subst, sym, ◌∙◌, ap, arith, lit<, append-nil}
+use Rattle.std.proofs.Common.{get_or, take, drop, drop-cons, refl, sym, ◌∙◌, ap, arith, lit<, append-nil}
 use Rattle.std.proofs.Math.Nat.{pow-le-pow_right, pow-succ'}
 use Rattle.std.proofs.lemmas.Bool.Decides.{nat_tests}
 use Rattle.std.proofs.lemmas.Fmt.{decimal_digit, decimal-digits_value}

@@ -4,7 +4,7 @@ ghost use Rattle.std.specs.Prelude.{◌≡◌, ◌+◌, ◌/◌, ◌%◌, ◌≤
 ghost use Rattle.std.specs.Prelude.{length, IsAscii};
 ghost use Rattle.std.specs.Fmt.{decimal, digit_glyph};
 ghost use Rattle.arrayvec.specs.ArrayString.{array_string_len};
-ghost use Rattle.text_fields.specs.Spelling.{hex, hex_digit, dash, optional, four};
+ghost use Rattle.text_fields.specs.Spelling.{hex, hex_digit, dash, optional};
 
 use crate::pairs::{high_digit, low_digit, ones, tens};
 use arrayvec::ArrayString;
@@ -22,72 +22,29 @@ pub fn push_decimal<const N: usize, I: Integer>(text: &mut ArrayString<N>, value
     text.push_str(Buffer::new().format(value));
 }
 
-// Appends the four digits of a number below 10,000, those that are 0 too.
-fn push_four<const N: usize>(text: &mut ArrayString<N>, value: u32)
-    requires small { value < 10000 }
-    requires room { array_string_len text.old + 4 ≤ N }
-    ensures spelled { text.new.bytes ≡ text.old.bytes ++ four value }
-    ensures length { array_string_len text.new ≡ array_string_len text.old + 4 }
-{
-    let front = (value / 100) as u8;
-    let back = (value % 100) as u8;
-    push_bytes(text, &[tens(front), ones(front), tens(back), ones(back)]);
-}
-
-// Appends a number below 1000.
-fn push_three<const N: usize>(text: &mut ArrayString<N>, value: u32)
-    requires small { value < 1000 }
-    requires room { array_string_len text.old + 3 ≤ N }
-    ensures spelled { text.new.bytes ≡ text.old.bytes ++ decimal value }
-    ensures length { array_string_len text.new ≤ array_string_len text.old + 3 }
-{
-    if value < 10 {
-        push_bytes(text, &[b'0' + value as u8]);
-    } else if value < 100 {
-        push_bytes(text, &[tens(value as u8), ones(value as u8)]);
-    } else {
-        let back = (value % 100) as u8;
-        push_bytes(text, &[b'0' + (value / 100) as u8, tens(back), ones(back)]);
-    }
-}
-
-// Appends a number below 10,000.
-fn push_short<const N: usize>(text: &mut ArrayString<N>, value: u32)
-    requires small { value < 10000 }
-    requires room { array_string_len text.old + 4 ≤ N }
-    ensures spelled { text.new.bytes ≡ text.old.bytes ++ decimal value }
-    ensures length { array_string_len text.new ≤ array_string_len text.old + 4 }
-{
-    if value < 1000 {
-        push_three(text, value);
-    } else {
-        push_four(text, value);
-    }
-}
-
 /// Appends a decimal number of one byte as `push_decimal` does, in fewer steps.
 pub fn push_small_number<const N: usize>(text: &mut ArrayString<N>, value: u8)
     requires { array_string_len text.old + 3 ≤ N }
     ensures spelled { text.new.bytes ≡ text.old.bytes ++ decimal value }
     ensures length { array_string_len text.new ≤ array_string_len text.old + 3 }
 {
-    push_three(text, u32::from(value));
+    if value < 10 {
+        push_bytes(text, &[b'0' + value]);
+    } else if value < 100 {
+        push_bytes(text, &[tens(value), ones(value)]);
+    } else {
+        let back = value % 100;
+        push_bytes(text, &[b'0' + value / 100, tens(back), ones(back)]);
+    }
 }
 
-/// Appends a decimal number of four bytes as `push_decimal` does, in fewer steps.
+/// Appends a decimal number of four bytes as `push_decimal` does.
 pub fn push_number<const N: usize>(text: &mut ArrayString<N>, value: u32)
     requires { array_string_len text.old + 10 ≤ N }
     ensures spelled { text.new.bytes ≡ text.old.bytes ++ decimal value }
     ensures length { array_string_len text.new ≤ array_string_len text.old + 10 }
 {
-    if value < 10_000 {
-        push_short(text, value);
-    } else if value < 100_000_000 {
-        push_short(text, value / 10_000);
-        push_four(text, value % 10_000);
-    } else {
-        push_decimal(text, value);
-    }
+    push_decimal(text, value);
 }
 
 // Appends ASCII characters.

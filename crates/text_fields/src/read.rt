@@ -9,15 +9,23 @@ ghost use Rattle.text_fields.specs.Reading.{is_dash, is_hex_digit, hex_digit_val
 ghost use Rattle.text_fields.specs.Reading.{hex_after, decimal_field, signed_field};
 ghost use Rattle.text_fields.specs.Reading.{hex_field, optional_field};
 
+use std::fmt;
 use thiserror::Error;
 
 /// Why a field was refused.
 #[derive(Clone, Copy, Debug, PartialEq, Eq, Drop, Error)]
 pub enum FieldError {
-    #[error("spelled otherwise")]
     Misspelled,
-    #[error("out of range")]
     OutOfRange,
+}
+
+impl fmt::Display for FieldError {
+    fn fmt<W: fmt::Write>(&self, f: &mut fmt::Formatter<W>) -> fmt::Result {
+        f.write_str(match self {
+            FieldError::Misspelled => "spelled otherwise",
+            FieldError::OutOfRange => "out of range",
+        })
+    }
 }
 
 fn are_digits(text: &[u8]) -> bool
@@ -118,7 +126,7 @@ pub fn read_signed_decimal(text: &[u8], bound: u32) -> Result<i32, FieldError>
     requires { (1 ≤ bound) × (bound ≤ 2 ^ 31) }
     ensures { result ≡ signed_field bound text.now }
 {
-    if text.first() != Some(&b'-') {
+    if text.is_empty() || text[0] != b'-' {
         return Ok(read_decimal(text, bound - 1)? as i32);
     }
     match read_decimal(&text[1..], bound)? {

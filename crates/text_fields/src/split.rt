@@ -9,7 +9,13 @@ ghost use Rattle.text_fields.specs.Splitting.{field_count, field, rest};
 pub fn field_count(text: &[u8], separator: u8) -> usize
     ensures { result ≡ field_count separator text.now }
 {
-    text.iter().filter(|byte| **byte == separator).count() + 1
+    let mut separators = 0;
+    for byte in text {
+        if *byte == separator {
+            separators += 1;
+        }
+    }
+    separators + 1
 }
 
 // Where the first field ends.

@@ -7,7 +7,7 @@ use Rattle.events.specs.declared.event.Event.{Event}
 use Rattle.smt_model.specs.{Basics.below, Basics.how_many, Picture.is_free, Registers.claims, Registers.is_unclaimed}
 use Rattle.smt_model.specs.{Rules.is_legal, Setup.Setup, Setup.registers_of}
 use Rattle.smt_model.proofs.{Registers.Counts.claims-once, Lists.filter-append}
-use Rattle.free_list.specs.Flags.{holds}
+use Rattle.register_renaming.specs.Flags.{holds}
 use Rattle.core_parts.specs.{Listed.listed}
 use Rattle.core_parts.proofs.Listing.{one_kept, one_lost, nothing_behind, listed_same}
 use Rattle.core_state.specs.{View.CoreView, declared.state.State.TheInside.Inside}

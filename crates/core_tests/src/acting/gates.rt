@@ -2,12 +2,12 @@
 
 use super::{Left, MANY_TURNS, first_run, left_by};
 use crate::asks_of_a_core::one_of_each;
-use actors::{Gate, Open, Point};
 use board::BoardView;
 use smt_core::Status;
 use std::alloc::Global;
 use std::sync::Wait;
 use std::thread::Threads;
+use threaded_runs::{Gate, Open, Point};
 
 /// Whether a gate lets an actor go on at both points.
 fn lets_on<G: Gate>(gate: &G) -> bool {

@@ -2,13 +2,13 @@
 
 use super::{MANY_TURNS, first_run};
 use crate::asks_of_a_core::one_of_each;
-use actors::{Gate, Point};
 use board::BoardView;
-use core_lock::Finished;
+use finished_core::Finished;
 use std::alloc::{AllocError, Global};
 use std::sync::Wait;
 use std::sync::atomic::{AtomicBool, AtomicU64, Ordering};
 use std::thread::Threads;
+use threaded_runs::{Gate, Point};
 
 /// How many words stand on the board.
 const WORDS: usize = 17;

@@ -1,17 +1,20 @@
 //! Actors work side by side: a gate holds each until the others have come.
 
 use crate::files::file_of;
-use actors::{Gate, Point, StaticPredictor};
+use actors::run;
 use board::BoardView;
-use core_lock::Finished;
 use events::Event;
+use finished_core::Finished;
+use program_image::Image;
 use sim_inputs::read_config;
 use simulator::run_bytes;
+use smt_core::Config;
 use std::alloc::Global;
 use std::sync::Wait;
 use std::sync::atomic::{AtomicBool, AtomicU64, Ordering};
 use std::thread;
 use std::thread::Threads;
+use threaded_runs::{Gate, Point, RunRefused, Runner, StaticPredictor};
 
 /// Two harts, an actor of each role, and a second arithmetic unit.
 const CONFIG: &[u8] = b"harts = 2
@@ -67,6 +70,27 @@ impl Gate for Meeting {
     }
 }
 
+/// Runs whose actors ask such a gate.
+#[derive(Drop)]
+struct MeetingRuns<'a> {
+    gate: &'a Meeting,
+}
+
+impl Runner for MeetingRuns<'_> {
+    fn run<R: Threads + Wait + Sync>(
+        &self,
+        rt: &R,
+        image: &Image,
+        config: Config,
+        limit: u32,
+        turns: u64,
+        alloc: Global,
+    ) -> Result<Finished, RunRefused> {
+        let (gate, predict) = (self.gate, StaticPredictor);
+        run(rt, image, config, limit, turns, gate, predict, alloc)
+    }
+}
+
 /// Whether an actor gave up, and how many completions each arithmetic unit has made.
 #[derive(Clone, Copy, Drop)]
 struct Met {
@@ -93,8 +117,8 @@ fn met_in_a_run<R: Threads + Wait + Sync>(rt: &R, alloc: Global) -> Option<Met> 
         at_job: AtomicU64::new(0),
         gave_up: AtomicBool::new(false),
     };
-    let ran = run_bytes(rt, &file, &settings, &gate, StaticPredictor, alloc);
-    let finished = ran.ok()?;
+    let runs = MeetingRuns { gate: &gate };
+    let finished = run_bytes(rt, &runs, &file, &settings, alloc).ok()?;
     Some(Met {
         gave_up: gate.gave_up.load(Ordering::SeqCst),
         first: completions(&finished, 3),

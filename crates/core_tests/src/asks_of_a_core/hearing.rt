@@ -1,7 +1,7 @@
 use smt_core::Answer;
 
 /// What an answer says beside its event.
-#[derive(Clone, Copy, Debug, PartialEq, Eq, Drop)]
+#[derive(Clone, Copy, PartialEq, Eq, Drop)]
 pub enum Heard {
     Done,
     Idle,

@@ -7,11 +7,13 @@ use crate::counting::{Miscount, counts, first_miscount};
 use crate::files::file_of;
 use crate::predictors::Always;
 use crate::rows::shows;
+use finished_core::Finished;
 use sim_inputs::read_config;
-use simulator::{Finished, StaticPredictor, step_bytes};
+use simulator::step_bytes;
 use smt_core::Predict;
 use std::alloc::Global;
 use std::process::Abort;
+use threaded_runs::StaticPredictor;
 
 /// A core, and the lines of the asks.
 #[derive(Drop)]

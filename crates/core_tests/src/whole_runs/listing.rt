@@ -5,11 +5,12 @@ use super::{Told, performed, text};
 use crate::files::file_of;
 use crate::rows::{ends, shows};
 use sim_inputs::Line;
-use simulator::{Inputs, StaticPredictor};
+use simulator::Inputs;
 use std::alloc::Global;
 use std::process::Abort;
 use std::sync::Wait;
 use std::thread::Threads;
+use threaded_runs::StaticPredictor;
 
 pub(super) const LIST: Line<'static> = Line::List {
     image: "image",

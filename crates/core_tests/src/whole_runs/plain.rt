@@ -5,11 +5,12 @@ use super::{Told, performed, text};
 use crate::files::file_of;
 use crate::rows::{ends, shows};
 use sim_inputs::Line;
-use simulator::{Inputs, StaticPredictor, Unread};
+use simulator::{Inputs, Unread};
 use std::alloc::Global;
 use std::process::Abort;
 use std::sync::Wait;
 use std::thread::Threads;
+use threaded_runs::StaticPredictor;
 
 /// A program's words, run in an order; what is printed, what is written to standard error, and the
 /// exit status.

@@ -4,12 +4,12 @@
 use super::{Printed, Run, is_like, outcome, text};
 use crate::predictors::Always;
 use crate::rows::{ends, shows};
-use simulator::StaticPredictor;
 use smt_core::Predict;
 use std::alloc::Global;
 use std::process::Abort;
 use std::sync::Wait;
 use std::thread::Threads;
+use threaded_runs::StaticPredictor;
 
 /// The configuration of one hart and one actor, which is an arithmetic unit.
 pub(super) const SINGLE: &[u8] = b"actors = [\"alu\"]\n";

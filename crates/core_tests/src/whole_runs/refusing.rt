@@ -5,13 +5,14 @@ use super::{Told, performed, step_line, text};
 use crate::files::FIRST;
 use crate::rows::ends;
 use sim_inputs::Line;
-use simulator::{Inputs, StaticPredictor, Unread};
+use simulator::{Inputs, Unread};
 use std::alloc::Global;
 use std::io;
 use std::io::Write;
 use std::process::Abort;
 use std::sync::Wait;
 use std::thread::Threads;
+use threaded_runs::StaticPredictor;
 
 /// A file as it was read.
 type File = Result<&'static [u8], Unread>;

@@ -6,11 +6,12 @@ use super::{Told, is_like, performed, text};
 use crate::files::file_of;
 use crate::rows::{ends, shows};
 use sim_inputs::Line;
-use simulator::{Inputs, StaticPredictor, Unread};
+use simulator::{Inputs, Unread};
 use std::alloc::Global;
 use std::process::Abort;
 use std::sync::Wait;
 use std::thread::Threads;
+use threaded_runs::StaticPredictor;
 
 /// A program's words that are run; what is printed, in which a star stands for any text, what is
 /// written to standard error, and the exit status.

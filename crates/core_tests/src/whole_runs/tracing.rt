@@ -13,11 +13,12 @@ use event_text::{Over, Sink, read_trace};
 use history_check::check;
 use program_image::RamSize;
 use sim_inputs::{Line, read_config};
-use simulator::{Inputs, StaticPredictor};
+use simulator::Inputs;
 use std::alloc::Global;
 use std::process::Abort;
 use std::sync::Wait;
 use std::thread::Threads;
+use threaded_runs::StaticPredictor;
 
 /// The asks of three instructions to their end.
 const SCRIPT: &[u8] = b"F0*3 D0.0*3 R0.0*3 U0*3 T0.0*3";

@@ -1,5 +1,5 @@
 use Rattle.std.proofs.Common.{◌∙◌, subst, sym}
-use Rattle.actors.specs.Roles.{HaveEveryRole}
+use Rattle.threaded_runs.specs.Roles.{HaveEveryRole}
 use Rattle.actors.proofs.EveryRole.{each, are_there, every_role}
 use Rattle.actors.proofs.running.has_every_role.Goals as goal
 

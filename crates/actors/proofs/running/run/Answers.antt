@@ -1,6 +1,6 @@
 use Rattle.std.proofs.Common.{◌∙◌}
 use Rattle.std.proofs.lemmas.Result.{IfOk-weaker}
-use Rattle.actors.specs.declared.refused.RunRefused.TheVariants.{Config, Roles}
+use Rattle.threaded_runs.specs.declared.refused.RunRefused.TheVariants.{Config, Roles}
 use Rattle.actors.proofs.Refusing.{handed_on, neither, begun}
 use Rattle.actors.proofs.running.run.Goals as goal
 

@@ -9,17 +9,17 @@ use Rattle.std.proofs.{lemmas.Bool.cases_Bool, lemmas.Bool.cases_eq, lemmas.Bool
 use Rattle.std.proofs.lemmas.List.{get_or_default, map_push, length-set, get_or-set_same, get_or-set_other}
 use Rattle.rv_instr.specs.{Registers.op_rs1, Registers.op_rs2, Table.OpInRange, declared.op.Op.Op}
 use Rattle.rv_instr.proofs.DecodedLemmas.{op_of_word_in_range, op_rs1_below, op_rs2_below}
-use Rattle.free_list.specs.Flags.{holds}
+use Rattle.register_renaming.specs.Flags.{holds}
 use Rattle.issue_queue.specs.{Queue.Queue, Queue.has_number, declared.entry.Entry.Entry, declared.entry.Source.Source}
 use Rattle.issue_queue.specs.Queue as entries
-use Rattle.rename_map.specs.Maps.{Maps}
+use Rattle.register_renaming.specs.Maps.{Maps}
 use Rattle.retire_squash.specs.{Active.Above, declared.active.Active.Active}
 use Rattle.smt_model.specs.{Basics.first, Basics.or_zero, Kinds.destination, Kinds.first_source, Kinds.second_source}
 use Rattle.smt_model.specs.{Picture.Picture}
 use Rattle.smt_model.specs.Fates.{is, is_in_flight, Renamed, op_of_fetched}
 use Rattle.smt_model.specs.Steps.{IsRename, IsSameInstruction, renamed_map, is_register_taken, op_in}
 use Rattle.smt_model.specs.Steps as numbers
-use Rattle.load_store.specs.Queues.{Queues, Changes}
+use Rattle.memory_system.specs.Queues.{Queues, Changes}
 use Rattle.core_parts.specs.Accesses.{AccessesAgree, MemoryAgrees, accesses_of, with_access}
 use Rattle.core_parts.specs.Agree.{PartsAgree, From, fetched_as, source_at, IsSlot, IsActive, HartAgrees, EachAgrees}
 use Rattle.core_parts.specs.Agree.{IsEntry, QueueAgrees, FreeAgrees, ValuesAgree, JobsAgree}

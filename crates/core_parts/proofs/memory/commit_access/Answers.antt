@@ -1,7 +1,7 @@
 use Rattle.std.specs.Prelude.{◌≡◌, ℕ}
 use Rattle.std.proofs.Common.{◌∙◌, refl, ap}
 use Rattle.smt_model.specs.Bytes.{byte_after}
-use Rattle.shared_memory.specs.Contents.{Contents, byte_of}
+use Rattle.memory_system.specs.Contents.{Contents, byte_of}
 use Rattle.core_parts.proofs.memory.commit_access.Goals as goal
 
 same_byte : (m n : Contents) (addr : ℕ) → m.bytes ≡ n.bytes → byte_of m addr ≡ byte_of n addr

@@ -1,6 +1,6 @@
-use Rattle.std.proofs.Common.{ap, true, ◌≡◌, ◌∙◌}
+use Rattle.std.proofs.Common.{ap, true, ◌≡◌}
 use Rattle.clap.specs.Words.{App, app_of}
-use Rattle.sim_inputs.specs.CommandLine.{top, with_core_commands}
+use Rattle.sim_inputs.specs.CommandLine.{top}
 use Rattle.sim_inputs.proofs.description.describe.Goals as goal
 
 pub returns : goal.returns
@@ -8,5 +8,4 @@ returns c =
     let top_is : app_of c.subcommand_required-command.result ≡ top =
     rw (c.subcommand_required-command.ensures, c.after_help.ensures, c.about.ensures)
     (ap (λ (a : App). record a { top = record a.top { subcommand_required = true } }) c.new.ensures.app) in
-    let core = c.in_ok-add_core_commands.ensures ∙ ap with_core_commands top_is in
-    c.add_other_commands.ensures _ core
+    c.add_subcommands.ensures top top_is

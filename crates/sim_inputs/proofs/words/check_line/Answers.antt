@@ -1,18 +1,15 @@
 use Rattle.std.proofs.Common.{codes, refl, sym}
-use Rattle.sim_inputs.proofs.Found.{no_image, check_no_trace, option_row, row_value}
+use Rattle.sim_inputs.proofs.Found.{check_no_trace, row_value}
 use Rattle.sim_inputs.proofs.words.check_line.Goals as goal
 
 pub returns-in_default-clause-none : goal.returns-in_default-clause-none
-returns-in_default-clause-none c = no_image c.args.check.now c.in_default.ensures (codes "check")
-
-pub returns-in_default-get_str-clause-none : goal.returns-in_default-get_str-clause-none
-returns-in_default-get_str-clause-none c = check_no_trace c.args.check.now c.in_default-get_str.ensures
+returns-in_default-clause-none c = check_no_trace c.args.check.now c.in_default.ensures
 
 pub returns-clause-held : goal.returns-clause-held
-returns-clause-held c = (
+returns-clause-held c has = (
   refl,
-  row_value c.args.check.now (codes "IMAGE") c.in-Some.image.now c.in-Some.ensures,
-  row_value c.args.check.now (codes "TRACE") c.in-Some-get_str.trace.now c.in-Some-get_str.ensures,
-  option_row c.args.check.now (codes "config") _ c.get_str-3.ensures,
+  has.image_row,
+  row_value c.args.check.now (codes "TRACE") c.in-Some.trace.now c.in-Some.ensures,
+  has.config_row,
   sym c.is_set.ensures,
 )

@@ -1,18 +1,15 @@
 use Rattle.std.proofs.Common.{codes, refl, sym}
-use Rattle.sim_inputs.proofs.Found.{no_image, plain_no_order, option_row, row_value}
+use Rattle.sim_inputs.proofs.Found.{plain_no_order, row_value}
 use Rattle.sim_inputs.proofs.words.plain_line.Goals as goal
 
 pub returns-in_default-clause-none : goal.returns-in_default-clause-none
-returns-in_default-clause-none c = no_image c.args.plain.now c.in_default.ensures (codes "plain")
-
-pub returns-in_default-get_str-clause-none : goal.returns-in_default-get_str-clause-none
-returns-in_default-get_str-clause-none c = plain_no_order c.args.plain.now c.in_default-get_str.ensures
+returns-in_default-clause-none c = plain_no_order c.args.plain.now c.in_default.ensures
 
 pub returns-clause-held : goal.returns-clause-held
-returns-clause-held c = (
+returns-clause-held c has = (
   refl,
-  row_value c.args.plain.now (codes "IMAGE") c.in-Some.image.now c.in-Some.ensures,
-  row_value c.args.plain.now (codes "ORDER") c.in-Some-get_str.order.now c.in-Some-get_str.ensures,
-  option_row c.args.plain.now (codes "config") _ c.get_str-3.ensures,
+  has.image_row,
+  row_value c.args.plain.now (codes "ORDER") c.in-Some.order.now c.in-Some.ensures,
+  has.config_row,
   sym c.is_set.ensures,
 )

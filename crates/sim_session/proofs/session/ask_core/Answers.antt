@@ -1,15 +1,16 @@
-use Rattle.std.proofs.Common.{ap, ◌∙◌}
-use Rattle.sim_session.proofs.Sessions.{setup_stays, limit_stays}
+use Rattle.sim_session.proofs.Sessions.{asked_whole, limit_left, setup_left}
 use Rattle.sim_session.proofs.session.ask_core.Goals as goal
 
 pub returns-clause-setup : goal.returns-clause-setup
 returns-clause-setup g c =
-    let made = c.in_ok-told.ensures in
-    ap (λ core. core.setup) c.finish-core.ensures ∙ setup_stays made.0 _ _ made.2.answered
-    ∙ ap (λ core. core.setup) c.new-session.ensures.core
+    rw c.and.ensures (setup_left g.P.Predict.predicts c.make_asks-told.result _ _ _ _ _ _ _ c.make_asks-told.ensures)
 
 pub returns-clause-limit : goal.returns-clause-limit
 returns-clause-limit g c =
-    let made = c.in_ok-told.ensures in
-    ap (λ core. core.limit) c.finish-core.ensures ∙ limit_stays made.0 _ _ made.2.answered
-    ∙ ap (λ core. core.limit) c.new-session.ensures.core
+    rw c.and.ensures (limit_left g.P.Predict.predicts c.make_asks-told.result _ _ _ _ _ _ _ c.make_asks-told.ensures)
+
+pub returns-clause-asked : goal.returns-clause-asked
+returns-clause-asked g c =
+    rw c.and.ensures
+    (asked_whole g.P.Predict.predicts c.make_asks-told.result c.args.words.now _ _ _ _ _ _ _ _ c.empty.ensures
+    c.make_asks-told.ensures)

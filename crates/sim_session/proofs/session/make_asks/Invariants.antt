@@ -7,6 +7,6 @@ use Rattle.sim_session.proofs.session.make_asks.Given as goal
 abbrev pub invariant-loop-word : goal.invariant-loop-word
 invariant-loop-word g l =
     Exchanges g.P.Predict.predicts l.fn.session.core l.session.core l.fn.predict l.predict
-    (append_known (g.W.Write.contents l.fn.out) l.fn.lines.bytes)
+    (g.W.Write.contents l.fn.out)
     (append_known (g.W.Write.contents l.out) l.lines.bytes)
     (AreMade (actions_of (take l.word-index l.words)) l.fn.session.hands.held l.session.hands.held)

@@ -1,4 +1,3 @@
-use Rattle.std.proofs.Common.{arith, ◌∙◌, sym}
 use Rattle.text_fields.proofs.FrontLemmas.{zero_front}
 use Rattle.text_fields.proofs.front.front_zero.Goals as goal
 

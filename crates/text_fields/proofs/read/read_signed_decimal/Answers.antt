@@ -14,7 +14,3 @@ returns-in_err-read_decimal c = search rules
 pub returns-in_err-value : goal.returns-in_err-value
 unfolding signed_field
 returns-in_err-value c = first_of (search rules, grind (arith, common_steps))
-
-pub returns-then-ne : goal.returns-then-ne
-unfolding signed_field
-returns-then-ne c = search rules

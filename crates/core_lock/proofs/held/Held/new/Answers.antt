@@ -1,6 +1,6 @@
 use Rattle.std.proofs.Common.{◌≡◌, ◌∙◌, refl, sym, ap, arith, length}
 use Rattle.std.proofs.lemmas.List.{length-reverse}
-use Rattle.core_lock.proofs.{Counting.all_from_0}
+use Rattle.finished_core.proofs.Counting.{all_from_0}
 use Rattle.board.proofs.Laid.{four_more}
 use Rattle.core_lock.proofs.held.Held.new.Goals as goal
 
@@ -60,3 +60,31 @@ returns-clause-lasts g c =
     (four_more from_4.a.1.ends from_4.b.1.ends from_4.c.1.ends from_4.d.1.ends
     (four_more from_8.a.1.ends from_8.b.1.ends from_8.c.1.ends from_8.d.1.ends
     (four_more from_12.a.1.ends from_12.b.1.ends from_12.c.1.ends from_12.d.1.ends refl)))
+
+pub deal_four-a-requires-clause-tallies : goal.deal_four-a-requires-clause-tallies
+deal_four-a-requires-clause-tallies g c = c.tallies_in-tallies.ensures
+
+pub deal_four-e-requires-clause-tallies : goal.deal_four-e-requires-clause-tallies
+deal_four-e-requires-clause-tallies g c = c.tallies_in-tallies.ensures
+
+pub deal_four-i-requires-clause-tallies : goal.deal_four-i-requires-clause-tallies
+deal_four-i-requires-clause-tallies g c = c.tallies_in-tallies.ensures
+
+pub deal_four-m-requires-clause-tallies : goal.deal_four-m-requires-clause-tallies
+deal_four-m-requires-clause-tallies g c = c.tallies_in-tallies.ensures
+
+pub open-book-requires-clause-name : goal.open-book-requires-clause-name
+open-book-requires-clause-name g c = c.requires.name
+
+pub open-book-requires-clause-parts : goal.open-book-requires-clause-parts
+open-book-requires-clause-parts g c = c.requires.parts.0
+
+pub add-requires : goal.add-requires
+add-requires g c = omega (arith, c.open-book.ensures.parts, c.requires.parts.1)
+
+pub deal_four-a-requires-clause-parts : goal.deal_four-a-requires-clause-parts
+deal_four-a-requires-clause-parts g c =
+    omega (arith, c.add.ensures.parts, c.open-book.ensures.parts, c.requires.parts.1)
+
+pub returns-clause-core : goal.returns-clause-core
+returns-clause-core g c = refl

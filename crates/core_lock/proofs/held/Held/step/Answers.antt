@@ -1,6 +1,6 @@
 use Rattle.std.proofs.Common.{◌≡◌, ◌∙◌, true, ap, rules, subst, sym}
 use Rattle.core_lock.specs.{Asks.is_reply, Passes.more, Passes.later, Passes.IsTold}
-use Rattle.core_lock.proofs.Replies.{own_reply, told_still, counted_still, setup_still, limit_still}
+use Rattle.core_lock.proofs.Replies.{own_reply, reply_grows, told_still, counted_still, setup_still, limit_still}
 use Rattle.core_lock.proofs.held.Held.step.Goals as goal
 
 pub invariant_of-self-clause-counted : goal.invariant_of-self-clause-counted
@@ -36,3 +36,21 @@ returns-clause-maker g c = search rules
 
 pub returns-clause-own : goal.returns-clause-own
 returns-clause-own g c = search rules
+
+pub returns-clause-predicted : goal.returns-clause-predicted
+returns-clause-predicted g c = c.make-said.ensures.predicted
+
+pub returns-clause-grows : goal.returns-clause-grows
+returns-clause-grows g c = reply_grows _ _ _ _ _ c.make-said.ensures.answer
+
+pub returns-clause-shown : goal.returns-clause-shown
+returns-clause-shown g c = (c.show.ensures.shown, c.show-2.ensures.shown)
+
+pub returns-clause-origin : goal.returns-clause-origin
+returns-clause-origin g c = (c.args.self.now.setup, c.args.self.now.limit)
+
+pub returns-clause-count : goal.returns-clause-count
+returns-clause-count g c = c.note.ensures.count ∙ ap (more c.args.pass.now.count) c.event.ensures
+
+pub returns-clause-last : goal.returns-clause-last
+returns-clause-last g c = c.note.ensures.last ∙ ap (later c.args.pass.now.last) c.event.ensures

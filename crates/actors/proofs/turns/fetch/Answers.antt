@@ -1,4 +1,0 @@
-use Rattle.actors.proofs.turns.fetch.Goals as goal
-
-pub returns-clause-asked : goal.returns-clause-asked
-returns-clause-asked g c = c.make.ensures.asked

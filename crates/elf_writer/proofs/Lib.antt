@@ -1,0 +1,4 @@
+pub mod Written
+pub mod WrittenFields
+pub mod Rising
+pub mod RoundTrip

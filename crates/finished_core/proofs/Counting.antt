@@ -1,0 +1,120 @@
+-- How many events of a history an actor has made, event by event; and how many are by it and those of greater numbers.
+use Rattle.std.proofs.Common.{◌≡◌, ℕ, ◌+◌, ◌<◌, ◌≤◌, ◌==◌, Bool, true, false, List, [], ◌∷◌, length, take, get_or}
+use Rattle.std.proofs.Common.{reverse, None, refl, ap, subst, suc, ◌∙◌, arith}
+use Rattle.std.specs.Prelude.{nat_le, slice_get, Some, sum}
+use Rattle.std.proofs.{lemmas.Bool.Decides.nat_tests, lemmas.List.take_more, lemmas.List.reverse-append}
+use Rattle.std.proofs.lemmas.List.Sums.{sum_by-cons}
+use Rattle.events.specs.{declared.event.Event.Event, Event.actor_of}
+use Rattle.events.specs.declared.event.Event.TheVariants.{Fetch, Decode, Rename, Issue, Complete, Drop, Retire}
+use Rattle.smt_model.specs.{Account.event_count, Basics.how_many, Setup.Setup, Rules.is_legal, Rules.refused}
+use Rattle.smt_model.specs.{Jobs.is_actor}
+use Rattle.smt_model.proofs.Allowed.{allowed}
+use Rattle.finished_core.specs.Counts.{AreCounts, AreCountsBelow, made_from}
+
+-- The newest event of those so far.
+pub newest : {X : Type 0} (xs : List X) (i : ℕ) (d : X) → i < length xs
+    → reverse (take (i + 1) xs) ≡ get_or xs i d ∷ reverse (take i xs)
+newest xs i d inside = ap reverse (take_more xs i d inside) ∙ reverse-append (take i xs) (get_or xs i d ∷ [])
+
+-- What one member adds to a count.
+abbrev pub one : Bool → ℕ
+one true = 1
+one false = 0
+
+pub count_cons : {X : Type 0} (test : X → Bool) (x : X) (xs : List X)
+    → how_many test (x ∷ xs) ≡ one (test x) + how_many test xs
+count_cons test x xs = grind arith
+
+-- No actor has made more events than there are.
+one_at_most : (b : Bool) → one b ≤ 1
+one_at_most true = omega arith
+one_at_most false = omega arith
+
+pub made_within : (k : ℕ) (past : List Event) → event_count k past ≤ length past
+made_within k [] = omega arith
+made_within k (e ∷ past) =
+    let here = count_cons (λ x. actor_of x == k) e past in
+    let rest = made_within k past in
+    let small = one_at_most (actor_of e == k) in
+    omega (arith, here, rest, small)
+
+pub few_counts : (past : List Event) (counts : List ℕ) (most : ℕ) → length past < most → AreCounts past counts
+    → AreCountsBelow most counts
+few_counts past counts most short are k n at = omega (arith, are k n at, made_within k past, short)
+
+-- Of those by an actor or a greater one, some are the actor's own and the others by greater ones.
+shared : (k n : ℕ) → one (nat_le k n) ≡ one (n == k) + one (nat_le (k + 1) n)
+shared k n = grind (arith, nat_tests)
+
+pub own_and_greater : (k : ℕ) (past : List Event) → made_from k past ≡ event_count k past + made_from (k + 1) past
+own_and_greater k [] = refl
+own_and_greater k (e ∷ past) =
+    let here = count_cons (λ x. nat_le k (actor_of x)) e past in
+    let own = count_cons (λ x. actor_of x == k) e past in
+    let greater = count_cons (λ x. nat_le (k + 1) (actor_of x)) e past in
+    let one_here = shared k (actor_of e) in
+    let so_far = own_and_greater k past in
+    omega (arith, here, own, greater, one_here, so_far)
+
+pub all_from_0 : (past : List Event) → made_from 0 past ≡ length past
+all_from_0 [] = refl
+all_from_0 (e ∷ past) =
+    let here = count_cons (λ x. nat_le 0 (actor_of x)) e past in
+    let rest = all_from_0 past in
+    let counts : one (nat_le 0 (actor_of e)) ≡ 1 = grind (arith, nat_tests) in
+    omega (arith, here, rest, counts)
+
+-- Each actor of a legal history is one of the setup's.
+actor_in : (setup : Setup) (past : List Event) (e : Event) → refused setup past e ≡ None
+    → is_actor setup (actor_of e) ≡ true
+actor_in setup past (Fetch actor hart seq pc word predicted) ok =
+    (allowed setup past (Fetch actor hart seq pc word predicted) ok).0
+actor_in setup past (Decode actor seq) ok = (allowed setup past (Decode actor seq) ok).0
+actor_in setup past (Rename actor seq phys) ok = (allowed setup past (Rename actor seq phys) ok).0
+actor_in setup past (Issue actor seq) ok = (allowed setup past (Issue actor seq) ok).0
+actor_in setup past (Complete actor seq outcome) ok = (allowed setup past (Complete actor seq outcome) ok).0
+actor_in setup past (Drop actor seq) ok = (allowed setup past (Drop actor seq) ok).0
+actor_in setup past (Retire actor seq effect) ok = (allowed setup past (Retire actor seq effect) ok).0
+
+pub none_from_16 : (setup : Setup) (past : List Event) → is_legal setup past → length setup.roles ≤ 16
+    → made_from 16 past ≡ 0
+none_from_16 setup [] legal few = refl
+none_from_16 setup (e ∷ past) legal few =
+    let here = count_cons (λ x. nat_le 16 (actor_of x)) e past in
+    let rest = none_from_16 setup past legal.1 few in
+    let inside = actor_in setup past e legal.0 in
+    let counts : one (nat_le 16 (actor_of e)) ≡ 0 = grind (arith, nat_tests, inside, few) in
+    omega (arith, here, rest, counts)
+
+-- Counts that stand in a row, of the actors from k on, and the events by those of greater numbers are all by k or
+-- a greater one.
+counts_from : (past : List Event) (k : ℕ) (counts : List ℕ)
+    → ((j n : ℕ) → slice_get counts j ≡ Some n → n ≡ event_count (k + j) past)
+    → sum counts + made_from (k + length counts) past ≡ made_from k past
+counts_from past k [] are =
+    let same : k + length {A = ℕ} [] ≡ k = omega arith in
+    let ends : made_from (k + length {A = ℕ} []) past ≡ made_from k past = ap (λ n. made_from n past) same in
+    omega (arith, ends)
+counts_from past k (x ∷ rest) are =
+    let none_on : k + 0 ≡ k = omega arith in
+    let own : x ≡ event_count k past = subst (λ n. x ≡ event_count n past) none_on (are 0 x refl) in
+    let further : sum rest + made_from (k + 1 + length rest) past ≡ made_from (k + 1) past =
+    counts_from past (k + 1) rest (λ j n at.
+    let same : k + suc j ≡ k + 1 + j = omega arith in
+    subst (λ m. n ≡ event_count m past) same (are (suc j) n at)) in
+    let same : k + length (x ∷ rest) ≡ k + 1 + length rest = omega arith in
+    let ends : made_from (k + length (x ∷ rest)) past ≡ made_from (k + 1 + length rest) past =
+    ap (λ n. made_from n past) same in
+    let more : sum (x ∷ rest) ≡ x + sum rest = sum_by-cons (λ n. n) x rest in
+    omega (arith, own, further, ends, more, own_and_greater k past)
+
+-- The counts of all sixteen actors of a legal history add up to its events.
+pub counts_add_up : (setup : Setup) (past : List Event) (counts : List ℕ) → is_legal setup past
+    → length setup.roles ≤ 16 → length counts ≡ 16
+    → ((k n : ℕ) → slice_get counts k ≡ Some n → n ≡ event_count k past) → sum counts ≡ length past
+counts_add_up setup past counts legal few sixteen are =
+    let all = counts_from past 0 counts (λ j n at.
+    let same : j ≡ 0 + j = omega arith in subst (λ m. n ≡ event_count m past) same (are j n at)) in
+    let same : 0 + length counts ≡ 16 = omega (arith, sixteen) in
+    let ends : made_from (0 + length counts) past ≡ made_from 16 past = ap (λ n. made_from n past) same in
+    omega (arith, all, ends, none_from_16 setup past legal few, all_from_0 past)

@@ -1,0 +1,14 @@
+ghost use Rattle.std.specs.Prelude.{◌≤◌, length};
+ghost use Rattle.finished_core.specs.Shown.{Shown};
+
+use smt_core::Core;
+use smt_laws::laws::refines_the_plain_machine;
+
+/// The headline, of this core. It does nothing: it is there for its contract.
+pub fn show(core: &Core)
+    ensures shown { Shown core.now }
+    ensures few { length core.now.past ≤ 16777216 }
+{
+    refines_the_plain_machine();
+    let _events = core.history().len();
+}

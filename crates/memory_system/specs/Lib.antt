@@ -1,0 +1,5 @@
+pub mod Contents
+pub mod Queues
+pub mod Looks
+pub mod Stores
+pub mod Histories

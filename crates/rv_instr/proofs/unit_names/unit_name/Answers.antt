@@ -1,0 +1,11 @@
+use Rattle.std.proofs.Common.{rules}
+use Rattle.rv_instr.proofs.unit_names.unit_name.Goals as goal
+
+pub returns-in-Alu : goal.returns-in-Alu
+returns-in-Alu c = search rules
+
+pub returns-in-Mul : goal.returns-in-Mul
+returns-in-Mul c = search rules
+
+pub returns-in-Mem : goal.returns-in-Mem
+returns-in-Mem c = search rules

@@ -1,8 +1,0 @@
-use Rattle.std.proofs.lemmas.Result.{IfOk-weaker}
-use Rattle.sim_inputs.proofs.Described.{one_more}
-use Rattle.sim_inputs.proofs.description.describe_schedule.Goals as goal
-
-pub returns : goal.returns
-returns c =
-    IfOk-weaker c.arg.result _ _ (λ made. one_more _ _ _ made _ c.in_ok-files.ensures c.config_option.ensures)
-    c.arg.ensures

@@ -1,0 +1,27 @@
+-- The code's table of subcommands: what each row describes.
+use Rattle.std.specs.{List.fold}
+use Rattle.clap.specs.Words.{App, Rule, Text, new_app, with_rule, with_subcommand}
+use Rattle.sim_inputs.specs.{declared.description.Argument.Argument, declared.description.Kind.Kind}
+use Rattle.sim_inputs.specs.{declared.description.Subcommand.Subcommand}
+use Rattle.sim_inputs.specs.declared.description.Kind.TheVariants as kind
+use Rattle.sim_inputs.specs.CommandLine.{file_rule, file_option_rule, flag_rule}
+
+-- The argument of a row.
+abbrev pub rule_by : Kind → Text → Rule
+rule_by kind.File name = file_rule name
+rule_by kind.Option name = file_option_rule name
+rule_by kind.Flag name = flag_rule name
+
+abbrev pub rule_in : Argument → Rule
+rule_in row = rule_by row.kind row.name.now
+
+-- The subcommand of a row.
+abbrev pub with_argument : App → Argument → App
+with_argument app row = with_rule app (rule_in row)
+
+abbrev pub subcommand_in : Subcommand → App
+subcommand_in row = fold with_argument (new_app row.name.now) row.arguments.now
+
+-- The command line with the subcommand of a row.
+abbrev pub with_row : App → Subcommand → App
+with_row app row = with_subcommand app (subcommand_in row).top

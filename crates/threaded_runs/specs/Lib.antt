@@ -1,0 +1,2 @@
+pub mod Prediction
+pub mod Roles
