@@ -8,10 +8,10 @@
 //! that gives all these words again.
 
 use crate::rows::{holds, holds_at};
-use rv_word::{
-    AmoKind, add, amo, div, divu, mul, mulh, mulhsu, mulhu, rem, remu, sext, sll, slt, sltu, sra,
-    srl, sub,
+use rv_arithmetic::{
+    add, amo, div, divu, mul, mulh, mulhsu, mulhu, rem, remu, sext, sll, slt, sltu, sra, srl, sub,
 };
+use rv_word::AmoKind;
 use std::process::Abort;
 
 const PAIRS: [(u32, u32); 28] = [

@@ -1,5 +1,5 @@
 -- What an outcome says of the access suffices to know what the instruction does as it retires.
-use Rattle.std.specs.Prelude.{◌≡◌, ℕ, Bool, true, false, Option, Some, None, unwrap_or}
+use Rattle.std.specs.Prelude.{◌≡◌, ◌≢◌, ℕ, Bool, true, false, Option, Some, None, unwrap_or}
 use Rattle.std.proofs.Common.{◌∙◌, refl, sym, ap, inl, inr, arith}
 use Rattle.std.proofs.lemmas.Bool.{cases_Bool}
 use Rattle.program_image.specs.Image.{ProgramImage}
@@ -10,9 +10,11 @@ use Rattle.smt_model.specs.{Outcomes.outcome_by, Outcomes.outcome_of}
 use Rattle.smt_model.specs.Effects.{last_effect, effect_by, effect_of}
 use Rattle.smt_model.specs.Kinds.{Kind, Computing, Loading, Storing, Reserving, Conditional, Atomic, kind_of}
 use Rattle.smt_model.specs.Kinds.{touches_memory, writes_register}
-use Rattle.smt_model.proofs.Events.Freeing.{true_false}
 use Rattle.memory_system.proofs.Checking.{checked_last, checked_faultless, checked_faulting}
 use Rattle.memory_system.proofs.Completing.{IsAccess, computes, goes_on, accesses, going_says}
+
+true_false : true ≢ false
+true_false same = grind arith
 
 -- ---- Without an access it does what it said
 

@@ -12,7 +12,7 @@ use crate::access::AccessKind;
 use crate::memory::Memory;
 use events::Cause;
 use rv_instr::{Instr, Kind, LoadOp, Op, StoreOp};
-use rv_word::sext;
+use rv_arithmetic::sext;
 
 /// How many bytes the access of an instruction moves: 1, 2 or 4.
 #[tactic(auto, unfolding(smt_model::specs::Kinds::access_size))]

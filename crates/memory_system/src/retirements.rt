@@ -14,7 +14,7 @@ use crate::accesses::{access_size, fault, read};
 use crate::memory::Memory;
 use events::{EffectFields, Next, OutcomeFields, Written};
 use rv_instr::{Instr, Kind, Op};
-use rv_word::amo;
+use rv_arithmetic::amo;
 
 /// What the hart's instruction does that retires with this outcome, by memory and reservations as
 /// they are now: a load reads again, LR and AMO read, a store writes, SC writes where the hart

@@ -10,7 +10,7 @@ use crate::operations::{
 };
 use events::Next;
 use rv_instr::{Instr, Op};
-use rv_word::add;
+use rv_arithmetic::add;
 
 /// What is computed at `pc` by what was found there, from the numbers of its first and its second
 /// source. A word that is no instruction stops with cause 2, and no word with cause 1.

@@ -16,11 +16,11 @@ use Rattle.smt_model.specs.Fates.{Fetched, fetching, is_of, is_live, is_in_fligh
 use Rattle.smt_model.specs.Registers.{source, committer, committed, source_register, register_by, first_register, value}
 use Rattle.smt_model.specs.Registers.{reading, operand}
 use Rattle.smt_model.proofs.{Allowed.fetch_allowed, Fates.Moves.same_number-is, Fates.Moves.retire_was}
-use Rattle.smt_model.proofs.{Fates.Order.retire_front, Registers.Sources.source-is, Registers.Sources.source-committed}
-use Rattle.smt_model.proofs.{Registers.Sources.source-none, Fates.Choosing.hart_there, Fates.Choosing.left}
-use Rattle.smt_model.proofs.{Registers.Below.first_source-below, Registers.Below.second_source-below}
-use Rattle.smt_model.proofs.{Events.Freeing.true_false, Steps.RetireCommits.was-Retire}
-use Rattle.smt_model.proofs.Registers.Operands.{IsSourceName, IsReady, reading_by-is, first_ready, second_ready}
+use Rattle.smt_laws.proofs.{Fates.Order.retire_front, Registers.Sources.source-is, Registers.Sources.source-committed}
+use Rattle.smt_laws.proofs.{Registers.Sources.source-none, Fates.Choosing.hart_there, Fates.Choosing.left}
+use Rattle.smt_laws.proofs.Registers.Below.{first_source-below, second_source-below}
+use Rattle.smt_laws.proofs.{Events.Freeing.true_false, Steps.RetireCommits.was-Retire}
+use Rattle.smt_laws.proofs.Registers.Operands.{IsSourceName, IsReady, reading_by-is, first_ready, second_ready}
 use Rattle.smt_laws.specs.Sequential.{IsSequential, retired_pc}
 use Rattle.smt_laws.specs.Chain.{Hop, hop, IsChain, following_pc}
 use Rattle.smt_laws.proofs.{Paths.chain-first, Done.IsDone, Done.some_one, Live.live-front, Chains.chained}

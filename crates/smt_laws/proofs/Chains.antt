@@ -17,10 +17,11 @@ use Rattle.smt_model.specs.Fates.{Fetched, fate, fetching, completion, is_of, is
 use Rattle.smt_model.specs.Fates.{squashes_at_retirement}
 use Rattle.smt_model.proofs.Lists.{member, member-filter, Rises, Rises-filter, filter-member}
 use Rattle.smt_model.proofs.{Allowed.fetch_allowed, Fates.Moves.fetch_number, Fates.Moves.fetch_was}
-use Rattle.smt_model.proofs.{Fates.Moves.complete_was, Fates.Sound.sound, Registers.Namings.completion-none}
-use Rattle.smt_model.proofs.{Events.Calm.completion-other, Events.Freeing.true_false, Steps.Complete.was-Complete}
-use Rattle.smt_model.proofs.{Steps.Complete.completion-Complete, Steps.Fetch.own_fetched, Steps.Fetch.place-Fetch}
-use Rattle.smt_model.proofs.{Steps.Misprediction.squashing-Complete}
+use Rattle.smt_model.proofs.{Fates.Moves.complete_was, Fates.Sound.sound}
+use Rattle.smt_laws.proofs.Registers.Namings.{completion-none}
+use Rattle.smt_laws.proofs.{Events.Calm.completion-other, Events.Freeing.true_false, Steps.Complete.was-Complete}
+use Rattle.smt_laws.proofs.{Steps.Complete.completion-Complete, Steps.Fetch.own_fetched, Steps.Fetch.place-Fetch}
+use Rattle.smt_laws.proofs.Steps.Misprediction.{squashing-Complete}
 use Rattle.smt_model.proofs.Fates.Numbers.{known_fetched, is_of-below, fetching-none, fetching-kept, numbers-of}
 use Rattle.smt_model.proofs.Fates.Numbers.{numbers-member, numbers-rise}
 use Rattle.smt_laws.specs.Sequential.{retired_pc}

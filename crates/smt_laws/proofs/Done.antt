@@ -15,8 +15,9 @@ use Rattle.smt_model.specs.Kinds.{Kind, Computing, Loading, Storing, Reserving, 
 use Rattle.smt_model.specs.Kinds.{kind_of_instr, is_storing, destination, writes_register}
 use Rattle.smt_model.specs.Fates.{Fetched, fetching, completion, is_of, op_of_fetched}
 use Rattle.smt_model.specs.Rules.{refused, is_legal, computed_at, effect_now}
-use Rattle.smt_model.proofs.{Fates.Moves.retire_was, Registers.Values.completed-is, Registers.Values.retire_says}
-use Rattle.smt_model.proofs.{Registers.Reading.effect-next}
+use Rattle.smt_model.proofs.Fates.Moves.{retire_was}
+use Rattle.smt_laws.proofs.Registers.Values.{completed-is, retire_says}
+use Rattle.smt_laws.proofs.Registers.Reading.{effect-next}
 
 -- Two that are there and the same.
 pub some_one : {A : Type 0} → (a b : A) → Some a ≡ Some b → a ≡ b

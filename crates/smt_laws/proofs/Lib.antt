@@ -1,3 +1,9 @@
+pub mod Fates
+pub mod Registers
+pub mod Events
+pub mod Staying
+pub mod Steps
+pub mod Stated
 pub mod Paths
 pub mod Done
 pub mod Live
@@ -8,5 +14,4 @@ pub mod Sequential
 pub mod PlainLaws
 pub mod Executions
 pub mod Writes
-pub mod Rows
 pub mod Showing

@@ -13,12 +13,12 @@ use Rattle.smt_model.specs.{Rules.refused, Rules.is_legal}
 use Rattle.smt_model.specs.Fates.{Fate, stage, fate, is_live, is_of, squashes, mispredicts, squashes_at_retirement}
 use Rattle.smt_model.specs.Fates.{same_hart}
 use Rattle.smt_model.proofs.Lists.{member, filter-same, filter-none, filter-both, filter-loses-first}
-use Rattle.smt_model.proofs.{Fates.Moves.decode_was, Fates.Moves.rename_was, Fates.Moves.issue_was}
-use Rattle.smt_model.proofs.{Fates.Order.in_order, Fates.Order.retire_front, Events.Calm.IsCalm, Events.Calm.fate-other}
-use Rattle.smt_model.proofs.{Events.Harts.place-kept, Events.Freeing.true_false, Steps.RetireCommits.was-Retire}
-use Rattle.smt_model.proofs.{Events.Squash.IsSquashing, Events.Squash.squash_young, Events.Squash.squash_older}
-use Rattle.smt_model.proofs.{Steps.Complete.own-Complete, Steps.Complete.calm-Complete, Steps.Retire.now-Retire}
-use Rattle.smt_model.proofs.{Steps.Retire.calm-Retire, Steps.EndHalts.squashing-Retire, Steps.EndHalts.retired_six}
+use Rattle.smt_model.proofs.Fates.Moves.{decode_was, rename_was, issue_was}
+use Rattle.smt_laws.proofs.{Fates.Order.in_order, Fates.Order.retire_front, Events.Calm.IsCalm, Events.Calm.fate-other}
+use Rattle.smt_laws.proofs.{Events.Harts.place-kept, Events.Freeing.true_false, Steps.RetireCommits.was-Retire}
+use Rattle.smt_laws.proofs.Events.Squash.{IsSquashing, squash_young, squash_older}
+use Rattle.smt_laws.proofs.{Steps.Complete.own-Complete, Steps.Complete.calm-Complete, Steps.Retire.now-Retire}
+use Rattle.smt_laws.proofs.{Steps.Retire.calm-Retire, Steps.EndHalts.squashing-Retire, Steps.EndHalts.retired_six}
 use Rattle.smt_model.proofs.Fates.Numbers.{is_of-is, same_hart-at, numbers-of, numbers-member, numbers-rise}
 use Rattle.smt_laws.proofs.Paths.{least_first}
 

@@ -12,7 +12,7 @@ use Rattle.smt_model.specs.Reservations.{holds_word, word_of_address, own_reserv
 use Rattle.smt_model.specs.Reservations.{reservation_after_write}
 use Rattle.smt_model.specs.Plain.{Run, run, step, advance, start, is_going_status, register_after, status_after}
 use Rattle.smt_model.specs.Plain.{op_at_pc, computes, effect_at, record_at}
-use Rattle.smt_model.proofs.Registers.Reading.{effect-next}
+use Rattle.smt_laws.proofs.Registers.Reading.{effect-next}
 use Rattle.smt_laws.specs.PlainLaws.{ReadsZero, IsUntouched, StepsAlone, ChangesAsSaid, IsRecorded, WritesAsSaid}
 use Rattle.smt_laws.specs.PlainLaws.{StoresWhereHeld, StopsWithoutWriting, EndsReservations}
 use Rattle.smt_laws.proofs.Done.{some_one, value-none}

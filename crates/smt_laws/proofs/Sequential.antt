@@ -10,12 +10,15 @@ use Rattle.smt_model.specs.{Setup.Setup, Setup.registers_of, Setup.first_number,
 use Rattle.smt_model.specs.{Plain.output_after, Fates.stage, Fates.fate, Fates.op_of_fetched, Rules.refused}
 use Rattle.smt_model.specs.{Rules.is_legal, Rules.computed_at}
 use Rattle.smt_model.specs.Registers.{committed, value, claims, flight_claims, committed_claims}
-use Rattle.smt_model.proofs.{Fates.Moves.complete_was, Fates.Sound.sound, Registers.Namings.in_range}
-use Rattle.smt_model.proofs.{Registers.Sources.committer-is, Registers.Claims.IsRegister, Registers.Claims.who_flies}
-use Rattle.smt_model.proofs.{Registers.Claims.who_commits, Registers.Counts.claims-once}
-use Rattle.smt_model.proofs.{Registers.Counts.committed-range, Events.Calm.result-other}
-use Rattle.smt_model.proofs.Registers.Committing.{committer-Fetch, committer-Decode, committer-Rename, committer-Issue}
-use Rattle.smt_model.proofs.Registers.Committing.{committer-Complete}
+use Rattle.smt_model.proofs.{Fates.Moves.complete_was, Fates.Sound.sound}
+use Rattle.smt_laws.proofs.Registers.Namings.{in_range}
+use Rattle.smt_laws.proofs.Registers.Sources.{committer-is}
+use Rattle.smt_model.proofs.Registers.Claims.{IsRegister, who_flies}
+use Rattle.smt_model.proofs.Registers.Claims.{who_commits}
+use Rattle.smt_laws.proofs.Registers.Counts.{claims-once}
+use Rattle.smt_laws.proofs.{Registers.Counts.committed-range, Events.Calm.result-other}
+use Rattle.smt_laws.proofs.Registers.Committing.{committer-Fetch, committer-Decode, committer-Rename, committer-Issue}
+use Rattle.smt_laws.proofs.Registers.Committing.{committer-Complete}
 use Rattle.smt_laws.specs.Sequential.{IsSequential, EachIsSequential}
 use Rattle.smt_laws.proofs.{Done.done-at, Agreeing.step-is}
 use Rattle.smt_laws.proofs.Stepping.{value-kept, longer, runs-Retire, records-longer, pcs-Retire, statuses-Retire}

@@ -15,12 +15,14 @@ use Rattle.smt_model.specs.Plain.{word_at_pc, op_at_pc, computes, effect_at}
 use Rattle.smt_model.specs.Fates.{Fetched, stage, fate, fetching, completion, is_of, op_of_fetched}
 use Rattle.smt_model.specs.Registers.{namings, writes, committer, committed, first_value, value, value_by, result_of}
 use Rattle.smt_model.specs.Memory.{byte_at, reserved, address_of, status}
-use Rattle.smt_model.proofs.{Lists.member, Fates.Moves.retire_was, Fates.Numbers.is_of-is, Registers.Namings.named_is}
-use Rattle.smt_model.proofs.{Registers.Sources.committer-is, Registers.Claims.IsRegister}
-use Rattle.smt_model.proofs.{Registers.Committing.committed-kept, Registers.Committing.committer-Retire}
-use Rattle.smt_model.proofs.{Registers.Committing.committer-Retire_other, Registers.Held.is_held}
-use Rattle.smt_model.proofs.{Registers.Held.writer_named, Events.Calm.result-other, Steps.RetireCommits.result-Retire}
-use Rattle.smt_model.proofs.{Steps.Retire.records-Retire}
+use Rattle.smt_model.proofs.{Lists.member, Fates.Moves.retire_was, Fates.Numbers.is_of-is}
+use Rattle.smt_laws.proofs.Registers.Namings.{named_is}
+use Rattle.smt_laws.proofs.Registers.Sources.{committer-is}
+use Rattle.smt_model.proofs.Registers.Claims.{IsRegister}
+use Rattle.smt_laws.proofs.Registers.Committing.{committed-kept, committer-Retire}
+use Rattle.smt_laws.proofs.{Registers.Committing.committer-Retire_other, Registers.Held.is_held}
+use Rattle.smt_laws.proofs.{Registers.Held.writer_named, Events.Calm.result-other, Steps.RetireCommits.result-Retire}
+use Rattle.smt_laws.proofs.Steps.Retire.{records-Retire}
 use Rattle.smt_laws.specs.Sequential.{IsSequential, retired_pc}
 use Rattle.smt_laws.proofs.Done.{IsDone, own-said, value-given, value-last}
 use Rattle.smt_laws.proofs.Agreeing.{IsStep}

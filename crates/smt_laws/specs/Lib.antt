@@ -1,3 +1,4 @@
+pub mod Histories
 pub mod Sequential
 pub mod Chain
 pub mod PlainLaws

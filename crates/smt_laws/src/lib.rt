@@ -1,9 +1,10 @@
-//! What a legal history of the core amounts to: an execution of the plain machine, one instruction
-//! at a time.
+//! What holds in every legal history of the core, and what such a history amounts to: an execution of
+//! the plain machine, one instruction at a time.
 //!
-//! There is no code here. The statements stand in `specs`, to be read in this order: `Sequential`,
-//! `Chain`, `Execution`, `Shown`, `Scripts`, `PlainLaws`.
+//! There is no code here. The statements stand in `specs`, to be read in this order: `Histories`,
+//! `Sequential`, `Chain`, `Execution`, `Shown`, `Scripts`, `PlainLaws`.
 #![tactic(auto)]
 
+pub mod histories;
 pub mod laws;
 pub mod shown;

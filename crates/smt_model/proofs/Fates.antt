@@ -1,7 +1,4 @@
--- What every legal history says of its instructions: which are there, how they move on, in which order.
+-- What every legal history says of its instructions: how they move on, and which there are.
 pub mod Moves
 pub mod Sound
 pub mod Numbers
-pub mod Order
-pub mod Once
-pub mod Choosing

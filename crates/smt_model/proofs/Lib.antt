@@ -1,9 +1,4 @@
 pub mod Lists
 pub mod Allowed
-pub mod Stated
-pub mod Staying
-pub mod Rows
 pub mod Fates
 pub mod Registers
-pub mod Events
-pub mod Steps

@@ -1,12 +1,2 @@
--- What every legal history says of registers: who names, writes, claims and holds them, and their numbers.
-pub mod Below
-pub mod Namings
-pub mod Standing
-pub mod Sources
+-- What every legal history says of registers: who claims them.
 pub mod Claims
-pub mod Committing
-pub mod Held
-pub mod Counts
-pub mod Values
-pub mod Reading
-pub mod Operands

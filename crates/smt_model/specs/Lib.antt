@@ -24,5 +24,4 @@ pub mod Account
 pub mod Picture
 pub mod Frames
 pub mod Steps
-pub mod Laws
 pub mod Asks

@@ -4,11 +4,10 @@
 //! There is hardly any code here. The definitions stand in `specs`, to be read in this order:
 //! `Setup`, `Kinds`, `Exec`, `Nexts`, `Faults`, `Bytes`, `Reservations`, `Outcomes`, `Effects`,
 //! `Plain`; then, over lists of events, `Folds`, `Fates`, `Flights`, `Registers`, `Memory`, `Looks`,
-//! `Fetching`, `Jobs`, `Comparisons`, `Rules`, `Account`, `Picture`, `Frames`, `Steps`, `Asks`,
-//! `Laws`.
+//! `Fetching`, `Jobs`, `Comparisons`, `Rules`, `Account`, `Picture`, `Frames`, `Steps`, `Asks`.
+//! What follows from them for every legal history stands in `smt_laws`.
 #![tactic(auto)]
 
 pub mod config;
-pub mod laws;
 
 pub use config::{Config, Role, Status};

@@ -6,7 +6,7 @@ ghost use Rattle.threaded_runs.specs.Prediction.{static_guess};
 
 use rv_decode::decode;
 use rv_instr::Instr;
-use rv_word::add;
+use rv_arithmetic::add;
 use smt_core::Predict;
 
 /// The opcode of JAL (RISC-V Unprivileged ISA, chapter "RV32/64G Instruction Set Listings").

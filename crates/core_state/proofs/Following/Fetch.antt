@@ -6,7 +6,8 @@ use Rattle.events.specs.{declared.event.Event.Event, declared.event.Event.TheVar
 use Rattle.smt_model.specs.{Basics.same_number, Setup.Setup, Jobs.is_actor, Fates.fetches}
 use Rattle.smt_model.specs.Fetching.{choice, fetch_pc}
 use Rattle.smt_model.specs.Rules.{first_failing, refused}
-use Rattle.smt_model.proofs.{Fates.Choosing.chosen, Fates.Moves.same_number-is}
+use Rattle.smt_laws.proofs.Fates.Choosing.{chosen}
+use Rattle.smt_model.proofs.Fates.Moves.{same_number-is}
 use Rattle.smt_model.proofs.Fates.Moves.{fetch_number}
 use Rattle.core_parts.specs.{Fetch.next_hart, declared.point.FetchPoint.FetchPoint}
 use Rattle.core_state.specs.{Answers.fetched_at}

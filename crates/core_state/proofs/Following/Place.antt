@@ -11,7 +11,8 @@ use Rattle.smt_model.specs.{Basics.holds_of, Setup.Setup, Picture.Picture, Pictu
 use Rattle.smt_model.specs.Fates.{Fate, fate, is, is_of, is_in_flight, stage, InDecode, InRename}
 use Rattle.smt_model.specs.Flights.{numbers, in_decode, in_rename, flight}
 use Rattle.smt_model.proofs.Lists.{member, member-filter, filter-member}
-use Rattle.smt_model.proofs.{Fates.Choosing.hart_there, Fates.Moves.fate_at, Fates.Moves.stage_of}
+use Rattle.smt_laws.proofs.Fates.Choosing.{hart_there}
+use Rattle.smt_model.proofs.Fates.Moves.{fate_at, stage_of}
 use Rattle.smt_model.proofs.Fates.Numbers.{numbers-of, numbers-member, known_fetched}
 use Rattle.core_parts.specs.Agree.{IsActive, IsSlot, HartAgrees, PartsAgree}
 use Rattle.core_state.specs.{State.IsCore, State.past_of, State.setup_in, State.view_of, View.CoreView}

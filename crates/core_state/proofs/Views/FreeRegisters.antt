@@ -6,7 +6,8 @@ use Rattle.std.proofs.{lemmas.Bool.cases_Bool, lemmas.Bool.cases_eq, lemmas.Bool
 use Rattle.events.specs.declared.event.Event.{Event}
 use Rattle.smt_model.specs.{Basics.below, Basics.how_many, Picture.is_free, Registers.claims, Registers.is_unclaimed}
 use Rattle.smt_model.specs.{Rules.is_legal, Setup.Setup, Setup.registers_of}
-use Rattle.smt_model.proofs.{Registers.Counts.claims-once, Lists.filter-append}
+use Rattle.smt_laws.proofs.Registers.Counts.{claims-once}
+use Rattle.smt_model.proofs.Lists.{filter-append}
 use Rattle.register_renaming.specs.Flags.{holds}
 use Rattle.core_parts.specs.{Listed.listed}
 use Rattle.core_parts.proofs.Listing.{one_kept, one_lost, nothing_behind, listed_same}

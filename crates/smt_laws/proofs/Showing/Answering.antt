@@ -19,8 +19,8 @@ use Rattle.smt_model.proofs.Fates.Moves.{same_number-is, fetch_number, issue_was
 use Rattle.smt_model.proofs.Fates.Moves.{complete_lent, drop_lent}
 use Rattle.smt_model.proofs.{Lists.member, Lists.filter-member, Fates.Numbers.first_of_hart, Fates.Numbers.known_below}
 use Rattle.smt_model.proofs.{Fates.Numbers.all_numbers-member, Fates.Numbers.known_fetched, Fates.Sound.sound}
-use Rattle.smt_model.proofs.{Registers.Namings.same_truth-is, Registers.Values.complete_says}
-use Rattle.smt_model.proofs.{Registers.Values.retire_says}
+use Rattle.smt_laws.proofs.{Registers.Namings.same_truth-is, Registers.Values.complete_says}
+use Rattle.smt_laws.proofs.Registers.Values.{retire_says}
 use Rattle.smt_laws.specs.Shown.{Predictor, IsLeastFree, IsDecided, AsksHaveOneAnswer}
 use Rattle.smt_laws.proofs.Done.{some_one}
 

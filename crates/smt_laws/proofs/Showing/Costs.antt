@@ -12,7 +12,7 @@ use Rattle.smt_model.specs.{Rules.refused, Rules.is_legal, Flights.all_numbers}
 use Rattle.smt_model.specs.Fates.{Fate, Fetched, fate, fate_by, fetching, is_live, squashed_fate, squashes, stage}
 use Rattle.smt_model.proofs.{Lists.member, Lists.Each-at, Lists.Rises, Fates.Sound.sound}
 use Rattle.smt_model.proofs.{Fates.Sound.moved, Fates.Numbers.all_numbers-member, Fates.Numbers.all_numbers-rise}
-use Rattle.smt_model.proofs.{Fates.Numbers.all_numbers-below, Fates.Numbers.known_below}
+use Rattle.smt_model.proofs.Fates.Numbers.{all_numbers-below, known_below}
 use Rattle.smt_model.proofs.Fates.Moves.{moves, fetch_number, fetch_was, decode_was, rename_was, issue_was}
 use Rattle.smt_model.proofs.Fates.Moves.{complete_was}
 use Rattle.smt_model.proofs.Fates.Moves.{retire_was, stage-retired_as}

@@ -15,8 +15,9 @@ use Rattle.smt_model.specs.{Asks.Ask, Asks.AskFetch, Jobs.is_actor, Rules.refuse
 use Rattle.smt_model.specs.Fates.{Fate, fate, fetches, is, is_counted, next_fate, stage, InDecode, Squashed}
 use Rattle.smt_model.proofs.Lists.{member, member-append, filter-member, filter-same}
 use Rattle.smt_model.proofs.{Allowed.fetch_allows, Allowed.fetch_allowed, Fates.Moves.same_number-self}
-use Rattle.smt_model.proofs.{Fates.Moves.same_number-is, Fates.Choosing.chosen, Registers.Claims.below-member}
-use Rattle.smt_model.proofs.{Steps.Fetch.steps-Fetch}
+use Rattle.smt_model.proofs.{Fates.Moves.same_number-is, Registers.Claims.below-member}
+use Rattle.smt_laws.proofs.Fates.Choosing.{chosen}
+use Rattle.smt_laws.proofs.Steps.Fetch.{steps-Fetch}
 use Rattle.smt_laws.specs.Shown.{Predictor}
 use Rattle.smt_laws.proofs.Done.{some_one}
 use Rattle.smt_laws.proofs.Showing.{Answering.is_fetch, Replies.refused_one, Replies.answered, Replies.unanswered}

@@ -15,10 +15,10 @@ use Rattle.smt_model.specs.Registers.{reading, reads, is_ready}
 use Rattle.smt_model.proofs.Lists.{member, member-filter, filter-none, filter-member, first-least, Rises-filter}
 use Rattle.smt_model.proofs.Fates.Numbers.{numbers-of, numbers-member, numbers-rise, all_numbers-member}
 use Rattle.smt_model.proofs.Fates.Numbers.{all_numbers-rise, known_below, known_fetched, is_of-one}
-use Rattle.smt_model.proofs.{Fates.Choosing.hart_there, Registers.Operands.IsSourceName}
-use Rattle.smt_model.proofs.{Registers.Operands.reading_by-is, Registers.Below.first_source-below}
-use Rattle.smt_model.proofs.{Registers.Below.second_source-below}
-use Rattle.smt_model.proofs.Registers.Sources.{source-is, source-committed, source-none}
+use Rattle.smt_laws.proofs.{Fates.Choosing.hart_there, Registers.Operands.IsSourceName}
+use Rattle.smt_laws.proofs.{Registers.Operands.reading_by-is, Registers.Below.first_source-below}
+use Rattle.smt_laws.proofs.Registers.Below.{second_source-below}
+use Rattle.smt_laws.proofs.Registers.Sources.{source-is, source-committed, source-none}
 use Rattle.smt_laws.proofs.{Sequential.sequential, Paths.least_first}
 use Rattle.smt_laws.proofs.Showing.Counting.{only, first-inside}
 use Rattle.smt_laws.proofs.Showing.Turns.{is_aside, IsRested, IsAlone}

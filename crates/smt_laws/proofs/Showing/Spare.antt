@@ -9,8 +9,8 @@ use Rattle.events.specs.declared.event.Event.{Event}
 use Rattle.smt_model.specs.{Basics.how_many, Basics.total, Basics.below, Setup.Setup, Setup.registers_of}
 use Rattle.smt_model.specs.{Fates.fate, Fates.is_in_flight, Picture.is_free}
 use Rattle.smt_model.specs.Registers.{committed, committed_claims, flight_claims, is_unclaimed}
-use Rattle.smt_model.proofs.{Registers.Claims.below-rise, Registers.Claims.member-below}
-use Rattle.smt_model.proofs.{Registers.Claims.who_flies}
+use Rattle.smt_model.proofs.Registers.Claims.{below-rise, member-below}
+use Rattle.smt_model.proofs.Registers.Claims.{who_flies}
 use Rattle.smt_laws.proofs.Showing.Counting.{length-below, total-full, images-bound, sums-bound}
 
 -- ---- The least number that passes a test

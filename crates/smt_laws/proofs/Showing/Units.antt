@@ -10,7 +10,7 @@ use Rattle.smt_model.specs.{Basics.holds_of, Setup.Setup, Jobs.unit_of_actor, Ac
 use Rattle.smt_model.specs.{Rules.refused, Rules.is_legal, Fates.Fetched, Fates.fetching, Fates.op_at}
 use Rattle.smt_model.specs.Fates.{op_of_fetched, stage, fate}
 use Rattle.smt_model.proofs.{Allowed.issue_allowed, Fates.Sound.sound, Fates.Sound.moved, Fates.Numbers.known_below}
-use Rattle.smt_model.proofs.{Fates.Numbers.op_at-kept}
+use Rattle.smt_model.proofs.Fates.Numbers.{op_at-kept}
 use Rattle.smt_model.proofs.Fates.Moves.{moves, retire_was}
 use Rattle.smt_model.proofs.Fates.Sound.{issued-Fetch, issued-Decode, issued-Rename, issued-Complete, issued-Drop}
 use Rattle.smt_model.proofs.Fates.Sound.{issued-Retire}

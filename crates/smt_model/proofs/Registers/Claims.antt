@@ -10,7 +10,7 @@ use Rattle.smt_model.specs.{Setup.Setup, Fates.fate, Fates.is_in_flight, Flights
 use Rattle.smt_model.specs.Registers.{phys, committed, flight_claims, committed_claims, is_unclaimed}
 use Rattle.smt_model.proofs.Lists.{member, member-behind, member-append, Rises, Rises-push}
 use Rattle.smt_model.proofs.{Fates.Moves.same_number-is, Fates.Moves.same_number-self, Fates.Numbers.known_below}
-use Rattle.smt_model.proofs.{Fates.Numbers.all_numbers-member}
+use Rattle.smt_model.proofs.Fates.Numbers.{all_numbers-member}
 
 -- ---- Counting
 

@@ -1,7 +1,8 @@
 use Rattle.std.specs.Prelude.{◌≡◌, ◌⊎◌, IfErr}
 use Rattle.std.proofs.Common.{sym, ◌∙◌, subst}
 use Rattle.std.proofs.lemmas.Result.{IfOk-weaker, IfErr-weaker}
-use Rattle.actors.specs.{Counts.HasRun, declared.refused.RunRefused.RunRefused}
+use Rattle.threaded_runs.specs.declared.refused.RunRefused.{RunRefused}
+use Rattle.actors.specs.Counts.{HasRun}
 use Rattle.threaded_runs.specs.declared.refused.RunRefused.TheVariants.{Memory, Thread}
 use Rattle.actors.proofs.Telling.{told_counts}
 use Rattle.actors.proofs.running.run_core.Goals as goal

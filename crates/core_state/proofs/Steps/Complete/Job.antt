@@ -12,8 +12,9 @@ use Rattle.exec_units.specs.Job.{JobView}
 use Rattle.smt_model.specs.{Basics.holds_of, Setup.Setup, Kinds.first_source, Kinds.second_source, Flights.flight}
 use Rattle.smt_model.specs.{Flights.numbers, Picture.Picture, Picture.picture, Registers.operand, Rules.is_legal}
 use Rattle.smt_model.specs.Fates.{fetching, fate, is, is_in_flight, is_of, Squashed}
-use Rattle.smt_model.proofs.{Fates.Choosing.hart_there, Lists.member, Lists.filter-member, Fates.Numbers.numbers-member}
-use Rattle.smt_model.proofs.{Fates.Sound.sound}
+use Rattle.smt_laws.proofs.Fates.Choosing.{hart_there}
+use Rattle.smt_model.proofs.{Lists.member, Lists.filter-member, Fates.Numbers.numbers-member}
+use Rattle.smt_model.proofs.Fates.Sound.{sound}
 use Rattle.core_parts.specs.Agree.{IsOpenJob, HasOpenJob, JobsAgree}
 use Rattle.core_state.specs.{Answers.IsJobOf, Answers.IsStrange}
 use Rattle.core_parts.specs.{Complete.IsSameJob}

@@ -11,7 +11,7 @@ use Rattle.smt_model.specs.{Basics.or_zero, Setup.Setup, Kinds.first_source, Kin
 use Rattle.smt_model.specs.{Exec.exec, Nexts.is_last, Faults.checked, Outcomes.outcome_of, Looks.first_look}
 use Rattle.smt_model.specs.{Picture.picture, Registers.operand, Rules.computed_at, Rules.outcome_now, Rules.is_legal}
 use Rattle.smt_model.specs.Fates.{Fetched, Completed, completion, fate, fetching, op_of_fetched, stage}
-use Rattle.smt_model.proofs.Registers.Values.{completed-is}
+use Rattle.smt_laws.proofs.Registers.Values.{completed-is}
 use Rattle.core_parts.specs.{Agree.IsOpenJob, Complete.IsSameJob, declared.slot.OpenJob.OpenJob}
 
 -- A fault changes no address.

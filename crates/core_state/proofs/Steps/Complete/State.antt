@@ -12,7 +12,7 @@ use Rattle.retire_squash.specs.declared.active.Active.{Active}
 use Rattle.smt_model.specs.{Bytes.read, Exec.Computed, Faults.checked, Outcomes.outcome_of}
 use Rattle.smt_model.specs.{Basics.holds_of, Setup.registers_of, Setup.are_core_sizes, Fates.is_of, Picture.Picture}
 use Rattle.smt_model.specs.{Picture.picture, Rules.refused, Steps.IsDrop}
-use Rattle.smt_model.proofs.{Fates.Choosing.hart_there, Steps.Drop.steps-Drop}
+use Rattle.smt_laws.proofs.{Fates.Choosing.hart_there, Steps.Drop.steps-Drop}
 use Rattle.core_parts.specs.Agree.{PartsAgree, KeepsSizes, From, IsActive, IsOpenJob}
 use Rattle.core_state.specs.{Answers.IsJobOf, Answers.IsStrange, View.CoreView}
 use Rattle.core_parts.specs.{Complete.IsSameJob, Complete.IsFinish}

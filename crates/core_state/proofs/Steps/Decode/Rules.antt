@@ -8,9 +8,11 @@ use Rattle.smt_model.specs.{Asks.AskDecode, Basics.first, Basics.same_number, Fl
 use Rattle.smt_model.specs.{Flights.in_rename, Picture.picture, Rules.refused, Rules.is_first, Rules.is_legal}
 use Rattle.smt_model.specs.{Jobs.is_actor, Setup.Setup}
 use Rattle.smt_model.specs.Fates.{fate, is, is_of, InDecode}
-use Rattle.smt_model.proofs.{Allowed.decode_allowed, Allowed.decode_allows, Fates.Choosing.hart_there}
+use Rattle.smt_model.proofs.Allowed.{decode_allowed, decode_allows}
+use Rattle.smt_laws.proofs.Fates.Choosing.{hart_there}
 use Rattle.smt_model.proofs.{Lists.first-member, Lists.member-filter, Fates.Moves.same_number-is, Fates.Numbers.at_hart}
-use Rattle.smt_model.proofs.{Fates.Numbers.numbers-of, Steps.Decode.steps-Decode}
+use Rattle.smt_model.proofs.Fates.Numbers.{numbers-of}
+use Rattle.smt_laws.proofs.Steps.Decode.{steps-Decode}
 use Rattle.core_parts.specs.{Agree.PartsAgree, Agree.From, Decode.CanDecode, Decode.Decodes}
 use Rattle.core_state.specs.{Answers.AllowsNone}
 use Rattle.core_parts.specs.{declared.parts.Parts.Parts}

@@ -12,8 +12,10 @@ use Rattle.smt_model.specs.{Asks.AskFetch, Fates.fate, Fates.fetches, Fates.is_c
 use Rattle.smt_model.specs.{Flights.icount, Picture.picture, Rules.refused, Rules.is_legal, Jobs.is_actor, Setup.Setup}
 use Rattle.smt_model.specs.Basics.{below, first_least, least_from, how_many, same_number}
 use Rattle.smt_model.specs.Fetching.{is_after, turn, may_fetch, last_fetched, choice, fetch_pc}
-use Rattle.smt_model.proofs.{Allowed.fetch_allowed, Allowed.fetch_allows, Fates.Choosing.fetch_chosen}
-use Rattle.smt_model.proofs.{Registers.Claims.member-below, Fates.Moves.same_number-is, Steps.Fetch.steps-Fetch}
+use Rattle.smt_model.proofs.Allowed.{fetch_allowed, fetch_allows}
+use Rattle.smt_laws.proofs.Fates.Choosing.{fetch_chosen}
+use Rattle.smt_model.proofs.{Registers.Claims.member-below, Fates.Moves.same_number-is}
+use Rattle.smt_laws.proofs.Steps.Fetch.{steps-Fetch}
 use Rattle.smt_model.proofs.Lists.{member, member-append, member-behind, member-filter, filter-same}
 use Rattle.core_parts.specs.Agree.{HartAgrees, EachAgrees, PartsAgree, From}
 use Rattle.core_state.specs.{Answers.AllowsNone, Answers.CanFetch}

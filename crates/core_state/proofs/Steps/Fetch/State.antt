@@ -8,7 +8,8 @@ use Rattle.events.specs.{History.EventList, declared.event.Event.Event}
 use Rattle.events.specs.declared.event.Event.TheVariants.{Fetch, Decode, Rename, Issue, Complete, Drop, Retire}
 use Rattle.smt_model.specs.{Fates.fetches, Fetching.choice, Picture.Picture, Picture.picture, Rules.refused}
 use Rattle.smt_model.specs.{Jobs.is_actor, Steps.IsFetch}
-use Rattle.smt_model.proofs.{Allowed.fetch_allowed, Fates.Moves.same_number-is, Steps.Fetch.steps-Fetch}
+use Rattle.smt_model.proofs.{Allowed.fetch_allowed, Fates.Moves.same_number-is}
+use Rattle.smt_laws.proofs.Steps.Fetch.{steps-Fetch}
 use Rattle.rv_instr.specs.{Decode.op_of_word, declared.op.Op.Op}
 use Rattle.core_parts.specs.Agree.{HartAgrees, PartsAgree, From, KeepsSizes}
 use Rattle.core_state.specs.{Answers.CanFetch, Answers.fetched_at, View.CoreView}

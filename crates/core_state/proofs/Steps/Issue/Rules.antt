@@ -13,7 +13,8 @@ use Rattle.smt_model.specs.{Jobs.job, Picture.picture}
 use Rattle.smt_model.specs.Fates.{fate, is, is_of, op_at, Renamed}
 use Rattle.smt_model.proofs.{Lists.member, Lists.filter-member, Allowed.issue_allowed, Allowed.issue_allows}
 use Rattle.smt_model.proofs.{Fates.Moves.fate_at, Fates.Moves.issue_was, Fates.Numbers.known_below}
-use Rattle.smt_model.proofs.{Fates.Numbers.all_numbers-member, Steps.Issue.steps-Issue}
+use Rattle.smt_model.proofs.Fates.Numbers.{all_numbers-member}
+use Rattle.smt_laws.proofs.Steps.Issue.{steps-Issue}
 use Rattle.core_parts.specs.{Agree.IsEntry, Issuing.CanIssue, Issuing.IsIssuing}
 
 -- The last rule, for an actor whose unit is known.

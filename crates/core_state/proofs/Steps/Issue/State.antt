@@ -11,7 +11,7 @@ use Rattle.exec_units.specs.Job.{JobView}
 use Rattle.issue_queue.specs.{Entry.has_values, declared.entry.Entry.Entry}
 use Rattle.smt_model.specs.{declared.config.Role.Role, Asks.answers, Asks.AskIssue, Picture.Picture, Picture.picture}
 use Rattle.smt_model.specs.{Rules.refused, Jobs.is_actor, Jobs.unit_of_actor, Setup.Setup, Setup.unit_of_role}
-use Rattle.smt_model.proofs.Fates.Choosing.{hart_there}
+use Rattle.smt_laws.proofs.Fates.Choosing.{hart_there}
 use Rattle.core_parts.specs.Agree.{PartsAgree, IsEntry, IsOpenJob, KeepsSizes, From}
 use Rattle.core_state.specs.{Answers.AllowsNone, Answers.IsJobOf, State.IsCore, State.past_of, State.setup_in}
 use Rattle.core_parts.specs.{declared.parts.Parts.Parts}

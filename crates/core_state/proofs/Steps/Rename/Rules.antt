@@ -15,9 +15,10 @@ use Rattle.smt_model.specs.Rules.{refused, is_legal, is_first, of_fetched}
 use Rattle.smt_model.proofs.Lists.{member-filter, first-member, Each, Each-all}
 use Rattle.smt_model.proofs.{Allowed.rename_allowed, Allowed.rename_allows, Fates.Moves.rename_was}
 use Rattle.smt_model.proofs.{Fates.Moves.same_number-self, Fates.Numbers.at_hart, Fates.Numbers.first_of_hart}
-use Rattle.smt_model.proofs.{Fates.Numbers.numbers-of, Fates.Order.in_order, Registers.Namings.same_truth-is}
-use Rattle.smt_model.proofs.{Registers.Namings.in_range, Registers.Namings.taken, Fates.Choosing.hart_there}
-use Rattle.smt_model.proofs.{Steps.RenameMap.mapped_claimed, Steps.Rename.steps-Rename}
+use Rattle.smt_model.proofs.Fates.Numbers.{numbers-of}
+use Rattle.smt_laws.proofs.{Fates.Order.in_order, Registers.Namings.same_truth-is}
+use Rattle.smt_laws.proofs.{Registers.Namings.in_range, Registers.Namings.taken, Fates.Choosing.hart_there}
+use Rattle.smt_laws.proofs.{Steps.RenameMap.mapped_claimed, Steps.Rename.steps-Rename}
 use Rattle.core_parts.specs.Renaming.{CanRename, IsRenaming}
 
 -- ---- From the picture to the rules

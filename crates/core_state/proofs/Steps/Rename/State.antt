@@ -7,7 +7,8 @@ use Rattle.events.specs.{History.EventList, declared.event.Event.Event}
 use Rattle.events.specs.declared.event.Event.TheVariants.{Fetch, Decode, Rename, Issue, Complete, Drop, Retire}
 use Rattle.smt_model.specs.{Asks.answers, Asks.AskRename, Fates.is_of, Picture.Picture, Picture.picture, Rules.refused}
 use Rattle.smt_model.specs.{Jobs.is_actor}
-use Rattle.smt_model.proofs.{Allowed.rename_allowed, Fates.Choosing.hart_there}
+use Rattle.smt_model.proofs.Allowed.{rename_allowed}
+use Rattle.smt_laws.proofs.Fates.Choosing.{hart_there}
 use Rattle.core_parts.specs.{Agree.PartsAgree, Agree.KeepsSizes, Agree.From}
 use Rattle.core_state.specs.{Answers.AllowsNone, Answers.IsLeastFree}
 use Rattle.core_parts.specs.{Renaming.CanRename, Renaming.IsRenaming, Renaming.IsLeastIn}

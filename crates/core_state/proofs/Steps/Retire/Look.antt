@@ -20,8 +20,9 @@ use Rattle.smt_model.specs.{Comparisons.same_next, Comparisons.same_write, Compa
 use Rattle.smt_model.specs.Fates.{Fetched, Completed, fetching, is, is_of, is_replayed, op_of_fetched}
 use Rattle.smt_model.specs.Fates.{squashes_at_retirement}
 use Rattle.smt_model.specs.Rules.{computed_at, effect_now, is_first, is_legal, of_fetched, refused}
-use Rattle.smt_model.proofs.{Allowed.retire_allows, Fates.Moves.same_number-self, Steps.End.steps-End}
-use Rattle.smt_model.proofs.{Steps.Retire.steps-Retire, Steps.Replay.steps-Replay}
+use Rattle.smt_model.proofs.{Allowed.retire_allows, Fates.Moves.same_number-self}
+use Rattle.smt_laws.proofs.Steps.End.{steps-End}
+use Rattle.smt_laws.proofs.{Steps.Retire.steps-Retire, Steps.Replay.steps-Replay}
 use Rattle.core_parts.specs.Retirement.{CanRetire}
 
 -- ---- What is read of two memories with the same bytes

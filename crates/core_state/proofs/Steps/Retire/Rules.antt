@@ -21,9 +21,11 @@ use Rattle.smt_model.specs.Kinds.{destination}
 use Rattle.smt_model.specs.Fates.{Fetched, Completed, fate, is, stage, is_of, op_at, op_of_fetched, fetching}
 use Rattle.smt_model.specs.Fates.{is_replayed, completion}
 use Rattle.smt_model.specs.Rules.{is_legal, of_fetched, refused, effect_now}
-use Rattle.smt_model.proofs.{Allowed.retire_allowed, Registers.Below.destination-below}
-use Rattle.smt_model.proofs.{Fates.Choosing.hart_there, Events.SquashedRegisters.flight-rises, Lists.Each, Lists.Rises}
-use Rattle.smt_model.proofs.{Fates.Moves.stage_of, Fates.Moves.fate_at}
+use Rattle.smt_model.proofs.Allowed.{retire_allowed}
+use Rattle.smt_laws.proofs.Registers.Below.{destination-below}
+use Rattle.smt_laws.proofs.{Fates.Choosing.hart_there, Events.SquashedRegisters.flight-rises}
+use Rattle.smt_model.proofs.Lists.{Each, Rises}
+use Rattle.smt_model.proofs.Fates.Moves.{stage_of, fate_at}
 use Rattle.smt_model.proofs.Fates.Numbers.{first_of_hart}
 use Rattle.core_state.specs.Answers.{AllowsNone}
 use Rattle.core_parts.specs.{Agree.IsStage}

@@ -17,7 +17,7 @@ use Rattle.smt_model.specs.{Bytes.read, Reservations.holds_word, Registers.opera
 use Rattle.smt_model.specs.{Memory.byte_at, Memory.reserved, Kinds.first_source, Kinds.second_source}
 use Rattle.memory_system.specs.Contents.{Contents, byte_of, reserved_of}
 use Rattle.core_parts.specs.Accesses.{CanWrite}
-use Rattle.smt_model.proofs.Steps.Retire.{records-Retire}
+use Rattle.smt_laws.proofs.Steps.Retire.{records-Retire}
 use Rattle.core_parts.specs.{Agree.PartsAgree, Agree.KeepsSizes, Agree.From}
 use Rattle.core_state.specs.{Answers.AllowsNone, View.CoreView}
 use Rattle.core_parts.specs.{declared.parts.Parts.Parts}
@@ -28,7 +28,8 @@ use Rattle.retire_squash.specs.declared.active.Stage.{Stage}
 use Rattle.retire_squash.specs.declared.active.Stage.TheVariants as stages
 use Rattle.smt_model.specs.{Basics.holds_of, Comparisons.same_effect, Fates.Completed, Fates.fate, Fates.stage}
 use Rattle.smt_model.specs.{Flights.flight}
-use Rattle.smt_model.proofs.{Allowed.retire_allowed, Allowed.RetireAllowed, Fates.Choosing.hart_there}
+use Rattle.smt_model.proofs.Allowed.{retire_allowed, RetireAllowed}
+use Rattle.smt_laws.proofs.Fates.Choosing.{hart_there}
 use Rattle.smt_model.proofs.{Fates.Moves.fate_at, Fates.Moves.stage_of, Fates.Numbers.first_of_hart}
 use Rattle.core_parts.specs.Agree.{IsActive, IsStage}
 use Rattle.core_state.proofs.Following.Sameness.{same_effect-is}

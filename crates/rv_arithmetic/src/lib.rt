@@ -1,0 +1,14 @@
+//! The operations on 32-bit words of RV32IM and of its atomics, as code.
+//!
+//! Read in this order: `base` (RV32I), `mul_div` (M), `atomic` (A), `extend`.
+#![tactic(auto)]
+
+pub mod atomic;
+pub mod base;
+pub mod extend;
+pub mod mul_div;
+
+pub use atomic::amo;
+pub use base::{add, sll, slt, sltu, sra, srl, sub};
+pub use extend::sext;
+pub use mul_div::{div, divu, mul, mulh, mulhsu, mulhu, rem, remu};

@@ -1,0 +1,16 @@
+pub mod Histories
+mod OneHart
+mod Accesses
+mod Calls
+mod Fetching
+mod Forwarding
+mod Looks
+mod Memory
+mod Mispredictions
+mod Refusals
+mod Renaming
+mod Reservations
+mod Results
+mod Squashes
+mod Units
+mod Statements
