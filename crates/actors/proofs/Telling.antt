@@ -6,7 +6,7 @@ use Rattle.std.proofs.lemmas.Option.{none-some, same_Some, slice_get-map}
 use Rattle.events.specs.declared.event.Event.{Event}
 use Rattle.smt_model.specs.Account.{event_count}
 use Rattle.core_lock.specs.Passes.{IsTold}
-use Rattle.finished_core.specs.Counts.{AreCounts}
+use Rattle.smt_core.specs.Counts.{AreCounts}
 
 found : {X : Type 0} (count : X → ℕ) (o : Option X) (n : ℕ) → option_map count o ≡ Some n
     → (p : X) × (o ≡ Some p) × (count p ≡ n)

@@ -1,8 +1,8 @@
 -- What a run leaves.
 use Rattle.std.specs.Prelude.{◌≡◌, IsTrue, length, sum}
 use Rattle.core_state.specs.View.{CoreView}
-use Rattle.finished_core.specs.declared.finished.Finished.{Finished}
-use Rattle.finished_core.specs.{Counts.AreCounts, Shown.Shown}
+use Rattle.smt_core.specs.declared.finished.Finished.{Finished}
+use Rattle.smt_core.specs.{Counts.AreCounts, Shown.Shown}
 
 -- The actors of a run have asked this core, and nothing else did: it is of the same setup and
 -- limit still. The counts add up to its events, and each is its actor's where that is told.

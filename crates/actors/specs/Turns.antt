@@ -10,7 +10,7 @@ use Rattle.core_lock.specs.declared.ask.Ask.TheVariants as ask
 use Rattle.core_lock.specs.declared.ask.Said.TheVariants as said
 use Rattle.core_lock.specs.{Asks.Replied, Asks.event_in, Passes.more, Passes.later}
 use Rattle.core_lock.specs.Passes.{going_in}
-use Rattle.finished_core.specs.Shown.{Shown}
+use Rattle.smt_core.specs.Shown.{Shown}
 use Rattle.board.specs.declared.reason.Reason.TheVariants as reason
 use Rattle.actors.specs.declared.progress.Progress.{Progress}
 use Rattle.actors.specs.declared.progress.Progress.TheVariants as came

@@ -4,7 +4,7 @@ use Rattle.std.proofs.lemmas.Option.{slice_get-get_or}
 use Rattle.events.specs.declared.event.Event.{Event}
 use Rattle.smt_model.specs.Account.{event_count, last_event_of}
 use Rattle.core_lock.specs.{Passes.IsTold, Tallies.AreTallies, Tallies.AreBelow, declared.tally.Tally.Tally}
-use Rattle.finished_core.proofs.Counting.{made_within}
+use Rattle.smt_core.proofs.Counting.{made_within}
 
 pub few : (past : List Event) (tallies : List Tally) (n : ℕ) → length past < n → AreTallies past tallies
     → AreBelow n tallies

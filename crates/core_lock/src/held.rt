@@ -6,8 +6,8 @@ ghost use Rattle.smt_model.specs.Account.{event_count, last_event_of};
 ghost use Rattle.core_lock.specs.Asks.{Replied, IssueReplied, CompleteReplied, IsPredictedBy};
 ghost use Rattle.core_lock.specs.Asks.{plain_said, asked_of, event_in, grown_by, is_reply};
 ghost use Rattle.core_lock.specs.Passes.{IsDealt, IsTold, more, later, going_in, places};
-ghost use Rattle.finished_core.specs.Counts.{made_from};
-ghost use Rattle.finished_core.specs.Shown.{Shown};
+ghost use Rattle.smt_core.specs.Counts.{made_from};
+ghost use Rattle.smt_core.specs.Shown.{Shown};
 ghost use Rattle.core_lock.specs.Tallies.{AreTallies};
 
 mod counted;
@@ -20,9 +20,8 @@ use crate::reader::CoreReader;
 use crate::tally::{Tally, tallies_of, tally_at, tally_of};
 use events::Event;
 use exec_units::Done;
-use finished_core::{Finished, show};
 use program_image::Image;
-use smt_core::{Answer, CompleteAnswer, Config, Core, IssueAnswer, Predict};
+use smt_core::{Answer, CompleteAnswer, Config, Core, Finished, IssueAnswer, Predict, show};
 use std::marker::PhantomData;
 use std::sync::ledger::{Blank, Book, Ledger, Share};
 

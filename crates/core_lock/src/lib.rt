@@ -4,7 +4,7 @@
 //! Read in this order: `ask` (what is asked and said), `tally` (what a history holds of one actor),
 //! `origin` (which core it is), `reader` (what looks at a core), `held` (what stands behind the lock,
 //! with the passes; `held/passes` and `held/replies` read them out, `held/counted` lets a pass be
-//! posted on a board), `locked` (the lock). What is left at the end stands in `finished_core`.
+//! posted on a board), `locked` (the lock). What is left at the end stands in `smt_core`.
 #![tactic(auto)]
 
 pub mod ask;

@@ -6,15 +6,14 @@ ghost use Rattle.core_state.specs.View.{CoreView};
 ghost use Rattle.smt_model.specs.Account.{event_count, last_event_of};
 ghost use Rattle.core_lock.specs.Asks.{Replied, IsPredictedBy, asked_of, event_in, is_reply};
 ghost use Rattle.core_lock.specs.Passes.{IsTold, more, later, going_in, places};
-ghost use Rattle.finished_core.specs.Shown.{Shown};
+ghost use Rattle.smt_core.specs.Shown.{Shown};
 
 use crate::ask::Ask;
 use crate::held::{Held, Pass, Reply};
 use crate::origin::Origin;
 use crate::reader::CoreReader;
-use finished_core::Finished;
 use program_image::Image;
-use smt_core::{Config, Core, Predict};
+use smt_core::{Config, Core, Finished, Predict};
 use std::sync::ledger::Blank;
 use std::sync::{Mutex, Wait};
 

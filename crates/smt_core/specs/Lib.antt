@@ -1,3 +1,5 @@
 pub mod Answers
 pub mod Headline
 pub mod Following
+pub mod Counts
+pub mod Shown

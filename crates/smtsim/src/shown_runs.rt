@@ -1,8 +1,7 @@
 use actors::run;
-use finished_core::Finished;
 use program_image::Image;
 use run_progress::Progress;
-use smt_core::Config;
+use smt_core::{Config, Finished};
 use std::alloc::Global;
 use std::rt::{HostRuntime, Stderr};
 use std::sync::Wait;

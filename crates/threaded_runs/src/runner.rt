@@ -2,15 +2,14 @@ ghost use Rattle.std.specs.Prelude.{◌≡◌, ◌↔◌, true, false, IsTrue, I
 ghost use Rattle.std.specs.Thread.{IsSync};
 ghost use Rattle.smt_model.specs.Setup.{is_accepted};
 ghost use Rattle.core_state.specs.Setup.{setup_of};
-ghost use Rattle.finished_core.specs.Counts.{AreCounts};
-ghost use Rattle.finished_core.specs.Shown.{Shown};
+ghost use Rattle.smt_core.specs.Counts.{AreCounts};
+ghost use Rattle.smt_core.specs.Shown.{Shown};
 ghost use Rattle.threaded_runs.specs.Roles.{HaveEveryRole};
 ghost use Rattle.threaded_runs.specs.declared.refused.RunRefused.TheVariants as refused;
 
 use crate::refused::RunRefused;
-use finished_core::Finished;
 use program_image::Image;
-use smt_core::Config;
+use smt_core::{Config, Finished};
 use std::alloc::Global;
 use std::sync::Wait;
 use std::thread::Threads;

@@ -4,9 +4,9 @@ ghost use Rattle.rv_instr.specs.Decode.{decoded};
 ghost use Rattle.smt_model.specs.Exec.{extended, next_pc};
 ghost use Rattle.threaded_runs.specs.Prediction.{static_guess};
 
+use rv_arithmetic::add;
 use rv_decode::decode;
 use rv_instr::Instr;
-use rv_arithmetic::add;
 use smt_core::Predict;
 
 /// The opcode of JAL (RISC-V Unprivileged ISA, chapter "RV32/64G Instruction Set Listings").

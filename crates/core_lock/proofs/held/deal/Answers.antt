@@ -1,6 +1,6 @@
 use Rattle.std.proofs.Common.{◌≡◌, ◌+◌, ◌∙◌, refl, ap, arith}
-use Rattle.finished_core.specs.Counts.{made_from}
-use Rattle.finished_core.proofs.Counting.{own_and_greater, none_from_16}
+use Rattle.smt_core.specs.Counts.{made_from}
+use Rattle.smt_core.proofs.Counting.{own_and_greater, none_from_16}
 use Rattle.core_lock.proofs.held.deal.Goals as goal
 
 pub split_off-part-requires-clause-has_amount : goal.split_off-part-requires-clause-has_amount

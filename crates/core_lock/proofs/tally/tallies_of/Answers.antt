@@ -1,7 +1,7 @@
 use Rattle.std.proofs.Common.{◌≡◌, ◌∷◌, ◌+◌, ◌∙◌, take, reverse, ap, sym, subst, arith}
 use Rattle.std.proofs.lemmas.List.{length-reverse, length-take-le}
 use Rattle.core_lock.specs.Tallies.{AreTallies}
-use Rattle.finished_core.proofs.Counting.{newest}
+use Rattle.smt_core.proofs.Counting.{newest}
 use Rattle.core_lock.proofs.Tallying.{few}
 use Rattle.core_lock.proofs.tally.tallies_of.Goals as goal
 

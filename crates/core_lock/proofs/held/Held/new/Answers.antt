@@ -1,6 +1,6 @@
 use Rattle.std.proofs.Common.{◌≡◌, ◌∙◌, refl, sym, ap, arith, length}
 use Rattle.std.proofs.lemmas.List.{length-reverse}
-use Rattle.finished_core.proofs.Counting.{all_from_0}
+use Rattle.smt_core.proofs.Counting.{all_from_0}
 use Rattle.board.proofs.Laid.{four_more}
 use Rattle.core_lock.proofs.held.Held.new.Goals as goal
 

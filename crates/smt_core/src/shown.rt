@@ -1,7 +1,7 @@
 ghost use Rattle.std.specs.Prelude.{◌≤◌, length};
-ghost use Rattle.finished_core.specs.Shown.{Shown};
+ghost use Rattle.smt_core.specs.Shown.{Shown};
 
-use smt_core::Core;
+use crate::calls::Core;
 use smt_laws::laws::refines_the_plain_machine;
 
 /// The headline, of this core. It does nothing: it is there for its contract.

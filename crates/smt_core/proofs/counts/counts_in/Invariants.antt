@@ -1,7 +1,7 @@
 use Rattle.std.specs.Prelude.{reverse}
 use Rattle.std.proofs.Common.{take}
-use Rattle.finished_core.specs.Counts.{AreCounts}
-use Rattle.finished_core.proofs.counts.counts_in.Given as goal
+use Rattle.smt_core.specs.Counts.{AreCounts}
+use Rattle.smt_core.proofs.counts.counts_in.Given as goal
 
 -- what the events so far hold of each actor
 abbrev pub invariant-loop-event : goal.invariant-loop-event

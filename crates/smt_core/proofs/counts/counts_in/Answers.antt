@@ -1,8 +1,8 @@
 use Rattle.std.proofs.Common.{◌≡◌, ◌∷◌, ◌+◌, ◌∙◌, take, reverse, ap, sym, subst, arith}
 use Rattle.std.proofs.lemmas.List.{length-reverse, length-take-le}
-use Rattle.finished_core.specs.Counts.{AreCounts}
-use Rattle.finished_core.proofs.Counting.{newest, few_counts}
-use Rattle.finished_core.proofs.counts.counts_in.Goals as goal
+use Rattle.smt_core.specs.Counts.{AreCounts}
+use Rattle.smt_core.proofs.Counting.{newest, few_counts}
+use Rattle.smt_core.proofs.counts.counts_in.Goals as goal
 
 pub count-requires : goal.count-requires
 count-requires c =

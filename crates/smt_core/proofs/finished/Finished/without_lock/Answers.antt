@@ -1,7 +1,7 @@
 use Rattle.std.proofs.Common.{subst, arith}
-use Rattle.finished_core.specs.Counts.{AreCounts}
-use Rattle.finished_core.proofs.Counting.{counts_add_up}
-use Rattle.finished_core.proofs.finished.Finished.without_lock.Goals as goal
+use Rattle.smt_core.specs.Counts.{AreCounts}
+use Rattle.smt_core.proofs.Counting.{counts_add_up}
+use Rattle.smt_core.proofs.finished.Finished.without_lock.Goals as goal
 
 pub invariant_of-result : goal.invariant_of-result
 invariant_of-result c = record {

@@ -1,14 +1,15 @@
 ghost use Rattle.std.specs.Prelude.{◌≡◌, ◌↔◌, IsTrue, length, sum};
 ghost use Rattle.core_state.specs.Setup.{setup_of};
-ghost use Rattle.finished_core.specs.Shown.{Shown};
-ghost use Rattle.finished_core.specs.Counts.{AreCounts};
+ghost use Rattle.smt_core.specs.Shown.{Shown};
+ghost use Rattle.smt_core.specs.Counts.{AreCounts};
 
+use crate::calls::Core;
 use crate::counts::counts_in;
 use crate::shown::show;
 use program_image::Image;
-use smt_core::{Config, Core};
+use smt_model::Config;
 
-/// What is left of a core when its lock is given up.
+/// What is left of a core when nobody asks it any more.
 #[derive(Drop)]
 pub struct Finished {
     pub core: Core,

@@ -9,7 +9,7 @@ use Rattle.events.specs.declared.event.Event.TheVariants.{Fetch, Decode, Rename,
 use Rattle.smt_model.specs.{Account.event_count, Basics.how_many, Setup.Setup, Rules.is_legal, Rules.refused}
 use Rattle.smt_model.specs.{Jobs.is_actor}
 use Rattle.smt_model.proofs.Allowed.{allowed}
-use Rattle.finished_core.specs.Counts.{AreCounts, AreCountsBelow, made_from}
+use Rattle.smt_core.specs.Counts.{AreCounts, AreCountsBelow, made_from}
 
 -- The newest event of those so far.
 pub newest : {X : Type 0} (xs : List X) (i : ℕ) (d : X) → i < length xs

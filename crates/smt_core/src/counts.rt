@@ -1,6 +1,6 @@
 ghost use Rattle.std.specs.Prelude.{◌∷◌, ◌≤◌, length, reverse, List};
 ghost use Rattle.events.specs.declared.event.Event.{Event as AnyEvent};
-ghost use Rattle.finished_core.specs.Counts.{AreCounts, AreCountsBelow};
+ghost use Rattle.smt_core.specs.Counts.{AreCounts, AreCountsBelow};
 
 use events::Event;
 
