@@ -18,7 +18,7 @@ use Rattle.sim_refusals.specs.Refusals.{Read, OfFile, PassesAll, IsImageRefusal}
 use Rattle.sim_commands.specs.CheckRefusals.{AreCheckInputsRefusedFor, IsTraceOf, IsTraceRefusal, IsHistoryRefusal}
 use Rattle.sim_commands.specs.{CheckTold.IsCheckReported}
 use Rattle.sim_report.specs.{Report.records_text, Report.report_text, Report.status_number}
-use Rattle.sim_steps.specs.Told.{HasTold, statuses_of, retired_of}
+use Rattle.sim_accounts.specs.Told.{HasTold, statuses_of, retired_of}
 
 pub image_refusal : (image : Read) (settings : Settings) (trace : Read) (reason : Refused)
     → IsImageRefusal image settings.ram reason → AreCheckInputsRefusedFor image settings trace reason

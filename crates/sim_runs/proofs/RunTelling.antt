@@ -17,7 +17,7 @@ use Rattle.sim_refusals.specs.Refusals.{Read, OfFile, PassesAll, AreAccepted, Ar
 use Rattle.sim_runs.specs.{RunTold.AreRunInputsRefusedFor, RunTold.IsRunReported, RunTold.LackARole}
 use Rattle.sim_runs.specs.RunTold.{run_refusal}
 use Rattle.smt_model.specs.declared.config.Config as configs
-use Rattle.sim_steps.specs.Told.{HasTold}
+use Rattle.sim_accounts.specs.Told.{HasTold}
 
 pub image_refusal : (image : Read) (settings : Settings) (reason : Refused)
     → IsImageRefusal image settings.ram reason → AreRunInputsRefusedFor image settings reason

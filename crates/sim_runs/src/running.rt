@@ -6,9 +6,9 @@ ghost use Rattle.sim_refusals.specs.Refusals.{as_read, OfFile, PassesAll, AreAcc
 ghost use Rattle.sim_runs.specs.RunTold.{AreRunInputsRefusedFor, LackARole, run_refusal};
 
 use finished_core::Finished;
+use sim_accounts::read_image;
 use sim_inputs::Settings;
 use sim_refusals::{Refused, Unread};
-use sim_steps::read_image;
 use std::alloc::Global;
 use std::sync::Wait;
 use std::thread::Threads;
