@@ -8,7 +8,7 @@ mod meeting;
 use crate::asks_of_a_core::{End, FIRST_END, end_of, first_image, one_of_each};
 use crate::counting::{Miscount, counts, first_miscount};
 use actors::run;
-use finished_core::Finished;
+use smt_core::Finished;
 use smt_core::{Config, Status};
 use std::alloc::Global;
 use std::sync::Wait;

@@ -1,6 +1,6 @@
 //! What the passes counted, against the events that their actors have in the history.
 
-use finished_core::Finished;
+use smt_core::Finished;
 use smt_core::Core;
 use std::process::Abort;
 

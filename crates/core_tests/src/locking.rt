@@ -6,7 +6,7 @@ use crate::predictors::Behind;
 use arrayvec::ArrayVec;
 use core_lock::{Ask, CoreReader, Held, LockedCore, Origin, Pass, Said};
 use events::Event;
-use finished_core::Finished;
+use smt_core::Finished;
 use program_image::Image;
 use smt_core::{Config, Core, Done, Role, work};
 use std::alloc::Global;

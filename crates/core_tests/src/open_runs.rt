@@ -1,7 +1,7 @@
 //! Runs whose actors are all let on, as a line of the program asks for them.
 
 use actors::run;
-use finished_core::Finished;
+use smt_core::Finished;
 use program_image::Image;
 use smt_core::Config;
 use std::alloc::Global;

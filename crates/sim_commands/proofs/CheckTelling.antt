@@ -10,7 +10,7 @@ use Rattle.events.specs.{declared.event.Event.Event, declared.effect.Record.Reco
 use Rattle.smt_model.specs.{declared.config.Status.Status, Account.open_job_count, Memory.output}
 use Rattle.smt_model.specs.Setup.{is_accepted}
 use Rattle.core_state.specs.{Setup.setup_of, View.CoreView}
-use Rattle.finished_core.specs.Shown.{Shown}
+use Rattle.smt_core.specs.Shown.{Shown}
 use Rattle.sim_inputs.specs.declared.settings.Settings.{Settings}
 use Rattle.sim_refusals.specs.declared.refused.Refused.{Refused}
 use Rattle.sim_refusals.specs.declared.refused.Refused.TheVariants as refused
@@ -18,7 +18,7 @@ use Rattle.sim_refusals.specs.Refusals.{Read, OfFile, PassesAll, IsImageRefusal}
 use Rattle.sim_commands.specs.CheckRefusals.{AreCheckInputsRefusedFor, IsTraceOf, IsTraceRefusal, IsHistoryRefusal}
 use Rattle.sim_commands.specs.{CheckTold.IsCheckReported}
 use Rattle.sim_report.specs.{Report.records_text, Report.report_text, Report.status_number}
-use Rattle.sim_steps.specs.Told.{HasTold, statuses_of, retired_of}
+use Rattle.sim_accounts.specs.Told.{HasTold, statuses_of, retired_of}
 
 pub image_refusal : (image : Read) (settings : Settings) (trace : Read) (reason : Refused)
     → IsImageRefusal image settings.ram reason → AreCheckInputsRefusedFor image settings trace reason

@@ -4,14 +4,14 @@ use Rattle.std.specs.Prelude.{◌≡◌, ℕ, Bool, true, false, List, length, r
 use Rattle.elf_image.specs.Loaded.{IsImageOf}
 use Rattle.events.specs.declared.event.Event.{Event}
 use Rattle.core_state.specs.{Setup.setup_of, View.CoreView}
-use Rattle.finished_core.specs.Shown.{Shown}
+use Rattle.smt_core.specs.Shown.{Shown}
 use Rattle.smt_model.specs.Setup.{is_accepted}
 use Rattle.sim_inputs.specs.declared.settings.Settings.{Settings}
 use Rattle.sim_refusals.specs.{Refusals.Read, Refusals.OfFile}
 use Rattle.sim_commands.specs.{CheckRefusals.IsTraceOf}
-use Rattle.sim_session.specs.{Session.Prints}
+use Rattle.text_fields.specs.{Printing.Prints}
 use Rattle.sim_report.specs.{Report.status_number}
-use Rattle.sim_steps.specs.{Told.IsAccount, Told.statuses_of}
+use Rattle.sim_accounts.specs.{Told.IsAccount, Told.statuses_of}
 
 -- The trace's events, the last of them first, are the history of a core of this image and these
 -- settings, with room for just so many: one of those that may be shown, so its history is legal.

@@ -7,7 +7,7 @@ use Rattle.schedules.specs.Schedules.{IsScheduleOf}
 use Rattle.sim_script.specs.Order.{IsOrder}
 use Rattle.sim_inputs.specs.declared.settings.Settings.{Settings}
 use Rattle.sim_refusals.specs.{Refusals.Read, Refusals.OfFile}
-use Rattle.sim_session.specs.{Session.Prints}
+use Rattle.text_fields.specs.{Printing.Prints}
 
 -- The text is a schedule of the order in the one file for the core of the image in the other: a
 -- script by which that core retires, in this order, what the plain machine does in it.

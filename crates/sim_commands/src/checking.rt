@@ -1,6 +1,6 @@
 ghost use Rattle.std.specs.Prelude.{◌≡◌, IsTrue, OnOk, IfOk, IfErr, Err, length, reverse};
 ghost use Rattle.std.specs.Prelude.{true, false};
-ghost use Rattle.finished_core.specs.Shown.{Shown};
+ghost use Rattle.smt_core.specs.Shown.{Shown};
 ghost use Rattle.core_state.specs.Setup.{setup_of};
 ghost use Rattle.sim_refusals.specs.declared.refused.Refused.TheVariants.{Output};
 ghost use Rattle.sim_refusals.specs.Refusals.{as_read, OfFile, PassesAll, refusal_of};
@@ -8,17 +8,17 @@ ghost use Rattle.exit_statuses.specs.Statuses.{says_harts};
 ghost use Rattle.sim_commands.specs.CheckRefusals.{AreCheckInputsRefusedFor, IsHistoryRefusal};
 ghost use Rattle.sim_commands.specs.CheckRefusals.{IsTraceOf, IsTraceRefusal};
 ghost use Rattle.sim_commands.specs.CheckTold.{IsCheckReported};
-ghost use Rattle.sim_steps.specs.Told.{HasTold};
+ghost use Rattle.sim_accounts.specs.Told.{HasTold};
 ghost use Rattle.smt_model.specs.Setup.{is_accepted};
 
 use event_text::{Trace, TraceRefused, read_trace};
 use events::Event;
 use history_check::{CheckRefused, Checked, check};
 use program_image::Image;
+use sim_accounts::read_image;
 use sim_inputs::Settings;
 use sim_refusals::{Refused, Unread};
 use sim_report::{report, status_of};
-use sim_steps::read_image;
 use std::alloc::Global;
 use std::io::Write;
 

@@ -9,11 +9,11 @@ ghost use Rattle.sim_commands.specs.PlainTold.{IsPlainReported};
 
 use plain_run::{OrderStopped, PlainRun, run_order};
 use program_image::Image;
+use sim_accounts::read_image;
 use sim_inputs::Settings;
 use sim_refusals::{Refused, Unread};
 use sim_report::{report_plain, status_of};
 use sim_script::{OrderRefused, read_order};
-use sim_steps::read_image;
 use std::alloc::Global;
 use std::io::Write;
 

@@ -10,9 +10,9 @@ ghost use Rattle.sim_commands.specs.ScheduleTold.{IsScheduled};
 use crate::plain::read_harts;
 use program_image::Image;
 use schedules::{Schedule, ScheduleRefused, make_schedule};
+use sim_accounts::read_image;
 use sim_inputs::Settings;
 use sim_refusals::{Refused, Unread};
-use sim_steps::read_image;
 use std::alloc::Global;
 use std::io::Write;
 

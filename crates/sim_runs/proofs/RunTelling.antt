@@ -7,7 +7,7 @@ use Rattle.smt_model.specs.Setup.{is_accepted}
 use Rattle.program_image.specs.Image.{ProgramImage}
 use Rattle.threaded_runs.specs.{Roles.HaveEveryRole, declared.refused.RunRefused.RunRefused}
 use Rattle.threaded_runs.specs.declared.refused.RunRefused.TheVariants as refused
-use Rattle.finished_core.specs.Shown.{Shown}
+use Rattle.smt_core.specs.Shown.{Shown}
 use Rattle.elf_image.specs.Loaded.{IsImageOf}
 use Rattle.sim_inputs.specs.declared.settings.Settings.{Settings}
 use Rattle.sim_refusals.specs.declared.refused.Refused.{Refused}
@@ -17,7 +17,7 @@ use Rattle.sim_refusals.specs.Refusals.{Read, OfFile, PassesAll, AreAccepted, Ar
 use Rattle.sim_runs.specs.{RunTold.AreRunInputsRefusedFor, RunTold.IsRunReported, RunTold.LackARole}
 use Rattle.sim_runs.specs.RunTold.{run_refusal}
 use Rattle.smt_model.specs.declared.config.Config as configs
-use Rattle.sim_steps.specs.Told.{HasTold}
+use Rattle.sim_accounts.specs.Told.{HasTold}
 
 pub image_refusal : (image : Read) (settings : Settings) (reason : Refused)
     → IsImageRefusal image settings.ram reason → AreRunInputsRefusedFor image settings reason

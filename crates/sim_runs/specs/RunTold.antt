@@ -3,7 +3,7 @@
 use Rattle.std.specs.Prelude.{◌≡◌, ◌⊎◌, ℕ, Bool, false, List, Option, Err}
 use Rattle.elf_image.specs.Loaded.{IsImageOf}
 use Rattle.core_state.specs.{Setup.setup_of, View.CoreView}
-use Rattle.finished_core.specs.Shown.{Shown}
+use Rattle.smt_core.specs.Shown.{Shown}
 use Rattle.threaded_runs.specs.{Roles.HaveEveryRole, declared.refused.RunRefused.RunRefused}
 use Rattle.threaded_runs.specs.declared.refused.RunRefused.TheVariants as runs
 use Rattle.sim_inputs.specs.declared.settings.Settings.{Settings}
@@ -13,9 +13,9 @@ use Rattle.sim_refusals.specs.declared.refused.Refused.TheVariants.{File, Output
 use Rattle.sim_refusals.specs.declared.refused.Unread.TheVariants as unread
 use Rattle.sim_refusals.specs.{Refusals.Read, Refusals.OfFile, Refusals.IsFirstFailed}
 use Rattle.sim_refusals.specs.{Refusals.PassesAll, Refusals.AreAccepted, Refusals.AreRefused}
-use Rattle.sim_session.specs.{Session.Prints}
+use Rattle.text_fields.specs.{Printing.Prints}
 use Rattle.sim_report.specs.{Report.status_number}
-use Rattle.sim_steps.specs.{Told.IsAccount, Told.statuses_of}
+use Rattle.sim_accounts.specs.{Told.IsAccount, Told.statuses_of}
 
 -- What a line is refused for whose run is refused.
 abbrev pub run_refusal : RunRefused → Refused

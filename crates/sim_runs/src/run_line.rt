@@ -1,5 +1,5 @@
 ghost use Rattle.std.specs.Prelude.{◌≡◌, IsTrue, OnOk, IfOk, IfErr, Err, true, false};
-ghost use Rattle.sim_steps.specs.Told.{IsKept};
+ghost use Rattle.sim_accounts.specs.Told.{IsKept};
 ghost use Rattle.sim_refusals.specs.Refusals.{as_read, OfFile, PassesAll, AreAccepted};
 ghost use Rattle.sim_refusals.specs.Refusals.{refusal_of};
 ghost use Rattle.exit_statuses.specs.Statuses.{says_harts};
@@ -7,9 +7,9 @@ ghost use Rattle.sim_runs.specs.RunTold.{AreRunInputsRefusedFor, IsRunReported, 
 
 use crate::running::run_file;
 use event_text::Sink;
+use sim_accounts::{Wanted, keep_and_tell};
 use sim_inputs::Settings;
 use sim_refusals::{Refused, Unread};
-use sim_steps::{Wanted, keep_and_tell};
 use std::alloc::Global;
 use std::io::Write;
 use std::sync::Wait;

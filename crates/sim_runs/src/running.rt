@@ -1,14 +1,14 @@
 ghost use Rattle.std.specs.Prelude.{◌≡◌, IsTrue, Ok, Err, IfOk, IfErr, OnOk, length, sum};
 ghost use Rattle.elf_image.specs.Loaded.{IsImageOf};
 ghost use Rattle.core_state.specs.Setup.{setup_of};
-ghost use Rattle.finished_core.specs.Shown.{Shown};
+ghost use Rattle.smt_core.specs.Shown.{Shown};
 ghost use Rattle.sim_refusals.specs.Refusals.{as_read, OfFile, PassesAll, AreAccepted, refusal_of};
 ghost use Rattle.sim_runs.specs.RunTold.{AreRunInputsRefusedFor, LackARole, run_refusal};
 
-use finished_core::Finished;
+use smt_core::Finished;
+use sim_accounts::read_image;
 use sim_inputs::Settings;
 use sim_refusals::{Refused, Unread};
-use sim_steps::read_image;
 use std::alloc::Global;
 use std::sync::Wait;
 use std::thread::Threads;

@@ -24,7 +24,8 @@ use Rattle.sim_session.specs.Session.{answer_line, issue_line, complete_line, Is
 use Rattle.sim_session.specs.Session.{IsAnswered, AreAnswered, IsGuessed, AreGuessed, HasExchanged, Exchanges, Tells}
 use Rattle.sim_session.specs.Session.{IsTold, IsFetchTold, is_job, Keeps, IsPlain}
 use Rattle.sim_session.specs.Session.{IsIssue, HandsOver, HandsBack, HandsBackWhere, IsUnit}
-use Rattle.sim_session.specs.Session.{IsMade, AreMade, repeated, actions_of, nobody, Prints, unasked, AreAskedWith}
+use Rattle.sim_session.specs.Session.{IsMade, AreMade, repeated, actions_of, nobody, unasked, AreAskedWith}
+use Rattle.text_fields.specs.{Printing.Prints}
 use Rattle.sim_script.proofs.Written.{appends_more}
 
 pub after_nothing : {X : Type 0} (xs : List X) → xs ++ [] ≡ xs

@@ -218,10 +218,6 @@ actions_of words = flat_map repeated words
 
 -- ---- A script
 
--- A text was printed, and this holds of it.
-abbrev pub Prints : Option (List ℕ) → Option (List ℕ) → (List ℕ → Type 0) → Type 0
-Prints old new P = (text : List ℕ) × P text × Appends old new text
-
 -- The core as it was before its first event.
 abbrev pub unasked : CoreView → CoreView
 unasked core = record core { past = [] }

@@ -1,4 +1,3 @@
 pub mod Telling
 pub mod InputsRefused
 pub mod ScriptsRead
-pub mod FilesRead

@@ -3,7 +3,8 @@ use Rattle.std.specs.Prelude.{◌≡◌, ℕ, List, [], Option, Ok, Err}
 use Rattle.core_state.specs.View.{CoreView}
 use Rattle.sim_script.specs.{declared.actions.Word.Word, Script.IsScript}
 use Rattle.sim_refusals.specs.Refusals.{Read, OfFile}
-use Rattle.sim_session.specs.Session.{Holding, Exchanges, AreMade, actions_of, nobody, Prints, AreAskedWith}
+use Rattle.sim_session.specs.Session.{Holding, Exchanges, AreMade, actions_of, nobody, AreAskedWith}
+use Rattle.text_fields.specs.{Printing.Prints}
 use Rattle.sim_session.proofs.Sessions.{of_words}
 
 pub of_script : {P : Type 0} (predicts : P → ℕ → ℕ → ℕ → ℕ → P → Type 0) (script : Read) (words : List Word)

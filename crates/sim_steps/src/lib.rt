@@ -1,16 +1,11 @@
 //! What the command `step` comes to, of files as they were read: a script's asks made of a core, its
-//! trace kept, and its report. What is told of a core is told so by the command `run` too.
+//! trace kept, and its report. What is told of a core stands in `sim_accounts`.
 //!
-//! Read in this order: `stepping` (the asks of a script), `keeping` (a core's trace), `tables` (what
-//! its parts hold), `core_lines` (what is told of a core, and the command that asks one by a
-//! script).
+//! Read in this order: `stepping` (the asks of a script), `step_line` (the command that makes them).
 #![tactic(auto)]
 
-mod core_lines;
-mod keeping;
+mod step_line;
 mod stepping;
-mod tables;
 
-pub use core_lines::{Wanted, keep_and_tell, step_and_report};
-pub use stepping::{read_image, step_bytes};
-pub use tables::Tables;
+pub use step_line::step_and_report;
+pub use stepping::step_bytes;

@@ -2,19 +2,20 @@ ghost use Rattle.std.specs.Prelude.{◌≡◌, List, [], All, IsTrue, Ok, Err, I
 ghost use Rattle.std.specs.Prelude.{length, sum};
 ghost use Rattle.elf_image.specs.Loaded.{IsImageOf};
 ghost use Rattle.core_state.specs.Setup.{setup_of};
-ghost use Rattle.finished_core.specs.Shown.{Shown};
+ghost use Rattle.smt_core.specs.Shown.{Shown};
+ghost use Rattle.text_fields.specs.Printing.{Prints};
 ghost use Rattle.sim_script.specs.declared.actions.Word.{Word as AnyWord};
 ghost use Rattle.sim_script.specs.Script.{IsScript, IsInRange};
-ghost use Rattle.sim_session.specs.Session.{Holding, AreMade, Exchanges, AreAskedWith, Prints};
+ghost use Rattle.sim_session.specs.Session.{Holding, AreMade, Exchanges, AreAskedWith};
 ghost use Rattle.sim_session.specs.Session.{actions_of, nobody};
 ghost use Rattle.sim_refusals.specs.declared.refused.Refused.TheVariants.{Output};
 ghost use Rattle.sim_refusals.specs.Refusals.{as_read, OfFile, PassesAll, AreAccepted};
-ghost use Rattle.sim_refusals.specs.Refusals.{AreInputsRefusedFor, IsImageRefusal, IsConfigRefusal};
+ghost use Rattle.sim_refusals.specs.Refusals.{AreInputsRefusedFor, IsConfigRefusal};
 ghost use Rattle.sim_refusals.specs.Refusals.{IsScriptRefusal, refusal_of};
 
-use elf_image::{LoadRefused, load};
-use finished_core::Finished;
+use smt_core::Finished;
 use program_image::Image;
+use sim_accounts::read_image;
 use sim_inputs::Settings;
 use sim_refusals::{Refused, Unread};
 use sim_script::{ScriptRefused, Word, read_script};
@@ -107,29 +108,6 @@ pub(crate) fn step_files<P: Predict, W: Write>(
         Err(Unwritten) => return Err(Refused::Output),
     };
     Ok(Finished::without_lock(asked, &image, &settings.config))
-}
-
-/// The image that a file holds.
-pub fn read_image(
-    file: Result<&[u8], Unread>,
-    settings: &Settings,
-    alloc: Global,
-) -> Result<Image, Refused>
-    ensures unread { IfErr file.entry (λ why. result ≡ Err (refusal_of why)) }
-    ensures refused { IfErr result (IsImageRefusal (as_read file.entry) settings.now.ram) }
-    ensures passed { OnOk result (OfFile (as_read file.entry) (λ f. PassesAll f settings.now.ram)) }
-    ensures image { IfOk result
-        (λ made. OfFile (as_read file.entry) (λ f. IsImageOf f settings.now.ram made)) }
-{
-    let bytes = match file {
-        Ok(bytes) => bytes,
-        Err(unread) => return Err(unread.refused()),
-    };
-    match load(alloc, bytes, settings.ram) {
-        Ok(image) => Ok(image),
-        Err(LoadRefused::OutOfMemory) => Err(Refused::Memory),
-        Err(refused) => Err(Refused::Image(refused.number())),
-    }
 }
 
 fn make_core(image: &Image, settings: &Settings, alloc: Global) -> Result<Core, Refused>

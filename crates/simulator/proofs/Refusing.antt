@@ -22,7 +22,7 @@ use Rattle.sim_refusals.specs.declared.refused.Unread.{Unread}
 use Rattle.sim_refusals.specs.declared.refused.Unread.TheVariants as unread
 use Rattle.simulator.specs.Lines.{IsLineRefusal, IsSettingsRefusal, IsRefusal, OfSettings, IsListed, HasEnded}
 use Rattle.simulator.specs.{Lines.IsReportedBy}
-use Rattle.sim_session.specs.{Session.Prints}
+use Rattle.text_fields.specs.{Printing.Prints}
 use Rattle.core_state.specs.View.{CoreView}
 
 -- A configuration's settings are never refused for a core.

@@ -7,7 +7,7 @@ use Rattle.sim_refusals.specs.declared.refused.Refused.{Refused}
 use Rattle.sim_refusals.specs.declared.refused.Refused.TheVariants.{Output}
 use Rattle.sim_refusals.specs.Refusals.{Read, refusal_of}
 use Rattle.exit_statuses.specs.Statuses.{says_harts}
-use Rattle.sim_steps.specs.Told.{IsKept}
+use Rattle.sim_accounts.specs.Told.{IsKept}
 use Rattle.simulator.specs.Lines.{IsLineRefusal, HasEnded, IsUnreported, wants_trace}
 
 -- An unread image is refused for its reason; any refusal is one that comes of this line. Behind an

@@ -17,7 +17,8 @@ use Rattle.sim_refusals.specs.declared.refused.Unread.TheVariants as unread
 use Rattle.sim_refusals.specs.Refusals.{Read, OfFile, IsFirstFailed, PassesAll, AreAccepted}
 use Rattle.sim_refusals.specs.{Refusals.AreInputsRefusedFor}
 use Rattle.sim_steps.specs.{Told.IsReported}
-use Rattle.sim_session.specs.{Session.AreAsked, Session.Prints}
+use Rattle.sim_session.specs.{Session.AreAsked}
+use Rattle.text_fields.specs.{Printing.Prints}
 use Rattle.sim_runs.specs.RunTold.{AreRunInputsRefusedFor, IsRunReported, LackARole}
 use Rattle.sim_commands.specs.CheckRefusals.{AreCheckInputsRefusedFor, AreTooMany}
 use Rattle.sim_commands.specs.{CheckTold.IsCheckReported}

@@ -4,8 +4,9 @@
 //! Read in this order: `performing` (all that the program does once its files are read), `program`
 //! (all that it does). How files are read and a trace is written stands in `sim_files`, what is said
 //! of words and of refusals in `sim_words`, and what runs threads in `threaded_runs`.
-//! What the commands come to stands in `sim_commands` and, of `run`, in `sim_runs`; the asks of a
-//! script stand in `sim_session`, and what goes out in `sim_report`.
+//! What the commands come to stands in `sim_commands` and, of `step` and `run`, in `sim_steps` and
+//! `sim_runs`; the asks of a script stand in `sim_session`, what is told of a core in `sim_accounts`,
+//! and what goes out in `sim_report`.
 #![tactic(auto)]
 
 mod performing;

@@ -7,15 +7,16 @@ ghost use Rattle.sim_inputs.specs.Configuration.{IsConfiguration};
 ghost use Rattle.simulator.specs.Answered.{IsAnswered};
 ghost use Rattle.simulator.specs.Lines.{IsListed, IsListRefusal, IsRefusal, IsSettingsRefusal};
 ghost use Rattle.simulator.specs.Lines.{OfSettings, HasEnded, IsUnreported, wants_trace};
-ghost use Rattle.sim_steps.specs.Told.{IsKept};
+ghost use Rattle.sim_accounts.specs.Told.{IsKept};
 
 use event_text::Sink;
+use sim_accounts::{Wanted, read_image};
 use sim_commands::{check_and_report, run_and_report, schedule_and_print};
 use sim_inputs::{ConfigRefused, Line, Settings, read_config};
 use sim_refusals::{Refused, Unread};
 use sim_report::list;
 use sim_runs::thread_and_report;
-use sim_steps::{Wanted, read_image, step_and_report};
+use sim_steps::step_and_report;
 use sim_words::refuse;
 use smt_core::Predict;
 use std::alloc::Global;

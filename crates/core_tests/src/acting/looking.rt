@@ -3,7 +3,7 @@
 use super::{MANY_TURNS, first_run};
 use crate::asks_of_a_core::one_of_each;
 use board::BoardView;
-use finished_core::Finished;
+use smt_core::Finished;
 use std::alloc::{AllocError, Global};
 use std::sync::Wait;
 use std::sync::atomic::{AtomicBool, AtomicU64, Ordering};

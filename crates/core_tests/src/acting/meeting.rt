@@ -4,7 +4,7 @@ use crate::files::file_of;
 use actors::run;
 use board::BoardView;
 use events::Event;
-use finished_core::Finished;
+use smt_core::Finished;
 use program_image::Image;
 use sim_inputs::read_config;
 use simulator::run_bytes;

@@ -5,7 +5,7 @@ use super::asking::{Step, config, first_core, issue, make};
 use crate::predictors::Behind;
 use crate::rows::{holds, shows};
 use events::Event;
-use sim_steps::Tables;
+use sim_accounts::Tables;
 use smt_core::Core;
 use std::alloc::Global;
 use std::io::Write;

@@ -7,7 +7,7 @@ use crate::counting::{Miscount, counts, first_miscount};
 use crate::files::file_of;
 use crate::predictors::Always;
 use crate::rows::shows;
-use finished_core::Finished;
+use smt_core::Finished;
 use sim_inputs::read_config;
 use simulator::step_bytes;
 use smt_core::Predict;

@@ -9,9 +9,11 @@ use Rattle.sim_inputs.specs.declared.line.Line.TheVariants as lines
 use Rattle.sim_refusals.specs.{declared.refused.Refused.Refused, declared.refused.Unread.Unread}
 use Rattle.sim_refusals.specs.Refusals.{Read, AreAccepted, AreInputsRefusedFor, IsAsking, OfFile, PassesAll, as_read, refusal_of}
 use Rattle.exit_statuses.specs.Statuses.{says_harts}
-use Rattle.sim_steps.specs.declared.core_lines.Wanted.{Wanted}
-use Rattle.sim_steps.specs.Told.{IsKept, IsReported}
-use Rattle.sim_session.specs.Session.{AreAsked, Prints}
+use Rattle.sim_accounts.specs.declared.telling.Wanted.{Wanted}
+use Rattle.sim_accounts.specs.Told.{IsKept}
+use Rattle.sim_steps.specs.Told.{IsReported}
+use Rattle.sim_session.specs.Session.{AreAsked}
+use Rattle.text_fields.specs.{Printing.Prints}
 use Rattle.core_state.specs.View.{CoreView}
 use Rattle.simulator.specs.Answered.{IsAnswered}
 use Rattle.simulator.proofs.Answering.Untraced.{unread_too, on_both, with_status}

@@ -9,7 +9,7 @@ use Rattle.sim_refusals.specs.{declared.refused.Refused.Refused, declared.refuse
 use Rattle.sim_refusals.specs.declared.refused.Refused.TheVariants.{Output}
 use Rattle.sim_refusals.specs.Refusals.{Read, as_read, refusal_of}
 use Rattle.exit_statuses.specs.Statuses.{says_harts}
-use Rattle.sim_steps.specs.Told.{IsKept}
+use Rattle.sim_accounts.specs.Told.{IsKept}
 use Rattle.simulator.specs.Lines.{IsLineRefusal, HasEnded}
 use Rattle.simulator.specs.Answered.{IsAnswered}
 

@@ -1,7 +1,7 @@
 use Rattle.std.proofs.lemmas.Result.{IfErr-weaker, IfOk-weaker}
 use Rattle.sim_refusals.specs.Refusals.{as_read}
 use Rattle.sim_commands.proofs.CheckTelling.{image_refusal, trace_refusal, history_refusal, output_refusal, reported}
-use Rattle.sim_steps.proofs.FilesRead.{was_read, still_unread}
+use Rattle.sim_accounts.proofs.FilesRead.{was_read, still_unread}
 use Rattle.sim_commands.proofs.checking.check_and_report.Goals as goal
 
 pub returns-in-Err : goal.returns-in-Err

@@ -2,7 +2,7 @@ use Rattle.std.proofs.Common.{ap, ◌∙◌, rules}
 use Rattle.sim_refusals.specs.{Refusals.as_read}
 use Rattle.sim_report.specs.{Report.status_number}
 use Rattle.sim_commands.proofs.PlainTelling.{image_refusal, order_refusal, run_refusal, output_refusal, reported}
-use Rattle.sim_steps.proofs.FilesRead.{was_read, still_unread}
+use Rattle.sim_accounts.proofs.FilesRead.{was_read, still_unread}
 use Rattle.sim_commands.proofs.plain.run_and_report.Goals as goal
 
 pub returns-in-Err : goal.returns-in-Err

@@ -1,7 +1,7 @@
 use Rattle.std.proofs.Common.{refl}
 use Rattle.sim_refusals.specs.Refusals.{as_read}
 use Rattle.sim_commands.proofs.ScheduleTelling.{image_refusal, order_refusal, schedule_refusal, output_refusal, printed}
-use Rattle.sim_steps.proofs.FilesRead.{was_read, still_unread}
+use Rattle.sim_accounts.proofs.FilesRead.{was_read, still_unread}
 use Rattle.sim_commands.proofs.scheduling.schedule_and_print.Goals as goal
 
 pub returns-in-Err : goal.returns-in-Err

@@ -2,7 +2,7 @@
 use Rattle.std.proofs.Common.{refl}
 use Rattle.std.proofs.lemmas.Result.{IfErr-weaker, IfOk-weaker}
 use Rattle.sim_refusals.specs.Refusals.{as_read}
-use Rattle.sim_steps.proofs.FilesRead.{was_read, still_unread}
+use Rattle.sim_accounts.proofs.FilesRead.{was_read, still_unread}
 use Rattle.sim_runs.proofs.RunTelling.{told_refusal, reported, on_status}
 use Rattle.sim_runs.proofs.run_line.thread_and_report.Goals as goal
 

@@ -1,11 +1,12 @@
 use Rattle.std.proofs.Common.{refl, rules, sym, subst}
 use Rattle.sim_refusals.specs.{Refusals.as_read, Refusals.OfFile}
-use Rattle.sim_session.specs.{Session.AreAskedWith, Session.Prints}
+use Rattle.sim_session.specs.{Session.AreAskedWith}
+use Rattle.text_fields.specs.{Printing.Prints}
 use Rattle.sim_steps.proofs.ScriptsRead.{of_script}
 use Rattle.sim_steps.proofs.{InputsRefused.image_refusal, InputsRefused.sizes_refusal}
 use Rattle.sim_steps.proofs.{InputsRefused.script_refusal, InputsRefused.output_refusal}
 use Rattle.sim_refusals.specs.declared.refused.Refused.TheVariants.{Output}
-use Rattle.sim_steps.proofs.FilesRead.{was_read, still_unread}
+use Rattle.sim_accounts.proofs.FilesRead.{was_read, still_unread}
 use Rattle.sim_steps.proofs.stepping.step_files.Goals as goal
 
 pub returns-in-Err : goal.returns-in-Err

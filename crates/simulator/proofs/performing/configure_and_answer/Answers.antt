@@ -2,7 +2,7 @@
 -- the flush.
 use Rattle.sim_refusals.specs.Refusals.{as_read}
 use Rattle.sim_refusals.specs.declared.refused.Refused.TheVariants.{Output}
-use Rattle.sim_steps.proofs.FilesRead.{was_read, still_unread}
+use Rattle.sim_accounts.proofs.FilesRead.{was_read, still_unread}
 use Rattle.simulator.proofs.Answering.Untraced.{unfailed}
 use Rattle.simulator.proofs.Refusing.{line_refusal, settings_refusal, ended}
 use Rattle.std.proofs.Common.{refl}

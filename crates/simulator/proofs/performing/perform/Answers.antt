@@ -2,7 +2,7 @@
 use Rattle.std.proofs.Common.{sym, ◌∙◌}
 use Rattle.std.proofs.lemmas.Bool.{true≢false}
 use mathlib.Core.Logic.{inl}
-use Rattle.sim_steps.proofs.FilesRead.{was_read}
+use Rattle.sim_accounts.proofs.FilesRead.{was_read}
 use Rattle.simulator.proofs.Refusing.{known_refusal, unset_refusal, refused_harts}
 use Rattle.simulator.proofs.performing.perform.Goals as goal
 

@@ -2,10 +2,10 @@ use Rattle.std.specs.Prelude.{◌≡◌, true}
 use Rattle.std.proofs.Common.{subst, sym}
 use Rattle.std.proofs.lemmas.Result.{IfErr-weaker, IfOk-weaker}
 use Rattle.sim_refusals.specs.{Refusals.as_read}
-use Rattle.sim_steps.specs.{Told.IsKept}
+use Rattle.sim_accounts.specs.{Told.IsKept}
 use Rattle.sim_steps.proofs.{InputsRefused.told_refusal}
 use Rattle.sim_steps.proofs.{Telling.reported, Telling.unreported}
-use Rattle.sim_steps.proofs.core_lines.step_and_report.Goals as goal
+use Rattle.sim_steps.proofs.step_line.step_and_report.Goals as goal
 
 pub returns-clause-refused : goal.returns-clause-refused
 returns-clause-refused g c =

@@ -1,6 +1,6 @@
 ghost use Rattle.std.specs.Prelude.{◌≡◌, false, OnOk, IfErr};
 ghost use Rattle.sim_refusals.specs.declared.refused.Refused.TheVariants.{Output};
-ghost use Rattle.sim_steps.specs.Told.{IsKept};
+ghost use Rattle.sim_accounts.specs.Told.{IsKept};
 
 use event_text::{Sink, print_trace};
 use sim_refusals::Refused;

@@ -1,6 +1,6 @@
 use Rattle.std.proofs.Common.{sym, ◌∙◌}
-use Rattle.sim_steps.proofs.Telling.{told, on_ok_done}
-use Rattle.sim_steps.proofs.core_lines.tell.Goals as goal
+use Rattle.sim_accounts.proofs.Accounts.{told, on_ok_done}
+use Rattle.sim_accounts.proofs.telling.tell.Goals as goal
 
 pub returns-in-Ok-report-clause-told : goal.returns-in-Ok-report-clause-told
 returns-in-Ok-report-clause-told g c =
