@@ -1,7 +1,6 @@
 //! What the passes counted, against the events that their actors have in the history.
 
-use smt_core::Finished;
-use smt_core::Core;
+use smt_core::{Core, Finished};
 use std::process::Abort;
 
 /// A place at which a pass counted otherwise than its actor made events.

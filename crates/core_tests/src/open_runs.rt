@@ -1,9 +1,8 @@
 //! Runs whose actors are all let on, as a line of the program asks for them.
 
 use actors::run;
-use smt_core::Finished;
 use program_image::Image;
-use smt_core::Config;
+use smt_core::{Config, Finished};
 use std::alloc::Global;
 use std::sync::Wait;
 use std::thread::Threads;

@@ -5,10 +5,10 @@ ghost use Rattle.smt_core.specs.Shown.{Shown};
 ghost use Rattle.sim_refusals.specs.Refusals.{as_read, OfFile, PassesAll, AreAccepted, refusal_of};
 ghost use Rattle.sim_runs.specs.RunTold.{AreRunInputsRefusedFor, LackARole, run_refusal};
 
-use smt_core::Finished;
 use sim_accounts::read_image;
 use sim_inputs::Settings;
 use sim_refusals::{Refused, Unread};
+use smt_core::Finished;
 use std::alloc::Global;
 use std::sync::Wait;
 use std::thread::Threads;

@@ -13,14 +13,13 @@ ghost use Rattle.sim_refusals.specs.Refusals.{as_read, OfFile, PassesAll, AreAcc
 ghost use Rattle.sim_refusals.specs.Refusals.{AreInputsRefusedFor, IsConfigRefusal};
 ghost use Rattle.sim_refusals.specs.Refusals.{IsScriptRefusal, refusal_of};
 
-use smt_core::Finished;
 use program_image::Image;
 use sim_accounts::read_image;
 use sim_inputs::Settings;
 use sim_refusals::{Refused, Unread};
 use sim_script::{ScriptRefused, Word, read_script};
 use sim_session::{Unwritten, ask_core};
-use smt_core::{Core, CoreRefused, Predict};
+use smt_core::{Core, CoreRefused, Finished, Predict};
 use std::alloc::Global;
 use std::io::Write;
 
