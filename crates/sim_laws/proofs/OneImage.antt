@@ -6,7 +6,8 @@ use Rattle.std.proofs.lemmas.List.Sorted.{IsPermutation-sym, IsPermutation-trans
 use Rattle.elf_image.specs.declared.refusal.LoadRefused.TheVariants.{WrongMemorySize, SegmentsOverlap}
 use Rattle.program_image.specs.Image.{ProgramImage}
 use Rattle.elf_image.specs.{Layout.loadable, Loaded.IsImageOf, Loaded.image_from}
-use Rattle.elf_image.proofs.{Pairs.AllPairs-permutation, Rising.AreRising, Rising.same_order}
+use Rattle.elf_image.proofs.{Pairs.AllPairs-permutation}
+use Rattle.elf_writer.proofs.{Rising.AreRising, Rising.same_order}
 use Rattle.sim_refusals.specs.Refusals.{PassesAll}
 
 apart_differ : (a m b n : ℕ) → 0 < m → 0 < n → (a + m ≤ b) ⊎ (b + n ≤ a) → a ≡ b → ⊥
