@@ -138,8 +138,6 @@ class Build:
             if self.running and (free_memory() < MEMORY or free < 1 and not is_longest):
                 continue
             jobs = 2 if is_longest and self.crates.gains(name) else 1
-            # Nothing is left beside the program.
-            jobs = processors() if name == PROGRAM else jobs
             self.running[name] = Running(self.prover, name, jobs, 10 if is_longest else 19)
 
     def end_ended(self):
@@ -223,7 +221,7 @@ class FirstLook:
 def why_not(path):
     """What the prover says is wrong, the first lines; where no crate is to blame, it says at its end why it stopped."""
     lines = open(path, encoding="utf-8", errors="replace").read().split("\n")
-    wrong = [line for line in lines if re.search(r"error|no proof|not proved|no verdict", line)]
+    wrong = [line for line in lines if re.search(r"\berror[:\[]|no proof|not proved|no verdict", line)]
     return "\n".join(wrong[:20] or lines[-6:]).rstrip()
 
 
