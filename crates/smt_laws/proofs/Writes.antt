@@ -1,10 +1,10 @@
 -- No instruction writes more than a word: by what it may be, and then along the records.
-use Rattle.std.specs.Prelude.{◌≡◌, ℕ, ◌≤◌, Bool, true, false, List, [], ◌∷◌, reverse, All}
-use Rattle.std.proofs.Common.{refl, sym, subst, inl, inr, arith}
+use Rattle.std.specs.Prelude.{ℕ, ◌≤◌, Bool, true, false, List, [], ◌∷◌, reverse, All}
+use Rattle.std.proofs.Common.{sym, subst, inl, inr, arith}
 use Rattle.std.proofs.{lemmas.Bool.cases_Bool, lemmas.List.reverse-append, lemmas.List.Elements.All-nil}
 use Rattle.std.proofs.{lemmas.List.Elements.All-push}
 use Rattle.rv_instr.specs.{declared.op.Op.Op, declared.op.Op.TheVariants.Known, declared.op.Op.TheVariants.Illegal}
-use Rattle.rv_instr.specs.{declared.op.Op.TheVariants.NoWord, declared.instr.Instr.Instr, declared.instr.LoadOp.LoadOp}
+use Rattle.rv_instr.specs.{declared.op.Op.TheVariants.NoWord, declared.instr.LoadOp.LoadOp}
 use Rattle.rv_instr.specs.{declared.instr.StoreOp.StoreOp, declared.instr.StoreOp.TheVariants.Sb}
 use Rattle.rv_instr.specs.{declared.instr.StoreOp.TheVariants.Sh, declared.instr.StoreOp.TheVariants.Sw}
 use Rattle.rv_instr.specs.declared.instr.Instr.TheVariants as instr

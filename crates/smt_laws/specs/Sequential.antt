@@ -1,7 +1,7 @@
 -- The headline: what a core retires, in any legal history, is what the plain machine does one
 -- instruction at a time. [Lamport 1979, "How to Make a Multiprocessor Computer That Correctly
 -- Executes Multiprocess Programs"]
-use Rattle.std.specs.Prelude.{◌≡◌, ℕ, ◌<◌, ◌≤◌, if◌then◌else◌, List, [], ◌∷◌, Some}
+use Rattle.std.specs.Prelude.{◌≡◌, ℕ, ◌<◌, ◌≤◌, if◌then◌else◌, List, Some}
 use Rattle.events.specs.declared.event.Event.{Event}
 use Rattle.smt_model.specs.{Setup.Setup, Setup.registers_of, Plain.Run, Plain.run, Nexts.pc_after}
 use Rattle.smt_model.specs.{Folds.by_retirements, Fates.is_of, Registers.committed, Registers.value}

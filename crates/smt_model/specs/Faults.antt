@@ -1,7 +1,7 @@
 -- The faults of an access. Misaligned is decided before outside. [this project's own choice]
 use Rattle.std.specs.Prelude.{ℕ, ◌%◌, not, ◌==◌, ◌||◌, if◌then◌else◌, Option, Some, None}
 use Rattle.std.specs.Prelude.{option_map, unwrap_or}
-use Rattle.smt_model.specs.Words.{Op, ProgramImage, in_ram, touches_code, Next, Stopped}
+use Rattle.smt_model.specs.Words.{Op, ProgramImage, in_ram, touches_code, Stopped}
 use Rattle.smt_model.specs.{Setup.Setup, Exec.Computed, Exec.exec, Nexts.is_last}
 use Rattle.smt_model.specs.Kinds.{Kind, Computing, Loading, Reserving, kind_of, access_size}
 

@@ -1,5 +1,5 @@
 -- Renaming: which physical register stands for which register, who claims it, and what it holds.
-use Rattle.std.specs.Prelude.{ℕ, suc, ◌+◌, ◌-◌, ◌*◌, ◌/◌, ◌%◌, Bool, ◌==◌, ◌&&◌, nat_lt}
+use Rattle.std.specs.Prelude.{ℕ, suc, ◌+◌, ◌/◌, ◌%◌, Bool, ◌==◌, ◌&&◌, nat_lt}
 use Rattle.std.specs.Prelude.{if◌then◌else◌, List, [], ◌∷◌, ◌++◌, filter, Option, Some, None}
 use Rattle.std.specs.Prelude.{is_some}
 use Rattle.smt_model.specs.Words.{Op, Event, Rename, Issue, Complete, Retire}
@@ -8,8 +8,8 @@ use Rattle.numbers.specs.{Sizes.renamed_registers, Layout.first_extra}
 pub use Rattle.numbers.specs.Layout.{first_register}
 use Rattle.rv_instr.specs.declared.op.Op.{Op}
 use Rattle.events.specs.declared.event.Event.{Event}
-use Rattle.events.specs.declared.event.Event.TheVariants.{Fetch, Decode, Rename, Issue, Complete}
-use Rattle.events.specs.declared.event.Event.TheVariants.{Drop, Retire}
+use Rattle.events.specs.declared.event.Event.TheVariants.{Rename, Issue, Complete}
+use Rattle.events.specs.declared.event.Event.TheVariants.{Retire}
 use Rattle.smt_model.specs.{Setup.Setup, Setup.first_number, Kinds.destination, Kinds.first_source}
 use Rattle.smt_model.specs.{Kinds.second_source, Folds.latest, Flights.all_numbers}
 use Rattle.smt_model.specs.Fates.{fate, is, is_in_flight, stands, Retired, Fetched, fetching}

@@ -1,5 +1,5 @@
 -- What a core is made from, and the numbers that everything starts with.
-use Rattle.std.specs.Prelude.{ℕ, ◌+◌, ◌*◌, Bool, ◌==◌, ◌&&◌, nat_le, if◌then◌else◌, List, length}
+use Rattle.std.specs.Prelude.{ℕ, ◌+◌, Bool, ◌==◌, ◌&&◌, nat_le, if◌then◌else◌, List, length}
 use Rattle.std.specs.Prelude.{Option, Some, None}
 use Rattle.numbers.specs.Sizes.{most_harts, most_extra, fewest_queued, most_queued, most_actors}
 use Rattle.numbers.specs.Sizes.{most_events}

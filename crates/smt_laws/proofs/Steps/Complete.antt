@@ -13,7 +13,7 @@ use Rattle.smt_model.specs.{Steps.WakesReadings, Steps.filled_value}
 use Rattle.smt_model.specs.Kinds.{first_source, second_source, writes_register, Kind, Computing, Loading, Storing}
 use Rattle.smt_model.specs.Kinds.{Reserving, Conditional, Atomic, kind_of}
 use Rattle.smt_model.specs.Fates.{Fate, Renamed, Issued, Completed, fate, fetching, is, is_in_flight, stands, is_of}
-use Rattle.smt_model.specs.Fates.{op_of_fetched, completion, InDecode, InRename, mispredicts}
+use Rattle.smt_model.specs.Fates.{op_of_fetched, completion, mispredicts}
 use Rattle.smt_model.specs.Registers.{phys, writer, committed, value, value_by, first_value, result_of, option_inner}
 use Rattle.smt_model.proofs.Fates.Moves.{fate_at, complete_was, complete_lent}
 use Rattle.smt_model.proofs.{Fates.Sound.sound, Fates.Numbers.known_fetched}

@@ -19,7 +19,7 @@ use Rattle.smt_model.proofs.{Lists.filter-loses-first, Fates.Moves.fate_at, Fate
 use Rattle.smt_model.proofs.Fates.Numbers.{first_of_hart, numbers-rise}
 use Rattle.smt_model.proofs.Registers.Claims.{committed_claimed}
 use Rattle.smt_laws.proofs.Events.Freeing.{is_flying, renamed_flies}
-use Rattle.smt_laws.proofs.Events.Harts.{writer-elsewhere, elsewhere, IsElsewhere}
+use Rattle.smt_laws.proofs.Events.Harts.{writer-elsewhere, elsewhere}
 use Rattle.smt_laws.proofs.{Staying.away, Staying.hart-calm, Registers.Counts.committed-range}
 use Rattle.smt_model.proofs.Allowed.{retire_allowed}
 use Rattle.smt_laws.proofs.{Registers.Held.is_held, Registers.Reading.IsPlainRetire, Registers.Reading.not_squashing}
