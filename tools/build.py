@@ -27,9 +27,9 @@ import time
 from crate_list import ROOT, CrateList, kit
 
 PROGRAM = "smtsim"
-# The seconds from which on a crate of the longest chain gets two jobs, and the crates below it from which on these no longer pay:
+# The seconds of the table from which on a crate of the longest chain gets two jobs, and the crates below it from which on these no longer pay:
 # each job loads for itself what all of them state.
-LONG, MANY = 45, 30
+LONG, MANY = 85, 30
 # A chain of crates that is at least so much of the longest counts as the longest.
 NEAR = 0.9
 # What a job takes of memory at the most, in bytes.
