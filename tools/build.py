@@ -10,8 +10,8 @@ all crates below each crate on each path that leads there, is some minutes of on
 
 How long it takes is decided by the longest chain of crates that stand on one another, which goes through the core, its lock and the
 actors (docs/GATE.md has the seconds of each crate, and this reads them there). A crate of that chain begins as soon as it can, with a
-higher claim to the processors, and with two jobs where these pay; the others have what is left, those with the longest chain above
-them first. The log is crates/smtsim/out/build.log. Ends with 0 where the program is built, else with 1.
+higher claim to the processors, and with two jobs where these pay, as has one beside which nothing else is ready; the others have what is left,
+those with the longest chain above them first. The log is crates/smtsim/out/build.log. Ends with 0 where the program is built, else with 1.
 """
 
 import contextlib
@@ -29,7 +29,7 @@ from crate_list import ROOT, CrateList, kit
 PROGRAM = "smtsim"
 # The seconds of the table from which on a crate of the longest chain gets two jobs, and the crates below it from which on these no longer pay:
 # each job loads for itself what all of them state.
-LONG, MANY = 85, 30
+LONG, MANY = 75, 30
 # A chain of crates that is at least so much of the longest counts as the longest.
 NEAR = 0.9
 # What a job takes of memory at the most, in bytes.
@@ -132,12 +132,15 @@ class Build:
     def start_ready(self):
         """Starts what can be: the crate with the longest chain at once, the others as processors and memory are free."""
         longest = max(ahead for name, ahead in self.crates.ahead.items() if name not in self.done)
-        for name in sorted(filter(self.is_ready, self.crates.ahead), key=lambda it: -self.crates.ahead[it]):
+        ready = sorted(filter(self.is_ready, self.crates.ahead), key=lambda it: -self.crates.ahead[it])
+        for name in ready:
             is_longest = self.crates.ahead[name] > NEAR * longest
             free = processors() - self.look.processes() - sum(it.jobs for it in self.running.values())
             if self.running and (free_memory() < MEMORY or free < 1 and not is_longest):
                 continue
-            jobs = 2 if is_longest and self.crates.gains(name) else 1
+            # Where nothing else is ready, a processor would stand still.
+            is_alone = len(ready) == 1 and free > 1
+            jobs = 2 if self.crates.gains(name) and (is_longest or is_alone) else 1
             self.running[name] = Running(self.prover, name, jobs, 10 if is_longest else 19)
 
     def end_ended(self):

@@ -52,36 +52,33 @@ fn write_standing<W: Write>(
     reserved: Option<u32>,
     out: &mut W,
 ) -> io::Result<()> {
-    write!(out, "hart {hart} ")?;
+    write_number("hart ", hart as u64, out)?;
     write_status(state.status, out)?;
-    let pc = state.fetch_pc;
-    let icount = state.icount;
-    write!(out, " pc {pc:08x} icount {icount} reserved ")?;
-    match reserved {
-        Some(addr) => writeln!(out, "{addr:08x}"),
-        None => writeln!(out, "-"),
-    }
+    write_word(" pc ", state.fetch_pc, out)?;
+    write_number(" icount ", u64::from(state.icount), out)?;
+    out.write_all(b" reserved ")?;
+    write_value(reserved, out)
 }
 
 fn write_status<W: Write>(status: Status, out: &mut W) -> io::Result<()> {
     match status {
-        Status::Going => write!(out, "going"),
-        Status::Ended(number) => write!(out, "ended {number}"),
-        Status::Stopped(cause) => write!(out, "stopped {cause}"),
+        Status::Going => out.write_all(b" going"),
+        Status::Ended(number) => write_number(" ended ", u64::from(number), out),
+        Status::Stopped(cause) => write_number(" stopped ", u64::from(cause), out),
     }
 }
 
 /// The numbers of the instructions in a latch, oldest first.
 fn write_latch<W: Write>(name: &str, latch: &[Slot], out: &mut W) -> io::Result<()> {
-    write!(out, "{name}")?;
+    out.write_all(name.as_bytes())?;
     for slot in latch {
-        write!(out, " {}", slot.seq)?;
+        write_number(" ", u64::from(slot.seq), out)?;
     }
     end_list(latch.is_empty(), out)
 }
 
 fn write_flight<W: Write>(flight: &[Active], out: &mut W) -> io::Result<()> {
-    write!(out, "flight")?;
+    out.write_all(b"flight")?;
     for active in flight {
         write_active(active, out)?;
     }
@@ -90,54 +87,57 @@ fn write_flight<W: Write>(flight: &[Active], out: &mut W) -> io::Result<()> {
 
 /// An instruction in flight: its number, its stage's letter and its register.
 fn write_active<W: Write>(active: &Active, out: &mut W) -> io::Result<()> {
-    write!(out, " {}:{}:", active.seq, stage_letter(active.stage))?;
+    write_number(" ", u64::from(active.seq), out)?;
+    out.write_all(stage_text(active.stage).as_bytes())?;
     match active.phys {
-        Some(phys) => write!(out, "{phys}"),
-        None => write!(out, "-"),
+        Some(phys) => write_number("", u64::from(phys), out),
+        None => out.write_all(b"-"),
     }
 }
 
-fn stage_letter(stage: Stage) -> char {
+fn stage_text(stage: Stage) -> &'static str {
     match stage {
-        Stage::Renamed => 'r',
-        Stage::Issued => 'i',
-        Stage::Completed(_) => 'c',
+        Stage::Renamed => ":r:",
+        Stage::Issued => ":i:",
+        Stage::Completed(_) => ":c:",
     }
 }
 
 /// Where the youngest values of x1 to x31 are.
 fn write_map<W: Write>(maps: &HartMaps, out: &mut W) -> io::Result<()> {
-    write!(out, "map")?;
+    out.write_all(b"map")?;
     for register in 1..32 {
-        write!(out, " {}", maps.lookup(register))?;
+        write_number(" ", u64::from(maps.lookup(register)), out)?;
     }
-    writeln!(out)
+    out.write_all(b"\n")
 }
 
 /// Where the retired values of x1 to x31 are.
 fn write_committed<W: Write>(maps: &HartMaps, out: &mut W) -> io::Result<()> {
-    write!(out, "committed")?;
+    out.write_all(b"committed")?;
     for register in 1..32 {
-        write!(out, " {}", maps.committed(register))?;
+        write_number(" ", u64::from(maps.committed(register)), out)?;
     }
-    writeln!(out)
+    out.write_all(b"\n")
 }
 
 /// The instructions that wait, by rising number, and their harts.
 fn write_queue<W: Write>(entries: &[Entry], out: &mut W) -> io::Result<()> {
-    write!(out, "queue")?;
+    out.write_all(b"queue")?;
     for entry in entries {
-        write!(out, " {}.{}", entry.seq, entry.hart)?;
+        write_number(" ", u64::from(entry.seq), out)?;
+        write_number(".", u64::from(entry.hart), out)?;
     }
     end_list(entries.is_empty(), out)
 }
 
 /// The actors that have a job, rising, and its number.
 fn write_jobs<W: Write>(jobs: &[Option<OpenJob>], out: &mut W) -> io::Result<()> {
-    write!(out, "jobs")?;
+    out.write_all(b"jobs")?;
     for (actor, job) in jobs.iter().enumerate() {
         if let Some(job) = job {
-            write!(out, " {actor}:{}", job.seq)?;
+            write_number(" ", actor as u64, out)?;
+            write_number(":", u64::from(job.seq), out)?;
         }
     }
     end_list(count_jobs(jobs) == 0, out)
@@ -145,9 +145,9 @@ fn write_jobs<W: Write>(jobs: &[Option<OpenJob>], out: &mut W) -> io::Result<()>
 
 fn write_free<W: Write>(free: &FreeList, out: &mut W) -> io::Result<()> {
     let registers = registers_in(free);
-    write!(out, "free")?;
+    out.write_all(b"free")?;
     for register in registers.as_slice() {
-        write!(out, " {register}")?;
+        write_number(" ", u64::from(*register), out)?;
     }
     end_list(registers.is_empty(), out)
 }
@@ -161,22 +161,34 @@ fn write_registers<W: Write>(
 ) -> io::Result<()> {
     for register in 0..MOST_REGISTERS as Phys {
         if u32::from(register) < registers && !free.holds(register) {
-            write_register(register, value_of(values, register), out)?;
+            write_number("reg ", u64::from(register), out)?;
+            out.write_all(b" ")?;
+            write_value(value_of(values, register), out)?;
         }
     }
     Ok(())
 }
 
-fn write_register<W: Write>(register: Phys, value: Option<u32>, out: &mut W) -> io::Result<()> {
+/// A word or, where there is none, a dash, at the end of its line.
+fn write_value<W: Write>(value: Option<u32>, out: &mut W) -> io::Result<()> {
     match value {
-        Some(value) => writeln!(out, "reg {register} {value:08x}"),
-        None => writeln!(out, "reg {register} -"),
+        Some(word) => write_word("", word, out)?,
+        None => out.write_all(b"-")?,
     }
+    out.write_all(b"\n")
 }
 
 fn end_list<W: Write>(is_empty: bool, out: &mut W) -> io::Result<()> {
-    if is_empty {
-        write!(out, " -")?;
-    }
-    writeln!(out)
+    let end = if is_empty { " -\n" } else { "\n" };
+    out.write_all(end.as_bytes())
+}
+
+/// A text and a number.
+fn write_number<W: Write>(before: &str, number: u64, out: &mut W) -> io::Result<()> {
+    write!(out, "{before}{number}")
+}
+
+/// A text and a word, as eight hexadecimal digits.
+fn write_word<W: Write>(before: &str, word: u32, out: &mut W) -> io::Result<()> {
+    write!(out, "{before}{word:08x}")
 }
