@@ -29,7 +29,7 @@ from crate_list import ROOT, CrateList, kit
 PROGRAM = "smtsim"
 # The seconds of the table from which on a crate of the longest chain gets two jobs, and the crates below it from which on these no longer pay:
 # each job loads for itself what all of them state.
-LONG, MANY = 75, 30
+LONG, MANY = 100, 30
 # A chain of crates that is at least so much of the longest counts as the longest.
 NEAR = 0.9
 # What a job takes of memory at the most, in bytes.
@@ -129,9 +129,14 @@ class Build:
     def is_ready(self, name):
         return name not in self.done and name not in self.running and self.done >= set(self.crates.uses[name])
 
+    def left(self, name):
+        """The seconds of the longest chain from a crate on, by the table, less what the crate has had."""
+        had = time.time() - self.running[name].begun if name in self.running else 0
+        return self.crates.ahead[name] - had
+
     def start_ready(self):
         """Starts what can be: the crate with the longest chain at once, the others as processors and memory are free."""
-        longest = max(ahead for name, ahead in self.crates.ahead.items() if name not in self.done)
+        longest = max(self.left(name) for name in self.crates.ahead if name not in self.done)
         ready = sorted(filter(self.is_ready, self.crates.ahead), key=lambda it: -self.crates.ahead[it])
         for name in ready:
             is_longest = self.crates.ahead[name] > NEAR * longest
