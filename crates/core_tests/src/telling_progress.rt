@@ -2,13 +2,12 @@
 //! own.
 
 use board::BoardView;
-use run_progress::Progress;
 use std::alloc::{AllocError, Global};
 use std::io;
 use std::io::Write;
 use std::sync::atomic::{AtomicU64, AtomicUsize, Ordering};
 use std::time::{Clock, Duration};
-use threaded_runs::{Gate, Point};
+use threaded_runs::{Gate, Point, Progress};
 
 /// A clock that goes on by as many milliseconds with each reading, from 0 on.
 #[derive(Drop)]

@@ -17,7 +17,7 @@ use sim_refusals::{Refused, Unread};
 use sim_report::list;
 use sim_runs::thread_and_report;
 use sim_steps::step_and_report;
-use sim_words::refuse;
+use sim_system::refuse;
 use smt_core::Predict;
 use std::alloc::Global;
 use std::io::Write;

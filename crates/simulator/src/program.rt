@@ -5,10 +5,9 @@ ghost use Rattle.sim_refusals.specs.Refusals.{as_read, words_refused, IsWordsSta
 ghost use Rattle.exit_statuses.specs.Statuses.{says_harts};
 
 use crate::performing::{Inputs, perform};
-use sim_files::{TraceFile, read_file};
 use sim_inputs::{Line, WordsRefused, read_words};
 use sim_refusals::{Refused, Unread};
-use sim_words::{collect, refuse, refuse_words, texts, unread_words};
+use sim_system::{TraceFile, collect, read_file, refuse, refuse_words, texts, unread_words};
 use smt_core::Predict;
 use std::alloc::{AllocError, Global};
 use std::env::Args;

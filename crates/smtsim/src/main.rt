@@ -5,12 +5,11 @@
 mod shown_runs;
 
 use crate::shown_runs::ShownRuns;
-use run_progress::Progress;
 use simulator::run;
 use std::io::{BufWriter, IsTerminal};
 use std::process::ExitCode;
 use std::{env, io};
-use threaded_runs::StaticPredictor;
+use threaded_runs::{Progress, StaticPredictor};
 
 fn main(rt: HostRuntime) -> ExitCode {
     let mut err = rt.stderr();

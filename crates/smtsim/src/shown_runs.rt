@@ -1,12 +1,11 @@
 use actors::run;
 use program_image::Image;
-use run_progress::Progress;
 use smt_core::{Config, Finished};
 use std::alloc::Global;
 use std::rt::{HostRuntime, Stderr};
 use std::sync::Wait;
 use std::thread::Threads;
-use threaded_runs::{Gate, RunRefused, Runner, StaticPredictor};
+use threaded_runs::{Gate, Progress, RunRefused, Runner, StaticPredictor};
 
 /// Runs with a thread for each actor, which guesses by the program's own predictor; standard error
 /// shows how far they are.

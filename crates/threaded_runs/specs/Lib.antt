@@ -1,2 +1,3 @@
 pub mod Prediction
+pub mod ProgressLine
 pub mod Roles
