@@ -44,7 +44,7 @@ class Crates(CrateList):
         names = self.reached([PROGRAM])
         self.below = {name: self.reached([name]) - {name} for name in names}
         text = open(f"{ROOT}/docs/GATE.md", encoding="utf-8").read()
-        told = {name: int(proof) for name, proof in re.findall(r"^\| `(\w+)` \| (\d+)[*°]? \|", text, re.M)}
+        told = {name: int(proof) for name, proof in re.findall(r"^\| `(\w+)` \| (\d+)[*°†]? \|", text, re.M)}
         self.seconds = {name: told.get(name, 30) for name in names}
         # Those of the crate and of the longest chain of crates above it, by the clock: a crate comes after all that are below it.
         self.ahead = {}

@@ -12,7 +12,8 @@ ghost use Rattle.sim_report.specs.Report.{records_text, report_text, plain_repor
 use crate::recording::report_records;
 use arrayvec::ArrayString;
 use plain_run::PlainRun;
-use smt_core::{Account, Status};
+use smt_laws::Account;
+use smt_model::Status;
 use std::io;
 use std::io::Write;
 use text_fields::{push_ascii, push_decimal, push_hex};

@@ -17,23 +17,13 @@ use sim_refusals::{Refused, Unread};
 use sim_report::list;
 use sim_runs::thread_and_report;
 use sim_steps::step_and_report;
-use sim_system::refuse;
+use sim_system::{Inputs, refuse};
 use smt_core::Predict;
 use std::alloc::Global;
 use std::io::Write;
 use std::sync::Wait;
 use std::thread::Threads;
 use threaded_runs::Runner;
-
-/// The files that a line names, as they were read.
-#[derive(Clone, Copy, Drop)]
-pub struct Inputs<'a> {
-    /// The configuration; empty where the line names none.
-    pub config: Result<&'a [u8], Unread>,
-    pub image: Result<&'a [u8], Unread>,
-    /// The script, the trace that is checked, or the order; empty where the line names none.
-    pub second: Result<&'a [u8], Unread>,
-}
 
 /// Does all that the program does once its files are read, and answers its exit status: how the
 /// harts stand, 0 for a listing and a schedule, 2 for a refused input, 4 for a refused trace, 5

@@ -20,7 +20,6 @@ ghost use Rattle.smt_core.specs.Headline.{IsPlainRun, IsPlainRegister, IsPlainMe
 ghost use Rattle.smt_core.specs.Answers.{Answered, IssueAnswered, CompleteAnswered, IsPredicted};
 ghost use Rattle.smt_model.specs.Setup.{is_accepted, registers_of};
 
-use crate::account::Account;
 use crate::answer::{Answer, CompleteAnswer, IssueAnswer};
 use crate::predict::Predict;
 use arrayvec::ArrayVec;
@@ -32,6 +31,7 @@ use memory_system::Memory;
 use numbers::Phys;
 use numbers::sizes::MOST_REGISTERS;
 use program_image::Image;
+use smt_laws::Account;
 use smt_laws::laws::{refines_the_plain_machine, writes_at_most_a_word};
 use smt_model::{Config, Status};
 use std::alloc::Global;

@@ -1,12 +1,11 @@
 //! The core: six calls that each make one step of the pipeline or say why there is none.
 //!
 //! Read in this order: `predict` (what a branch predictor is), `answer` (what the calls answer),
-//! `account` (what a history comes to), `calls`, `follow` (a core that is given its events); then
-//! `counts` (how many events a history holds of each actor), `shown` (what holds of each core that is
-//! shown) and `finished` (what is left of a core when nobody asks it any more).
+//! `calls`, `follow` (a core that is given its events); then `counts` (how many events a history holds
+//! of each actor), `shown` (what holds of each core that is shown) and `finished` (what is left of a
+//! core when nobody asks it any more). What a history comes to, `Account`, stands in `smt_laws`.
 #![tactic(auto)]
 
-pub mod account;
 pub mod answer;
 pub mod calls;
 mod counts;
@@ -15,7 +14,6 @@ pub mod follow;
 pub mod predict;
 mod shown;
 
-pub use account::Account;
 pub use answer::{Answer, CompleteAnswer, IssueAnswer};
 pub use calls::Core;
 pub use core_state::CoreRefused;
@@ -24,4 +22,5 @@ pub use finished::Finished;
 pub use follow::Followed;
 pub use predict::Predict;
 pub use shown::show;
+pub use smt_laws::Account;
 pub use smt_model::{Config, Role, Status};

@@ -2,9 +2,13 @@
 //! the plain machine, one instruction at a time.
 //!
 //! There is no code here. The statements stand in `specs`, to be read in this order: `Histories`,
-//! `Sequential`, `Chain`, `Execution`, `Shown`, `Scripts`, `PlainLaws`.
+//! `Sequential`, `Chain`, `Execution`, `Shown`, `Scripts`, `PlainLaws`. `account` is the type of what a
+//! history comes to: who prints one knows the laws and no core.
 #![tactic(auto)]
 
+mod account;
 pub mod histories;
 pub mod laws;
 pub mod shown;
+
+pub use account::Account;

@@ -5,7 +5,7 @@
 mod shown_runs;
 
 use crate::shown_runs::ShownRuns;
-use simulator::run;
+use simulator::{Commands, run};
 use std::io::{BufWriter, IsTerminal};
 use std::process::ExitCode;
 use std::{env, io};
@@ -18,11 +18,14 @@ fn main(rt: HostRuntime) -> ExitCode {
     let runs = ShownRuns {
         progress: &progress,
     };
+    let commands = Commands {
+        runner: &runs,
+        predict: StaticPredictor,
+    };
     ExitCode::from(run(
         &rt,
         env::args(&rt),
-        &runs,
-        StaticPredictor,
+        &commands,
         BufWriter::new(rt.alloc(), io::writer(&rt)),
         &mut err,
         rt.alloc(),

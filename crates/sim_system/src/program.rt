@@ -4,35 +4,27 @@ ghost use Rattle.std.specs.IoError.{error_kind};
 ghost use Rattle.sim_refusals.specs.Refusals.{as_read, words_refused, IsWordsStatus};
 ghost use Rattle.exit_statuses.specs.Statuses.{says_harts};
 
-use crate::performing::{Inputs, perform};
+use crate::files::read_file;
+use crate::performer::{Inputs, Performer};
+use crate::refusal::refuse;
+use crate::trace_file::TraceFile;
+use crate::words::{collect, refuse_words, texts, unread_words};
 use sim_inputs::{Line, WordsRefused, read_words};
 use sim_refusals::{Refused, Unread};
-use sim_system::{TraceFile, collect, read_file, refuse, refuse_words, texts, unread_words};
-use smt_core::Predict;
 use std::alloc::{AllocError, Global};
 use std::env::Args;
 use std::io;
 use std::io::Write;
 use std::rt::Files;
-use std::sync::Wait;
-use std::thread::Threads;
-use threaded_runs::Runner;
 
 /// Does all that the program does with its words, its own name first, and answers its exit status:
 /// what the words ask for is printed on `out`, and why it isn't on `err`. 0 for help, 2 for a wrong
 /// command line, 5 for want of memory and where `out` fails; else that of what is performed. Words
 /// that are no text are a wrong command line. A trace is written to the file that the words name.
-pub fn run<
-    S: Files + Threads + Wait + Sync,
-    X: Runner,
-    P: Predict + Copy,
-    W: Write + Drop,
-    E: Write,
->(
+pub fn run<S: Files + Sync, X: Performer<S>, W: Write + Drop, E: Write>(
     system: &S,
     words: io::Result<Args>,
-    runner: &X,
-    predict: P,
+    performer: &X,
     out: io::Result<W>,
     err: &mut E,
     alloc: Global,
@@ -43,17 +35,16 @@ pub fn run<
         (λ error. IsWordsStatus (words_refused (error_kind error)) result)) }
 {
     match out {
-        Ok(mut out) => answer_words(system, words, runner, predict, &mut out, err, alloc),
+        Ok(mut out) => answer_words(system, words, performer, &mut out, err, alloc),
         Err(_) => refuse(Refused::Memory, err),
     }
 }
 
 /// Does what the words ask for, or says why it isn't done.
-fn answer_words<S: Files + Threads + Wait + Sync, X: Runner, P: Predict + Copy, W: Write, E: Write>(
+fn answer_words<S: Files + Sync, X: Performer<S>, W: Write, E: Write>(
     system: &S,
     words: io::Result<Args>,
-    runner: &X,
-    predict: P,
+    performer: &X,
     out: &mut W,
     err: &mut E,
     alloc: Global,
@@ -66,7 +57,7 @@ fn answer_words<S: Files + Threads + Wait + Sync, X: Runner, P: Predict + Copy, 
         Ok(words) => words,
         Err(refused) => return refuse_words(refused, out, err),
     };
-    match answer_texts(system, words.as_slice(), runner, predict, out, err, alloc) {
+    match answer_texts(system, words.as_slice(), performer, out, err, alloc) {
         Ok(status) => status,
         Err(refused) => refuse_words(refused, out, err),
     }
@@ -87,11 +78,10 @@ fn take_words(words: io::Result<Args>, alloc: Global) -> Result<Vec<String>, Wor
 }
 
 /// Does what words that are texts ask for, or answers why it isn't done.
-fn answer_texts<S: Files + Threads + Wait + Sync, X: Runner, P: Predict + Copy, W: Write, E: Write>(
+fn answer_texts<S: Files + Sync, X: Performer<S>, W: Write, E: Write>(
     system: &S,
     words: &[String],
-    runner: &X,
-    predict: P,
+    performer: &X,
     out: &mut W,
     err: &mut E,
     alloc: Global,
@@ -104,23 +94,16 @@ fn answer_texts<S: Files + Threads + Wait + Sync, X: Runner, P: Predict + Copy, 
         Err(AllocError) => return Err(WordsRefused::Memory),
     };
     match read_words(texts.as_slice(), alloc) {
-        Ok(line) => Ok(read_and_perform(system, &line, runner, predict, out, err, alloc)),
+        Ok(line) => Ok(read_and_perform(system, &line, performer, out, err, alloc)),
         Err(refused) => Err(refused),
     }
 }
 
 /// Reads the files that a line names, and performs it.
-fn read_and_perform<
-    S: Files + Threads + Wait + Sync,
-    X: Runner,
-    P: Predict + Copy,
-    W: Write,
-    E: Write,
->(
+fn read_and_perform<S: Files + Sync, X: Performer<S>, W: Write, E: Write>(
     system: &S,
     line: &Line<'_>,
-    runner: &X,
-    predict: P,
+    performer: &X,
     out: &mut W,
     err: &mut E,
     alloc: Global,
@@ -129,17 +112,7 @@ fn read_and_perform<
 {
     let read = ReadInputs::of(system, line, alloc);
     let mut trace = TraceFile::new(system, line.kept());
-    perform(
-        system,
-        runner,
-        line,
-        &read.lent(),
-        predict,
-        &mut trace,
-        out,
-        err,
-        alloc,
-    )
+    performer.perform(system, line, &read.lent(), &mut trace, out, err, alloc)
 }
 
 /// What the files hold that a line names, or why they couldn't be read.
