@@ -11,7 +11,7 @@ all crates below each crate on each path that leads there, is some minutes of on
 How long it takes is decided by the longest chain of crates that stand on one another, which goes through the core, its lock and the
 actors (docs/GATE.md has the seconds of each crate, and this reads them there). A crate of that chain begins as soon as it can, with a
 higher claim to the processors, and with two jobs where these pay, as has one beside which nothing else is ready; the others have what is left,
-those with the longest chain above them first. The log is crates/smtsim/out/build.log. Ends with 0 where the program is built, else with 1.
+those with the longest chain above them first. The program itself comes last, and has a job for each processor. The log is crates/smtsim/out/build.log. Ends with 0 where the program is built, else with 1.
 """
 
 import contextlib
@@ -146,6 +146,9 @@ class Build:
             # Where nothing else is ready, a processor would stand still.
             is_alone = len(ready) == 1 and free > 1
             jobs = 2 if self.crates.gains(name) and (is_longest or is_alone) else 1
+            if name == PROGRAM:
+                # It comes after all others, so it has all processors.
+                jobs = processors()
             self.running[name] = Running(self.prover, name, jobs, 10 if is_longest else 19)
 
     def end_ended(self):

@@ -1,25 +1,19 @@
-//! The program as far as its system goes: the words of its command line, the files that they name, and
-//! what is said where there is no report. What a line asks for once its files are read, a `Performer`
-//! does.
+//! The program as far as its system goes: the words of its command line and the files that they name.
+//! What a line asks for once its files are read, a `Performer` does.
 //!
-//! Read in this order: `refusal` (what is said where there is no report), `words` (how the words are
-//! taken, and what is said of those that are refused), `files` (what is read, whole and no longer than
-//! a file may be), `trace_file` (how a trace is written), `performer` (what does what a line asks for),
-//! `program` (all that the program does). How a line is read of words stands in
-//! `sim_inputs`, each refusal's exit status and why a file is unread in `sim_refusals`, and what a sink
-//! is in `event_text`.
+//! Read in this order: `words` (how the words are taken, and what is said of those that are refused),
+//! `files` (what is read, whole and no longer than a file may be), `trace_file` (how a trace is
+//! written), `program` (all that the program does). How a line is read of words stands in `sim_inputs`,
+//! what a `Performer` is and what is said where there is no report in `sim_refusals`, and what a sink is
+//! in `event_text`.
 #![tactic(auto)]
 
 mod files;
-mod performer;
 mod program;
-mod refusal;
 mod trace_file;
 mod words;
 
 pub use files::{read_file, read_to_end};
-pub use performer::{Inputs, Performer};
 pub use program::run;
-pub use refusal::refuse;
 pub use trace_file::TraceFile;
 pub use words::{collect, refuse_words, texts, unread_words};

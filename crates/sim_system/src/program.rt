@@ -5,12 +5,10 @@ ghost use Rattle.sim_refusals.specs.Refusals.{as_read, words_refused, IsWordsSta
 ghost use Rattle.exit_statuses.specs.Statuses.{says_harts};
 
 use crate::files::read_file;
-use crate::performer::{Inputs, Performer};
-use crate::refusal::refuse;
 use crate::trace_file::TraceFile;
 use crate::words::{collect, refuse_words, texts, unread_words};
 use sim_inputs::{Line, WordsRefused, read_words};
-use sim_refusals::{Refused, Unread};
+use sim_refusals::{Inputs, Performer, Refused, Unread, refuse};
 use std::alloc::{AllocError, Global};
 use std::env::Args;
 use std::io;

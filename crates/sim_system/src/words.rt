@@ -5,9 +5,8 @@ ghost use Rattle.std.specs.IoError.{error_kind};
 ghost use Rattle.sim_refusals.specs.Refusals.{words_refused, IsWordsStatus};
 ghost use Rattle.exit_statuses.specs.Statuses.{says_harts};
 
-use crate::refusal::refuse;
 use sim_inputs::WordsRefused;
-use sim_refusals::Refused;
+use sim_refusals::{Refused, refuse};
 use std::alloc::{AllocError, Global};
 use std::env::Args;
 use std::io;

@@ -4,7 +4,7 @@ ghost use Rattle.exit_statuses.specs.Statuses.{says_harts};
 use crate::performing::perform;
 use event_text::Sink;
 use sim_inputs::Line;
-use sim_system::{Inputs, Performer};
+use sim_refusals::{Inputs, Performer};
 use smt_core::Predict;
 use std::alloc::Global;
 use std::io::Write;

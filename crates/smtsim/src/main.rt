@@ -1,11 +1,12 @@
-//! The program `smtsim`: has `simulator` do all that its words ask for, with its files, standard
-//! output and standard error, and `actors` run its threads.
+//! The program `smtsim`: has `run` do all that its words ask for, with its files, standard output and
+//! standard error, by the commands of `simulator`, and `actors` run its threads.
 #![tactic(auto)]
 
 mod shown_runs;
 
 use crate::shown_runs::ShownRuns;
-use simulator::{Commands, run};
+use sim_system::run;
+use simulator::Commands;
 use std::io::{BufWriter, IsTerminal};
 use std::process::ExitCode;
 use std::{env, io};

@@ -2,9 +2,9 @@ ghost use Rattle.std.specs.Prelude.{◌≡◌, ◌⊎◌, IsTrue, false};
 ghost use Rattle.std.specs.Thread.{IsSync};
 ghost use Rattle.exit_statuses.specs.Statuses.{says_harts};
 
+use crate::refused::Unread;
 use event_text::Sink;
 use sim_inputs::Line;
-use sim_refusals::Unread;
 use std::alloc::Global;
 use std::io::Write;
 

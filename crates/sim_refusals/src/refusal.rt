@@ -1,7 +1,7 @@
 ghost use Rattle.std.specs.Prelude.{◌≡◌};
 ghost use Rattle.sim_refusals.specs.Refusals.{exit_status_of};
 
-use sim_refusals::Refused;
+use crate::refused::Refused;
 use std::io::Write;
 
 /// Says on one line of `err` why there is no report, and answers the exit status.
