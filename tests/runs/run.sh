@@ -14,7 +14,7 @@ case ${1-} in
     ;;
 esac
 if [ ! -x "$smtsim" ]; then
-    echo "run.sh: there is no program $smtsim: build it by ./smtsim --help" >&2
+    echo "run.sh: there is no program $smtsim: .ci/run builds it" >&2
     echo "0 passed, 1 failed"
     exit 1
 fi

@@ -7,7 +7,7 @@ use Rattle.std.proofs.lemmas.List.Folds.{Any-from_list_any, list_any_at}
 use Rattle.smt_model.specs.{declared.config.Role.Role, contracts.config.RolePartialEq.TheImpl.eq-value}
 use Rattle.smt_model.specs.{contracts.config.Role.the_type}
 use Rattle.smt_model.specs.declared.config.Role.TheVariants.{Fetch, Front, Retire, Alu, Mul, Mem}
-use Rattle.threaded_runs.specs.Roles.{HaveEveryRole, has_role}
+use Rattle.actors.specs.Roles.{HaveEveryRole, has_role}
 use denote.Enum.Bare.{same_true}
 
 same : (r : Role) → eq-value.it r r ≡ true

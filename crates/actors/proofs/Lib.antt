@@ -1,4 +1,4 @@
 pub mod EveryRole
+pub mod GoingBehind
 pub mod Handing
 pub mod Refusing
-pub mod Telling

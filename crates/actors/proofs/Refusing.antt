@@ -2,13 +2,13 @@
 use Rattle.std.proofs.Common.{◌≡◌, ◌∙◌, ℕ, Bool, true, false, List, refl, sym, ap, inl, inr, ◌⊎◌}
 use Rattle.std.proofs.lemmas.Bool.{false≢true}
 use Rattle.std.specs.Prelude.{◌↔◌, Result, Ok, Err, IfErr}
-use Rattle.program_image.specs.Image.{ProgramImage}
+use Rattle.elf_image.specs.Image.{ProgramImage}
 use Rattle.smt_model.specs.{Setup.Setup, declared.config.Role.Role}
 use Rattle.smt_model.specs.declared.config.Config.{Config as CoreConfig}
 use Rattle.core_state.specs.{Setup.setup_of, declared.refused.CoreRefused.CoreRefused}
 use Rattle.core_state.specs.declared.refused.CoreRefused.TheVariants as refused
-use Rattle.threaded_runs.specs.declared.refused.RunRefused.{RunRefused}
-use Rattle.threaded_runs.specs.declared.refused.RunRefused.TheVariants.{Config, Memory, Roles, Thread}
+use Rattle.actors.specs.declared.refused.RunRefused.{RunRefused}
+use Rattle.actors.specs.declared.refused.RunRefused.TheVariants.{Config, Memory, Roles, Thread}
 
 -- This refusal is that one, of a call that answers an A.
 abbrev pub IsErr : (A : Type 0) {E : Type 0} → E → E → Type 0
@@ -20,7 +20,7 @@ same_err A a b is = cc
 pub no_err : {A E : Type 0} (a : A) (b : E) → Ok a ≡ Err b → ⊥
 no_err a b is = cc
 
--- The same refusal of another call comes when the first one's did.
+-- A refusal of another call comes when the first one's did.
 pub handed_on : (A B : Type 0) {E P : Type 0} (a b : E) → IsErr A a b ↔ P → IsErr B a b ↔ P
 handed_on A B a b when =
     (λ is. when.0 (ap (λ e. Err e) (same_err B a b is)), λ p. ap (λ e. Err e) (same_err A a b (when.1 p)))

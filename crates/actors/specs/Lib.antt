@@ -1,3 +1,5 @@
 pub mod Counts
 pub mod Naming
+pub mod Prediction
+pub mod Roles
 pub mod Turns

@@ -3,14 +3,13 @@ ghost use Rattle.actors.specs.Naming.{Fits};
 ghost use Rattle.actors.specs.Turns.{IsTurn};
 
 use crate::desk::{Desk, Naming, Placed};
-use crate::progress::Progress;
+use crate::gate::{Gate, Point};
+use crate::turn_outcome::TurnOutcome;
 use crate::turns::{decode_and_rename, execute, make};
-use board::{BoardView, Reason};
-use core_lock::{Ask, LockedCore, Origin, Pass};
+use core_lock::{Ask, BoardView, LockedCore, Origin, Pass, Reason};
 use smt_core::{Predict, Role};
 use std::sync::Wait;
 use std::thread;
-use threaded_runs::{Gate, Point};
 
 /// What all actors of a run share.
 #[derive(Drop)]
@@ -52,8 +51,8 @@ pub(crate) fn act<N: Naming, G: Gate, P: Predict + Copy, R: Wait>(
     shared.desk.stop(placed, Reason::Turns);
 }
 
-/// Reads the board, asks the gate, takes a turn and posts what it has made. Tells whether the actor
-/// has a next turn.
+/// Reads the board, asks the gate, takes a turn and posts how many events the actor has made.
+/// Answers whether the actor has a next turn.
 fn goes_on<N: Naming, G: Gate, P: Predict, R: Wait>(
     rt: &R,
     shared: &Shared<'_, N, G>,
@@ -70,19 +69,19 @@ fn goes_on<N: Naming, G: Gate, P: Predict, R: Wait>(
     if seen.stop != 0 {
         return false;
     }
-    let mut progress = Progress::Over(Reason::Asked);
+    let mut outcome = TurnOutcome::Over(Reason::Asked);
     if shared.gate.at(pass.actor(), Point::Turn, &seen) {
         let gate = shared.gate;
-        progress = take_turn(rt, &shared.core, gate, role, hart, &seen, pass, predict);
+        outcome = take_turn(rt, &shared.core, gate, role, hart, &seen, pass, predict);
         shared.desk.post(placed, pass);
     }
-    match progress {
-        Progress::Made => true,
-        Progress::Idle => {
+    match outcome {
+        TurnOutcome::Advanced => true,
+        TurnOutcome::Idle => {
             thread::yield_now();
             true
         }
-        Progress::Over(reason) => {
+        TurnOutcome::Over(reason) => {
             shared.desk.stop(placed, reason);
             false
         }
@@ -99,7 +98,7 @@ fn take_turn<L: Origin, G: Gate, P: Predict, R: Wait>(
     seen: &BoardView,
     pass: &mut Pass<L>,
     predict: &mut P,
-) -> Progress
+) -> TurnOutcome
     ensures actor { pass.new.actor ≡ pass.old.actor }
     ensures rises { pass.old.count ≤ pass.new.count }
     ensures asked { IsTurn role L.setup L.limit pass.old.actor hart

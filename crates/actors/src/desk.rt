@@ -1,9 +1,8 @@
 ghost use Rattle.std.specs.Prelude.{◌≡◌, ◌≤◌, ◌<◌, ◌↔◌, All, IsTrue};
-ghost use Rattle.board.specs.Seats.{board_of, name_of};
+ghost use Rattle.core_lock.specs.Seats.{board_of, name_of};
 ghost use Rattle.actors.specs.Naming.{Fits};
 
-use board::{Board, BoardView, Reason, Seat};
-use core_lock::{Origin, Pass};
+use core_lock::{Board, BoardView, Origin, Pass, Reason, Seat};
 use std::alloc::{AllocError, Global};
 use std::marker::{Brand, PhantomData};
 

@@ -1,31 +1,31 @@
 ghost use Rattle.std.specs.Prelude.{◌≡◌, ◌↔◌, ◌⊎◌, true, false, All, IsTrue, IfOk, IfErr, Err};
-ghost use Rattle.std.specs.List.{list_all};
 ghost use Rattle.std.specs.Prelude.{length, sum};
 ghost use Rattle.smt_model.specs.Setup.{is_accepted};
 ghost use Rattle.core_state.specs.Setup.{setup_of};
-ghost use Rattle.board.specs.Seats.{board_of, name_of};
+ghost use Rattle.core_lock.specs.Seats.{board_of, name_of};
 ghost use Rattle.smt_core.specs.Shown.{Shown};
 ghost use Rattle.smt_core.specs.Counts.{AreCounts};
 ghost use Rattle.actors.specs.Counts.{HasRun};
-ghost use Rattle.threaded_runs.specs.Roles.{HaveEveryRole, has_role};
+ghost use Rattle.actors.specs.Roles.{HaveEveryRole};
 ghost use Rattle.core_state.specs.declared.refused.CoreRefused.TheVariants as core_refused;
-ghost use Rattle.threaded_runs.specs.declared.refused.RunRefused.TheVariants as refused;
+ghost use Rattle.actors.specs.declared.refused.RunRefused.TheVariants as refused;
 
 use crate::actor::Shared;
 use crate::desk::{Desk, Naming};
+use crate::gate::Gate;
+use crate::refused::RunRefused;
+use crate::roles::has_every_role;
 use crate::start::start;
-use board::{Board, Seat};
-use core_lock::LockedCore;
-use program_image::Image;
-use smt_core::{Config, Core, CoreRefused, Finished, Predict, Role};
+use core_lock::{Board, LockedCore, Seat};
+use elf_image::Image;
+use smt_core::{Config, Core, CoreRefused, Finished, Predict};
 use std::alloc::Global;
 use std::marker::Brand;
 use std::sync::Wait;
 use std::sync::ledger::Blank;
 use std::thread::Threads;
-use threaded_runs::{Gate, RunRefused};
 
-/// What a run is made of.
+/// What a run was asked for.
 #[derive(Drop)]
 struct Plan<'a, G: Gate> {
     image: &'a Image,
@@ -38,6 +38,10 @@ struct Plan<'a, G: Gate> {
 /// copy of the predictor, and takes the turns of its role, at most `turns` of them (up to 10^18),
 /// until no hart is going, the history has `limit` events, an actor has taken its last turn, or the
 /// gate asks for a stop. All threads are joined.
+///
+/// The gate's `begin` is called once, before the threads start, and its `end` once, after all are
+/// joined, also where the run is refused in between. Where it is refused for its configuration or
+/// its roles, or wants memory for its core, neither is called.
 ///
 /// `Config` is refused where the configuration or the limit isn't one of a core, and then `Roles`
 /// where no actor has some role, both before anything is asked of the core. `Memory` and `Thread`
@@ -74,14 +78,17 @@ pub fn run<G: Gate + Sync, P: Predict + Copy + Send, R: Threads + Wait + Sync>(
                 turns,
                 gate,
             };
-            run_made(rt, core, &plan, predict, alloc)
+            gate.begin(limit);
+            let finished = run_actors(rt, core, &plan, predict, alloc);
+            gate.end();
+            finished
         }
         Err(refused) => Err(refused),
     }
 }
 
-/// Makes the board of a run, and has the actors run.
-fn run_made<G: Gate + Sync, P: Predict + Copy + Send, R: Threads + Wait + Sync>(
+/// Makes the board of a run, and has the actors run. Refused for want of memory or of a thread.
+fn run_actors<G: Gate + Sync, P: Predict + Copy + Send, R: Threads + Wait + Sync>(
     rt: &R,
     core: Core,
     plan: &Plan<'_, G>,
@@ -90,10 +97,10 @@ fn run_made<G: Gate + Sync, P: Predict + Copy + Send, R: Threads + Wait + Sync>(
 ) -> Result<Finished, RunRefused>
     requires { core.setup ≡ setup_of plan.now.image.now plan.now.config.now }
     ensures refused { IfErr result (λ why. (why ≡ refused.Memory) ⊎ (why ≡ refused.Thread)) }
-    ensures made { IfOk result (HasRun core) }
+    ensures ran { IfOk result (HasRun core) }
 {
     let (board, seats) = match Board::new(alloc) {
-        Ok(made) => made,
+        Ok(board_and_seats) => board_and_seats,
         Err(_) => {
             let_go(core);
             return Err(RunRefused::Memory);
@@ -127,7 +134,7 @@ fn make_core(image: &Image, config: &Config, limit: u32, alloc: Global) -> Resul
     }
 }
 
-/// A core of a configuration that is kept.
+/// A core of a copy of the configuration.
 fn new_core(image: &Image, config: &Config, limit: u32, alloc: Global) -> Result<Core, CoreRefused>
     ensures setup { IfOk result (λ core. core.setup ≡ setup_of image.now config.now) }
     ensures limit { IfOk result (λ core. core.limit ≡ limit) }
@@ -135,37 +142,6 @@ fn new_core(image: &Image, config: &Config, limit: u32, alloc: Global) -> Result
         ↔ (is_accepted (setup_of image.now config.now) limit ≡ false) }
 {
     Core::new(image, config.copied(), limit, alloc)
-}
-
-/// Whether there is an actor of each role.
-fn has_every_role(config: &Config) -> bool
-    ensures { IsTrue result ↔ HaveEveryRole config.now.roles.items }
-{
-    contain_all(
-        config.roles.as_slice(),
-        &[
-            Role::Fetch,
-            Role::Front,
-            Role::Retire,
-            Role::Alu,
-            Role::Mul,
-            Role::Mem,
-        ],
-    )
-}
-
-/// Whether each of the wanted roles is there.
-fn contain_all(roles: &[Role], wanted: &[Role]) -> bool
-    ensures { result ≡ list_all (has_role roles.now) wanted.now }
-{
-    wanted.iter().all(|role| contain(roles, *role))
-}
-
-/// Whether this role is there.
-fn contain(roles: &[Role], role: Role) -> bool
-    ensures { result ≡ has_role roles.now role }
-{
-    roles.contains(&role)
 }
 
 /// Puts the core behind a lock, has the actors run, and gives up the lock.
@@ -191,7 +167,7 @@ fn run_core<
     requires seats { All (λ seat. board_of seat ≡ N.board) seats }
     requires image { core.setup ≡ setup_of plan.now.image.now plan.now.config.now }
     ensures refused { IfErr result (λ why. (why ≡ refused.Memory) ⊎ (why ≡ refused.Thread)) }
-    ensures made { IfOk result (HasRun core) }
+    ensures ran { IfOk result (HasRun core) }
 {
     let (core, mut passes) = LockedCore::<N>::new(core, blank);
     let shared = Shared {
@@ -207,10 +183,10 @@ fn run_core<
     only_if(started, core.finish(passes, plan.image, plan.config))
 }
 
-/// What is left of a run, where all of its threads were started.
+/// What a run comes to: what its core finished with, where all of its threads were started.
 fn only_if(started: Result<(), RunRefused>, finished: Finished) -> Result<Finished, RunRefused>
     ensures refused { IfErr result (λ why. started ≡ Err why) }
-    ensures made { IfOk result (λ left. left ≡ finished) }
+    ensures finished { IfOk result (λ same. same ≡ finished) }
 {
     match started {
         Ok(()) => Ok(finished),
@@ -222,6 +198,6 @@ fn only_if(started: Result<(), RunRefused>, finished: Finished) -> Result<Finish
     }
 }
 
-/// Drops the core of a run that is refused. Each function that drops one is proved over all that a
-/// core is made of, so there is only this one.
+/// Drops the core of a run that is refused. Each function that drops one is proved over all parts of a
+/// core, so there is only this one.
 fn let_go(_core: Core) {}

@@ -1,17 +1,17 @@
 ghost use Rattle.std.specs.Prelude.{◌≡◌, ◌⊎◌, All, IfErr};
-ghost use Rattle.board.specs.Seats.{board_of};
-ghost use Rattle.threaded_runs.specs.declared.refused.RunRefused.TheVariants as refused;
+ghost use Rattle.core_lock.specs.Seats.{board_of};
+ghost use Rattle.actors.specs.declared.refused.RunRefused.TheVariants as refused;
 
 use crate::actor::{Shared, act};
 use crate::desk::{Naming, Placed, place_all};
-use board::{Reason, Seat};
-use core_lock::Pass;
+use crate::gate::Gate;
+use crate::refused::RunRefused;
+use core_lock::{Pass, Reason, Seat};
 use smt_core::Predict;
 use std::alloc::Global;
 use std::sync::Wait;
 use std::thread;
 use std::thread::{Scope, Threads};
-use threaded_runs::{Gate, RunRefused};
 
 /// Starts a thread for each actor, with its pass and its seat, and joins them all. `Memory` is
 /// refused where there isn't enough memory for the row of seats, and `Thread` where a thread

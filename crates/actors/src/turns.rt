@@ -3,12 +3,11 @@ ghost use Rattle.core_lock.specs.Asks.{asked_of, is_issue, is_reply};
 ghost use Rattle.core_lock.specs.declared.ask.Ask.TheVariants as ask;
 ghost use Rattle.actors.specs.Turns.{IsAnswered, Counts, Asks, AsksBoth, Issues, IsUnitTurn, job_in};
 
-use crate::progress::Progress;
-use board::{BoardView, Reason};
-use core_lock::{Ask, LockedCore, Origin, Pass, Said};
+use crate::gate::{Gate, Point};
+use crate::turn_outcome::TurnOutcome;
+use core_lock::{Ask, BoardView, LockedCore, Origin, Pass, Reason, Said};
 use smt_core::{Job, Predict, work};
 use std::sync::Wait;
-use threaded_runs::{Gate, Point};
 
 /// A front end's turn: a decode and a rename for one hart.
 pub(crate) fn decode_and_rename<L: Origin, P: Predict, R: Wait>(
@@ -17,7 +16,7 @@ pub(crate) fn decode_and_rename<L: Origin, P: Predict, R: Wait>(
     pass: &mut Pass<L>,
     hart: u8,
     predict: &mut P,
-) -> Progress
+) -> TurnOutcome
     ensures actor { pass.new.actor ≡ pass.old.actor }
     ensures rises { pass.old.count ≤ pass.new.count }
     ensures asked { AsksBoth L.setup L.limit pass.old.actor (ask.Decode hart) (ask.Rename hart)
@@ -38,7 +37,7 @@ pub(crate) fn execute<L: Origin, G: Gate, P: Predict, R: Wait>(
     gate: &G,
     seen: &BoardView,
     predict: &mut P,
-) -> Progress
+) -> TurnOutcome
     ensures actor { pass.new.actor ≡ pass.old.actor }
     ensures rises { pass.old.count ≤ pass.new.count }
     ensures asked { IsUnitTurn L.setup L.limit pass.old.actor
@@ -55,17 +54,17 @@ pub(crate) fn execute<L: Origin, G: Gate, P: Predict, R: Wait>(
     if goes_on {
         issued.then(completed)
     } else {
-        Progress::Over(Reason::Asked)
+        TurnOutcome::Over(Reason::Asked)
     }
 }
 
-/// Asks for a job: the one that came, if one did, and what the ask came to.
+/// Asks for a job: the one that came, if one did, and what the ask comes to.
 fn issue<L: Origin, P: Predict, R: Wait>(
     rt: &R,
     core: &LockedCore<L>,
     pass: &mut Pass<L>,
     predict: &mut P,
-) -> (Option<Job>, Progress)
+) -> (Option<Job>, TurnOutcome)
     ensures actor { pass.new.actor ≡ pass.old.actor }
     ensures rises { pass.old.count ≤ pass.new.count }
     ensures asked { Issues L.setup L.limit pass.old.actor result.0
@@ -73,8 +72,8 @@ fn issue<L: Origin, P: Predict, R: Wait>(
         (record { count = pass.new.count; last = pass.new.last }) }
 {
     let (said, going) = ask(rt, core, pass, Ask::Issue, predict);
-    let progress = Progress::of(&said, going);
-    (job_of(said), progress)
+    let outcome = TurnOutcome::of(&said, going);
+    (job_of(said), outcome)
 }
 
 /// The job that came, if one did.
@@ -94,7 +93,7 @@ pub(crate) fn make<L: Origin, P: Predict, R: Wait>(
     pass: &mut Pass<L>,
     asked: Ask,
     predict: &mut P,
-) -> Progress
+) -> TurnOutcome
     requires { is_issue (asked_of asked) ≡ false }
     ensures actor { pass.new.actor ≡ pass.old.actor }
     ensures rises { pass.old.count ≤ pass.new.count }
@@ -103,10 +102,10 @@ pub(crate) fn make<L: Origin, P: Predict, R: Wait>(
         (record { count = pass.new.count; last = pass.new.last }) }
 {
     let (said, going) = ask(rt, core, pass, asked, predict);
-    let progress = Progress::of(&said, going);
+    let outcome = TurnOutcome::of(&said, going);
     match said {
         Said::Job(..) => unreachable!(),
-        Said::Event(_) | Said::Idle | Said::Stranger | Said::Full => progress,
+        Said::Event(_) | Said::Idle | Said::Stranger | Said::Full => outcome,
     }
 }
 

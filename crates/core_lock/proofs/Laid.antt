@@ -1,4 +1,4 @@
--- Passes that lie in a row: their counts, one by one.
+-- What lies in a row, one by one and four by four.
 use Rattle.std.proofs.Common.{◌≡◌, ℕ, ◌+◌, ◌<◌, ◌≤◌, List, [], ◌∷◌, ◌++◌, length, map, take, get_or, slice_set, sym, ap}
 use Rattle.std.proofs.Common.{◌∙◌, arith, inl, inr, subst}
 use Rattle.std.specs.Prelude.{Some, slice_get}
@@ -31,3 +31,8 @@ places_more Q xs i d now before k under p at =
           let found : get_or xs i d ≡ p = get_or_from_slice_get xs i p d (ap (slice_get xs) same ∙ at) in
           subst (λ j. Q j p) same (subst (λ q. Q i q) found now)
     ]
+
+-- Two lists are the same where their first four are, one by one, and so are the others.
+pub four_more : {X : Type 0} {a b c d i j k l : X} {xs ys : List X} → a ≡ i → b ≡ j → c ≡ k → d ≡ l → xs ≡ ys
+    → a ∷ b ∷ c ∷ d ∷ xs ≡ i ∷ j ∷ k ∷ l ∷ ys
+four_more at_a at_b at_c at_d at_others = cc

@@ -143,7 +143,7 @@ abbrev pub IsBy : ℕ → Option Event → Type 0
 IsBy k None = Unit {0}
 IsBy k (Some e) = actor_of e ≡ k
 
-reply_by : (k : ℕ) (a : Asked) (s : Said) → is_reply k a s ≡ true → IsBy k (event_in s)
+pub reply_by : (k : ℕ) (a : Asked) (s : Said) → is_reply k a s ≡ true → IsBy k (event_in s)
 reply_by k a (said.Event e) h = by_actor k a e (and_parts (not (is_issue a)) (is_event_for k a e) h).1
 reply_by k a (said.Job job e) h = by_actor k a e (and_parts (is_issue a) (is_event_for k a e) h).1
 reply_by k a said.Idle h = tt

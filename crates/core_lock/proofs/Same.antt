@@ -126,7 +126,7 @@ event_same (Retire k seq x) (Retire l seq' y) h =
     three_same (λ x y z. Retire x y z) effect.eq-value.it effect_same k l seq seq' x y h
 event_same _ _ h = absurd (false≢true h)
 
--- ---- The same is equal
+-- ---- What is alike is equal
 
 nat_self : (a : ℕ) → (a == a) ≡ true
 nat_self a = grind (arith, nat_tests)

@@ -1,27 +1,28 @@
-ghost use Rattle.std.specs.Prelude.{◌≡◌, ◌<◌, ◌≤◌, ◌+◌, ◌↔◌, ℕ, Bool, true, Some, IsTrue, IfSome};
+ghost use Rattle.std.specs.Prelude.{◌≡◌, ◌≤◌, ◌↔◌, ℕ, Bool, true, Some, IsTrue, IfSome};
 ghost use Rattle.std.specs.Prelude.{length, map, sum, slice_get};
 ghost use Rattle.events.specs.Range.{HasShortWrite};
 ghost use Rattle.core_state.specs.Setup.{setup_of};
 ghost use Rattle.smt_model.specs.Account.{event_count, last_event_of};
-ghost use Rattle.core_lock.specs.Asks.{Replied, IssueReplied, CompleteReplied, IsPredictedBy};
-ghost use Rattle.core_lock.specs.Asks.{plain_said, asked_of, event_in, grown_by, is_reply};
-ghost use Rattle.core_lock.specs.Passes.{IsDealt, IsTold, more, later, going_in, places};
-ghost use Rattle.smt_core.specs.Counts.{made_from};
+ghost use Rattle.core_lock.specs.Asks.{Replied, IsPredictedBy, asked_of, event_in, grown_by};
+ghost use Rattle.core_lock.specs.Asks.{is_reply};
+ghost use Rattle.core_lock.specs.Passes.{IsTold, more, later, going_in, places};
 ghost use Rattle.smt_core.specs.Shown.{Shown};
-ghost use Rattle.core_lock.specs.Tallies.{AreTallies};
 
-mod counted;
+mod agreement;
+mod asking;
+mod dealing;
 mod passes;
 mod replies;
 
 use crate::ask::{Ask, Asked, Said};
 use crate::origin::Origin;
 use crate::reader::CoreReader;
-use crate::tally::{Tally, tallies_of, tally_at, tally_of};
+use agreement::{are_told, is_told};
+use asking::ask_core;
+use dealing::{counts_of, deal_four, gather, tallies_in};
+use elf_image::Image;
 use events::Event;
-use exec_units::Done;
-use program_image::Image;
-use smt_core::{Answer, CompleteAnswer, Config, Core, Finished, IssueAnswer, Predict, show};
+use smt_core::{Config, Core, Finished, Predict, show};
 use std::marker::PhantomData;
 use std::sync::ledger::{Blank, Book, Ledger, Share};
 
@@ -86,6 +87,10 @@ impl<L: Origin> Held<L> {
     }
 
     /// Makes one step of the core for the pass's actor, and waits for nobody.
+    ///
+    /// It stands in its caller, as the ask of the core does: who asks for one kind of step then has
+    /// the code of that step alone, and what of the reply isn't read isn't made.
+    #[inline(always)]
     pub fn step<P: Predict>(&mut self, pass: &mut Pass<L>, ask: Ask, predict: &mut P) -> Reply<L>
         ensures maker { result.actor ≡ pass.old.actor }
         ensures asked { result.asked ≡ asked_of ask }
@@ -112,7 +117,7 @@ impl<L: Origin> Held<L> {
             rest: _,
         } = self;
         show(core);
-        let said = make(core, actor, ask, predict);
+        let said = ask_core(core, actor, ask, predict);
         show(core);
         note(book, pass, said.event());
         Reply {
@@ -173,106 +178,6 @@ impl<L: Origin> Held<L> {
     }
 }
 
-/// What the history holds of each actor, told in one pass over it.
-fn tallies_in(core: &Core) -> [Tally; 16]
-    ensures { AreTallies core.now.past result }
-{
-    tallies_of(core.history())
-}
-
-/// The passes of four actors, from `first` on. Four by four, since the proof of a body grows with the
-/// square of its calls.
-fn deal_four<L: Ledger>(
-    core: &Core,
-    tallies: &[Tally; 16],
-    rest: &mut Share<L>,
-    first: u8,
-) -> (Pass<L>, Pass<L>, Pass<L>, Pass<L>)
-    requires tallies { AreTallies core.now.past tallies.now }
-    requires parts { rest.old.parts + first ≡ 16 }
-    requires inside { first ≤ 12 }
-    requires amount { rest.old.amount ≡ made_from first core.now.past }
-    ensures a { IsDealt core.now.past first result.0.actor result.0.count result.0.last }
-    ensures b { IsDealt core.now.past (first + 1) result.1.actor result.1.count result.1.last }
-    ensures c { IsDealt core.now.past (first + 2) result.2.actor result.2.count result.2.last }
-    ensures d { IsDealt core.now.past (first + 3) result.3.actor result.3.count result.3.last }
-    ensures parts { rest.new.parts + (first + 4) ≡ 16 }
-    ensures amount { rest.new.amount ≡ made_from (first + 4) core.now.past }
-{
-    let a = deal(core, tallies, rest, first);
-    let b = deal(core, tallies, rest, first + 1);
-    let c = deal(core, tallies, rest, first + 2);
-    let d = deal(core, tallies, rest, first + 3);
-    (a, b, c, d)
-}
-
-/// The pass of actor `actor`, taken from what is left for it and those of greater numbers.
-fn deal<L: Ledger>(core: &Core, tallies: &[Tally; 16], rest: &mut Share<L>, actor: u8) -> Pass<L>
-    requires tallies { AreTallies core.now.past tallies.now }
-    requires parts { rest.old.parts + actor ≡ 16 }
-    requires inside { actor < 16 }
-    requires amount { rest.old.amount ≡ made_from actor core.now.past }
-    ensures dealt { IsDealt core.now.past actor result.actor result.count result.last }
-    ensures parts { rest.new.parts + (actor + 1) ≡ 16 }
-    ensures amount { rest.new.amount ≡ made_from (actor + 1) core.now.past }
-{
-    // The history is legal and of at most sixteen actors: that is a clause of this call.
-    let _events = core.history();
-    let Tally { count, last } = tally_at(tallies, actor);
-    let part = rest.split_off(1, count);
-    Pass {
-        actor,
-        count,
-        last,
-        part,
-    }
-}
-
-/// Makes an ask of a core.
-fn make<P: Predict>(core: &mut Core, actor: u8, ask: Ask, predict: &mut P) -> Said
-    ensures answer { Replied actor ask core.old result core.new }
-    ensures predicted { IsPredictedBy P.predicts predict.old (asked_of ask) result predict.new }
-{
-    match ask {
-        Ask::Fetch => plainly(core.fetch(actor, predict)),
-        Ask::Decode(hart) => plainly(core.decode(actor, hart)),
-        Ask::Rename(hart) => plainly(core.rename(actor, hart)),
-        Ask::Issue => issue(core, actor),
-        Ask::Complete(done) => complete(core, actor, done),
-        Ask::Retire(hart) => plainly(core.retire(actor, hart)),
-    }
-}
-
-fn plainly(answer: Answer) -> Said
-    ensures { result ≡ plain_said answer }
-{
-    match answer {
-        Answer::Done(event) => Said::Event(event),
-        Answer::Idle => Said::Idle,
-        Answer::Full => Said::Full,
-    }
-}
-
-fn issue(core: &mut Core, actor: u8) -> Said
-    ensures { IssueReplied actor core.old result core.new }
-{
-    match core.issue(actor) {
-        IssueAnswer::Job(job, event) => Said::Job(job, event),
-        IssueAnswer::Idle => Said::Idle,
-        IssueAnswer::Full => Said::Full,
-    }
-}
-
-fn complete(core: &mut Core, actor: u8, done: Done) -> Said
-    ensures { CompleteReplied actor done.job core.old result core.new }
-{
-    match core.complete(actor, done) {
-        CompleteAnswer::Done(event) => Said::Event(event),
-        CompleteAnswer::Stranger => Said::Stranger,
-        CompleteAnswer::Full => Said::Full,
-    }
-}
-
 /// Enters a step into the book and the pass, where one was made.
 fn note<L: Ledger>(book: &mut Book<L>, pass: &mut Pass<L>, event: Option<Event>)
     requires { book.old.total ≤ 16777216 }
@@ -294,68 +199,4 @@ fn note<L: Ledger>(book: &mut Book<L>, pass: &mut Pass<L>, event: Option<Event>)
     book.add(part, 1);
     *count += 1;
     *last = event;
-}
-
-/// Whether the history holds of the pass's actor just what the pass has counted.
-fn is_told<L: Ledger>(core: &Core, pass: &Pass<L>) -> bool
-    ensures told { IsTrue result
-        ↔ IsTold core.now.past pass.now.actor pass.now.count pass.now.last }
-    ensures shown { Shown core.now }
-{
-    show(core);
-    has_counted(pass, tally_of(core.history(), pass.actor))
-}
-
-/// Whether the pass has counted just this.
-fn has_counted<L: Ledger>(pass: &Pass<L>, tally: Tally) -> bool
-    ensures { IsTrue result ↔ (pass.now.count ≡ tally.count) × (pass.now.last ≡ tally.last) }
-{
-    pass.count == tally.count && pass.last == tally.last
-}
-
-/// Whether at each place lies the pass of its actor, and the history holds of that actor just what
-/// the pass has counted. It reads the history once.
-fn are_told<L: Ledger>(core: &Core, passes: &[Pass<L>; 16]) -> bool
-    ensures { IsTrue result
-        ↔ ((k : ℕ) (p : _) → slice_get passes.now k ≡ Some p
-        → (p.actor ≡ k) × IsTold core.now.past p.actor p.count p.last) }
-{
-    show(core);
-    let tallies = tallies_of(core.history());
-    for (place, pass) in passes.iter().enumerate() {
-        if usize::from(pass.actor) != place || !has_counted(pass, tallies[place]) {
-            return false;
-        }
-    }
-    true
-}
-
-fn counts_of<L: Ledger>(passes: &[Pass<L>; 16]) -> [u64; 16]
-    ensures { result ≡ map (λ p. p.count) passes.now }
-{
-    let mut counts = [0; 16];
-    for (place, pass) in passes.iter().enumerate() {
-        counts[place] = pass.count;
-    }
-    counts
-}
-
-/// Lays all passes together.
-fn gather<L: Ledger>(rest: Share<L>, passes: [Pass<L>; 16]) -> Share<L>
-    requires no_parts { rest.parts ≡ 0 }
-    requires no_rest { rest.amount ≡ 0 }
-    ensures parts { result.parts ≡ 16 }
-    ensures amount { result.amount ≡ sum (map (λ p. p.count) passes) }
-{
-    let mut all = rest;
-    for pass in passes {
-        let Pass {
-            actor: _,
-            count: _,
-            last: _,
-            part,
-        } = pass;
-        all.merge(part);
-    }
-    all
 }

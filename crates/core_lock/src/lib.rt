@@ -1,13 +1,14 @@
-//! One core behind one lock. A thread asks through its pass; what is asked, what is said and what
-//! each pass counts stands here.
+//! One core behind one lock, and the board by which those who ask see one another without it. A
+//! thread asks through its pass; what is asked, what is said and what each pass counts stands here.
 //!
 //! Read in this order: `ask` (what is asked and said), `tally` (what a history holds of one actor),
 //! `origin` (which core it is), `reader` (what looks at a core), `held` (what stands behind the lock,
-//! with the passes; `held/passes` and `held/replies` read them out, `held/counted` lets a pass be
-//! posted on a board), `locked` (the lock). What is left at the end stands in `smt_core`.
+//! with the passes; `held/passes` and `held/replies` read them out), `locked` (the lock), `board`
+//! (the words where each actor posts its count). What is left at the end stands in `smt_core`.
 #![tactic(auto)]
 
 pub mod ask;
+pub mod board;
 pub mod held;
 pub mod locked;
 pub mod origin;
@@ -15,6 +16,7 @@ pub mod reader;
 mod tally;
 
 pub use ask::{Ask, Asked, Said};
+pub use board::{Board, BoardView, Reason, Seat};
 pub use held::{Held, Pass, Reply};
 pub use locked::LockedCore;
 pub use origin::Origin;

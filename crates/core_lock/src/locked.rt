@@ -12,7 +12,7 @@ use crate::ask::Ask;
 use crate::held::{Held, Pass, Reply};
 use crate::origin::Origin;
 use crate::reader::CoreReader;
-use program_image::Image;
+use elf_image::Image;
 use smt_core::{Config, Core, Finished, Predict};
 use std::sync::ledger::Blank;
 use std::sync::{Mutex, Wait};
@@ -56,9 +56,9 @@ impl<L: Origin> LockedCore<L> {
         ensures printable { IfSome (event_in result.said) HasShortWrite }
         ensures predicted { IsPredictedBy P.predicts predict.old
             (asked_of ask) result.said predict.new }
-        ensures step { (old : CoreView) × (new : CoreView) × Shown old × (old.setup ≡ L.setup)
-            × (old.limit ≡ L.limit) × Replied pass.old.actor ask old result.said new
-            × (result.going ≡ going_in new) }
+        ensures step { (old : CoreView) × (new : CoreView) × Shown old × Shown new
+            × (old.setup ≡ L.setup) × (old.limit ≡ L.limit)
+            × Replied pass.old.actor ask old result.said new × (result.going ≡ going_in new) }
     {
         self.lock.lock(rt).step(pass, ask, predict)
     }

@@ -5,7 +5,7 @@ use Rattle.std.specs.Prelude.{option_and_then, if◌then◌else◌, slice_index_
 use Rattle.numbers.specs.Sizes.{most_harts}
 use Rattle.rv_instr.specs.declared.op.Op.{Op}
 use Rattle.events.specs.declared.effect.Written.{Written}
-use Rattle.program_image.specs.Image.{ProgramImage}
+use Rattle.elf_image.specs.Image.{ProgramImage}
 use Rattle.retire_squash.specs.{declared.active.Active.Active, declared.active.Stage.Stage}
 use Rattle.retire_squash.specs.declared.active.Stage.TheVariants as stage
 use Rattle.smt_model.specs.{Basics.or_zero, Faults.write_fault, Fates.is, Fates.Completed}

@@ -5,11 +5,11 @@ use Rattle.std.specs.Prelude.{None, slice_index_or}
 use Rattle.numbers.specs.Sizes.{most_registers, most_actors}
 use Rattle.std.specs.List.{AllByRecursion}
 use Rattle.rv_instr.specs.{Decode.op_of_word, declared.op.Op.Op}
-use Rattle.register_renaming.specs.Flags.{holds}
+use Rattle.free_list.specs.Flags.{holds}
 use Rattle.issue_queue.specs.{Queue.Queue, declared.entry.Entry.Entry, declared.entry.Source.Source}
 use Rattle.issue_queue.specs.{declared.entry.Source.TheVariants.Value}
 use Rattle.issue_queue.specs.{declared.entry.Source.TheVariants.Waits, Entry.woken_source}
-use Rattle.register_renaming.specs.Maps.{lookup, committed_of}
+use Rattle.rename_map.specs.Maps.{lookup, committed_of}
 use Rattle.retire_squash.specs.{declared.active.Active.Active, declared.active.Stage.Stage}
 use Rattle.retire_squash.specs.declared.active.Stage.TheVariants as stage
 use Rattle.smt_model.specs.{Kinds.destination, Kinds.first_source, Kinds.second_source}

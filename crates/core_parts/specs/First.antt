@@ -2,8 +2,8 @@
 use Rattle.std.specs.Prelude.{◌≡◌, ℕ, ◌+◌, ◌-◌, ◌<◌, ◌&&◌, nat_le, nat_lt, if◌then◌else◌, []}
 use Rattle.std.specs.Prelude.{Option, Some}
 use Rattle.numbers.specs.Layout.{first_extra}
-use Rattle.program_image.specs.Image.{ProgramImage}
-use Rattle.register_renaming.specs.Maps.{lookup, committed_of}
+use Rattle.elf_image.specs.Image.{ProgramImage}
+use Rattle.rename_map.specs.Maps.{lookup, committed_of}
 use Rattle.smt_model.specs.{declared.config.Status.TheVariants.Going, Picture.picture}
 use Rattle.smt_model.specs.{Registers.first_register, Setup.Setup, Setup.first_number}
 use Rattle.core_parts.specs.{Agree.PartsAgree, declared.hart.HartState.HartState}
@@ -27,7 +27,7 @@ first_values_below r harts h x before =
     if nat_le (first_extra h) x && nat_lt (x + 1) (first_extra h + r)
     then Some (first_number harts h (x - first_extra h + 1)) else before
 
--- The same of all its registers.
+-- What it holds once all of hart h's registers have their first numbers.
 abbrev pub first_values : ℕ → ℕ → ℕ → Option ℕ → Option ℕ
 first_values harts h x before = first_values_below 32 harts h x before
 

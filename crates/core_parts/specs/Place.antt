@@ -22,7 +22,7 @@ pub record InDecodeLatch (setup : Setup) (past : List Event) (h s : ℕ) : Type 
   pub of_hart : is_of past h s ≡ true
   pub fated : fate past s ≡ InDecode
 
--- The same of the rename latch, in which it is this slot.
+-- Instruction s is in the rename latch of hart h, a hart of the core, in this slot.
 pub record InRenameLatch (setup : Setup) (past : List Event) (h s : ℕ) (x : Slot) : Type 0 where
   pub inside : h < setup.harts
   pub of_hart : is_of past h s ≡ true
@@ -30,7 +30,7 @@ pub record InRenameLatch (setup : Setup) (past : List Event) (h s : ℕ) (x : Sl
   pub slot : IsSlot (picture setup past) h x
   pub number : x.seq ≡ s
 
--- The same of the active list, of which it is this member.
+-- Instruction s is this member of the active list of hart h, a hart of the core.
 pub record InActiveList (setup : Setup) (past : List Event) (h s : ℕ) (x : Active) : Type 0 where
   pub inside : h < setup.harts
   pub of_hart : is_of past h s ≡ true

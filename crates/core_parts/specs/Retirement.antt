@@ -3,7 +3,7 @@
 use Rattle.std.specs.Prelude.{◌≡◌, ℕ, ◌<◌, Bool, true, false, not, ◌&&◌, drop, Option, Some, None}
 use Rattle.std.specs.List.{AllByRecursion}
 use Rattle.events.specs.{declared.effect.Outcome.Outcome, declared.effect.Effect.Effect}
-use Rattle.register_renaming.specs.Maps.{committed_of}
+use Rattle.rename_map.specs.Maps.{committed_of}
 use Rattle.retire_squash.specs.{declared.active.Active.Active, declared.active.Stage.Stage}
 use Rattle.retire_squash.specs.declared.active.Stage.TheVariants as stage
 use Rattle.smt_model.specs.{declared.config.Status.Status, Basics.first, Basics.same_number}
@@ -62,7 +62,8 @@ pub record Ends (p q : Picture) (h : ℕ) (x : Active) (status : Status) : Type 
   pub stands : status ≡ status_after effect.next (p.status h)
   pub step : IsEnd p q h x.seq effect
 
--- The same before all younger ones are squashed: the hart's map still has its register.
+-- It retires and its hart stands like this, before all younger ones are squashed: the hart's map
+-- still has its register.
 pub record Leaves (p q : Picture) (h : ℕ) (x : Active) (status : Status) : Type 0 where
   pub is_oldest : IsOldestActive p h x
   pub effect : Effect

@@ -3,8 +3,8 @@ use Rattle.std.specs.Prelude.{◌≡◌, ℕ, ◌<◌, Bool, true, false, nat_lt
 use Rattle.std.specs.Prelude.{count_by, Some}
 use Rattle.numbers.specs.Sizes.{most_registers}
 use Rattle.std.specs.List.{list_any}
-use Rattle.register_renaming.specs.Flags.{holds}
-use Rattle.register_renaming.specs.Maps.{lookup, committed_of}
+use Rattle.free_list.specs.Flags.{holds}
+use Rattle.rename_map.specs.Maps.{lookup, committed_of}
 use Rattle.retire_squash.specs.{declared.active.Active.Active, declared.active.Stage.Stage}
 use Rattle.retire_squash.specs.declared.active.Stage.TheVariants as stage
 use Rattle.smt_model.specs.{Basics.same_number, Steps.renamed_map}

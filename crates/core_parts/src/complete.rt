@@ -34,7 +34,7 @@ impl OpenJob {
         self.has_instruction(done.job()) && self.has_operands(done.job())
     }
 
-    /// The same instruction, at the same pc.
+    /// Whether the job that was worked has this one's number, instruction and pc.
     fn has_instruction(&self, job: &Job) -> bool
         ensures { IsTrue result ↔ (self.now.seq ≡ job.now.seq) × (self.now.op ≡ job.now.op)
             × (self.now.pc ≡ job.now.pc) }
@@ -48,7 +48,7 @@ impl OpenJob {
         self.seq == job.seq() && self.pc == job.pc()
     }
 
-    /// The same numbers of both sources.
+    /// Whether the job that was worked has this one's number for each source.
     fn has_operands(&self, job: &Job) -> bool
         ensures { IsTrue result ↔ (self.now.first ≡ job.now.first)
             × (self.now.second ≡ job.now.second) }

@@ -6,7 +6,7 @@ ghost use Rattle.core_parts.specs.First.{IsNew};
 use crate::slot::Slot;
 use arrayvec::ArrayVec;
 use numbers::sizes::LATCH_ROOM;
-use register_renaming::HartMaps;
+use rename_map::HartMaps;
 use retire_squash::ActiveList;
 use smt_model::Status;
 

@@ -2,7 +2,6 @@ ghost use Rattle.std.specs.Prelude.{◌≡◌, ℕ, ◌+◌, ◌<◌, true, is_s
 ghost use Rattle.std.specs.Prelude.{IfNone};
 ghost use Rattle.numbers.specs.Sizes.{most_actors};
 ghost use Rattle.issue_queue.specs.Entry.{has_values, is_value};
-ghost use Rattle.issue_queue.specs.Queue.{first_ready};
 ghost use Rattle.retire_squash.specs.Active.{with_stage};
 ghost use Rattle.retire_squash.specs.declared.active.Stage.TheVariants as stage;
 ghost use Rattle.smt_model.specs.Picture.{Picture};
@@ -33,7 +32,7 @@ impl Parts {
         if self.jobs[usize::from(actor)].is_some() {
             return None;
         }
-        first_ready(self.queue.entries(), kind)
+        self.queue.oldest_entry(kind)
     }
 
     /// Takes the instruction of a ready entry out of the queue, as a job of actor `actor`.
@@ -75,18 +74,6 @@ impl HartState {
         self.active.issue(seq);
         self.icount -= 1;
     }
-}
-
-/// The first of these entries that a unit of this kind may take up.
-fn first_ready(entries: &[Entry], kind: UnitKind) -> Option<Entry>
-    ensures { result ≡ first_ready kind entries.now }
-{
-    for entry in entries {
-        if entry.can_issue(kind) {
-            return Some(*entry);
-        }
-    }
-    None
 }
 
 /// The number of a source that has one.

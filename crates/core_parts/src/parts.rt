@@ -1,7 +1,7 @@
 ghost use Rattle.std.specs.Prelude.{◌≡◌, ℕ, ◌<◌, ◌≤◌, ◌==◌, ◌||◌, Bool, false, List, Option, Some};
 ghost use Rattle.std.specs.Prelude.{None, length, IfOk, IfSome, slice_index_or, slice_set};
 ghost use Rattle.numbers.specs.Sizes.{most_harts, most_extra, most_queued, most_registers};
-ghost use Rattle.register_renaming.specs.Flags.{holds};
+ghost use Rattle.free_list.specs.Flags.{holds};
 ghost use Rattle.smt_model.specs.Basics.{same_number};
 ghost use Rattle.smt_model.specs.Setup.{first_number};
 ghost use Rattle.core_parts.specs.Agree.{IsFilled};
@@ -11,19 +11,19 @@ ghost use Rattle.core_parts.specs.Listed.{listed};
 use crate::hart::HartState;
 use crate::slot::OpenJob;
 use arrayvec::ArrayVec;
-use issue_queue::IssueQueue;
+use elf_image::Image;
+use free_list::FreeList;
+use issue_queue::SlabQueue;
 use memory_system::{LoadStore, Memory};
 use numbers::sizes::{MOST_ACTORS, MOST_REGISTERS};
 use numbers::{Phys, Reg, first_register};
-use program_image::Image;
-use register_renaming::FreeList;
 use std::alloc::{AllocError, Global};
 
 /// The parts of the core that its steps move instructions through.
 #[derive(Drop)]
 pub struct Parts {
     pub harts: Vec<HartState>,
-    pub queue: IssueQueue,
+    pub queue: SlabQueue,
     pub free: FreeList,
     /// The number in each physical register, where it has one.
     pub values: [Option<u32>; MOST_REGISTERS],
@@ -62,7 +62,7 @@ impl Parts {
         }
         Ok(Parts {
             harts: each,
-            queue: IssueQueue::new(queue),
+            queue: SlabQueue::new(alloc, queue)?,
             free: FreeList::new(harts, extra),
             values,
             jobs: [None; MOST_ACTORS],

@@ -1,9 +1,9 @@
 ghost use Rattle.std.specs.Prelude.{◌≡◌, ℕ, ◌<◌, ◌&&◌, Option, not, count_by, length, IfSome};
 ghost use Rattle.std.specs.Prelude.{IfNone};
 ghost use Rattle.numbers.specs.Sizes.{most_in_flight, most_registers};
-ghost use Rattle.register_renaming.specs.Flags.{holds};
+ghost use Rattle.free_list.specs.Flags.{holds};
 ghost use Rattle.issue_queue.specs.declared.entry.Source.{Source};
-ghost use Rattle.register_renaming.specs.Maps.{lookup, IsWritable};
+ghost use Rattle.rename_map.specs.Maps.{lookup, IsWritable};
 ghost use Rattle.retire_squash.specs.Active.{Above};
 ghost use Rattle.rv_instr.specs.Table.{OpInRange};
 ghost use Rattle.smt_model.specs.Basics.{first, or_zero};
@@ -19,10 +19,11 @@ use crate::hart::HartState;
 use crate::latch::drop_oldest;
 use crate::parts::Parts;
 use crate::slot::Slot;
+use free_list::FreeList;
 use issue_queue::{Entry, Source};
 use numbers::sizes::{MOST_ACCESSES, MOST_REGISTERS};
 use numbers::{Phys, Reg, Seq};
-use register_renaming::{FreeList, HartMaps};
+use rename_map::HartMaps;
 use retire_squash::{Active, Stage};
 use rv_instr::Op;
 

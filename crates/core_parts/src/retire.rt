@@ -1,5 +1,5 @@
 ghost use Rattle.std.specs.Prelude.{◌≡◌, ℕ, ◌<◌, IfSome, IfNone, length};
-ghost use Rattle.register_renaming.specs.Maps.{IsWritable};
+ghost use Rattle.rename_map.specs.Maps.{IsWritable};
 ghost use Rattle.smt_model.specs.Picture.{Picture};
 ghost use Rattle.core_parts.specs.Accesses.{CanWrite};
 ghost use Rattle.core_parts.specs.Agree.{PartsAgree, KeepsSizes, From};

@@ -1,8 +1,8 @@
 ghost use Rattle.std.specs.Prelude.{◌≡◌, ℕ, ◌+◌, ◌<◌, ◌≤◌, ◌||◌, All, length, count_by};
 ghost use Rattle.numbers.specs.Sizes.{most_in_flight};
 ghost use Rattle.std.specs.List.{list_any};
-ghost use Rattle.register_renaming.specs.Flags.{holds};
-ghost use Rattle.register_renaming.specs.Maps.{lookup, committed_of, renamed_by, IsWritable};
+ghost use Rattle.free_list.specs.Flags.{holds};
+ghost use Rattle.rename_map.specs.Maps.{lookup, committed_of, renamed_by, IsWritable};
 ghost use Rattle.smt_model.specs.Picture.{Picture};
 ghost use Rattle.smt_model.specs.Steps.{IsSquash, renamed_map};
 ghost use Rattle.core_parts.specs.Agree.{PartsAgree, KeepsSizes, From};
@@ -12,9 +12,10 @@ ghost use Rattle.core_parts.specs.Squash.{IsSquashedBehind};
 use crate::hart::HartState;
 use crate::parts::{Parts, give_back};
 use arrayvec::ArrayVec;
+use free_list::FreeList;
 use numbers::sizes::MOST_IN_FLIGHT;
 use numbers::{Phys, Reg, Seq};
-use register_renaming::{FreeList, HartMaps};
+use rename_map::HartMaps;
 use retire_squash::{Active, ActiveList, Stage};
 
 impl Parts {

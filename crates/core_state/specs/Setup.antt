@@ -1,7 +1,7 @@
 -- The setup that an image and a configuration make.
 use Rattle.std.specs.Prelude.{ℕ, Bool, ◌&&◌, nat_le, length}
 use Rattle.numbers.specs.Sizes.{most_events}
-use Rattle.program_image.specs.Image.{ProgramImage}
+use Rattle.elf_image.specs.Image.{ProgramImage}
 use Rattle.smt_model.specs.{declared.config.Config.Config, Setup.Setup}
 use Rattle.smt_model.specs.{Setup.are_core_sizes}
 

@@ -1,35 +1,28 @@
-//! The tests of the core's calls, of the lock, of the board, of the plain machine's runs, and of
-//! whole runs. They stand in one crate, since a crate with tests of its own is proved twice by the
-//! gate. Each module has the tests of one crate, through its public calls alone.
+//! The tests of the core's calls, of the lock and the board, of the actors, of the checker, and of the
+//! plain machine's runs. They stand in one crate, since a crate with tests of its own is proved twice
+//! by the gate. Each module whose name ends in `_tests` has the tests of the crate that it is named
+//! after, through its public calls alone.
 #![tactic(auto)]
 
 #[cfg(test)]
-mod acting;
+mod actors_tests;
 #[cfg(test)]
-mod asks_of_a_core;
+mod asking;
 #[cfg(test)]
-mod checking_traces;
+mod core_lock_tests;
 #[cfg(test)]
-mod counting;
+mod core_state_tests;
 #[cfg(test)]
-mod files;
+mod first_program;
 #[cfg(test)]
-mod following;
+mod first_trace;
 #[cfg(test)]
-mod locking;
+mod history_check_tests;
 #[cfg(test)]
-mod open_runs;
-#[cfg(test)]
-mod plain_runs;
-#[cfg(test)]
-mod posting;
-#[cfg(test)]
-mod predictors;
+mod plain_run_tests;
 #[cfg(test)]
 mod rows;
 #[cfg(test)]
-mod scheduling_orders;
+mod sc_machine_tests;
 #[cfg(test)]
-mod telling_progress;
-#[cfg(test)]
-mod whole_runs;
+mod smt_core_tests;

@@ -8,7 +8,7 @@ use Rattle.std.proofs.lemmas.Bool.Decides.{nat_tests}
 use Rattle.std.proofs.lemmas.List.{length_push}
 use Rattle.std.proofs.lemmas.Option.{slice_get_cases}
 use Rattle.std.proofs.{Math.ListN.get_or-append, Math.Seq.get_or-append_seam}
-use Rattle.program_image.specs.Image.{ProgramImage, code_start, code_size, has_code_word, code_word}
+use Rattle.elf_image.specs.Image.{ProgramImage, code_start, code_size, has_code_word, code_word}
 use Rattle.decoded_code.specs.{Code.IsFetched, Code.IsFound, Code.IsCodeOf}
 use Rattle.decoded_code.specs.{declared.code.Code.Code, declared.code.Fetched.Fetched}
 

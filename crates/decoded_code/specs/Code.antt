@@ -3,7 +3,7 @@ use Rattle.std.specs.Prelude.{◌≡◌, ℕ, ◌-◌, ◌/◌, ◌%◌, ◌==�
 use Rattle.std.specs.Prelude.{Option, Some, None}
 use Rattle.std.specs.List.{slice_get}
 use Rattle.std.specs.Option.{MatchOption}
-use Rattle.program_image.specs.Image.{ProgramImage, code_word}
+use Rattle.elf_image.specs.Image.{ProgramImage, code_word}
 use Rattle.rv_instr.specs.Decode.{op_of_word}
 use Rattle.rv_instr.specs.Table.{OpInRange}
 use Rattle.decoded_code.specs.{declared.code.Code.Code, declared.code.Fetched.Fetched}

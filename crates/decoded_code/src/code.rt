@@ -1,11 +1,11 @@
 //! The words of the code, each with its instruction.
 
 ghost use Rattle.std.specs.Prelude.{◌≡◌, IfOk, IsTrue};
-ghost use Rattle.program_image.specs.Image.{ProgramImage, has_code_word, code_word};
+ghost use Rattle.elf_image.specs.Image.{ProgramImage, has_code_word, code_word};
 ghost use Rattle.rv_instr.specs.Decode.{op_of_word};
 ghost use Rattle.decoded_code.specs.Code.{IsCodeOf, IsFetched, IsFound, found_at};
 
-use program_image::Image;
+use elf_image::Image;
 use rv_decode::decode_op;
 use rv_instr::Op;
 use std::alloc::{AllocError, Global};
@@ -76,7 +76,7 @@ impl Code {
 }
 
 /// The word of an image at a pc where there is one, decoded.
-#[tactic(auto, unfolding(program_image::specs::Image::code_word))]
+#[tactic(auto, unfolding(elf_image::specs::Image::code_word))]
 fn decode_at(image: &Image, pc: u32) -> Fetched
     requires { IsTrue (has_code_word image.now pc) }
     ensures { IsFetched image.now pc result }

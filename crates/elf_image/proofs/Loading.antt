@@ -18,13 +18,13 @@ use Rattle.elf_image.specs.declared.refusal.LoadRefused.TheVariants.{WrongSegmen
 use Rattle.elf_image.specs.declared.refusal.LoadRefused.TheVariants.{WrongMemorySize, SegmentOutsideRam}
 use Rattle.elf_image.specs.declared.refusal.LoadRefused.TheVariants.{SegmentsOverlap, WrongCodeSegment, MisalignedCode}
 use Rattle.elf_image.specs.declared.refusal.LoadRefused.TheVariants.{WrongEntry}
-use Rattle.program_image.specs.Image.{ProgramSegment, IsRamSize, IsWellFormed, ram_start, is_code_segment}
-use Rattle.program_image.specs.Image.{is_writable_segment, code_segment, code_start, code_size, covers, segment_byte}
-use Rattle.program_image.specs.Image.{byte_among, byte_in}
+use Rattle.elf_image.specs.Image.{ProgramSegment, IsRamSize, IsWellFormed, ram_start, is_code_segment}
+use Rattle.elf_image.specs.Image.{is_writable_segment, code_segment, code_start, code_size, covers, segment_byte}
+use Rattle.elf_image.specs.Image.{byte_among, byte_in}
 use Rattle.elf_image.specs.Checks.{Passes, AreApart, is_executable, is_writable}
 use Rattle.elf_image.specs.Loaded.{segment_of, image_from, IsOutside, IsImageOf}
-use Rattle.program_image.proofs.Covering.{EndsBefore, found_at, covers_from, covers_low, covers_high, byte_covered}
-use Rattle.program_image.proofs.Covering.{byte_zero}
+use Rattle.elf_image.proofs.Covering.{EndsBefore, found_at, covers_from, covers_low, covers_high, byte_covered}
+use Rattle.elf_image.proofs.Covering.{byte_zero}
 use Rattle.elf_image.proofs.Pairs.{AllPairs-permutation}
 
 blank : ProgramHeader

@@ -5,7 +5,7 @@ use Rattle.std.specs.Prelude.{[], ◌∷◌, length, take, slice_index, All, All
 use Rattle.std.specs.Prelude.{◌&&◌}
 use Rattle.elf_image.specs.{declared.program_header.ProgramHeader.ProgramHeader}
 use Rattle.elf_image.specs.{declared.refusal.LoadRefused.LoadRefused, Refusal.reason_number}
-use Rattle.program_image.specs.Image.{ram_start}
+use Rattle.elf_image.specs.Image.{ram_start}
 use Rattle.elf_image.specs.declared.refusal.LoadRefused.TheVariants.{TooShort, NotElf, NotClass32}
 use Rattle.elf_image.specs.declared.refusal.LoadRefused.TheVariants.{NotLittleEndian, WrongVersion}
 use Rattle.elf_image.specs.declared.refusal.LoadRefused.TheVariants.{NotExecutable, NotRiscV}

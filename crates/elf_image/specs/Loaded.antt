@@ -3,7 +3,7 @@ use Rattle.std.specs.Prelude.{◌≡◌, ℕ, ◌+◌, ◌-◌, ◌%◌, ◌<◌
 use Rattle.std.specs.Prelude.{replicate, slice_index, All, IsPermutation}
 use Rattle.std.specs.List.Sorted.{IsNonDecreasingBy}
 use Rattle.elf_image.specs.{declared.program_header.ProgramHeader.ProgramHeader}
-use Rattle.program_image.specs.Image.{ProgramSegment, ProgramImage, byte_in}
+use Rattle.elf_image.specs.Image.{ProgramSegment, ProgramImage, byte_in}
 use Rattle.elf_image.specs.{Layout.entry_of, Layout.loadable}
 
 -- The segment of a header: its bytes in the file, zeros up to its size in memory, and the flags'

@@ -2,7 +2,7 @@
 
 ghost use Rattle.std.specs.Prelude.{◌≡◌, ◌+◌, ◌%◌, ◌<◌, ◌≤◌, ◌↔◌, ◌&&◌, false, length, IsTrue, All};
 ghost use Rattle.std.specs.Prelude.{AllPairs, count_by, IfErr, OnOk};
-ghost use Rattle.program_image.specs.Image.{ram_start};
+ghost use Rattle.elf_image.specs.Image.{ram_start};
 ghost use Rattle.elf_image.specs.Checks.{is_executable, is_writable, AreApart, Passes};
 ghost use Rattle.elf_image.specs.Checks.{IsLoadRefusal};
 ghost use Rattle.elf_image.specs.Layout.{entry_of, loadable};
@@ -10,8 +10,8 @@ ghost use Rattle.elf_image.specs.Refusal.{reason_number};
 ghost use Rattle.elf_image.specs.declared.refusal.LoadRefused.{LoadRefused as Refusal};
 
 use crate::program_header::ProgramHeader;
+use crate::ram_size::{RAM_START, RamSize};
 use crate::refusal::LoadRefused;
-use program_image::{RAM_START, RamSize};
 
 /// Makes the checks of where the loadable segments lie, 10 to 14, on a file that passes those
 /// before.

@@ -1,13 +1,13 @@
 //! The file header: what a file says of itself (ELF32, "ELF Header").
 
 ghost use Rattle.std.specs.Prelude.{◌≡◌, ℕ, ◌+◌, ◌*◌, ◌<◌, ◌≤◌, length, IfOk, IfErr, OnOk};
-ghost use Rattle.elf_image.specs.Layout.{half_at, word_at, entry_of, table_offset, table_count};
+ghost use Rattle.elf_image.specs.Layout.{entry_of, table_offset, table_count};
 ghost use Rattle.elf_image.specs.Refusal.{reason_number};
 ghost use Rattle.elf_image.specs.declared.refusal.LoadRefused.{LoadRefused as Refusal};
 ghost use Rattle.elf_image.specs.Checks.{Passes, IsLoadRefusal};
 
+use crate::fields::{read_half, read_word};
 use crate::refusal::LoadRefused;
-use byteorder::{ByteOrder, LittleEndian};
 
 /// The fields of a file header that loading goes by.
 #[derive(Clone, Copy)]
@@ -15,24 +15,6 @@ pub(crate) struct FileHeader {
     pub(crate) entry: u32,
     pub(crate) table_offset: u32,
     pub(crate) table_count: u16,
-}
-
-/// The field of two bytes at a place.
-#[tactic(auto, unfolding(crate::specs::Layout::half_at))]
-pub(crate) fn read_half(file: &[u8], place: usize) -> u16
-    requires { place + 2 ≤ length file.now }
-    ensures { result ≡ half_at file.now place }
-{
-    LittleEndian::read_u16(&file[place..])
-}
-
-/// The field of four bytes at a place.
-#[tactic(auto, unfolding(crate::specs::Layout::word_at))]
-pub(crate) fn read_word(file: &[u8], place: usize) -> u32
-    requires { place + 4 ≤ length file.now }
-    ensures { result ≡ word_at file.now place }
-{
-    LittleEndian::read_u32(&file[place..])
 }
 
 /// Makes the checks of the identification and the version, 1 to 5.

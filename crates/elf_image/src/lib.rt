@@ -1,17 +1,26 @@
-//! Program images from ELF32 files: a file is checked and becomes the memory that the harts start
-//! from. `load` makes an `Image` of a file or says which check it fails first. What an image is,
-//! `program_image` says; `elf_writer` makes a file of an image.
-//! Read `refusal`, `file_header`, `program_header`, `checks`, `segments`, `loader`.
+//! Program images: what memory holds as the harts start, where the code is, and the entry. `load`
+//! makes an `Image` of an ELF32 file, or says which check the file fails first; `write` makes a
+//! file of an image, by which tests write what the program is to read.
+//!
+//! Read in this order: `fields` (numbers in bytes), `ram_size`, `segment`, `image`; `refusal`,
+//! `file_header`, `program_header`, `checks`, `loader`; `writer`.
 #![tactic(auto)]
 
 mod checks;
+mod fields;
 mod file_header;
+mod image;
 mod loader;
 pub mod program_header;
+mod ram_size;
 mod refusal;
-mod segments;
+mod segment;
+mod writer;
 
+pub use image::Image;
 pub use loader::load;
 pub use program_header::ProgramHeader;
-pub use program_image::{Image, RAM_START, RamSize};
+pub use ram_size::{RAM_START, RamSize};
 pub use refusal::LoadRefused;
+pub use segment::Segment;
+pub use writer::write;

@@ -1,18 +1,20 @@
 //! From a file to an image.
 
-ghost use Rattle.std.specs.Prelude.{◌≡◌, IfOk, IfErr, OnOk, IsPermutation};
+ghost use Rattle.std.specs.Prelude.{◌≡◌, ◌+◌, ◌≤◌, length, map, All, IfOk, IfErr, OnOk};
+ghost use Rattle.std.specs.Prelude.{IsPermutation};
 ghost use Rattle.std.specs.List.Sorted.{IsNonDecreasingBy};
 ghost use Rattle.elf_image.specs.declared.refusal.LoadRefused.{LoadRefused as Refusal};
 ghost use Rattle.elf_image.specs.Checks.{Passes, IsLoadRefusal};
 ghost use Rattle.elf_image.specs.Layout.{entry_of, loadable};
-ghost use Rattle.elf_image.specs.Loaded.{IsImageOf};
+ghost use Rattle.elf_image.specs.Loaded.{segment_of, IsImageOf};
 
 use crate::checks::{check_code, check_places};
 use crate::file_header::read_file_header;
+use crate::image::Image;
 use crate::program_header::{ProgramHeader, read_loadable};
+use crate::ram_size::RamSize;
 use crate::refusal::LoadRefused;
-use crate::segments::read_segments;
-use program_image::{Image, RamSize};
+use crate::segment::Segment;
 use std::alloc::{AllocError, Global};
 
 /// Puts the headers in the order of their addresses.
@@ -21,6 +23,36 @@ fn sort_by_address(headers: &mut [ProgramHeader])
     ensures rising { IsNonDecreasingBy (λ h. h.address) headers.new }
 {
     headers.sort_unstable_by_key(|h| h.address);
+}
+
+/// The segment of a header: its bytes in the file, and then zeros.
+fn read_segment(alloc: Global, file: &[u8], header: &ProgramHeader) -> Result<Segment, AllocError>
+    requires in_file { header.now.offset + header.now.file_size ≤ length file.now }
+    requires in_memory { header.now.file_size ≤ header.now.memory_size }
+    ensures { IfOk result (λ segment. segment ≡ segment_of file.now header.now) }
+{
+    let start = header.offset as usize;
+    let mut bytes = Vec::with_capacity(alloc, header.memory_size as usize)?;
+    bytes.extend_from_slice(&file[start..start + header.file_size as usize])?;
+    bytes.resize(header.memory_size as usize, 0)?;
+    Ok(Segment::new(header.address, bytes, (header.flags % 8) as u8))
+}
+
+/// The segments of these headers, in the same order.
+fn read_segments(
+    alloc: Global,
+    file: &[u8],
+    headers: &[ProgramHeader],
+) -> Result<Vec<Segment>, AllocError>
+    requires in_file { All (λ h. h.offset + h.file_size ≤ length file.now) headers.now }
+    requires in_memory { All (λ h. h.file_size ≤ h.memory_size) headers.now }
+    ensures { IfOk result (λ segments. segments.items ≡ map (segment_of file.now) headers.now) }
+{
+    let mut segments = Vec::with_capacity(alloc, headers.len())?;
+    for header in headers {
+        segments.push(read_segment(alloc, file, header)?)?;
+    }
+    Ok(segments)
 }
 
 /// The image of a file that passes all checks, where these are its loadable headers by rising

@@ -3,7 +3,7 @@
 ghost use Rattle.std.specs.Prelude.{◌≡◌, ◌+◌, ◌*◌, ◌<◌, ◌≤◌, length, IfSome, IfNone};
 ghost use Rattle.elf_image.specs.Layout.{header_at, loadable_from};
 
-use crate::file_header::read_word;
+use crate::fields::read_word;
 use arrayvec::ArrayVec;
 
 /// The most loadable segments that an image has (this project's own choice).

@@ -11,7 +11,7 @@ use Rattle.event_text.specs.{Line.effect_text, Line.line_of, Line.outcome_text, 
 abbrev pub HasFirst : List ℕ → Event → List ℕ → Type 0
 HasFirst text event others = (text ≡ ended (line_of event) ++ others) × IsEventInRange event
 
--- The same of the fields behind a letter and an actor.
+-- The first line is that of this event, and these fields stand in it behind a letter and an actor.
 abbrev pub IsRest : ℕ → ℕ → List ℕ → Event → List ℕ → Type 0
 IsRest letter actor fields event others =
     HasFirst (letter ∷ 32 ∷ (decimal actor ++ 32 ∷ fields)) event others

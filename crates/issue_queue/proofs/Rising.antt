@@ -2,6 +2,7 @@
 use Rattle.std.proofs.Common.{◌≡◌, ◌≢◌, ℕ, ◌<◌, ◌≤◌, ◌==◌, ltb, Bool, true, false, cond, Some, List, [], ◌∷◌, map}
 use Rattle.std.proofs.Common.{zero, suc, ◌++◌, filter, length, get_or, take, drop, refl, sym, ap, ◌∙◌, subst, arith}
 use Rattle.std.proofs.lemmas.Bool.Decides.{nat_tests}
+use Rattle.std.specs.Prelude.{Option, None, IfSome}
 use Rattle.std.specs.List.{AllByRecursion}
 use Rattle.std.proofs.lemmas.Bool.{ltb-true, ltb-false, eqb-false, or_parts, false≢true}
 use Rattle.rv_instr.specs.declared.op.UnitKind.{UnitKind}
@@ -128,3 +129,8 @@ without_none n (x ∷ xs) absent =
     let parts = or_parts (x.seq == n) (has_number n xs) absent in
     let apart : is_other n x ≡ true = rw parts.0 refl in
     rw apart (ap (λ ys. x ∷ ys) (without_none n xs parts.1))
+
+pub IsOldest-answered : (kind : UnitKind) (xs : List Entry) (r : Option Entry) → AreEntriesRising xs
+    → r ≡ first_ready kind xs → IfSome r (IsOldestReady kind xs)
+IsOldest-answered kind xs None rising is = tt
+IsOldest-answered kind xs (Some e) rising is = IsOldest-first_ready kind e xs rising (sym is)

@@ -1,7 +1,7 @@
 -- The faults of an access, and what they make of what is computed.
 use Rattle.std.specs.Prelude.{◌≡◌, ℕ, ◌==◌, ◌%◌, Bool, true, false, not, ◌||◌, if◌then◌else◌, Option, Some, None}
 use Rattle.std.proofs.Common.{refl, arith}
-use Rattle.program_image.specs.Image.{ProgramImage, in_ram, touches_code}
+use Rattle.elf_image.specs.Image.{ProgramImage, in_ram, touches_code}
 use Rattle.events.specs.declared.effect.Next.TheVariants.{Stopped}
 use Rattle.rv_instr.specs.declared.op.Op.{Op}
 use Rattle.smt_model.specs.{Exec.Computed, Nexts.is_last}

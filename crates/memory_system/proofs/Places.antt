@@ -3,7 +3,7 @@ use Rattle.std.proofs.Common.{◌≡◌, ℕ, zero, suc, ◌+◌, ◌-◌, ◌<�
 use Rattle.std.proofs.Common.{inl, inr}
 use Rattle.std.proofs.lemmas.Bool.{cases_lt}
 use Rattle.std.proofs.lemmas.Bool.Decides.{nat_tests}
-use Rattle.program_image.specs.Image.{ProgramImage, ram_start}
+use Rattle.elf_image.specs.Image.{ProgramImage, ram_start}
 use Rattle.smt_model.specs.Bytes.{number_at, written_byte, byte_after, write_of}
 use Rattle.smt_model.specs.Reservations.{reservation_after_write}
 use Rattle.smt_model.specs.Faults.{read_fault, write_fault}

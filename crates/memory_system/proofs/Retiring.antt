@@ -2,7 +2,7 @@
 use Rattle.std.specs.Prelude.{◌≡◌, ◌≢◌, ℕ, Bool, true, false, Option, Some, None, unwrap_or}
 use Rattle.std.proofs.Common.{◌∙◌, refl, sym, ap, inl, inr, arith}
 use Rattle.std.proofs.lemmas.Bool.{cases_Bool}
-use Rattle.program_image.specs.Image.{ProgramImage}
+use Rattle.elf_image.specs.Image.{ProgramImage}
 use Rattle.events.specs.declared.effect.{Next.Next, Outcome.Outcome}
 use Rattle.rv_instr.specs.declared.op.Op.{Op}
 use Rattle.smt_model.specs.{Exec.Computed, Exec.just_next, Nexts.is_last, Faults.fault, Faults.checked}

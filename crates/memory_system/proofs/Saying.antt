@@ -3,7 +3,7 @@
 use Rattle.std.specs.Prelude.{◌≡◌, Some}
 use Rattle.std.proofs.Common.{◌∙◌, refl, sym, ap, inl, inr}
 use Rattle.std.proofs.lemmas.Bool.{cases_Bool}
-use Rattle.program_image.specs.Image.{ProgramImage}
+use Rattle.elf_image.specs.Image.{ProgramImage}
 use Rattle.rv_instr.specs.declared.op.Op.{Op}
 use Rattle.smt_model.specs.{Exec.Computed, Nexts.is_last, Faults.checked, Bytes.read, Outcomes.outcome_of}
 use Rattle.smt_model.specs.{Effects.effect_of, Reservations.holds_word, Memory.byte_at, Memory.reserved}

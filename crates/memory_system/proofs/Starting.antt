@@ -3,8 +3,8 @@ use Rattle.std.proofs.Common.{◌≡◌, ℕ, ◌+◌, ◌-◌, ◌<◌, ◌≤�
 use Rattle.std.proofs.Common.{arith, ◌⊎◌, inl, inr, refl, ◌∷◌, zero, suc, [], replicate}
 use Rattle.std.proofs.lemmas.Bool.{cases_lt}
 use Rattle.std.proofs.lemmas.List.{get_or_past}
-use Rattle.program_image.specs.Image.{ProgramImage, IsWellFormed, ram_start, byte_in}
-use Rattle.program_image.proofs.Covering.{byte_zero, covers_low, covers_high}
+use Rattle.elf_image.specs.Image.{ProgramImage, IsWellFormed, ram_start, byte_in}
+use Rattle.elf_image.proofs.Covering.{byte_zero, covers_low, covers_high}
 use Rattle.memory_system.specs.Contents.{Contents, byte_of, reserved_of, IsStart}
 use Rattle.memory_system.proofs.Places.{byte_there, byte_below}
 

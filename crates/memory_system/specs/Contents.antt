@@ -2,7 +2,7 @@
 -- reservation a hart.
 use Rattle.std.specs.Prelude.{◌≡◌, ℕ, ◌-◌, nat_le, if◌then◌else◌, List, slice_index, slice_index_or}
 use Rattle.std.specs.Prelude.{Option, Some, None, ◌⊎◌}
-use Rattle.program_image.specs.Image.{ProgramImage, ram_start, byte_in}
+use Rattle.elf_image.specs.Image.{ProgramImage, ram_start, byte_in}
 use Rattle.events.specs.declared.effect.Written.{Written}
 use Rattle.smt_model.specs.Faults.{read_fault, write_fault}
 use Rattle.smt_model.specs.Bytes.{byte_after}

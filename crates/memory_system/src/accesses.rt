@@ -11,8 +11,8 @@ ghost use Rattle.memory_system.specs.Contents.{IsSize, byte_of};
 use crate::access::AccessKind;
 use crate::memory::Memory;
 use events::Cause;
-use rv_arithmetic::sext;
 use rv_instr::{Instr, Kind, LoadOp, Op, StoreOp};
+use rv_word::sext;
 
 /// How many bytes the access of an instruction moves: 1, 2 or 4.
 #[tactic(auto, unfolding(smt_model::specs::Kinds::access_size))]

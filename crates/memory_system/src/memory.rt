@@ -1,6 +1,6 @@
 ghost use Rattle.std.specs.Prelude.{◌≡◌, ℕ, ◌+◌, ◌-◌, ◌<◌, ◌≤◌, ◌==◌, if◌then◌else◌, Some, None};
 ghost use Rattle.std.specs.Prelude.{IfOk, length, slice_index};
-ghost use Rattle.program_image.specs.Image.{IsWellFormed, ram_start, byte_in, in_ram, touches_code};
+ghost use Rattle.elf_image.specs.Image.{IsWellFormed, ram_start, byte_in, in_ram, touches_code};
 ghost use Rattle.smt_model.specs.Bytes.{number_at, write_of};
 ghost use Rattle.smt_model.specs.Faults.{read_fault, write_fault};
 ghost use Rattle.smt_model.specs.Reservations.{holds_word};
@@ -10,8 +10,8 @@ ghost use Rattle.memory_system.specs.Contents.{access_fault};
 use crate::access::AccessKind;
 use crate::bytes::{number_in, put_number};
 use crate::reservations::{Reservations, end_on_word, held_by, is_on_word};
+use elf_image::{Image, RAM_START};
 use events::Cause;
-use program_image::{Image, RAM_START};
 use std::alloc::{AllocError, Global};
 use std::marker::Model;
 

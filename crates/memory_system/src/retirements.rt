@@ -13,8 +13,8 @@ ghost use Rattle.memory_system.specs.Contents.{byte_of, reserved_of};
 use crate::accesses::{access_size, fault, read};
 use crate::memory::Memory;
 use events::{EffectFields, Next, OutcomeFields, Written};
-use rv_arithmetic::amo;
 use rv_instr::{Instr, Kind, Op};
+use rv_word::amo;
 
 /// What the hart's instruction does that retires with this outcome, by memory and reservations as
 /// they are now: a load reads again, LR and AMO read, a store writes, SC writes where the hart

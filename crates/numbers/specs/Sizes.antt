@@ -1,5 +1,5 @@
 -- How many of each part a core may have.
-use Rattle.std.specs.Prelude.{ℕ}
+use Rattle.std.specs.Prelude.{ℕ, ◌+◌, ◌*◌, ◌/◌}
 
 -- harts, and the physical registers beyond those that the harts begin with
 abbrev pub most_harts : ℕ
@@ -22,9 +22,10 @@ most_actors = 16
 abbrev pub renamed_registers : ℕ
 renamed_registers = 31
 
--- physical registers: those of eight harts and 256 extra ones are 504
+-- physical registers: those that all harts begin with and the extra ones, rounded up to whole words
+-- of 64 flags
 abbrev pub most_registers : ℕ
-most_registers = 512
+most_registers = (renamed_registers * most_harts + most_extra + 63) / 64 * 64
 
 -- a hart's fetched instructions, and its decoded ones
 abbrev pub latch_room : ℕ

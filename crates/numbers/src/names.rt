@@ -4,5 +4,5 @@ pub type Seq = u32;
 /// The number of a register, 0 to 31. x0 isn't renamed.
 pub type Reg = u8;
 
-/// The number of a physical register, 0 to 511.
+/// The number of a physical register, below `sizes::MOST_REGISTERS`.
 pub type Phys = u16;

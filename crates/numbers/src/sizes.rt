@@ -18,8 +18,13 @@ pub const MOST_ACTORS: usize = 16;
 /// Registers that a hart begins with: x1 to x31, each with a physical register of its own.
 pub const RENAMED_REGISTERS: u16 = 31;
 
-/// The most physical registers: 31 for each of 8 harts are 248, and 256 extra ones make 504.
-pub const MOST_REGISTERS: usize = 512;
+/// How many physical registers there is room for: those that all harts begin with and the extra
+/// ones, rounded up to whole words of 64 flags.
+pub const MOST_REGISTERS: usize = (RENAMED_REGISTERS as usize * MOST_HARTS as usize
+    + MOST_EXTRA as usize
+    + 63)
+    / 64
+    * 64;
 
 /// How many fetched instructions of a hart, and how many decoded ones, there is room for.
 pub const LATCH_ROOM: usize = 8;

@@ -5,7 +5,7 @@ use Rattle.std.specs.Prelude.{not, ◌&&◌, if◌then◌else◌, nat_lt, nat_le
 use Rattle.std.proofs.{lemmas.Bool.cases_Bool, lemmas.Bool.Decides.nat_tests}
 use Rattle.std.proofs.lemmas.List.{length_push, length-reverse, length-take-le, reverse-append, take_more}
 use Rattle.std.proofs.lemmas.List.{take-append-drop}
-use Rattle.program_image.specs.Image.{ProgramImage}
+use Rattle.elf_image.specs.Image.{ProgramImage}
 use Rattle.events.specs.declared.effect.Record.{Record}
 use Rattle.smt_model.specs.Setup.{Setup}
 use Rattle.smt_model.specs.Plain.{Run, advance, effect_at, is_going_status, output_after, start, step, run}

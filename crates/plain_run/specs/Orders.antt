@@ -2,7 +2,7 @@
 -- has its first step first; the definitions read it the other way round.
 use Rattle.std.specs.Prelude.{◌≡◌, ◌≢◌, ℕ, ◌<◌, List, length, map, reverse, take, slice_index}
 use Rattle.std.specs.Prelude.{Some, None}
-use Rattle.program_image.specs.Image.{ProgramImage}
+use Rattle.elf_image.specs.Image.{ProgramImage}
 use Rattle.smt_model.specs.{Basics.below, Setup.Setup, Plain.Run, Plain.run}
 use Rattle.sc_machine.specs.{Machine.Agrees, Refusals.refusal}
 use Rattle.sc_machine.specs.declared.refused.Stopped.{Stopped}

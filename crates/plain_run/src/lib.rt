@@ -1,7 +1,7 @@
 //! Whole runs of the plain machine: the steps of an order of harts, and what they leave.
 //!
 //! Read in this order: `stopped` (why there is no run), `finished` (what a run leaves), `order`
-//! (the steps of an order). That a core leaves the same says `core_rerun`.
+//! (the steps of an order). That a core leaves this too says `history_check`.
 #![tactic(auto)]
 
 mod finished;

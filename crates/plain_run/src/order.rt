@@ -10,7 +10,7 @@ ghost use Rattle.plain_run.specs.declared.stopped.OrderStopped.TheVariants.{Hart
 use crate::finished::PlainRun;
 use crate::stopped::OrderStopped;
 use arrayvec::ArrayVec;
-use program_image::Image;
+use elf_image::Image;
 use sc_machine::{Plain, PlainRefused};
 use smt_model::Status;
 use std::alloc::Global;

@@ -9,8 +9,8 @@ use crate::operations::{
     immediate_value, is_taken, muldiv_value, register_value, shift_value, stored_part,
 };
 use events::Next;
-use rv_arithmetic::add;
 use rv_instr::{Instr, Op};
+use rv_word::add;
 
 /// What is computed at `pc` by what was found there, from the numbers of its first and its second
 /// source. A word that is no instruction stops with cause 2, and no word with cause 1.

@@ -24,9 +24,9 @@ pub fn immediate_value(op: ImmediateOp, a: u32, b: u32) -> u32
     ensures { result ≡ immediate_value op a b }
 {
     match op {
-        ImmediateOp::Addi => rv_arithmetic::add(a, b),
-        ImmediateOp::Slti => rv_arithmetic::slt(a, b),
-        ImmediateOp::Sltiu => rv_arithmetic::sltu(a, b),
+        ImmediateOp::Addi => rv_word::add(a, b),
+        ImmediateOp::Slti => rv_word::slt(a, b),
+        ImmediateOp::Sltiu => rv_word::sltu(a, b),
         ImmediateOp::Xori => a ^ b,
         ImmediateOp::Ori => a | b,
         ImmediateOp::Andi => a & b,
@@ -38,9 +38,9 @@ pub fn shift_value(op: ShiftOp, a: u32, b: u32) -> u32
     ensures { result ≡ shift_value op a b }
 {
     match op {
-        ShiftOp::Slli => rv_arithmetic::sll(a, b),
-        ShiftOp::Srli => rv_arithmetic::srl(a, b),
-        ShiftOp::Srai => rv_arithmetic::sra(a, b),
+        ShiftOp::Slli => rv_word::sll(a, b),
+        ShiftOp::Srli => rv_word::srl(a, b),
+        ShiftOp::Srai => rv_word::sra(a, b),
     }
 }
 
@@ -49,14 +49,14 @@ pub fn register_value(op: RegisterOp, a: u32, b: u32) -> u32
     ensures { result ≡ register_value op a b }
 {
     match op {
-        RegisterOp::Add => rv_arithmetic::add(a, b),
-        RegisterOp::Sub => rv_arithmetic::sub(a, b),
-        RegisterOp::Sll => rv_arithmetic::sll(a, b),
-        RegisterOp::Slt => rv_arithmetic::slt(a, b),
-        RegisterOp::Sltu => rv_arithmetic::sltu(a, b),
+        RegisterOp::Add => rv_word::add(a, b),
+        RegisterOp::Sub => rv_word::sub(a, b),
+        RegisterOp::Sll => rv_word::sll(a, b),
+        RegisterOp::Slt => rv_word::slt(a, b),
+        RegisterOp::Sltu => rv_word::sltu(a, b),
         RegisterOp::Xor => a ^ b,
-        RegisterOp::Srl => rv_arithmetic::srl(a, b),
-        RegisterOp::Sra => rv_arithmetic::sra(a, b),
+        RegisterOp::Srl => rv_word::srl(a, b),
+        RegisterOp::Sra => rv_word::sra(a, b),
         RegisterOp::Or => a | b,
         RegisterOp::And => a & b,
     }
@@ -67,14 +67,14 @@ pub fn muldiv_value(op: MulDivOp, a: u32, b: u32) -> u32
     ensures { result ≡ muldiv_value op a b }
 {
     match op {
-        MulDivOp::Mul => rv_arithmetic::mul(a, b),
-        MulDivOp::Mulh => rv_arithmetic::mulh(a, b),
-        MulDivOp::Mulhsu => rv_arithmetic::mulhsu(a, b),
-        MulDivOp::Mulhu => rv_arithmetic::mulhu(a, b),
-        MulDivOp::Div => rv_arithmetic::div(a, b),
-        MulDivOp::Divu => rv_arithmetic::divu(a, b),
-        MulDivOp::Rem => rv_arithmetic::rem(a, b),
-        MulDivOp::Remu => rv_arithmetic::remu(a, b),
+        MulDivOp::Mul => rv_word::mul(a, b),
+        MulDivOp::Mulh => rv_word::mulh(a, b),
+        MulDivOp::Mulhsu => rv_word::mulhsu(a, b),
+        MulDivOp::Mulhu => rv_word::mulhu(a, b),
+        MulDivOp::Div => rv_word::div(a, b),
+        MulDivOp::Divu => rv_word::divu(a, b),
+        MulDivOp::Rem => rv_word::rem(a, b),
+        MulDivOp::Remu => rv_word::remu(a, b),
     }
 }
 

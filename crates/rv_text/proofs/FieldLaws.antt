@@ -23,7 +23,7 @@ use Rattle.text_fields.proofs.{HexLaws.hex_field-hex, HexLaws.hex_field_only}
 use Rattle.rv_text.specs.{declared.refused.TextRefused.TextRefused}
 use Rattle.rv_text.specs.{declared.refused.TextRefused.TheVariants.WrongOperand}
 use Rattle.rv_text.specs.{declared.refused.TextRefused.TheVariants.OutOfRange}
-use Rattle.rv_print.specs.Spelling.{register_text, signed_text, amount_text, hex_text, upper_of, target_of}
+use Rattle.rv_text.specs.Spelling.{register_text, signed_text, amount_text, hex_text, upper_of, target_of}
 use Rattle.rv_text.specs.Reading.{◌>>=◌, Field, with_refusal, digit_count, hex_digit_count, text_after, register_at}
 use Rattle.rv_text.specs.Reading.{number_len, signed_at, amount_of, amount_at, hex_at, upper_at, distance_of}
 use Rattle.rv_text.specs.Reading.{is_distance, target_at}

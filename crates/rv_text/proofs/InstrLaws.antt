@@ -5,15 +5,15 @@ use Rattle.rv_instr.specs.{declared.instr.Instr.Instr, declared.instr.Ordering.O
 use Rattle.rv_instr.specs.{Table.IsSigned, Table.IsDistance}
 use Rattle.rv_instr.specs.declared.instr.Instr.TheVariants as instr
 use Rattle.rv_text.specs.{declared.refused.TextRefused.TextRefused}
-use Rattle.rv_print.specs.{declared.mnemonic.Mnemonic.Mnemonic}
-use Rattle.rv_print.specs.{declared.mnemonic.AtomicOp.AtomicOp, declared.mnemonic.AtomicOp.TheVariants.LoadReserved}
-use Rattle.rv_print.specs.{declared.mnemonic.AtomicOp.TheVariants.StoreConditional}
-use Rattle.rv_print.specs.{declared.mnemonic.AtomicOp.TheVariants.Amo}
-use Rattle.rv_print.specs.declared.mnemonic.Mnemonic.TheVariants.{Lui, Auipc, Jal, Jalr, Branch, Load, Store, Immediate}
-use Rattle.rv_print.specs.declared.mnemonic.Mnemonic.TheVariants.{Shift, Register, MulDiv, Fence, Ecall, Ebreak, Atomic}
-use Rattle.rv_print.specs.Spelling.{mnemonic_of, register_text, first_register_text, next_register, base_register}
-use Rattle.rv_print.specs.Spelling.{address_register, signed_text, amount_text, hex_text, target_text, operands_of}
-use Rattle.rv_print.specs.Spelling.{HasWord}
+use Rattle.rv_text.specs.{declared.mnemonic.Mnemonic.Mnemonic}
+use Rattle.rv_text.specs.{declared.mnemonic.AtomicOp.AtomicOp, declared.mnemonic.AtomicOp.TheVariants.LoadReserved}
+use Rattle.rv_text.specs.{declared.mnemonic.AtomicOp.TheVariants.StoreConditional}
+use Rattle.rv_text.specs.{declared.mnemonic.AtomicOp.TheVariants.Amo}
+use Rattle.rv_text.specs.declared.mnemonic.Mnemonic.TheVariants.{Lui, Auipc, Jal, Jalr, Branch, Load, Store, Immediate}
+use Rattle.rv_text.specs.declared.mnemonic.Mnemonic.TheVariants.{Shift, Register, MulDiv, Fence, Ecall, Ebreak, Atomic}
+use Rattle.rv_text.specs.Spelling.{mnemonic_of, register_text, first_register_text, next_register, base_register}
+use Rattle.rv_text.specs.Spelling.{address_register, signed_text, amount_text, hex_text, target_text, operands_of}
+use Rattle.rv_text.specs.Spelling.{HasWord}
 use Rattle.rv_text.specs.Reading.{◌>>=◌, first_at, next_at, base_at, address_at, signed_at, target_at, end_at}
 use Rattle.rv_text.specs.Reading.{upper_operands, jump_operands, branch_operands, memory_operands, immediate_operands}
 use Rattle.rv_text.specs.Reading.{shift_operands, register_operands, load_reserved_operands, atomic_operands, atomic_at}

@@ -3,27 +3,22 @@ use Rattle.std.proofs.Common.{◌≡◌, ℕ, Bool, true, false, ◌==◌, if◌
 use Rattle.std.proofs.Common.{None, refl, sym, ap, ◌∙◌, arith}
 use Rattle.std.specs.{Prelude.IfSome, Prelude.IfNone, List.flat_map, List.position_or_len, Str.bytes_eq}
 use Rattle.std.proofs.lemmas.List.{length-append}
-use Rattle.rv_word.specs.declared.amo_kind.AmoKind.{AmoKind}
 use Rattle.rv_word.specs.declared.amo_kind.AmoKind.TheVariants as kinds
-use Rattle.rv_instr.specs.{declared.instr.BranchOp.BranchOp, declared.instr.LoadOp.LoadOp}
-use Rattle.rv_instr.specs.{declared.instr.StoreOp.StoreOp, declared.instr.StoreOp.TheVariants.Sb}
-use Rattle.rv_instr.specs.{declared.instr.StoreOp.TheVariants.Sh, declared.instr.StoreOp.TheVariants.Sw}
-use Rattle.rv_instr.specs.{declared.instr.ImmediateOp.ImmediateOp, declared.instr.ShiftOp.ShiftOp}
-use Rattle.rv_instr.specs.{declared.instr.ShiftOp.TheVariants.Slli, declared.instr.ShiftOp.TheVariants.Srli}
-use Rattle.rv_instr.specs.{declared.instr.ShiftOp.TheVariants.Srai, declared.instr.RegisterOp.RegisterOp}
-use Rattle.rv_instr.specs.{declared.instr.MulDivOp.MulDivOp, declared.instr.Ordering.Ordering}
+use Rattle.rv_instr.specs.{declared.instr.Ordering.Ordering}
+use Rattle.rv_instr.specs.declared.instr.StoreOp.TheVariants.{Sb, Sh, Sw}
+use Rattle.rv_instr.specs.declared.instr.ShiftOp.TheVariants.{Slli, Srli, Srai}
 use Rattle.rv_instr.specs.declared.instr.BranchOp.TheVariants.{Beq, Bne, Blt, Bge, Bltu, Bgeu}
 use Rattle.rv_instr.specs.declared.instr.LoadOp.TheVariants.{Lb, Lh, Lw, Lbu, Lhu}
 use Rattle.rv_instr.specs.declared.instr.ImmediateOp.TheVariants.{Addi, Slti, Sltiu, Xori, Ori, Andi}
 use Rattle.rv_instr.specs.declared.instr.RegisterOp.TheVariants.{Add, Sub, Sll, Slt, Sltu, Xor, Srl, Sra, Or, And}
 use Rattle.rv_instr.specs.declared.instr.MulDivOp.TheVariants.{Mul, Mulh, Mulhsu, Mulhu, Div, Divu, Rem, Remu}
-use Rattle.rv_print.specs.{declared.mnemonic.Mnemonic.Mnemonic, declared.mnemonic.AtomicOp.AtomicOp}
-use Rattle.rv_print.specs.{declared.mnemonic.AtomicOp.TheVariants.LoadReserved}
-use Rattle.rv_print.specs.{declared.mnemonic.AtomicOp.TheVariants.StoreConditional}
-use Rattle.rv_print.specs.{declared.mnemonic.AtomicOp.TheVariants.Amo}
-use Rattle.rv_print.specs.declared.mnemonic.Mnemonic.TheVariants.{Lui, Auipc, Jal, Jalr, Branch, Load, Store, Immediate}
-use Rattle.rv_print.specs.declared.mnemonic.Mnemonic.TheVariants.{Shift, Register, MulDiv, Fence, Ecall, Ebreak, Atomic}
-use Rattle.rv_print.specs.Mnemonic.{mnemonic_name, atomic_name, ordering_name}
+use Rattle.rv_text.specs.{declared.mnemonic.Mnemonic.Mnemonic, declared.mnemonic.AtomicOp.AtomicOp}
+use Rattle.rv_text.specs.{declared.mnemonic.AtomicOp.TheVariants.LoadReserved}
+use Rattle.rv_text.specs.{declared.mnemonic.AtomicOp.TheVariants.StoreConditional}
+use Rattle.rv_text.specs.{declared.mnemonic.AtomicOp.TheVariants.Amo}
+use Rattle.rv_text.specs.declared.mnemonic.Mnemonic.TheVariants.{Lui, Auipc, Jal, Jalr, Branch, Load, Store, Immediate}
+use Rattle.rv_text.specs.declared.mnemonic.Mnemonic.TheVariants.{Shift, Register, MulDiv, Fence, Ecall, Ebreak, Atomic}
+use Rattle.rv_text.specs.Mnemonic.{mnemonic_name, atomic_name, ordering_name}
 use Rattle.rv_text.specs.Reading.{IsPlain}
 
 first_named : List ℕ → List Mnemonic → Option Mnemonic
@@ -50,93 +45,28 @@ rows = Lui ∷ Auipc ∷ Jal ∷ Jalr ∷ Fence ∷ Ecall ∷ Ebreak
     ∷ flat_map (λ op. Atomic op (ordering_of false false) ∷ Atomic op (ordering_of true false)
     ∷ Atomic op (ordering_of false true) ∷ Atomic op (ordering_of true true) ∷ []) atomics
 
-found_branch : (op : BranchOp) → first_named (mnemonic_name (Branch op)) rows ≡ Some (Branch op)
-unfolding first_named rows
-found_branch Beq = refl
-found_branch _ = refl
-
-found_load : (op : LoadOp) → first_named (mnemonic_name (Load op)) rows ≡ Some (Load op)
-unfolding first_named rows
-found_load Lb = refl
-found_load _ = refl
-
-found_store : (op : StoreOp) → first_named (mnemonic_name (Store op)) rows ≡ Some (Store op)
-unfolding first_named rows
-found_store Sb = refl
-found_store _ = refl
-
-found_immediate : (op : ImmediateOp) → first_named (mnemonic_name (Immediate op)) rows ≡ Some (Immediate op)
-unfolding first_named rows
-found_immediate Addi = refl
-found_immediate _ = refl
-
-found_shift : (op : ShiftOp) → first_named (mnemonic_name (Shift op)) rows ≡ Some (Shift op)
-unfolding first_named rows
-found_shift Slli = refl
-found_shift _ = refl
-
-found_register : (op : RegisterOp) → first_named (mnemonic_name (Register op)) rows ≡ Some (Register op)
-unfolding first_named rows
-found_register Add = refl
-found_register _ = refl
-
-found_mul_div : (op : MulDivOp) → first_named (mnemonic_name (MulDiv op)) rows ≡ Some (MulDiv op)
-unfolding first_named rows
-found_mul_div Mul = refl
-found_mul_div _ = refl
-
-found_amo_plain_plain : (kind : AmoKind)
-    → first_named (mnemonic_name (Atomic (Amo kind) (ordering_of false false))) rows
-    ≡ Some (Atomic (Amo kind) (ordering_of false false))
-unfolding first_named rows atomics ordering_of
-found_amo_plain_plain kinds.Swap = refl
-found_amo_plain_plain _ = refl
-
-found_amo_plain_rl : (kind : AmoKind)
-    → first_named (mnemonic_name (Atomic (Amo kind) (ordering_of false true))) rows
-    ≡ Some (Atomic (Amo kind) (ordering_of false true))
-unfolding first_named rows atomics ordering_of
-found_amo_plain_rl kinds.Swap = refl
-found_amo_plain_rl _ = refl
-
-found_amo_aq_plain : (kind : AmoKind)
-    → first_named (mnemonic_name (Atomic (Amo kind) (ordering_of true false))) rows
-    ≡ Some (Atomic (Amo kind) (ordering_of true false))
-unfolding first_named rows atomics ordering_of
-found_amo_aq_plain kinds.Swap = refl
-found_amo_aq_plain _ = refl
-
-found_amo_aq_rl : (kind : AmoKind) → first_named (mnemonic_name (Atomic (Amo kind) (ordering_of true true))) rows
-    ≡ Some (Atomic (Amo kind) (ordering_of true true))
-unfolding first_named rows atomics ordering_of
-found_amo_aq_rl kinds.Swap = refl
-found_amo_aq_rl _ = refl
-
+-- each name stands first where its row does: every case is computed
 found_atomic : (op : AtomicOp) (a r : Bool)
     → first_named (mnemonic_name (Atomic op (ordering_of a r))) rows ≡ Some (Atomic op (ordering_of a r))
 unfolding first_named rows atomics ordering_of
-found_atomic (Amo kind) false false = found_amo_plain_plain kind
-found_atomic (Amo kind) false true = found_amo_plain_rl kind
-found_atomic (Amo kind) true false = found_amo_aq_plain kind
-found_atomic (Amo kind) true true = found_amo_aq_rl kind
-found_atomic LoadReserved false false = refl
-found_atomic LoadReserved false true = refl
-found_atomic LoadReserved true false = refl
-found_atomic LoadReserved true true = refl
+found_atomic (Amo kinds.Swap) false false = refl
 found_atomic _ false false = refl
+found_atomic (Amo kinds.Swap) false true = refl
 found_atomic _ false true = refl
+found_atomic (Amo kinds.Swap) true false = refl
 found_atomic _ true false = refl
+found_atomic (Amo kinds.Swap) true true = refl
 found_atomic _ true true = refl
 
 found : (m : Mnemonic) → first_named (mnemonic_name m) rows ≡ Some m
 unfolding first_named rows
-found (Branch op) = found_branch op
-found (Load op) = found_load op
-found (Store op) = found_store op
-found (Immediate op) = found_immediate op
-found (Shift op) = found_shift op
-found (Register op) = found_register op
-found (MulDiv op) = found_mul_div op
+found (Branch Beq) = refl
+found (Load Lb) = refl
+found (Store Sb) = refl
+found (Immediate Addi) = refl
+found (Shift Slli) = refl
+found (Register Add) = refl
+found (MulDiv Mul) = refl
 found (Atomic op ordering) = unfold ordering_of in found_atomic op ordering.aq ordering.rl
 found _ = refl
 

@@ -10,13 +10,13 @@ use Rattle.rv_instr.specs.{declared.instr.ShiftOp.TheVariants.Slli, declared.ins
 use Rattle.rv_instr.specs.{declared.instr.MulDivOp.TheVariants.Mul, declared.instr.Instr.Instr}
 use Rattle.rv_instr.specs.declared.instr.Instr.TheVariants as instr
 use Rattle.rv_text.specs.{declared.refused.TextRefused.TextRefused}
-use Rattle.rv_print.specs.{declared.mnemonic.Mnemonic.Mnemonic}
-use Rattle.rv_print.specs.{declared.mnemonic.AtomicOp.AtomicOp, declared.mnemonic.AtomicOp.TheVariants.Amo}
-use Rattle.rv_print.specs.{Mnemonic.mnemonic_name, Mnemonic.atomic_name, Mnemonic.width_and_bits}
+use Rattle.rv_text.specs.{declared.mnemonic.Mnemonic.Mnemonic}
+use Rattle.rv_text.specs.{declared.mnemonic.AtomicOp.AtomicOp, declared.mnemonic.AtomicOp.TheVariants.Amo}
+use Rattle.rv_text.specs.{Mnemonic.mnemonic_name, Mnemonic.atomic_name, Mnemonic.width_and_bits}
 use Rattle.rv_text.specs.{Reading.name_in, Reading.behind_name, Reading.instr_at}
-use Rattle.rv_print.specs.declared.mnemonic.Mnemonic.TheVariants.{Branch, Load, Store, Immediate, Shift, Register}
-use Rattle.rv_print.specs.declared.mnemonic.Mnemonic.TheVariants.{MulDiv, Atomic}
-use Rattle.rv_print.specs.Spelling.{mnemonic_of, register_text, operands_of, spelling_of, Says}
+use Rattle.rv_text.specs.declared.mnemonic.Mnemonic.TheVariants.{Branch, Load, Store, Immediate, Shift, Register}
+use Rattle.rv_text.specs.declared.mnemonic.Mnemonic.TheVariants.{MulDiv, Atomic}
+use Rattle.rv_text.specs.Spelling.{mnemonic_of, register_text, operands_of, spelling_of, Says}
 use Rattle.rv_text.proofs.{InstrLaws.instr_takes, InstrLaws.instr_again, Names.name_of-injective}
 
 -- ---- no name has a space, and operands begin with one

@@ -1,1 +1,3 @@
+pub mod Mnemonic
+pub mod Spelling
 pub mod Reading

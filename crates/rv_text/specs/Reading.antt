@@ -12,16 +12,16 @@ use Rattle.text_fields.specs.{declared.read.FieldError.FieldError, Reading.decim
 use Rattle.text_fields.specs.{Reading.signed_field, Reading.hex_field}
 use Rattle.text_fields.specs.declared.read.FieldError.TheVariants as fields
 use Rattle.rv_text.specs.{declared.refused.TextRefused.TextRefused}
-use Rattle.rv_print.specs.{declared.mnemonic.Mnemonic.Mnemonic, declared.mnemonic.AtomicOp.AtomicOp}
-use Rattle.rv_print.specs.{declared.mnemonic.AtomicOp.TheVariants.LoadReserved}
-use Rattle.rv_print.specs.{declared.mnemonic.AtomicOp.TheVariants.StoreConditional}
-use Rattle.rv_print.specs.{declared.mnemonic.AtomicOp.TheVariants.Amo}
+use Rattle.rv_text.specs.{declared.mnemonic.Mnemonic.Mnemonic, declared.mnemonic.AtomicOp.AtomicOp}
+use Rattle.rv_text.specs.{declared.mnemonic.AtomicOp.TheVariants.LoadReserved}
+use Rattle.rv_text.specs.{declared.mnemonic.AtomicOp.TheVariants.StoreConditional}
+use Rattle.rv_text.specs.{declared.mnemonic.AtomicOp.TheVariants.Amo}
 use Rattle.rv_text.specs.declared.refused.TextRefused.TheVariants.{UnknownName, WrongOperand}
 use Rattle.rv_text.specs.declared.refused.TextRefused.TheVariants.{OutOfRange, TrailingText}
-use Rattle.rv_print.specs.declared.mnemonic.Mnemonic.TheVariants.{Lui, Auipc, Jal, Jalr, Branch}
-use Rattle.rv_print.specs.declared.mnemonic.Mnemonic.TheVariants.{Load, Store, Immediate, Shift}
-use Rattle.rv_print.specs.declared.mnemonic.Mnemonic.TheVariants.{Register, MulDiv, Fence, Ecall}
-use Rattle.rv_print.specs.declared.mnemonic.Mnemonic.TheVariants.{Ebreak, Atomic}
+use Rattle.rv_text.specs.declared.mnemonic.Mnemonic.TheVariants.{Lui, Auipc, Jal, Jalr, Branch}
+use Rattle.rv_text.specs.declared.mnemonic.Mnemonic.TheVariants.{Load, Store, Immediate, Shift}
+use Rattle.rv_text.specs.declared.mnemonic.Mnemonic.TheVariants.{Register, MulDiv, Fence, Ecall}
+use Rattle.rv_text.specs.declared.mnemonic.Mnemonic.TheVariants.{Ebreak, Atomic}
 
 infixl 10 ◌>>=◌
 abbrev pub ◌>>=◌ : {A B : Type 0} → Result A TextRefused → (A → Result B TextRefused)

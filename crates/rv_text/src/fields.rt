@@ -129,7 +129,7 @@ pub(crate) fn upper(text: &[u8]) -> Result<(u32, &[u8]), TextRefused>
 fn distance(pc: u32, target: u32) -> i32
     ensures { result ≡ distance_of pc target }
 {
-    rv_arithmetic::sub(target, pc).cast_signed()
+    rv_word::sub(target, pc).cast_signed()
 }
 
 #[tactic(auto, unfolding(crate::specs::Reading::is_distance))]

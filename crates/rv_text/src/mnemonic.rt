@@ -1,7 +1,5 @@
-//! The row that a name belongs to.
-
-ghost use Rattle.std.specs.Prelude.{◌≡◌, IfSome, IfNone, Some};
-ghost use Rattle.rv_print.specs.Mnemonic.{
+ghost use Rattle.std.specs.Prelude.{◌≡◌, ◌≤◌, length};
+ghost use Rattle.rv_text.specs.Mnemonic.{
   branch_name,
   load_name,
   store_name,
@@ -9,207 +7,175 @@ ghost use Rattle.rv_print.specs.Mnemonic.{
   shift_name,
   register_name,
   mul_div_name,
+  amo_name,
   atomic_name,
   ordering_name,
-  mnemonic_name,
 };
-ghost use Rattle.rv_text.specs.Reading.{IsPlain, IsAlone};
 
 use rv_instr::{BranchOp, ImmediateOp, LoadOp, MulDivOp, Ordering, RegisterOp, ShiftOp, StoreOp};
-use rv_print::mnemonic::{AtomicOp, Mnemonic};
 use rv_word::AmoKind;
 
-/// The row with this name, where it is no atomic.
-fn plain(text: &str) -> Option<Mnemonic>
-    ensures found { IfSome result (λ m. (text.now ≡ mnemonic_name m) × IsPlain m) }
-    ensures none { IfNone result ((m : _) → IsPlain m → text.now ≡ mnemonic_name m → ⊥) }
+/// The name that a line of text begins with. The ordering bits of an atomic are a part of its name.
+#[derive(Clone, Copy, Drop)]
+pub enum Mnemonic {
+    Lui,
+    Auipc,
+    Jal,
+    Jalr,
+    Branch(BranchOp),
+    Load(LoadOp),
+    Store(StoreOp),
+    Immediate(ImmediateOp),
+    Shift(ShiftOp),
+    Register(RegisterOp),
+    MulDiv(MulDivOp),
+    Fence,
+    Ecall,
+    Ebreak,
+    Atomic(AtomicOp, Ordering),
+}
+
+/// The name of an atomic before its width and its ordering bits.
+#[derive(Clone, Copy, Drop)]
+pub enum AtomicOp {
+    LoadReserved,
+    StoreConditional,
+    Amo(AmoKind),
+}
+
+pub(crate) fn branch_name(op: BranchOp) -> &'static str
+    ensures name { result.now ≡ branch_name op }
+    ensures short { length result.now ≤ 7 }
 {
-    if let Some(op) = branch_named(text) {
-        return Some(Mnemonic::Branch(op));
+    match op {
+        BranchOp::Beq => "beq",
+        BranchOp::Bne => "bne",
+        BranchOp::Blt => "blt",
+        BranchOp::Bge => "bge",
+        BranchOp::Bltu => "bltu",
+        BranchOp::Bgeu => "bgeu",
     }
-    if let Some(op) = load_named(text) {
-        return Some(Mnemonic::Load(op));
+}
+
+pub(crate) fn load_name(op: LoadOp) -> &'static str
+    ensures name { result.now ≡ load_name op }
+    ensures short { length result.now ≤ 7 }
+{
+    match op {
+        LoadOp::Lb => "lb",
+        LoadOp::Lh => "lh",
+        LoadOp::Lw => "lw",
+        LoadOp::Lbu => "lbu",
+        LoadOp::Lhu => "lhu",
     }
-    if let Some(op) = store_named(text) {
-        return Some(Mnemonic::Store(op));
+}
+
+pub(crate) fn store_name(op: StoreOp) -> &'static str
+    ensures name { result.now ≡ store_name op }
+    ensures short { length result.now ≤ 7 }
+{
+    match op {
+        StoreOp::Sb => "sb",
+        StoreOp::Sh => "sh",
+        StoreOp::Sw => "sw",
     }
-    if let Some(op) = immediate_named(text) {
-        return Some(Mnemonic::Immediate(op));
+}
+
+pub(crate) fn immediate_name(op: ImmediateOp) -> &'static str
+    ensures name { result.now ≡ immediate_name op }
+    ensures short { length result.now ≤ 7 }
+{
+    match op {
+        ImmediateOp::Addi => "addi",
+        ImmediateOp::Slti => "slti",
+        ImmediateOp::Sltiu => "sltiu",
+        ImmediateOp::Xori => "xori",
+        ImmediateOp::Ori => "ori",
+        ImmediateOp::Andi => "andi",
     }
-    if let Some(op) = shift_named(text) {
-        return Some(Mnemonic::Shift(op));
+}
+
+pub(crate) fn shift_name(op: ShiftOp) -> &'static str
+    ensures name { result.now ≡ shift_name op }
+    ensures short { length result.now ≤ 7 }
+{
+    match op {
+        ShiftOp::Slli => "slli",
+        ShiftOp::Srli => "srli",
+        ShiftOp::Srai => "srai",
     }
-    if let Some(op) = register_named(text) {
-        return Some(Mnemonic::Register(op));
+}
+
+pub(crate) fn register_name(op: RegisterOp) -> &'static str
+    ensures name { result.now ≡ register_name op }
+    ensures short { length result.now ≤ 7 }
+{
+    match op {
+        RegisterOp::Add => "add",
+        RegisterOp::Sub => "sub",
+        RegisterOp::Sll => "sll",
+        RegisterOp::Slt => "slt",
+        RegisterOp::Sltu => "sltu",
+        RegisterOp::Xor => "xor",
+        RegisterOp::Srl => "srl",
+        RegisterOp::Sra => "sra",
+        RegisterOp::Or => "or",
+        RegisterOp::And => "and",
     }
-    if let Some(op) = mul_div_named(text) {
-        return Some(Mnemonic::MulDiv(op));
+}
+
+pub(crate) fn mul_div_name(op: MulDivOp) -> &'static str
+    ensures name { result.now ≡ mul_div_name op }
+    ensures short { length result.now ≤ 7 }
+{
+    match op {
+        MulDivOp::Mul => "mul",
+        MulDivOp::Mulh => "mulh",
+        MulDivOp::Mulhsu => "mulhsu",
+        MulDivOp::Mulhu => "mulhu",
+        MulDivOp::Div => "div",
+        MulDivOp::Divu => "divu",
+        MulDivOp::Rem => "rem",
+        MulDivOp::Remu => "remu",
     }
-    alone_named(text)
 }
 
-/// The row with this name that shares its format's operands with no other.
-fn alone_named(text: &str) -> Option<Mnemonic>
-    ensures found { IfSome result (λ m. (text.now ≡ mnemonic_name m) × IsAlone m) }
-    ensures none { IfNone result ((m : _) → IsAlone m → text.now ≡ mnemonic_name m → ⊥) }
+fn amo_name(kind: AmoKind) -> &'static str
+    ensures name { result.now ≡ amo_name kind }
+    ensures short { length result.now ≤ 7 }
 {
-    Some(match text {
-        "lui" => Mnemonic::Lui,
-        "auipc" => Mnemonic::Auipc,
-        "jal" => Mnemonic::Jal,
-        "jalr" => Mnemonic::Jalr,
-        "fence" => Mnemonic::Fence,
-        "ecall" => Mnemonic::Ecall,
-        "ebreak" => Mnemonic::Ebreak,
-        _ => return None,
-    })
+    match kind {
+        AmoKind::Swap => "amoswap",
+        AmoKind::Add => "amoadd",
+        AmoKind::Xor => "amoxor",
+        AmoKind::And => "amoand",
+        AmoKind::Or => "amoor",
+        AmoKind::Min => "amomin",
+        AmoKind::Max => "amomax",
+        AmoKind::Minu => "amominu",
+        AmoKind::Maxu => "amomaxu",
+    }
 }
 
-fn branch_named(text: &str) -> Option<BranchOp>
-    ensures found { IfSome result (λ op. text.now ≡ branch_name op) }
-    ensures none { IfNone result ((op : _) → text.now ≡ branch_name op → ⊥) }
+pub(crate) fn atomic_name(op: AtomicOp) -> &'static str
+    ensures name { result.now ≡ atomic_name op }
+    ensures short { length result.now ≤ 7 }
 {
-    Some(match text {
-        "beq" => BranchOp::Beq,
-        "bne" => BranchOp::Bne,
-        "blt" => BranchOp::Blt,
-        "bge" => BranchOp::Bge,
-        "bltu" => BranchOp::Bltu,
-        "bgeu" => BranchOp::Bgeu,
-        _ => return None,
-    })
+    match op {
+        AtomicOp::LoadReserved => "lr",
+        AtomicOp::StoreConditional => "sc",
+        AtomicOp::Amo(kind) => amo_name(kind),
+    }
 }
 
-fn load_named(text: &str) -> Option<LoadOp>
-    ensures found { IfSome result (λ op. text.now ≡ load_name op) }
-    ensures none { IfNone result ((op : _) → text.now ≡ load_name op → ⊥) }
+pub(crate) fn ordering_name(ordering: Ordering) -> &'static str
+    ensures name { result.now ≡ ordering_name ordering }
+    ensures short { length result.now ≤ 7 }
 {
-    Some(match text {
-        "lb" => LoadOp::Lb,
-        "lh" => LoadOp::Lh,
-        "lw" => LoadOp::Lw,
-        "lbu" => LoadOp::Lbu,
-        "lhu" => LoadOp::Lhu,
-        _ => return None,
-    })
-}
-
-fn store_named(text: &str) -> Option<StoreOp>
-    ensures found { IfSome result (λ op. text.now ≡ store_name op) }
-    ensures none { IfNone result ((op : _) → text.now ≡ store_name op → ⊥) }
-{
-    Some(match text {
-        "sb" => StoreOp::Sb,
-        "sh" => StoreOp::Sh,
-        "sw" => StoreOp::Sw,
-        _ => return None,
-    })
-}
-
-fn immediate_named(text: &str) -> Option<ImmediateOp>
-    ensures found { IfSome result (λ op. text.now ≡ immediate_name op) }
-    ensures none { IfNone result ((op : _) → text.now ≡ immediate_name op → ⊥) }
-{
-    Some(match text {
-        "addi" => ImmediateOp::Addi,
-        "slti" => ImmediateOp::Slti,
-        "sltiu" => ImmediateOp::Sltiu,
-        "xori" => ImmediateOp::Xori,
-        "ori" => ImmediateOp::Ori,
-        "andi" => ImmediateOp::Andi,
-        _ => return None,
-    })
-}
-
-fn shift_named(text: &str) -> Option<ShiftOp>
-    ensures found { IfSome result (λ op. text.now ≡ shift_name op) }
-    ensures none { IfNone result ((op : _) → text.now ≡ shift_name op → ⊥) }
-{
-    Some(match text {
-        "slli" => ShiftOp::Slli,
-        "srli" => ShiftOp::Srli,
-        "srai" => ShiftOp::Srai,
-        _ => return None,
-    })
-}
-
-fn register_named(text: &str) -> Option<RegisterOp>
-    ensures found { IfSome result (λ op. text.now ≡ register_name op) }
-    ensures none { IfNone result ((op : _) → text.now ≡ register_name op → ⊥) }
-{
-    Some(match text {
-        "add" => RegisterOp::Add,
-        "sub" => RegisterOp::Sub,
-        "sll" => RegisterOp::Sll,
-        "slt" => RegisterOp::Slt,
-        "sltu" => RegisterOp::Sltu,
-        "xor" => RegisterOp::Xor,
-        "srl" => RegisterOp::Srl,
-        "sra" => RegisterOp::Sra,
-        "or" => RegisterOp::Or,
-        "and" => RegisterOp::And,
-        _ => return None,
-    })
-}
-
-fn mul_div_named(text: &str) -> Option<MulDivOp>
-    ensures found { IfSome result (λ op. text.now ≡ mul_div_name op) }
-    ensures none { IfNone result ((op : _) → text.now ≡ mul_div_name op → ⊥) }
-{
-    Some(match text {
-        "mul" => MulDivOp::Mul,
-        "mulh" => MulDivOp::Mulh,
-        "mulhsu" => MulDivOp::Mulhsu,
-        "mulhu" => MulDivOp::Mulhu,
-        "div" => MulDivOp::Div,
-        "divu" => MulDivOp::Divu,
-        "rem" => MulDivOp::Rem,
-        "remu" => MulDivOp::Remu,
-        _ => return None,
-    })
-}
-
-fn atomic(text: &str) -> Option<AtomicOp>
-    ensures found { IfSome result (λ op. text.now ≡ atomic_name op) }
-    ensures none { IfNone result ((op : _) → text.now ≡ atomic_name op → ⊥) }
-{
-    Some(match text {
-        "lr" => AtomicOp::LoadReserved,
-        "sc" => AtomicOp::StoreConditional,
-        "amoswap" => AtomicOp::Amo(AmoKind::Swap),
-        "amoadd" => AtomicOp::Amo(AmoKind::Add),
-        "amoxor" => AtomicOp::Amo(AmoKind::Xor),
-        "amoand" => AtomicOp::Amo(AmoKind::And),
-        "amoor" => AtomicOp::Amo(AmoKind::Or),
-        "amomin" => AtomicOp::Amo(AmoKind::Min),
-        "amomax" => AtomicOp::Amo(AmoKind::Max),
-        "amominu" => AtomicOp::Amo(AmoKind::Minu),
-        "amomaxu" => AtomicOp::Amo(AmoKind::Maxu),
-        _ => return None,
-    })
-}
-
-fn ordering(text: &str) -> Option<Ordering>
-    ensures found { IfSome result (λ ordering. text.now ≡ ordering_name ordering) }
-    ensures none { IfNone result ((ordering : _) → text.now ≡ ordering_name ordering → ⊥) }
-{
-    let (aq, rl) = match text {
-        "w" => (false, false),
-        "w.aq" => (true, false),
-        "w.rl" => (false, true),
-        "w.aqrl" => (true, true),
-        _ => return None,
-    };
-    Some(Ordering { aq, rl })
-}
-
-/// The row whose name the text is.
-pub(crate) fn mnemonic_named(text: &str) -> Option<Mnemonic>
-    ensures found { IfSome result (λ m. text.now ≡ mnemonic_name m) }
-    ensures only { (m : _) → text.now ≡ mnemonic_name m → result ≡ Some m }
-{
-    let Some((name, bits)) = text.split_once('.') else {
-        return plain(text);
-    };
-    Some(Mnemonic::Atomic(atomic(name)?, ordering(bits)?))
+    match (ordering.aq, ordering.rl) {
+        (false, false) => "w",
+        (true, false) => "w.aq",
+        (false, true) => "w.rl",
+        (true, true) => "w.aqrl",
+    }
 }

@@ -14,11 +14,11 @@ ghost use Rattle.rv_text.specs.Reading.{
 };
 
 use crate::fields::{amount, expect_end, register, signed, target, upper};
+use crate::mnemonic::{AtomicOp, Mnemonic};
 use crate::refused::TextRefused;
 use rv_instr::{
     BranchOp, ImmediateOp, Instr, LoadOp, MulDivOp, Ordering, Reg, RegisterOp, ShiftOp, StoreOp,
 };
-use rv_print::mnemonic::{AtomicOp, Mnemonic};
 
 #[tactic(auto, unfolding(crate::specs::Reading::upper_operands, crate::specs::Reading::two_fields))]
 fn upper_operands(text: &[u8]) -> Result<(Reg, u32), TextRefused>

@@ -1,12 +1,12 @@
 ghost use Rattle.std.specs.Prelude.{◌≡◌, ◌≢◌, IfOk, Ok, Err};
 ghost use Rattle.rv_text.specs.declared.refused.TextRefused.TheVariants.{UnknownName};
-ghost use Rattle.rv_print.specs.Mnemonic.{mnemonic_name};
-ghost use Rattle.rv_print.specs.Spelling.{Says};
+ghost use Rattle.rv_text.specs.Mnemonic.{mnemonic_name};
+ghost use Rattle.rv_text.specs.Spelling.{Says};
 ghost use Rattle.rv_text.specs.Reading.{name_in, behind_name, instr_at};
 
-use crate::mnemonic::mnemonic_named;
 use crate::operands::instr_of;
 use crate::refused::TextRefused;
+use crate::rows::mnemonic_named;
 use rv_instr::Instr;
 
 // The name, and the text from the first space on.

@@ -1,7 +1,7 @@
 -- What the kinds of instructions may do where their access has no fault.
 use Rattle.std.proofs.Common.{◌≡◌, ℕ, false, None, refl, arith}
 use Rattle.std.proofs.lemmas.Bool.Decides.{nat_tests}
-use Rattle.program_image.specs.Image.{ProgramImage}
+use Rattle.elf_image.specs.Image.{ProgramImage}
 use Rattle.rv_instr.specs.{declared.op.Op.Op, declared.op.Op.TheVariants.Known, declared.instr.Instr.Instr}
 use Rattle.rv_instr.specs.{declared.op.Op.TheVariants.Illegal, declared.op.Op.TheVariants.NoWord}
 use Rattle.rv_instr.specs.declared.instr.Instr.TheVariants.{Load, Store}

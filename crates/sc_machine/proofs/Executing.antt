@@ -1,7 +1,7 @@
 -- What a hart does next on the machine is what it does next in a state with which the machine agrees.
 use Rattle.std.proofs.Common.{◌≡◌, ℕ, zero, suc, ◌+◌, ◌<◌, Option, refl, sym, ap, subst, ◌∙◌}
 use Rattle.std.specs.Prelude.{slice_index}
-use Rattle.program_image.specs.Image.{code_word}
+use Rattle.elf_image.specs.Image.{code_word}
 use Rattle.rv_instr.specs.Decode.{op_of_word}
 use Rattle.memory_system.specs.Contents.{byte_of, reserved_of}
 use Rattle.smt_model.specs.Words.{Op, Effect, Record}

@@ -1,6 +1,6 @@
 -- What is asked of an instruction before it touches memory.
 use Rattle.std.specs.Prelude.{◌≡◌, true, false, None, IfSome}
-use Rattle.program_image.specs.Image.{ProgramImage}
+use Rattle.elf_image.specs.Image.{ProgramImage}
 use Rattle.memory_system.specs.Contents.{IsSize}
 use Rattle.smt_model.specs.Words.{Op, Effect, Written}
 use Rattle.smt_model.specs.{Exec.Computed, Nexts.is_last, Faults.fault, Faults.write_fault}

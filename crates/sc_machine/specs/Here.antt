@@ -1,6 +1,6 @@
 -- What an instruction of a hart does, told of the machine's own parts.
 use Rattle.std.specs.Prelude.{ℕ, Option, slice_index}
-use Rattle.program_image.specs.Image.{code_word}
+use Rattle.elf_image.specs.Image.{code_word}
 use Rattle.rv_instr.specs.Decode.{op_of_word}
 use Rattle.memory_system.specs.Contents.{Contents, byte_of, reserved_of}
 use Rattle.smt_model.specs.Words.{Op, Effect}

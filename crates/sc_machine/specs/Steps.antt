@@ -1,7 +1,7 @@
 -- What the calls of the machine come to, in the words of the definitions' machine.
 use Rattle.std.specs.Prelude.{◌≡◌, ℕ, List, [], ◌∷◌, Option, Some, None, length, nat_le, ◌&&◌, Bool}
 use Rattle.numbers.specs.Sizes.{most_harts}
-use Rattle.program_image.specs.Image.{ProgramImage}
+use Rattle.elf_image.specs.Image.{ProgramImage}
 use Rattle.smt_model.specs.{Words.Record, Setup.Setup}
 use Rattle.smt_model.specs.Plain.{Run, start, record_at, advance, step, run}
 use Rattle.sc_machine.specs.{Machine.Machine, Machine.Agrees, Refusals.refusal}

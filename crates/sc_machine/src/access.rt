@@ -122,8 +122,8 @@ fn load_value(op: LoadOp, number: u32) -> u32
     ensures { result ≡ load_value op number }
 {
     match op {
-        LoadOp::Lb => rv_arithmetic::sext(number, 8),
-        LoadOp::Lh => rv_arithmetic::sext(number, 16),
+        LoadOp::Lb => rv_word::sext(number, 8),
+        LoadOp::Lh => rv_word::sext(number, 16),
         LoadOp::Lw | LoadOp::Lbu | LoadOp::Lhu => number,
     }
 }
@@ -133,7 +133,7 @@ pub fn atomic_result(op: Op, old: u32, operand: u32) -> u32
     ensures { result ≡ atomic_result op old operand }
 {
     match op {
-        Op::Known(Instr::Amo { kind, .. }) => rv_arithmetic::amo(kind, old, operand),
+        Op::Known(Instr::Amo { kind, .. }) => rv_word::amo(kind, old, operand),
         Op::Known(_) | Op::Illegal | Op::NoWord => operand,
     }
 }

@@ -1,7 +1,7 @@
 //! What a hart does next, on memory as it stands.
 
 ghost use Rattle.std.specs.Prelude.{◌≡◌, ◌<◌};
-ghost use Rattle.program_image.specs.Image.{ProgramImage, code_word};
+ghost use Rattle.elf_image.specs.Image.{ProgramImage, code_word};
 ghost use Rattle.rv_instr.specs.Decode.{op_of_word};
 ghost use Rattle.rv_instr.specs.Kinds.{first_source, second_source};
 ghost use Rattle.rv_instr.specs.Table.{OpInRange};

@@ -11,9 +11,9 @@ ghost use Rattle.sc_machine.specs.declared.refused.PlainRefused.TheVariants.{Har
 use crate::hart::Hart;
 use crate::refused::PlainRefused;
 use decoded_code::Code;
+use elf_image::Image;
 use memory_system::Memory;
 use numbers::sizes::MOST_HARTS;
-use program_image::Image;
 use smt_model::Status;
 use std::alloc::{AllocError, Global};
 use std::marker::Model;

@@ -8,8 +8,8 @@ use Rattle.rv_instr.specs.declared.op.UnitKind.TheVariants.{Alu, Mul}
 use Rattle.smt_model.specs.declared.config.Role.{Role}
 use Rattle.smt_model.specs.Asks.{Ask, AskFetch, AskDecode, AskRename, AskRetire}
 use Rattle.smt_laws.specs.Scripts.{unit_of_kind, with_unit, turn_asks, fetch_asks, script}
-use Rattle.sim_script.specs.{declared.actions.Word.Word, Lines.words_in}
-use Rattle.sim_script.specs.declared.actions.Action.TheVariants as action
+use Rattle.scripts.specs.{declared.actions.ScriptWord.ScriptWord, Lines.words_in}
+use Rattle.scripts.specs.declared.actions.Action.TheVariants as action
 use Rattle.schedules.specs.Asks.{asks_of_action, asks_of}
 use Rattle.schedules.specs.declared.units.Units.{Units}
 use Rattle.schedules.specs.Turns.{AreUnits, once, unit_words, turn_words, first_words, schedule_lines}
@@ -39,7 +39,7 @@ at_start n =
 
 -- ---- A turn
 
-abbrev words_by : Option ℕ → Option ℕ → Option ℕ → ℕ → List Word
+abbrev words_by : Option ℕ → Option ℕ → Option ℕ → ℕ → List ScriptWord
 words_by a b c h =
     once (action.Decode 0 h) ∷ once (action.Rename 0 h) ∷ (unit_words a ++ (unit_words b ++ (unit_words c
     ++ (once (action.Retire 0 h) ∷ once (action.Fetch 0) ∷ []))))
@@ -70,13 +70,13 @@ turned roles units are h asks =
 -- ---- All turns
 
 module _ (harts : ℕ) (roles : List Role) (units : Units) (are : AreUnits roles units) where
-  abbrev words : List ℕ → List Word
+  abbrev words : List ℕ → List ScriptWord
   words order = words_in (schedule_lines harts units order)
 
   words_more : (order : List ℕ) (h : ℕ) → words (order ++ h ∷ []) ≡ words order ++ turn_words units h
   words_more order h =
       ap (λ lines. words_in (first_words harts ∷ lines)) (map_push (turn_words units) order h)
-      ∙ (flat_map-append (λ (ws : List Word). ws) (first_words harts ∷ map (turn_words units) order)
+      ∙ (flat_map-append (λ (ws : List ScriptWord). ws) (first_words harts ∷ map (turn_words units) order)
       (turn_words units h ∷ [])
       ∙ ap (λ ws. words order ++ ws) (append-nil (turn_words units h)))
 

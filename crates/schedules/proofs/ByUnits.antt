@@ -1,10 +1,10 @@
 -- No word of a schedule issues alone.
 use Rattle.std.specs.Prelude.{ℕ, List, [], ◌∷◌, ◌++◌, Option, Some, None}
-use Rattle.sim_script.specs.{declared.actions.Word.Word, Lines.words_in}
+use Rattle.scripts.specs.{declared.actions.ScriptWord.ScriptWord, Lines.words_in}
 use Rattle.schedules.specs.{declared.units.Units.Units, Asks.HasNoIssue}
 use Rattle.schedules.specs.Turns.{unit_words, turn_words, turn_lines, schedule_lines}
 
-both : (xs ys : List Word) → HasNoIssue xs → HasNoIssue ys → HasNoIssue (xs ++ ys)
+both : (xs ys : List ScriptWord) → HasNoIssue xs → HasNoIssue ys → HasNoIssue (xs ++ ys)
 both [] ys one two = two
 both (x ∷ xs) ys one two = (one.0, both xs ys one.1 two)
 

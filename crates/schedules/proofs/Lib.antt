@@ -5,3 +5,6 @@ pub mod Places
 pub mod Serving
 pub mod Scheduling
 pub mod Writing
+pub mod Replying
+pub mod Scripted
+pub mod Retired

@@ -12,8 +12,8 @@ use Rattle.smt_laws.specs.{Execution.IsExecution, Execution.RunsAreExecutions}
 use Rattle.smt_laws.specs.{Shown.AcceptedCoresCanShow, Scripts.ScriptsShowRuns, Scripts.unit_of_kind}
 use Rattle.sc_machine.specs.Steps.{are_harts}
 use Rattle.plain_run.specs.{Left.Left, Orders.HasLeft}
-use Rattle.sim_script.specs.declared.actions.Word.{Word}
-use Rattle.sim_script.specs.Lines.{IsWord, LinesAreScripts, words_in}
+use Rattle.scripts.specs.declared.actions.ScriptWord.{ScriptWord}
+use Rattle.scripts.specs.Lines.{IsWord, LinesAreScripts, words_in}
 use Rattle.schedules.specs.{declared.units.Units.Units, declared.refused.ScheduleRefused.ScheduleRefused}
 use Rattle.schedules.specs.declared.refused.ScheduleRefused.TheVariants as refused
 use Rattle.schedules.specs.Turns.{AreUnits, unit_words, turn_words, first_words, turn_lines, schedule_lines}
@@ -24,7 +24,7 @@ use Rattle.schedules.proofs.{Asking.asks_are, ByUnits.by_units, Places.found_ins
 
 -- ---- The words can be spelled
 
-both : (xs ys : List Word) → AllByRecursion IsWord xs → AllByRecursion IsWord ys → AllByRecursion IsWord (xs ++ ys)
+both : (xs ys : List ScriptWord) → AllByRecursion IsWord xs → AllByRecursion IsWord ys → AllByRecursion IsWord (xs ++ ys)
 both [] ys all more = more
 both (x ∷ xs) ys all more = (all.0, both xs ys all.1 more)
 

@@ -3,8 +3,8 @@ use Rattle.std.specs.Prelude.{◌≡◌, ℕ, ◌+◌, ◌<◌, List, [], ◌∷
 use Rattle.std.specs.Io.KnownBytes.{Appends}
 use Rattle.std.proofs.Common.{sym, ap, subst, ◌∙◌, append-nil}
 use Rattle.std.proofs.{lemmas.List.map_more, lemmas.List.Concat.flat_map-append}
-use Rattle.sim_script.specs.Lines.{line_text}
-use Rattle.sim_script.proofs.Written.{appends_more}
+use Rattle.scripts.specs.Lines.{line_text}
+use Rattle.scripts.proofs.Written.{appends_more}
 use Rattle.schedules.specs.{declared.units.Units.Units, Turns.turn_words, Turns.turn_lines}
 
 pub turns_step : (old mid new : Option (List ℕ)) (units : Units) (order : List ℕ) (i d : ℕ) → i < length order

@@ -6,8 +6,8 @@ use Rattle.smt_model.specs.{Setup.Setup, Jobs.job}
 use Rattle.smt_model.specs.Asks.{Ask, AskFetch, AskDecode, AskRename, AskIssue, AskComplete}
 use Rattle.smt_model.specs.Asks.{AskRetire}
 use Rattle.smt_laws.specs.{Shown.Predictor, Scripts.IsReply}
-use Rattle.sim_script.specs.{declared.actions.Action.Action, declared.actions.Word.Word}
-use Rattle.sim_script.specs.declared.actions.Action.TheVariants as action
+use Rattle.scripts.specs.{declared.actions.Action.Action, declared.actions.ScriptWord.ScriptWord}
+use Rattle.scripts.specs.declared.actions.Action.TheVariants as action
 
 -- The asks of one action, the first ask first.
 abbrev pub asks_of_action : Action → List Ask
@@ -20,10 +20,10 @@ asks_of_action (action.Complete actor) = AskComplete actor ∷ []
 asks_of_action (action.Unit actor) = AskIssue actor ∷ AskComplete actor ∷ []
 
 -- Those of words, each made as often as its word says.
-abbrev pub asks_of_word : Word → List Ask
+abbrev pub asks_of_word : ScriptWord → List Ask
 asks_of_word word = flat_map asks_of_action (replicate word.repeat word.action)
 
-abbrev pub asks_of : List Word → List Ask
+abbrev pub asks_of : List ScriptWord → List Ask
 asks_of words = flat_map asks_of_word words
 
 -- No word issues alone: what is issued is issued by a unit, and handed back by it.
@@ -31,7 +31,7 @@ abbrev pub IsNoIssue : Action → Type 0
 IsNoIssue (action.Issue actor) = ⊥
 IsNoIssue _ = Unit {0}
 
-abbrev pub HasNoIssue : List Word → Type 0
+abbrev pub HasNoIssue : List ScriptWord → Type 0
 HasNoIssue words = AllByRecursion (λ word. IsNoIssue word.action) words
 
 -- ---- Law

@@ -1,7 +1,7 @@
 -- When an order of harts has no schedule.
 use Rattle.std.specs.Prelude.{◌≡◌, ℕ, ◌<◌, true, false, List, ◌∷◌, ◌++◌, Some, None, is_some}
 use Rattle.std.specs.Prelude.{All, length, reverse}
-use Rattle.program_image.specs.Image.{ProgramImage}
+use Rattle.elf_image.specs.Image.{ProgramImage}
 use Rattle.rv_instr.specs.{Registers.op_unit, declared.op.UnitKind.UnitKind}
 use Rattle.events.specs.declared.effect.Record.{Record}
 use Rattle.smt_model.specs.{declared.config.Role.Role, Setup.Setup, Setup.is_accepted}

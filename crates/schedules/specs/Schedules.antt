@@ -4,7 +4,7 @@
 use Rattle.std.specs.Prelude.{◌≡◌, ℕ, ◌+◌, ◌*◌, ◌≤◌, true, List, Some, length, reverse}
 use Rattle.smt_model.specs.{Setup.Setup, Setup.is_accepted, Plain.Run, Plain.run}
 use Rattle.smt_laws.specs.{Shown.Predictor, Scripts.script, Scripts.IsShownByScript}
-use Rattle.sim_script.specs.{declared.actions.Word.Word, Script.IsScript}
+use Rattle.scripts.specs.{declared.actions.ScriptWord.ScriptWord, Script.IsScript}
 use Rattle.schedules.specs.Asks.{asks_of, HasNoIssue}
 
 -- How many events it makes at the most: six for each instruction and one for each hart.
@@ -18,7 +18,7 @@ pub record IsScheduleOf (setup : Setup) (limit : ℕ) (order : List ℕ) (text :
     : Type 0 where
   pub accepted : is_accepted setup limit ≡ true
   pub room : room_for (length order) setup.harts ≤ limit
-  pub words : List Word
+  pub words : List ScriptWord
   pub is_script : IsScript text words
   pub by_units : HasNoIssue words
   pub asks : reverse (asks_of words) ≡ script setup.harts setup.roles (reverse order)

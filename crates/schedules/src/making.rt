@@ -10,10 +10,10 @@ use crate::refused::ScheduleRefused;
 use crate::schedule::Schedule;
 use crate::units::{Units, missing_unit};
 use core_state::is_core;
+use elf_image::Image;
 use events::Record;
 use plain_run::{OrderStopped, PlainRun, run_order};
-use program_image::Image;
-use sim_script::laws::lines_are_scripts;
+use scripts::laws::lines_are_scripts;
 use smt_laws::laws::retires_an_execution;
 use smt_laws::shown::{scripts_show_runs, shows_every_run};
 use smt_model::Config;
@@ -26,8 +26,7 @@ use std::alloc::Global;
 /// the first step that the plain machine doesn't make; the first instruction for which there is no
 /// unit; and a limit below six events for each word of the order and one for each hart.
 ///
-/// That a core which is asked by it retires the order is a law of the crate that steps scripts:
-/// `schedules_are_retired` of `sim_laws::retiring`.
+/// That a core which is asked by it retires the order is the law `schedules_are_retired`.
 pub fn make_schedule<'a>(
     image: &Image,
     config: &Config,

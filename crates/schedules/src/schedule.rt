@@ -3,18 +3,18 @@
 ghost use Rattle.std.specs.Prelude.{◌≡◌, ◌+◌, ◌≤◌, ◌++◌, flat_map, OnOk};
 ghost use Rattle.std.specs.Io.KnownBytes.{Appends};
 ghost use Rattle.arrayvec.specs.ArrayVec.{array_vec_len};
-ghost use Rattle.sim_script.specs.Lines.{line_text};
+ghost use Rattle.scripts.specs.Lines.{line_text};
 ghost use Rattle.schedules.specs.Turns.{turn_words, turn_lines, unit_words, once};
 
 use crate::units::Units;
 use arrayvec::ArrayVec;
-use sim_script::{Action, Word, write_line};
+use scripts::{Action, ScriptWord, write_line};
 use std::io;
 use std::io::Write;
 use std::marker::Model;
 
 /// The words of a turn: four that each has, a unit of each kind, and a fetch.
-type Turn = ArrayVec<Word, 7>;
+type Turn = ArrayVec<ScriptWord, 7>;
 
 /// The script of an order of harts. A clause sees its text: a line with a fetch for each hart, and
 /// a line for each turn.
@@ -40,7 +40,7 @@ impl Schedule<'_> {
     pub fn write<W: Write>(&self, out: &mut W) -> io::Result<()>
         ensures { OnOk result (Appends (W.contents out.old) (W.contents out.new) self.now) }
     {
-        let fetches = Word {
+        let fetches = ScriptWord {
             action: Action::Fetch { actor: 0 },
             repeat: u32::from(self.harts),
         };
@@ -94,8 +94,8 @@ fn push_unit(words: &mut Turn, unit: Option<u8>)
     }
 }
 
-fn once(action: Action) -> Word
+fn once(action: Action) -> ScriptWord
     ensures { result ≡ once action }
 {
-    Word { action, repeat: 1 }
+    ScriptWord { action, repeat: 1 }
 }

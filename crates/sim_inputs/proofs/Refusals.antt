@@ -1,5 +1,5 @@
 -- What the matches of the words say of them, and what the kind of an error does.
-use Rattle.std.proofs.Common.{◌≡◌, true, List, [], Option, Some, None, Result, IfSome, IfNone, IfOk, IfErr, refl, subst}
+use Rattle.std.proofs.Common.{◌≡◌, true, List, [], Option, Some, None, Result, IfOk, IfErr, refl, subst}
 use Rattle.std.proofs.Common.{inl, inr}
 use Rattle.std.specs.Option.{ok_or}
 use Rattle.clap.specs.Words.{App, Text, HasKind, HasMatchesOf, is_simple_and_free, fault_of, kind_of, subcommand_of}
@@ -9,7 +9,7 @@ use Rattle.sim_inputs.specs.{declared.line.Line.Line, declared.line.WordsRefused
 use Rattle.sim_inputs.specs.{declared.line.WordsRefused.TheVariants.Help}
 use Rattle.sim_inputs.specs.{declared.line.WordsRefused.TheVariants.Refused}
 use Rattle.sim_inputs.specs.{declared.line.WordsRefused.TheVariants.Memory}
-use Rattle.sim_inputs.specs.CommandLine.{smtsim, Asks, IsRefusalOf, AreWordsRefusedFor, Names}
+use Rattle.sim_inputs.specs.CommandLine.{smtsim, Asks, Finds, IsRefusalOf, AreWordsRefusedFor, Names}
 
 is_simple : is_simple_and_free smtsim ≡ true
 is_simple = refl
@@ -28,22 +28,21 @@ faultless a words same none =
 pub asked : (words : List Text) (a : App) (m : ArgMatches) (found : Option Line) (r : Result Line WordsRefused)
     → r ≡ ok_or found Refused → a ≡ smtsim →
     HasMatchesOf a words m → (is_simple_and_free a ≡ true → fault_of a words ≡ [])
-    → IfSome found (Names (subcommand_rows_of m)) → IfOk r (Asks words)
-asked words a m None r is same has none held = rw is tt
-asked words a m (Some line) r is same has none held = rw is (record {
+    → Finds (Names (subcommand_rows_of m)) found → IfOk r (Asks words)
+asked words a m None r is same has none finds = rw is tt
+asked words a m (Some line) r is same has none finds = rw is (record {
   taken = faultless a words same none;
-  holds = rw (matched a words m same has) at held;
+  holds = rw (matched a words m same has) at finds;
 })
 
 -- and where they hold none, nothing is asked for
 pub not_asked : (words : List Text) (a : App) (m : ArgMatches) (found : Option Line) (r : Result Line WordsRefused)
     → r ≡ ok_or found Refused → a ≡ smtsim →
     HasMatchesOf a words m → (is_simple_and_free a ≡ true → fault_of a words ≡ [])
-    → IfNone found ((line : Line) → Names (subcommand_rows_of m) line → ⊥) →
-    IfErr r (AreWordsRefusedFor words)
-not_asked words a m (Some line) r is same has none no_line = rw is tt
-not_asked words a m None r is same has none no_line = rw is (record {
-  no_line = λ line asks. no_line line (rw (matched a words m same has) asks.holds);
+    → Finds (Names (subcommand_rows_of m)) found → IfErr r (AreWordsRefusedFor words)
+not_asked words a m (Some line) r is same has none finds = rw is tt
+not_asked words a m None r is same has none finds = rw is (record {
+  no_line = λ line asks. finds line (rw (matched a words m same has) asks.holds);
   no_help = λ alone. let no_fault = faultless a words same none in cc;
 })
 

@@ -1,5 +1,5 @@
 -- The subcommand that was found, with its rows, and the line that it is.
-use Rattle.std.proofs.Common.{◌≡◌, List, Option, Some, None, option_map, IfSome, IfNone, ap₂}
+use Rattle.std.proofs.Common.{◌≡◌, List, Option, Some, None, option_map, ap₂}
 use Rattle.std.proofs.lemmas.Option.{same_Some}
 use Rattle.clap.specs.Words.{Row, Text, found_of, rows_of, subcommand_rows_of}
 use Rattle.clap.specs.Matches.{subcommand_name_of}
@@ -24,19 +24,8 @@ named_rows m name rows =
     both (λ b. (out-SubCommand (box_value b)).name.now)
     (λ b. rows_of (found_of (out-SubCommand (box_value b)).matches)) (out-ArgMatches m).subcommand name rows
 
--- what is said of this subcommand is said of the one that was found
-pub held_in : (m : ArgMatches) (name : Text) (rows : List Row) (line : Option Line) → subcommand_name_of m ≡ Some name
-    → option_map (λ (p : Text × List Row). p.1) (subcommand_rows_of m) ≡ Some rows → IfSome line (IsLineOf name rows) →
-    IfSome line (Names (subcommand_rows_of m))
-held_in m name rows line named has held = rw (named_rows m name rows named has) held
-
-pub none_in : (m : ArgMatches) (name : Text) (rows : List Row) (line : Option Line) → subcommand_name_of m ≡ Some name
-    → option_map (λ (p : Text × List Row). p.1) (subcommand_rows_of m) ≡ Some rows
-    → IfNone line ((l : Line) → IsLineOf name rows l → ⊥) →
-    IfNone line ((l : Line) → Names (subcommand_rows_of m) l → ⊥)
-none_in m name rows line named has none = rw (named_rows m name rows named has) none
-
-pub never_in : (m : ArgMatches) (name : Text) (rows : List Row) → subcommand_name_of m ≡ Some name
-    → option_map (λ (p : Text × List Row). p.1) (subcommand_rows_of m) ≡ Some rows
-    → ((l : Line) → IsLineOf name rows l → ⊥) → (l : Line) → Names (subcommand_rows_of m) l → ⊥
-never_in m name rows named has never = rw (named_rows m name rows named has) never
+-- the line of this subcommand is that of the one that was found
+pub found_in : (m : ArgMatches) (name : Text) (rows : List Row) (line : Line) → subcommand_name_of m ≡ Some name
+    → option_map (λ (p : Text × List Row). p.1) (subcommand_rows_of m) ≡ Some rows → IsLineOf name rows line →
+    Names (subcommand_rows_of m) line
+found_in m name rows line named has is = rw (named_rows m name rows named has) is

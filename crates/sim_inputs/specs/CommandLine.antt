@@ -11,10 +11,15 @@ use Rattle.clap.specs.{declared.error.kind.ErrorKind.ErrorKind}
 use Rattle.clap.specs.{declared.error.kind.ErrorKind.TheVariants.DisplayHelp}
 use Rattle.clap.specs.{declared.error.kind.ErrorKind.TheVariants.OutOfMemory}
 use Rattle.sim_inputs.specs.{declared.line.Line.Line, declared.line.WordsRefused.WordsRefused}
+use Rattle.sim_inputs.specs.declared.line.Command.{Command as LineCommand}
+use Rattle.sim_inputs.specs.declared.line.Command.TheVariants as commands
+use Rattle.sim_inputs.specs.declared.line.{StepCommand.StepCommand, RunCommand.RunCommand}
+use Rattle.sim_inputs.specs.declared.line.{CheckCommand.CheckCommand, PlainCommand.PlainCommand}
+use Rattle.sim_inputs.specs.declared.line.{ScheduleCommand.ScheduleCommand}
+use Rattle.sim_inputs.specs.declared.line.{ListCommand.ListCommand}
 use Rattle.sim_inputs.specs.{declared.line.WordsRefused.TheVariants.Help}
 use Rattle.sim_inputs.specs.{declared.line.WordsRefused.TheVariants.Refused}
 use Rattle.sim_inputs.specs.{declared.line.WordsRefused.TheVariants.Memory}
-use Rattle.sim_inputs.specs.declared.line.Line.TheVariants as lines
 
 -- An argument that names a file and must be there: the image, the script, the trace, and the order.
 abbrev pub file_rule : Text → Rule
@@ -48,8 +53,8 @@ records_rule = flag_rule (codes "records")
 abbrev pub show_rule : Rule
 show_rule = flag_rule (codes "show")
 
-abbrev pub kept_rule : Rule
-kept_rule = file_option_rule (codes "trace")
+abbrev pub written_trace_rule : Rule
+written_trace_rule = file_option_rule (codes "trace")
 
 -- A subcommand of this name, with its arguments in order.
 abbrev pub subcommand : Text → List Rule → App
@@ -58,11 +63,11 @@ subcommand name rules = fold with_rule (new_app name) rules
 -- `step IMAGE SCRIPT`, with `--config FILE`, `--records`, `--show` and `--trace FILE`.
 abbrev pub step_command : App
 step_command = subcommand (codes "step") (image_rule ∷ script_rule ∷ config_rule ∷ records_rule
-    ∷ show_rule ∷ kept_rule ∷ [])
+    ∷ show_rule ∷ written_trace_rule ∷ [])
 
 -- `run IMAGE`, with `--config FILE`, `--records` and `--trace FILE`.
 abbrev pub run_command : App
-run_command = subcommand (codes "run") (image_rule ∷ config_rule ∷ records_rule ∷ kept_rule ∷ [])
+run_command = subcommand (codes "run") (image_rule ∷ config_rule ∷ records_rule ∷ written_trace_rule ∷ [])
 
 -- `check IMAGE TRACE`, with `--config FILE` and `--records`.
 abbrev pub check_command : App
@@ -90,7 +95,7 @@ abbrev pub smtsim : App
 smtsim = fold (λ app sub. with_subcommand app sub.top) top (step_command ∷ run_command
     ∷ check_command ∷ plain_command ∷ schedule_command ∷ list_command ∷ [])
 
--- What `clap` is told: an argument and a command as data, neither of them for the commands below
+-- What `clap` is given: an argument and a command as data, neither of them for the commands below
 -- too.
 pub record IsArgument (described : Rule) (argument : Arg) : Type 0 where
   pub rule : rule_of argument ≡ described
@@ -105,41 +110,67 @@ abbrev pub is_flag_set : Text → List Row → Bool
 is_flag_set name rows =
     option_map_or (λ value. bytes_eq value (codes "true")) (first_of name rows) false
 
--- The image and the configuration that were found for a subcommand.
-pub record HasFiles (image : Bor Text) (config : Option (Bor Text)) (rows : List Row) : Type 0 where
-  pub image_row : first_of (codes "IMAGE") rows ≡ Some image.now
-  pub config_row : first_of (codes "config") rows ≡ option_map (λ file. file.now) config
+-- The answer is one of which this holds; there is none where it holds of none.
+abbrev pub Finds : {A : Type 0} → (A → Type 0) → Option A → Type 0
+Finds {A} Holds None = (one : A) → Holds one → ⊥
+Finds Holds (Some found) = Holds found
 
--- A subcommand of this name, with what was found for its arguments and options, is the line.
-abbrev pub IsLineOf : Text → List Row → Line → Type 0
-IsLineOf name rows (lines.Step image script config records show trace) = (name ≡ codes "step")
-    × (first_of (codes "IMAGE") rows ≡ Some image.now)
-    × (first_of (codes "SCRIPT") rows ≡ Some script.now)
-    × (first_of (codes "config") rows ≡ option_map (λ file. file.now) config)
-    × (is_flag_set (codes "records") rows ≡ records) × (is_flag_set (codes "show") rows ≡ show)
-    × (first_of (codes "trace") rows ≡ option_map (λ file. file.now) trace)
-IsLineOf name rows (lines.Run image config records trace) = (name ≡ codes "run")
-    × (first_of (codes "IMAGE") rows ≡ Some image.now)
-    × (first_of (codes "config") rows ≡ option_map (λ file. file.now) config)
-    × (is_flag_set (codes "records") rows ≡ records)
-    × (first_of (codes "trace") rows ≡ option_map (λ file. file.now) trace)
-IsLineOf name rows (lines.Check image trace config records) = (name ≡ codes "check")
-    × (first_of (codes "IMAGE") rows ≡ Some image.now)
-    × (first_of (codes "TRACE") rows ≡ Some trace.now)
-    × (first_of (codes "config") rows ≡ option_map (λ file. file.now) config)
-    × (is_flag_set (codes "records") rows ≡ records)
-IsLineOf name rows (lines.Plain image order config records) = (name ≡ codes "plain")
-    × (first_of (codes "IMAGE") rows ≡ Some image.now)
-    × (first_of (codes "ORDER") rows ≡ Some order.now)
-    × (first_of (codes "config") rows ≡ option_map (λ file. file.now) config)
-    × (is_flag_set (codes "records") rows ≡ records)
-IsLineOf name rows (lines.Schedule image order config) = (name ≡ codes "schedule")
-    × (first_of (codes "IMAGE") rows ≡ Some image.now)
-    × (first_of (codes "ORDER") rows ≡ Some order.now)
-    × (first_of (codes "config") rows ≡ option_map (λ file. file.now) config)
-IsLineOf name rows (lines.List image config) = (name ≡ codes "list")
-    × (first_of (codes "IMAGE") rows ≡ Some image.now)
-    × (first_of (codes "config") rows ≡ option_map (λ file. file.now) config)
+-- What was found for a file that must be there, and for one that may be there.
+abbrev IsFile : List Row → Text → Bor Text → Type 0
+IsFile rows name file = first_of name rows ≡ Some file.now
+
+abbrev IsFileOption : List Row → Text → Option (Bor Text) → Type 0
+IsFileOption rows name file = first_of name rows ≡ option_map (λ f. f.now) file
+
+-- What was found for a flag.
+abbrev IsFlag : List Row → Text → Bool → Type 0
+IsFlag rows name flag = is_flag_set name rows ≡ flag
+
+-- What was found for a subcommand's arguments and options is the command.
+pub record IsStep (rows : List Row) (step : StepCommand) : Type 0 where
+  pub image : IsFile rows (codes "IMAGE") step.image
+  pub script : IsFile rows (codes "SCRIPT") step.script
+  pub trace : IsFileOption rows (codes "trace") step.trace
+  pub records : IsFlag rows (codes "records") step.records
+  pub show : IsFlag rows (codes "show") step.show
+
+pub record IsRun (rows : List Row) (run : RunCommand) : Type 0 where
+  pub image : IsFile rows (codes "IMAGE") run.image
+  pub trace : IsFileOption rows (codes "trace") run.trace
+  pub records : IsFlag rows (codes "records") run.records
+
+pub record IsCheck (rows : List Row) (check : CheckCommand) : Type 0 where
+  pub image : IsFile rows (codes "IMAGE") check.image
+  pub trace : IsFile rows (codes "TRACE") check.trace
+  pub records : IsFlag rows (codes "records") check.records
+
+pub record IsPlain (rows : List Row) (plain : PlainCommand) : Type 0 where
+  pub image : IsFile rows (codes "IMAGE") plain.image
+  pub order : IsFile rows (codes "ORDER") plain.order
+  pub records : IsFlag rows (codes "records") plain.records
+
+pub record IsSchedule (rows : List Row) (schedule : ScheduleCommand) : Type 0 where
+  pub image : IsFile rows (codes "IMAGE") schedule.image
+  pub order : IsFile rows (codes "ORDER") schedule.order
+
+pub record IsList (rows : List Row) (list : ListCommand) : Type 0 where
+  pub image : IsFile rows (codes "IMAGE") list.image
+
+-- A subcommand of this name, with what was found for it, is the command.
+abbrev pub IsCommandOf : Text → List Row → LineCommand → Type 0
+IsCommandOf name rows (commands.Step step) = (name ≡ codes "step") × IsStep rows step
+IsCommandOf name rows (commands.Run run) = (name ≡ codes "run") × IsRun rows run
+IsCommandOf name rows (commands.Check check) = (name ≡ codes "check") × IsCheck rows check
+IsCommandOf name rows (commands.Plain plain) = (name ≡ codes "plain") × IsPlain rows plain
+IsCommandOf name rows (commands.Schedule schedule) =
+    (name ≡ codes "schedule") × IsSchedule rows schedule
+IsCommandOf name rows (commands.List list) = (name ≡ codes "list") × IsList rows list
+
+-- A subcommand of this name, with what was found for it, is the line: its command, and the
+-- configuration, which every command may have.
+pub record IsLineOf (name : Text) (rows : List Row) (line : Line) : Type 0 where
+  pub config : IsFileOption rows (codes "config") line.config
+  pub command : IsCommandOf name rows line.command
 
 -- A subcommand was found, and it is the line.
 abbrev pub Names : Option (Text × List Row) → Line → Type 0
@@ -167,37 +198,3 @@ abbrev pub IsRefusalOf : ErrorKind → WordsRefused → Type 0
 IsRefusalOf kind (Help text) = kind ≡ DisplayHelp
 IsRefusalOf kind Refused = (kind ≢ DisplayHelp) × (kind ≢ OutOfMemory)
 IsRefusalOf kind Memory = Unit {0}
-
--- The files that a line names: the configuration; the image; the script, the trace that is checked
--- or the order; and the file that the trace is written to.
-abbrev pub config_of : Line → Option Text
-config_of (lines.Step image script config records show trace) = option_map (λ file. file.now) config
-config_of (lines.Run image config records trace) = option_map (λ file. file.now) config
-config_of (lines.Check image trace config records) = option_map (λ file. file.now) config
-config_of (lines.Plain image order config records) = option_map (λ file. file.now) config
-config_of (lines.Schedule image order config) = option_map (λ file. file.now) config
-config_of (lines.List image config) = option_map (λ file. file.now) config
-
-abbrev pub image_of : Line → Text
-image_of (lines.Step image script config records show trace) = image.now
-image_of (lines.Run image config records trace) = image.now
-image_of (lines.Check image trace config records) = image.now
-image_of (lines.Plain image order config records) = image.now
-image_of (lines.Schedule image order config) = image.now
-image_of (lines.List image config) = image.now
-
-abbrev pub second_of : Line → Option Text
-second_of (lines.Step image script config records show trace) = Some script.now
-second_of (lines.Run image config records trace) = None
-second_of (lines.Check image trace config records) = Some trace.now
-second_of (lines.Plain image order config records) = Some order.now
-second_of (lines.Schedule image order config) = Some order.now
-second_of (lines.List image config) = None
-
-abbrev pub kept_of : Line → Option Text
-kept_of (lines.Step image script config records show trace) = option_map (λ file. file.now) trace
-kept_of (lines.Run image config records trace) = option_map (λ file. file.now) trace
-kept_of (lines.Check image trace config records) = None
-kept_of (lines.Plain image order config records) = None
-kept_of (lines.Schedule image order config) = None
-kept_of (lines.List image config) = None

@@ -5,7 +5,7 @@ use Rattle.std.specs.Prelude.{Option, Some, None, All, Contains, IsUtf8, codes}
 use Rattle.numbers.specs.Sizes.{most_events}
 use Rattle.toml.specs.Data.{Data, string, integer, array, Members, no_members, member, get_member}
 use Rattle.toml.specs.{View.items_of, Parse.parse_document, Errors.IsBlank}
-use Rattle.program_image.specs.Image.{IsRamSize}
+use Rattle.elf_image.specs.Image.{IsRamSize}
 use Rattle.smt_model.specs.{declared.config.Config.Config, declared.config.Role.Role}
 use Rattle.smt_model.specs.{Setup.are_core_sizes}
 use Rattle.smt_model.specs.declared.config.Role.TheVariants as role

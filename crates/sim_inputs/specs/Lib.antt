@@ -1,3 +1,4 @@
 pub mod CommandLine
 pub mod Configuration
+pub mod Files
 pub mod Table

@@ -14,10 +14,10 @@ use crate::ranges::{number_setting, value_at};
 use crate::roles::{every_role, roles_of};
 use crate::settings::Settings;
 use arrayvec::ArrayVec;
+use elf_image::RamSize;
 use numbers::sizes::{
     FEWEST_QUEUED, MOST_ACTORS, MOST_EVENTS, MOST_EXTRA, MOST_HARTS, MOST_QUEUED,
 };
-use program_image::RamSize;
 use smt_model::{Config, Role};
 use std::alloc::Global;
 use thiserror::Error;

@@ -17,29 +17,20 @@ pub(crate) enum Kind {
     Flag,
 }
 
-/// An argument of a subcommand, as help tells it.
+/// An argument of a subcommand, as help describes it.
 pub(crate) struct Argument {
     kind: Kind,
     name: &'static str,
     help: &'static str,
 }
 
-/// A file that is text in a form of this program's own.
-pub(crate) enum Form {
-    Script,
-    Trace,
-    Order,
-    /// None that help tells.
-    Untold,
-}
-
-/// A subcommand, as help tells it.
+/// A subcommand, as help describes it.
 pub(crate) struct Subcommand {
     name: &'static str,
     about: &'static str,
     arguments: &'static [Argument],
-    /// The file whose form help tells after all else.
-    form: Form,
+    /// How its other file is written, for the end of its help; empty where that says nothing.
+    form: &'static str,
 }
 
 /// How a script is written, for the help of `step`.
@@ -130,49 +121,49 @@ const SHOW: Argument = Argument {
     help: "Print the core's tables, after the asks",
 };
 
-const KEPT_TRACE: Argument = Argument {
+const WRITTEN_TRACE: Argument = Argument {
     kind: Kind::Option,
     name: "trace",
     help: "The file that the history is written to",
 };
 
-/// The subcommands, in the order in which help tells them.
+/// The subcommands, in the order in which help lists them.
 static SUBCOMMANDS: [Subcommand; 6] = [
     Subcommand {
         name: "step",
         about: "Make a script's asks of the core in order, and print a report",
-        arguments: &[IMAGE, SCRIPT, CONFIG, RECORDS, SHOW, KEPT_TRACE],
-        form: Form::Script,
+        arguments: &[IMAGE, SCRIPT, CONFIG, RECORDS, SHOW, WRITTEN_TRACE],
+        form: SCRIPT_FORM,
     },
     Subcommand {
         name: "run",
         about: "Run the core, with a thread for each actor, and print a report",
-        arguments: &[IMAGE, CONFIG, RECORDS, KEPT_TRACE],
-        form: Form::Untold,
+        arguments: &[IMAGE, CONFIG, RECORDS, WRITTEN_TRACE],
+        form: "",
     },
     Subcommand {
         name: "check",
         about: "Check that a trace is a history of the core, and print its report",
         arguments: &[IMAGE, TRACE, CONFIG, RECORDS],
-        form: Form::Trace,
+        form: TRACE_FORM,
     },
     Subcommand {
         name: "plain",
         about: "Run the plain machine in an order of harts, and print a report",
         arguments: &[IMAGE, ORDER, CONFIG, RECORDS],
-        form: Form::Order,
+        form: ORDER_FORM,
     },
     Subcommand {
         name: "schedule",
         about: "Print the script that makes the core retire in an order of harts",
         arguments: &[IMAGE, ORDER, CONFIG],
-        form: Form::Order,
+        form: ORDER_FORM,
     },
     Subcommand {
         name: "list",
         about: "Print each word of the program's code: address, word, instruction",
         arguments: &[IMAGE, CONFIG],
-        form: Form::Untold,
+        form: "",
     },
 ];
 
@@ -210,7 +201,7 @@ fn subcommand_of<'a>(row: &'static Subcommand, alloc: Global) -> Result<Command<
 {
     let mut command = Command::new(alloc, row.name)
         .about(row.about)
-        .after_help(text_of(&row.form));
+        .after_help(row.form);
     for argument in row.arguments {
         command = command.arg(argument_of(argument, alloc))?;
     }
@@ -226,15 +217,5 @@ fn argument_of<'a>(row: &'static Argument, alloc: Global) -> Arg<'a>
         Kind::File => argument.required(true),
         Kind::Option => argument.long(row.name).value_name("FILE"),
         Kind::Flag => argument.long(row.name).action(ArgAction::SetTrue),
-    }
-}
-
-/// How a file is written.
-fn text_of(form: &Form) -> &'static str {
-    match form {
-        Form::Script => SCRIPT_FORM,
-        Form::Trace => TRACE_FORM,
-        Form::Order => ORDER_FORM,
-        Form::Untold => "",
     }
 }

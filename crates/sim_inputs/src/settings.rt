@@ -1,6 +1,6 @@
 use crate::roles::every_role;
 use arrayvec::ArrayVec;
-use program_image::RamSize;
+use elf_image::RamSize;
 use smt_model::{Config, Role};
 
 /// What a simulation is made with, beside its image.

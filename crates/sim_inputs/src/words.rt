@@ -1,16 +1,20 @@
-ghost use Rattle.std.specs.Prelude.{◌≡◌, List, codes, map, IfOk, IfErr, IfSome, IfNone};
-ghost use Rattle.clap.specs.Words.{found_of, kind_of, rows_of, subcommand_rows_of};
-ghost use Rattle.sim_inputs.specs.declared.line.Line.{Line as AnyLine};
-ghost use Rattle.sim_inputs.specs.CommandLine.{is_flag_set, HasFiles, IsLineOf, Names, Asks};
+ghost use Rattle.std.specs.Prelude.{◌≡◌, map, option_map, IfOk, IfErr};
+ghost use Rattle.clap.specs.Words.{first_of, found_of, kind_of, rows_of, subcommand_rows_of};
+ghost use Rattle.sim_inputs.specs.CommandLine.{is_flag_set, Finds, IsCommandOf, Names, Asks};
+ghost use Rattle.sim_inputs.specs.CommandLine.{IsStep, IsRun, IsCheck, IsPlain, IsSchedule, IsList};
 ghost use Rattle.sim_inputs.specs.CommandLine.{AreWordsRefusedFor, IsRefusalOf};
 
 use crate::description::describe;
-use crate::line::{Line, WordsRefused};
+use crate::line::{
+    CheckCommand, Command, Line, ListCommand, PlainCommand, RunCommand, ScheduleCommand,
+    StepCommand, WordsRefused,
+};
 use clap::error::ErrorKind;
 use clap::{ArgMatches, Error};
 use std::alloc::Global;
 
-/// Reads the program's words, its own name first.
+/// Reads the program's words, its own name first. `Help` is answered where `clap` answers with its
+/// help, `Refused` where the words ask for nothing, and `Memory` where there isn't enough of it.
 pub fn read_words<'a>(words: &'a [&'a str], alloc: Global) -> Result<Line<'a>, WordsRefused>
     ensures ok { IfOk result (Asks (map (λ word. word.now) words.entry.now)) }
     ensures refused { IfErr result (AreWordsRefusedFor (map (λ word. word.now) words.entry.now)) }
@@ -26,146 +30,103 @@ pub fn read_words<'a>(words: &'a [&'a str], alloc: Global) -> Result<Line<'a>, W
 
 /// The line that the matches hold.
 fn line_in<'a>(matches: &ArgMatches<'a>) -> Option<Line<'a>>
-    ensures held { IfSome result (Names (subcommand_rows_of matches.now)) }
-    ensures none { IfNone result ((line : AnyLine) → Names (subcommand_rows_of matches.now) line
-        → ⊥) }
+    ensures { Finds (Names (subcommand_rows_of matches.now)) result }
 {
-    let Some((name, found)) = matches.subcommand() else {
-        return None;
-    };
-    let Some(image) = found.get_str("IMAGE") else {
-        return None;
-    };
-    line_named(name, image, found.get_str("config"), found)
+    let (name, found) = matches.subcommand()?;
+    let command = command_named(name, found)?;
+    let config = file(found, "config");
+    Some(Line { config, command })
 }
 
-/// The line of the subcommand of this name, from what was found for its arguments: the image and
-/// the configuration, which each has, and all.
-fn line_named<'a>(
-    name: &str,
-    image: &'a str,
-    config: Option<&'a str>,
-    found: &ArgMatches<'a>,
-) -> Option<Line<'a>>
-    ensures held { HasFiles image.entry config.entry (rows_of (found_of found.now))
-        → IfSome result (IsLineOf name.now (rows_of (found_of found.now))) }
-    ensures none { IfNone result
-        ((line : AnyLine) → IsLineOf name.now (rows_of (found_of found.now)) line → ⊥) }
+/// The command of this name, of what was found for its arguments and options; none where there is
+/// no command of this name, or a file is missing that it must have.
+fn command_named<'a>(name: &str, found: &ArgMatches<'a>) -> Option<Command<'a>>
+    ensures { Finds (IsCommandOf name.now (rows_of (found_of found.now))) result }
 {
     match name {
-        "step" => step_line(image, config, found),
-        "run" => Some(run_line(image, config, found)),
-        "check" => check_line(image, config, found),
-        "plain" => plain_line(image, config, found),
-        "schedule" => schedule_line(image, config, found),
-        "list" => Some(Line::List { image, config }),
+        "step" => Some(Command::Step(step_in(found)?)),
+        "run" => Some(Command::Run(run_in(found)?)),
+        "check" => Some(Command::Check(check_in(found)?)),
+        "plain" => Some(Command::Plain(plain_in(found)?)),
+        "schedule" => Some(Command::Schedule(schedule_in(found)?)),
+        "list" => Some(Command::List(list_in(found)?)),
         _ => None,
     }
 }
 
-/// The line of the subcommand `step`.
-fn step_line<'a>(image: &'a str, config: Option<&'a str>, step: &ArgMatches<'a>) -> Option<Line<'a>>
-    ensures held { HasFiles image.entry config.entry (rows_of (found_of step.now))
-        → IfSome result (IsLineOf (codes "step") (rows_of (found_of step.now))) }
-    ensures none { IfNone result
-        ((line : AnyLine) → IsLineOf (codes "step") (rows_of (found_of step.now)) line → ⊥) }
+/// The command `step` of what was found; none where a file is missing that it must have. The five
+/// below answer for their commands.
+fn step_in<'a>(found: &ArgMatches<'a>) -> Option<StepCommand<'a>>
+    ensures { Finds (IsStep (rows_of (found_of found.now))) result }
 {
-    let Some(script) = step.get_str("SCRIPT") else {
-        return None;
-    };
-    Some(Line::Step {
-        image,
-        script,
-        config,
-        records: is_set(step, "records"),
-        show: is_set(step, "show"),
-        trace: step.get_str("trace"),
+    Some(StepCommand {
+        image: file(found, "IMAGE")?,
+        script: file(found, "SCRIPT")?,
+        trace: file(found, "trace"),
+        records: is_set(found, "records"),
+        show: is_set(found, "show"),
     })
 }
 
-/// The line of the subcommand `run`.
-fn run_line<'a>(image: &'a str, config: Option<&'a str>, run: &ArgMatches<'a>) -> Line<'a>
-    ensures { HasFiles image.entry config.entry (rows_of (found_of run.now))
-        → IsLineOf (codes "run") (rows_of (found_of run.now)) result }
+fn run_in<'a>(found: &ArgMatches<'a>) -> Option<RunCommand<'a>>
+    ensures { Finds (IsRun (rows_of (found_of found.now))) result }
 {
-    Line::Run {
-        image,
-        config,
-        records: is_set(run, "records"),
-        trace: run.get_str("trace"),
-    }
-}
-
-/// The line of the subcommand `check`.
-fn check_line<'a>(
-    image: &'a str,
-    config: Option<&'a str>,
-    check: &ArgMatches<'a>,
-) -> Option<Line<'a>>
-    ensures held { HasFiles image.entry config.entry (rows_of (found_of check.now))
-        → IfSome result (IsLineOf (codes "check") (rows_of (found_of check.now))) }
-    ensures none { IfNone result
-        ((line : AnyLine) → IsLineOf (codes "check") (rows_of (found_of check.now)) line → ⊥) }
-{
-    let Some(trace) = check.get_str("TRACE") else {
-        return None;
-    };
-    Some(Line::Check {
-        image,
-        trace,
-        config,
-        records: is_set(check, "records"),
+    Some(RunCommand {
+        image: file(found, "IMAGE")?,
+        trace: file(found, "trace"),
+        records: is_set(found, "records"),
     })
 }
 
-/// The line of the subcommand `plain`.
-fn plain_line<'a>(
-    image: &'a str,
-    config: Option<&'a str>,
-    plain: &ArgMatches<'a>,
-) -> Option<Line<'a>>
-    ensures held { HasFiles image.entry config.entry (rows_of (found_of plain.now))
-        → IfSome result (IsLineOf (codes "plain") (rows_of (found_of plain.now))) }
-    ensures none { IfNone result
-        ((line : AnyLine) → IsLineOf (codes "plain") (rows_of (found_of plain.now)) line → ⊥) }
+fn check_in<'a>(found: &ArgMatches<'a>) -> Option<CheckCommand<'a>>
+    ensures { Finds (IsCheck (rows_of (found_of found.now))) result }
 {
-    let Some(order) = plain.get_str("ORDER") else {
-        return None;
-    };
-    Some(Line::Plain {
-        image,
-        order,
-        config,
-        records: is_set(plain, "records"),
+    Some(CheckCommand {
+        image: file(found, "IMAGE")?,
+        trace: file(found, "TRACE")?,
+        records: is_set(found, "records"),
     })
 }
 
-/// The line of the subcommand `schedule`.
-fn schedule_line<'a>(
-    image: &'a str,
-    config: Option<&'a str>,
-    schedule: &ArgMatches<'a>,
-) -> Option<Line<'a>>
-    ensures held { HasFiles image.entry config.entry (rows_of (found_of schedule.now))
-        → IfSome result (IsLineOf (codes "schedule") (rows_of (found_of schedule.now))) }
-    ensures none { IfNone result
-        ((line : AnyLine) → IsLineOf (codes "schedule") (rows_of (found_of schedule.now)) line → ⊥) }
+fn plain_in<'a>(found: &ArgMatches<'a>) -> Option<PlainCommand<'a>>
+    ensures { Finds (IsPlain (rows_of (found_of found.now))) result }
 {
-    let Some(order) = schedule.get_str("ORDER") else {
-        return None;
-    };
-    Some(Line::Schedule {
-        image,
-        order,
-        config,
+    Some(PlainCommand {
+        image: file(found, "IMAGE")?,
+        order: file(found, "ORDER")?,
+        records: is_set(found, "records"),
     })
+}
+
+fn schedule_in<'a>(found: &ArgMatches<'a>) -> Option<ScheduleCommand<'a>>
+    ensures { Finds (IsSchedule (rows_of (found_of found.now))) result }
+{
+    Some(ScheduleCommand {
+        image: file(found, "IMAGE")?,
+        order: file(found, "ORDER")?,
+    })
+}
+
+fn list_in<'a>(found: &ArgMatches<'a>) -> Option<ListCommand<'a>>
+    ensures { Finds (IsList (rows_of (found_of found.now))) result }
+{
+    Some(ListCommand {
+        image: file(found, "IMAGE")?,
+    })
+}
+
+/// The file that was found for an argument or an option.
+fn file<'a>(found: &ArgMatches<'a>, name: &str) -> Option<&'a str>
+    ensures { option_map (λ file. file.now) result ≡ first_of name.now (rows_of (found_of found.now)) }
+{
+    found.get_str(name)
 }
 
 /// Whether a flag is set. (`get_flag` says it for the values "true" and "false" alone.)
 fn is_set(found: &ArgMatches<'_>, name: &str) -> bool
     ensures { result ≡ is_flag_set name.now (rows_of (found_of found.now)) }
 {
-    match found.get_str(name) {
+    match file(found, name) {
         Some(value) => value == "true",
         None => false,
     }

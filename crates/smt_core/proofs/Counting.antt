@@ -1,15 +1,14 @@
 -- How many events of a history an actor has made, event by event; and how many are by it and those of greater numbers.
 use Rattle.std.proofs.Common.{◌≡◌, ℕ, ◌+◌, ◌<◌, ◌≤◌, ◌==◌, Bool, true, false, List, [], ◌∷◌, length, take, get_or}
-use Rattle.std.proofs.Common.{reverse, None, refl, ap, subst, suc, ◌∙◌, arith}
-use Rattle.std.specs.Prelude.{nat_le, slice_get, Some, sum}
+use Rattle.std.proofs.Common.{reverse, None, refl, ap, ◌∙◌, arith}
+use Rattle.std.specs.Prelude.{nat_le}
 use Rattle.std.proofs.{lemmas.Bool.Decides.nat_tests, lemmas.List.take_more, lemmas.List.reverse-append}
-use Rattle.std.proofs.lemmas.List.Sums.{sum_by-cons}
 use Rattle.events.specs.{declared.event.Event.Event, Event.actor_of}
 use Rattle.events.specs.declared.event.Event.TheVariants.{Fetch, Decode, Rename, Issue, Complete, Drop, Retire}
 use Rattle.smt_model.specs.{Account.event_count, Basics.how_many, Setup.Setup, Rules.is_legal, Rules.refused}
 use Rattle.smt_model.specs.{Jobs.is_actor}
 use Rattle.smt_model.proofs.Allowed.{allowed}
-use Rattle.smt_core.specs.Counts.{AreCounts, AreCountsBelow, made_from}
+use Rattle.smt_core.specs.Counts.{made_from}
 
 -- The newest event of those so far.
 pub newest : {X : Type 0} (xs : List X) (i : ℕ) (d : X) → i < length xs
@@ -37,10 +36,6 @@ made_within k (e ∷ past) =
     let rest = made_within k past in
     let small = one_at_most (actor_of e == k) in
     omega (arith, here, rest, small)
-
-pub few_counts : (past : List Event) (counts : List ℕ) (most : ℕ) → length past < most → AreCounts past counts
-    → AreCountsBelow most counts
-few_counts past counts most short are k n at = omega (arith, are k n at, made_within k past, short)
 
 -- Of those by an actor or a greater one, some are the actor's own and the others by greater ones.
 shared : (k n : ℕ) → one (nat_le k n) ≡ one (n == k) + one (nat_le (k + 1) n)
@@ -85,36 +80,3 @@ none_from_16 setup (e ∷ past) legal few =
     let inside = actor_in setup past e legal.0 in
     let counts : one (nat_le 16 (actor_of e)) ≡ 0 = grind (arith, nat_tests, inside, few) in
     omega (arith, here, rest, counts)
-
--- Counts that stand in a row, of the actors from k on, and the events by those of greater numbers are all by k or
--- a greater one.
-counts_from : (past : List Event) (k : ℕ) (counts : List ℕ)
-    → ((j n : ℕ) → slice_get counts j ≡ Some n → n ≡ event_count (k + j) past)
-    → sum counts + made_from (k + length counts) past ≡ made_from k past
-counts_from past k [] are =
-    let same : k + length {A = ℕ} [] ≡ k = omega arith in
-    let ends : made_from (k + length {A = ℕ} []) past ≡ made_from k past = ap (λ n. made_from n past) same in
-    omega (arith, ends)
-counts_from past k (x ∷ rest) are =
-    let none_on : k + 0 ≡ k = omega arith in
-    let own : x ≡ event_count k past = subst (λ n. x ≡ event_count n past) none_on (are 0 x refl) in
-    let further : sum rest + made_from (k + 1 + length rest) past ≡ made_from (k + 1) past =
-    counts_from past (k + 1) rest (λ j n at.
-    let same : k + suc j ≡ k + 1 + j = omega arith in
-    subst (λ m. n ≡ event_count m past) same (are (suc j) n at)) in
-    let same : k + length (x ∷ rest) ≡ k + 1 + length rest = omega arith in
-    let ends : made_from (k + length (x ∷ rest)) past ≡ made_from (k + 1 + length rest) past =
-    ap (λ n. made_from n past) same in
-    let more : sum (x ∷ rest) ≡ x + sum rest = sum_by-cons (λ n. n) x rest in
-    omega (arith, own, further, ends, more, own_and_greater k past)
-
--- The counts of all sixteen actors of a legal history add up to its events.
-pub counts_add_up : (setup : Setup) (past : List Event) (counts : List ℕ) → is_legal setup past
-    → length setup.roles ≤ 16 → length counts ≡ 16
-    → ((k n : ℕ) → slice_get counts k ≡ Some n → n ≡ event_count k past) → sum counts ≡ length past
-counts_add_up setup past counts legal few sixteen are =
-    let all = counts_from past 0 counts (λ j n at.
-    let same : j ≡ 0 + j = omega arith in subst (λ m. n ≡ event_count m past) same (are j n at)) in
-    let same : 0 + length counts ≡ 16 = omega (arith, sixteen) in
-    let ends : made_from (0 + length counts) past ≡ made_from 16 past = ap (λ n. made_from n past) same in
-    omega (arith, all, ends, none_from_16 setup past legal few, all_from_0 past)

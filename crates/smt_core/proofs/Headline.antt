@@ -45,7 +45,7 @@ status_is past h n s o there said is =
     let known : o ≡ Some (status past h) = rw under at said in
     same_status (status past h) s (sym known ∙ is)
 
--- The same over two names of one view.
+-- What was said of one name of a view holds of another.
 pub status_in : (a b : CoreView) (h : ℕ) (s : Status) (o : Option Status) → a ≡ b → h < a.setup.harts
     → o ≡ (if nat_lt h a.setup.harts then Some (status a.past h) else None) → o ≡ Some s → s ≡ status b.past h
 status_in a b h s o same there said is =
@@ -104,7 +104,7 @@ pub register_answered : (core : CoreView) (h r : ℕ) (o : Option ℕ) → EachI
 register_answered core h r None headline legal is = tt
 register_answered core h r (Some number) headline legal is = some_register core h r number headline legal (sym is)
 
--- The same over two names of one view.
+-- What was said of one name of a view holds of another.
 pub register_in : (a b : CoreView) (h r : ℕ) (o : Option ℕ) → a ≡ b
     → o ≡ (if nat_lt h a.setup.harts && nat_lt r 32 then committed_value a.setup a.past h r else None)
     → o ≡ (if nat_lt h b.setup.harts && nat_lt r 32 then committed_value b.setup b.past h r else None)

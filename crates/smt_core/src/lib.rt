@@ -1,14 +1,13 @@
 //! The core: six calls that each make one step of the pipeline or say why there is none.
 //!
 //! Read in this order: `predict` (what a branch predictor is), `answer` (what the calls answer),
-//! `calls`, `follow` (a core that is given its events); then `counts` (how many events a history holds
-//! of each actor), `shown` (what holds of each core that is shown) and `finished` (what is left of a
-//! core when nobody asks it any more). What a history comes to, `Account`, stands in `smt_laws`.
+//! `calls`, `follow` (a core that is given its events); then `shown` (what holds of each core that is
+//! shown) and `finished` (what is left of a core when nobody asks it any more). What a history comes
+//! to, `Account`, stands in `smt_laws`.
 #![tactic(auto)]
 
 pub mod answer;
 pub mod calls;
-mod counts;
 pub mod finished;
 pub mod follow;
 pub mod predict;

@@ -4,7 +4,7 @@ use Rattle.std.specs.Prelude.{◌≡◌, ℕ, Bool, true, false, not, ◌==◌, 
 use Rattle.std.specs.Prelude.{Some}
 use Rattle.std.proofs.Common.{◌∙◌, refl, sym, ap, subst, arith}
 use Rattle.std.proofs.lemmas.Bool.Decides.{nat_tests}
-use Rattle.program_image.specs.Image.{code_word}
+use Rattle.elf_image.specs.Image.{code_word}
 use Rattle.rv_instr.specs.Decode.{op_of_word}
 use Rattle.events.specs.{declared.effect.Next.Next, declared.effect.Next.TheVariants.Pc}
 use Rattle.events.specs.{declared.effect.Next.TheVariants.Ended, declared.effect.Next.TheVariants.Stopped}

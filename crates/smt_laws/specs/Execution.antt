@@ -4,7 +4,7 @@
 -- program. [Lamport 1979, sequential consistency]
 use Rattle.std.specs.Prelude.{◌≡◌, ℕ, ◌<◌, Bool, true, not, ◌==◌, ◌&&◌, if◌then◌else◌, List, []}
 use Rattle.std.specs.Prelude.{◌∷◌, map, Option, Some, None}
-use Rattle.program_image.specs.Image.{byte_in, code_word}
+use Rattle.elf_image.specs.Image.{byte_in, code_word}
 use Rattle.rv_instr.specs.{Decode.op_of_word, declared.op.Op.Op}
 use Rattle.events.specs.{declared.effect.Effect.Effect, declared.effect.Record.Record}
 use Rattle.events.specs.{declared.event.Event.Event}

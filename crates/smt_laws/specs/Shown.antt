@@ -72,7 +72,7 @@ EachRunIsShown = (setup : Setup) (predict : Predictor) (harts : List ℕ) (ran :
     → run setup harts ≡ Some ran
     → CanShow setup ran.records → IsShown setup predict harts ran.records
 
--- The same of every execution, told by its records alone.
+-- Every execution, given by its records alone, can be shown so.
 abbrev pub EachExecutionIsShown : Type 0
 EachExecutionIsShown = (setup : Setup) (predict : Predictor) (all : List Record)
     → IsExecution setup all

@@ -2,7 +2,7 @@
 use Rattle.std.specs.Prelude.{◌≡◌, ℕ, Bool, true, not, ◌==◌, ◌&&◌, ◌||◌, nat_lt, List, [], ◌∷◌, length, Option, Some}
 use Rattle.std.specs.Prelude.{None, is_some, is_none}
 use Rattle.std.proofs.Common.{refl, arith}
-use Rattle.program_image.specs.Image.{code_word}
+use Rattle.elf_image.specs.Image.{code_word}
 use Rattle.events.specs.{declared.effect.Outcome.Outcome, declared.effect.Effect.Effect, declared.event.Event.Event}
 use Rattle.events.specs.declared.event.Event.TheVariants.{Fetch, Decode, Rename, Issue, Complete, Drop, Retire}
 use Rattle.smt_model.specs.Basics.{holds_of, same_number, same_truth, how_many}

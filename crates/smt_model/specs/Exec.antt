@@ -142,7 +142,7 @@ computed_of (instr.LoadReserved rd rs1 ordering) pc a b = touches pc a 0
 computed_of (instr.StoreConditional rd rs1 rs2 ordering) pc a b = touches pc a b
 computed_of (instr.Amo kind rd rs1 rs2 ordering) pc a b = touches pc a b
 
--- The same of what was found at the pc. Cause 1: there is no word there. Cause 2: the word is no
+-- What is computed of what was found at the pc. Cause 1: there is no word there. Cause 2: the word is no
 -- instruction.
 unfoldable pub exec : Op → ℕ → ℕ → ℕ → Computed
 exec (Known i) pc a b = computed_of i pc a b

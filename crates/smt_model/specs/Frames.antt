@@ -78,7 +78,7 @@ pub record ReadsTheSame (p q : Picture) (which : Op → ℕ) (s : ℕ) : Type 0 
   pub seen : q.seen which s ≡ p.seen which s
   pub reads : q.reads which s ≡ p.reads which s
 
--- The same of both sources of every instruction that waits in q's queue and did in p's.
+-- Every instruction that waits in q's queue and did in p's reads so from both its sources.
 abbrev pub KeepsReadings : Picture → Picture → Type 0
 KeepsReadings p q = (s : ℕ) → is (p.fate s) Renamed ≡ true → is (q.fate s) Renamed ≡ true
     → ReadsTheSame p q first_source s × ReadsTheSame p q second_source s

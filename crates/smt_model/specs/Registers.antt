@@ -140,7 +140,7 @@ value setup past p = value_by past (first_value setup p) (holder past p)
 abbrev pub reading : Setup → List Event → ℕ → ℕ → ℕ → Option ℕ
 reading setup past h r s = if r == 0 then Some 0 else value setup past (source_register past h r s)
 
--- The same of the source that `which` picks from an instruction, such as the first.
+-- What it reads for the source that `which` picks from an instruction, such as the first.
 abbrev pub reading_by : Setup → (Op → ℕ) → List Event → ℕ → Option Fetched → Option ℕ
 reading_by setup which past s None = None
 reading_by setup which past s (Some f) =

@@ -4,7 +4,7 @@ use Rattle.std.specs.Prelude.{Option, Some, None}
 use Rattle.numbers.specs.Sizes.{most_harts, most_extra, fewest_queued, most_queued, most_actors}
 use Rattle.numbers.specs.Sizes.{most_events}
 use Rattle.numbers.specs.Layout.{first_extra}
-use Rattle.program_image.specs.Image.{ProgramImage}
+use Rattle.elf_image.specs.Image.{ProgramImage}
 use Rattle.rv_instr.specs.declared.op.UnitKind.{UnitKind}
 use Rattle.rv_instr.specs.declared.op.UnitKind.TheVariants as unit
 use Rattle.smt_model.specs.{Words.ProgramImage, Words.UnitKind, declared.config.Role.Role}

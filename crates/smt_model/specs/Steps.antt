@@ -125,7 +125,7 @@ WakesReadings p q register filled which s =
     (q.seen which s ≡ p.seen which s)
     × (q.reads which s ≡ woken_reading register filled (p.seen which s) (p.reads which s))
 
--- The same of both sources of every waiting instruction.
+-- Both sources of every waiting instruction are woken so.
 abbrev pub WakesAll : Picture → Picture → Option ℕ → Option ℕ → Type 0
 WakesAll p q register filled = (s : ℕ) → is (p.fate s) Renamed ≡ true
     → WakesReadings p q register filled first_source s
@@ -257,7 +257,7 @@ pub record IsRetire (p q : Picture) (h n : ℕ) (x : Effect) (goes_on : ℕ) : T
       StaysBut (ActiveList ∷ CommittedMap ∷ FetchPc ∷ [])
       (FreeList ∷ Values ∷ Records ∷ Output ∷ Memory ∷ []) p q h
 
--- ---- The same where it ends or stops its hart: it commits nothing, and its own register becomes
+-- ---- A retirement that ends or stops its hart: it commits nothing, and its own register becomes
 -- free. Nothing is said of the hart's map, which goes with the squash that follows.
 pub record IsHalt (p q : Picture) (h n : ℕ) (x : Effect) : Type 0 where
   pub of_hart : is_hart_of p h n ≡ true

@@ -1,5 +1,5 @@
 -- What the definitions take from the crates below, under one name.
-pub use Rattle.program_image.specs.Image.{ProgramImage, in_ram, touches_code, byte_in, code_word}
+pub use Rattle.elf_image.specs.Image.{ProgramImage, in_ram, touches_code, byte_in, code_word}
 pub use Rattle.events.specs.Event.{actor_of, seq_of}
 pub use Rattle.events.specs.declared.effect.Effect.{Effect}
 pub use Rattle.events.specs.declared.effect.Next.{Next}

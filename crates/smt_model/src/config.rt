@@ -29,7 +29,7 @@ pub struct Config {
 }
 
 impl Config {
-    /// The same configuration again.
+    /// A copy of the configuration.
     pub fn copied(&self) -> Config
         ensures sizes { (result.harts ≡ self.now.harts) × (result.extra ≡ self.now.extra)
             × (result.queue ≡ self.now.queue) }

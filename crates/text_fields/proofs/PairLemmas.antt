@@ -1,4 +1,4 @@
--- The table of the digits of each byte.
+-- The two tables of digits.
 
 use Rattle.std.proofs.Common.{take, drop, ◌≡◌, ℕ, zero, suc, ◌+◌, ◌-◌, ◌*◌, ◌/◌, ◌%◌, ◌^◌, ◌<◌, false, List, [], ◌∷◌, get_or, refl, ◌∙◌, ap, arith}
 use Rattle.std.proofs.lemmas.{Bool.Decides.nat_tests, List.get_or-drop, List.get_or-take}
@@ -6,70 +6,54 @@ use Rattle.std.specs.Fmt.{digit_glyph}
 use Rattle.text_fields.specs.Spelling.{hex, hex_digit}
 use Rattle.text_fields.specs.declared.pairs.TheConstants.{DECIMALS, PAIRS}
 
--- the digits of `count` bytes from n on
-table : ℕ → ℕ → List ℕ
-table zero n = []
-table (suc count) n = digit_glyph false (n / 16) ∷ digit_glyph false (n % 16) ∷ table count (n + 1)
+-- a table of two digits for each of `count` numbers from n on
+table : (ℕ → ℕ) → (ℕ → ℕ) → ℕ → ℕ → List ℕ
+table high low zero n = []
+table high low (suc count) n = high n ∷ low n ∷ table high low count (n + 1)
 
-table_at : (count n i : ℕ) → i < count →
-    (get_or (table count n) (2 * i) 0 ≡ digit_glyph false ((n + i) / 16))
-    × (get_or (table count n) (2 * i + 1) 0 ≡ digit_glyph false ((n + i) % 16))
+table_from : (high low : ℕ → ℕ) (count n i : ℕ) → i < count →
+    (get_or (table high low count n) (2 * i) 0 ≡ high (n + i)) × (get_or (table high low count n) (2 * i + 1) 0 ≡ low (n + i))
 unfolding table
-table_at zero n i within = absurd (omega arith)
-table_at (suc count) n zero within =
+table_from high low zero n i within = absurd (omega arith)
+table_from high low (suc count) n zero within =
     let same : n ≡ n + 0 = omega arith in
-    (ap (λ m. digit_glyph false (m / 16)) same, ap (λ m. digit_glyph false (m % 16)) same)
-table_at (suc count) n (suc i) within =
-    let high : 2 * suc i ≡ suc (suc (2 * i)) = omega arith in
-    let low : 2 * suc i + 1 ≡ suc (suc (2 * i + 1)) = omega arith in
+    (ap high same, ap low same)
+table_from high low (suc count) n (suc i) within =
+    let first : 2 * suc i ≡ suc (suc (2 * i)) = omega arith in
+    let second : 2 * suc i + 1 ≡ suc (suc (2 * i + 1)) = omega arith in
     let same : n + suc i ≡ n + 1 + i = omega arith in
-    rw (low, high, same) (table_at count (n + 1) i (omega arith))
+    rw (second, first, same) (table_from high low count (n + 1) i (omega arith))
 
-is_table : PAIRS ≡ table 256 0
+table_at : (high low : ℕ → ℕ) (count n : ℕ) → n < count →
+    (get_or (table high low count 0) (2 * n) 0 ≡ high n) × (get_or (table high low count 0) (2 * n + 1) 0 ≡ low n)
+table_at high low count n within =
+    let found = table_from high low count 0 n within in
+    let same : 0 + n ≡ n = omega arith in
+    (found.0 ∙ ap high same, found.1 ∙ ap low same)
+
+-- the digits of each byte
+
+are_pairs : PAIRS ≡ table (λ n. digit_glyph false (n / 16)) (λ n. digit_glyph false (n % 16)) 256 0
 unfolding table
-is_table = refl
+are_pairs = refl
 
 pub high_at : (n : ℕ) → n < 256 → get_or PAIRS (2 * n) 0 ≡ digit_glyph false (n / 16)
-high_at n within =
-    let same : 0 + n ≡ n = omega arith in
-    rw is_table ((table_at 256 0 n within).0 ∙ ap (λ m. digit_glyph false (m / 16)) same)
+high_at n within = rw are_pairs (table_at _ _ 256 n within).0
 
 pub low_at : (n : ℕ) → n < 256 → get_or PAIRS (2 * n + 1) 0 ≡ digit_glyph false (n % 16)
-low_at n within =
-    let same : 0 + n ≡ n = omega arith in
-    rw is_table ((table_at 256 0 n within).1 ∙ ap (λ m. digit_glyph false (m % 16)) same)
+low_at n within = rw are_pairs (table_at _ _ 256 n within).1
 
-decimals : ℕ → ℕ → List ℕ
-decimals zero n = []
-decimals (suc count) n = (48 + n / 10) ∷ (48 + n % 10) ∷ decimals count (n + 1)
+-- the digits of each number below 100
 
-decimals_at : (count n i : ℕ) → i < count →
-    (get_or (decimals count n) (2 * i) 0 ≡ 48 + (n + i) / 10)
-    × (get_or (decimals count n) (2 * i + 1) 0 ≡ 48 + (n + i) % 10)
-unfolding decimals
-decimals_at zero n i within = absurd (omega arith)
-decimals_at (suc count) n zero within =
-    let same : n ≡ n + 0 = omega arith in
-    (ap (λ m. 48 + m / 10) same, ap (λ m. 48 + m % 10) same)
-decimals_at (suc count) n (suc i) within =
-    let high : 2 * suc i ≡ suc (suc (2 * i)) = omega arith in
-    let low : 2 * suc i + 1 ≡ suc (suc (2 * i + 1)) = omega arith in
-    let same : n + suc i ≡ n + 1 + i = omega arith in
-    rw (low, high, same) (decimals_at count (n + 1) i (omega arith))
-
-are_decimals : DECIMALS ≡ decimals 100 0
-unfolding decimals
+are_decimals : DECIMALS ≡ table (λ n. 48 + n / 10) (λ n. 48 + n % 10) 100 0
+unfolding table
 are_decimals = refl
 
 pub tens_at : (n : ℕ) → n < 100 → get_or DECIMALS (2 * n) 0 ≡ 48 + n / 10
-tens_at n within =
-    let same : 0 + n ≡ n = omega arith in
-    rw are_decimals ((decimals_at 100 0 n within).0 ∙ ap (λ m. 48 + m / 10) same)
+tens_at n within = rw are_decimals (table_at _ _ 100 n within).0
 
 ones_at : (n : ℕ) → n < 100 → get_or DECIMALS (2 * n + 1) 0 ≡ 48 + n % 10
-ones_at n within =
-    let same : 0 + n ≡ n = omega arith in
-    rw are_decimals ((decimals_at 100 0 n within).1 ∙ ap (λ m. 48 + m % 10) same)
+ones_at n within = rw are_decimals (table_at _ _ 100 n within).1
 
 -- the same, looked up in what is left of the table from the tens on
 pub ones_behind : (n : ℕ) → n < 100 → get_or (take (200 - 2 * n) (drop (2 * n) DECIMALS)) 1 0 ≡ 48 + n % 10
@@ -88,13 +72,13 @@ same_glyph : (a d e : ℕ) → a ≡ digit_glyph false d → d ≡ e → a ≡ d
 same_glyph a d e is same = is ∙ ap (λ x. digit_glyph false x) same
 
 -- the digits of a number are those of its four bytes
-pub word_digits : (value a b c d e f g h : ℕ) → value < 2 ^ 32 →
+pub word_is : (value a b c d e f g h : ℕ) → value < 2 ^ 32 →
     a ≡ digit_glyph false (value / 16777216 / 16) → b ≡ digit_glyph false (value / 16777216 % 16) →
     c ≡ digit_glyph false (value / 65536 % 256 / 16) → d ≡ digit_glyph false (value / 65536 % 256 % 16) →
     e ≡ digit_glyph false (value / 256 % 256 / 16) → f ≡ digit_glyph false (value / 256 % 256 % 16) →
     g ≡ digit_glyph false (value % 256 / 16) → h ≡ digit_glyph false (value % 256 % 16) →
     a ∷ b ∷ c ∷ d ∷ e ∷ f ∷ g ∷ h ∷ [] ≡ hex 8 value
-word_digits value a b c d e f g h small pa pb pc pd pe pf pg ph =
+word_is value a b c d e f g h small pa pb pc pd pe pf pg ph =
     same_eight a b c d e f g h (hex_digit 7 value) (hex_digit 6 value) (hex_digit 5 value) (hex_digit 4 value)
     (hex_digit 3 value) (hex_digit 2 value) (hex_digit 1 value) (hex_digit 0 value)
     (same_glyph a (value / 16777216 / 16) (value / 16 ^ 7 % 16) pa (omega arith))

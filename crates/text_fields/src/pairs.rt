@@ -1,7 +1,8 @@
 //! The two digits of a byte, from tables: that takes fewer steps than to compute them.
 
-ghost use Rattle.std.specs.Prelude.{◌≡◌, ◌+◌, ◌/◌, ◌%◌, ◌<◌, false};
+ghost use Rattle.std.specs.Prelude.{◌≡◌, ◌+◌, ◌/◌, ◌%◌, ◌<◌, false, IsAscii};
 ghost use Rattle.std.specs.Fmt.{digit_glyph};
+ghost use Rattle.text_fields.specs.Spelling.{hex};
 
 // The decimal digits of each number below 100, from `00` to `99`.
 static DECIMALS: [u8; 200] =
@@ -33,6 +34,28 @@ pub(crate) fn low_digit(byte: u8) -> u8
     ensures ascii { result < 128 }
 {
     PAIRS[2 * byte as usize + 1]
+}
+
+// The eight hexadecimal digits of a number.
+#[inline]
+pub(crate) fn word_digits(value: u32) -> [u8; 8]
+    ensures spelled { result ≡ hex 8 value }
+    ensures ascii { IsAscii result }
+{
+    let first = (value / 0x100_0000) as u8;
+    let second = (value / 0x1_0000 % 256) as u8;
+    let third = (value / 0x100 % 256) as u8;
+    let last = (value % 256) as u8;
+    [
+        high_digit(first),
+        low_digit(first),
+        high_digit(second),
+        low_digit(second),
+        high_digit(third),
+        low_digit(third),
+        high_digit(last),
+        low_digit(last),
+    ]
 }
 
 // The digit of the tens.

@@ -4,9 +4,9 @@ ghost use Rattle.std.specs.Prelude.{◌≡◌, ◌+◌, ◌/◌, ◌%◌, ◌≤
 ghost use Rattle.std.specs.Prelude.{length, IsAscii};
 ghost use Rattle.std.specs.Fmt.{decimal, digit_glyph};
 ghost use Rattle.arrayvec.specs.ArrayString.{array_string_len};
-ghost use Rattle.text_fields.specs.Spelling.{hex, hex_digit, dash, optional};
+ghost use Rattle.text_fields.specs.Spelling.{hex, hex_digit};
 
-use crate::pairs::{high_digit, low_digit, ones, tens};
+use crate::pairs::{high_digit, low_digit, ones, tens, word_digits};
 use arrayvec::ArrayString;
 use itoa::{Buffer, Integer};
 use std::str::from_utf8_unchecked;
@@ -36,15 +36,6 @@ pub fn push_small_number<const N: usize>(text: &mut ArrayString<N>, value: u8)
         let back = value % 100;
         push_bytes(text, &[b'0' + value / 100, tens(back), ones(back)]);
     }
-}
-
-/// Appends a decimal number of four bytes as `push_decimal` does.
-pub fn push_number<const N: usize>(text: &mut ArrayString<N>, value: u32)
-    requires { array_string_len text.old + 10 ≤ N }
-    ensures spelled { text.new.bytes ≡ text.old.bytes ++ decimal value }
-    ensures length { array_string_len text.new ≤ array_string_len text.old + 10 }
-{
-    push_decimal(text, value);
 }
 
 // Appends ASCII characters.
@@ -108,23 +99,7 @@ fn push_word<const N: usize>(text: &mut ArrayString<N>, value: u32)
     ensures spelled { text.new.bytes ≡ text.old.bytes ++ hex 8 value }
     ensures length { array_string_len text.new ≡ array_string_len text.old + 8 }
 {
-    let first = (value / 0x100_0000) as u8;
-    let second = (value / 0x1_0000 % 256) as u8;
-    let third = (value / 0x100 % 256) as u8;
-    let last = (value % 256) as u8;
-    push_bytes(
-        text,
-        &[
-            high_digit(first),
-            low_digit(first),
-            high_digit(second),
-            low_digit(second),
-            high_digit(third),
-            low_digit(third),
-            high_digit(last),
-            low_digit(last),
-        ],
-    );
+    push_bytes(text, &word_digits(value));
 }
 
 // Appends the two lowest digits of a number.
@@ -146,49 +121,5 @@ fn push_digits<const N: usize>(text: &mut ArrayString<N>, value: u32, count: usi
 {
     for place in (0..count).rev() {
         push_ascii(text, hex_digit(value, place));
-    }
-}
-
-/// Appends the dash that stands for no value.
-pub fn push_dash<const N: usize>(text: &mut ArrayString<N>)
-    requires { array_string_len text.old + 1 ≤ N }
-    ensures spelled { text.new.bytes ≡ text.old.bytes ++ dash }
-    ensures length { array_string_len text.new ≡ array_string_len text.old + 1 }
-{
-    text.push_str("-");
-}
-
-/// Appends a decimal number as `push_decimal` does, or a dash where there is none.
-pub fn push_optional_decimal<const N: usize, I: Integer>(
-    text: &mut ArrayString<N>,
-    value: Option<I>,
-)
-    requires shown { 1 ≤ I.MAX_STR_LEN }
-    requires room { array_string_len text.old + I.MAX_STR_LEN ≤ N }
-    ensures spelled { text.new.bytes ≡ text.old.bytes ++ optional I.text value }
-    ensures length { array_string_len text.new ≤ array_string_len text.old + I.MAX_STR_LEN }
-{
-    match value {
-        None => push_dash(text),
-        Some(number) => push_decimal(text, number),
-    }
-}
-
-/// Appends the lowest `count` hexadecimal digits of a number, 1 to 8 of them, in lower case, or a
-/// dash where there is no number.
-pub fn push_optional_hex<const N: usize>(
-    text: &mut ArrayString<N>,
-    value: Option<u32>,
-    count: usize,
-)
-    requires places { count ≤ 8 }
-    requires shown { 1 ≤ count }
-    requires room { array_string_len text.old + count ≤ N }
-    ensures spelled { text.new.bytes ≡ text.old.bytes ++ optional (hex count) value }
-    ensures length { array_string_len text.new ≤ array_string_len text.old + count }
-{
-    match value {
-        None => push_dash(text),
-        Some(number) => push_hex(text, number, count),
     }
 }

@@ -6,8 +6,8 @@ ghost use Rattle.std.specs.Fmt.{decimal};
 ghost use Rattle.arrayvec.specs.ArrayString.{array_string_len};
 ghost use Rattle.text_fields.specs.Spelling.{hex, dash};
 
-use crate::pairs::{high_digit, low_digit, ones, tens};
-use crate::print::{push_ascii, push_bytes, push_number, push_small_number};
+use crate::pairs::{ones, tens, word_digits};
+use crate::print::{push_ascii, push_bytes, push_decimal, push_small_number};
 use arrayvec::ArrayString;
 
 /// Appends a space and a decimal number of one byte.
@@ -49,7 +49,7 @@ fn push_nine_or_ten<const N: usize>(text: &mut ArrayString<N>, value: u32)
     ensures length { array_string_len text.new ≤ array_string_len text.old + 11 }
 {
     push_ascii(text, b' ');
-    push_number(text, value);
+    push_decimal(text, value);
 }
 
 // Appends a space and a number below 10,000.
@@ -113,24 +113,8 @@ pub fn push_word_after<const N: usize>(text: &mut ArrayString<N>, byte: u8, valu
     ensures spelled { text.new.bytes ≡ text.old.bytes ++ byte ∷ hex 8 value }
     ensures length { array_string_len text.new ≡ array_string_len text.old + 9 }
 {
-    let first = (value / 0x100_0000) as u8;
-    let second = (value / 0x1_0000 % 256) as u8;
-    let third = (value / 0x100 % 256) as u8;
-    let last = (value % 256) as u8;
-    push_bytes(
-        text,
-        &[
-            byte,
-            high_digit(first),
-            low_digit(first),
-            high_digit(second),
-            low_digit(second),
-            high_digit(third),
-            low_digit(third),
-            high_digit(last),
-            low_digit(last),
-        ],
-    );
+    let [a, b, c, d, e, f, g, h] = word_digits(value);
+    push_bytes(text, &[byte, a, b, c, d, e, f, g, h]);
 }
 
 /// Appends a space and the dash that stands for no value.

@@ -2,7 +2,7 @@
 -- Their numbers were found by hand. RAM is 80000000 to 80001fff, and the first 16 bytes of it are the code.
 use Rattle.std.specs.Prelude.{◌≡◌, ℕ, Bool, true, false, ◌==◌, if◌then◌else◌, List, [], ◌∷◌, map, replicate, Option}
 use Rattle.std.specs.Prelude.{Some, None, refl}
-use Rattle.program_image.specs.Image.{ProgramImage}
+use Rattle.elf_image.specs.Image.{ProgramImage}
 use Rattle.rv_instr.specs.{Decode.op_of_word, declared.op.Op.Op, declared.op.Op.TheVariants.Known}
 use Rattle.rv_instr.specs.{declared.op.Op.TheVariants.Illegal, declared.op.Op.TheVariants.NoWord}
 use Rattle.events.specs.{declared.effect.Next.Next, declared.effect.Next.TheVariants.Pc}

@@ -73,7 +73,7 @@ output_of_two_calls :
 unfolding rules_of_events
 output_of_two_calls = refl
 
--- The same of two retirements that put them out.
+-- Two retirements put them out so.
 output_of_two_retirements :
     output (past_of (
     Retire 2 2 (record (effect None (Pc 0x8000000c)) { out = Some 72 })

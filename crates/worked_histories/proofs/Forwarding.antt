@@ -77,7 +77,7 @@ forwarded_refines = refl
 
 -- ---- A load ahead of an older store of its own hart
 
--- The same hart with a second unit for memory, actor 6.
+-- This hart with a second unit for memory, actor 6.
 abbrev two_units : Setup
 two_units = record one { roles = one_of_each ++ role.Mem ∷ [] }
 

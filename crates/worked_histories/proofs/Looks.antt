@@ -213,7 +213,7 @@ replayed_refines = refl
 
 -- ---- A store of the number that was there
 
--- The same harts, where hart 1 has sw x0,0(x6).
+-- These harts, where hart 1 has sw x0,0(x6).
 abbrev silent : Setup
 silent =
     core 2 (0x80001337 ∷ 0x00051863 ∷ 0x00032283 ∷ 0x00128393 ∷ 0x00032603 ∷ 0x00032023 ∷ [])

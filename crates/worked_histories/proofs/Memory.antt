@@ -17,7 +17,7 @@ passes unit s pc word phys o x =
     Fetch 0 0 s pc (Some word) (next_pc pc) ∷ Decode 1 s ∷ Rename 1 s phys ∷ Issue unit s ∷ Complete unit s o
     ∷ Retire 2 s x ∷ []
 
--- The same of a word that computes a number on the unit for arithmetic.
+-- So it is with a word that computes a number on the unit for arithmetic.
 abbrev gives : ℕ → ℕ → ℕ → ℕ → ℕ → List Event
 gives s pc word phys n =
     passes 3 s pc word (Some phys) (outcome (Some n) (Pc (next_pc pc))) (effect (Some n) (Pc (next_pc pc)))

@@ -181,7 +181,7 @@ registers_of_it = refl
 
 -- ---- The store of hart 1 is to the next word
 
--- The same harts, where hart 1 has sw x10,4(x6).
+-- These harts, where hart 1 has sw x10,4(x6).
 abbrev apart : Setup
 apart = core 2 (0x80001337 ∷ 0x00051663 ∷ 0x100322af ∷ 0x18b323af ∷ 0x00a32223 ∷ [])
 

@@ -81,7 +81,7 @@ fetch_pc_after_the_end = refl
 
 -- ---- Every prediction is wrong: that pc 0 comes next
 
--- The same program. Number 1 is fetched at 0, where there is no word, and is squashed as number 0 completes. Each of
+-- Of this program number 1 is fetched at 0, where there is no word, and is squashed as number 0 completes. Each of
 -- the next is fetched once the one before has completed.
 abbrev mispredicted : List Event
 mispredicted =

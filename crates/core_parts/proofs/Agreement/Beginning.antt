@@ -7,12 +7,12 @@ use Rattle.std.proofs.Common.{◌∙◌, refl, subst, sym, ap, inl, inr, arith}
 use Rattle.std.proofs.{lemmas.Bool.cases_Bool, lemmas.Bool.cases_eq, lemmas.Bool.cases_lt}
 use Rattle.std.proofs.{lemmas.Bool.Decides.nat_tests, lemmas.List.get_or-set_same, lemmas.List.get_or-set_other}
 use Rattle.std.proofs.{lemmas.List.length_push, Math.ListN.get_or-append, Math.Seq.get_or-append_seam}
-use Rattle.register_renaming.specs.Flags.{holds}
+use Rattle.free_list.specs.Flags.{holds}
 use Rattle.issue_queue.specs.Queue.{Queue}
 use Rattle.smt_model.specs.{Picture.picture, Picture.is_free, Registers.is_unclaimed, Registers.first_register}
 use Rattle.smt_model.specs.{Setup.Setup, Setup.first_number}
 use Rattle.smt_model.proofs.Registers.Claims.{IsFlightClaim, IsCommittedClaim, claimant, committed_claimed}
-use Rattle.program_image.specs.Image.{ProgramImage, byte_in}
+use Rattle.elf_image.specs.Image.{ProgramImage, byte_in}
 use Rattle.memory_system.specs.Contents.{IsStart}
 use Rattle.memory_system.specs.Queues.{queues_of, empty}
 use Rattle.core_parts.specs.Accesses.{accesses_of}

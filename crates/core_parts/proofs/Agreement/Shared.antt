@@ -33,7 +33,7 @@ entry_kept p q e kept fate first second is = record {
       ∙ ap (λ x. source_at q first_source e.seq ∷ x ∷ []) (sources_kept p q second_source e.seq second));
 }
 
--- The same of one that is in flight as it was.
+-- An entry stays one whose instruction is in flight as it was, and reads what it read.
 pub waiting_kept : (p q : Picture) (e : Entry) → KeepsFetched p q → IsSameInstruction p q e.seq → KeepsReadings p q
     → IsEntry p e → IsEntry q e
 waiting_kept p q e kept same readings is =

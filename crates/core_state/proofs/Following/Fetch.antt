@@ -1,7 +1,7 @@
 -- Which rule a fetch breaks.
 use Rattle.std.specs.Prelude.{◌≡◌, ℕ, ◌<◌, ◌==◌, Bool, true, false, List, [], ◌∷◌, Option, Some, None}
 use Rattle.std.proofs.Common.{◌∙◌, refl, sym, ap}
-use Rattle.program_image.specs.Image.{code_word}
+use Rattle.elf_image.specs.Image.{code_word}
 use Rattle.events.specs.{declared.event.Event.Event, declared.event.Event.TheVariants.Fetch}
 use Rattle.smt_model.specs.{Basics.same_number, Setup.Setup, Jobs.is_actor, Fates.fetches}
 use Rattle.smt_model.specs.Fetching.{choice, fetch_pc}

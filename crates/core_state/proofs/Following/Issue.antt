@@ -1,12 +1,12 @@
 -- Which rule an issue breaks.
-use Rattle.std.specs.Prelude.{◌≡◌, ℕ, ◌==◌, ◌&&◌, ◌||◌, Bool, true, false, not, nat_lt, List, [], ◌∷◌, map, find}
+use Rattle.std.specs.Prelude.{◌≡◌, ℕ, ◌==◌, ◌&&◌, ◌||◌, Bool, true, false, not, nat_lt, nat_le, List, [], ◌∷◌, map, find}
 use Rattle.std.specs.Prelude.{Option, Some, None, is_some, is_none, if◌then◌else◌, IfSome, IfNone}
 use Rattle.std.specs.List.{AllByRecursion, list_all, list_any}
-use Rattle.std.proofs.Common.{zero, suc, ◌<◌, ◌≤◌, length, get_or, drop, ◌∙◌, refl, sym, ap, subst, inl, inr, arith}
+use Rattle.std.proofs.Common.{◌<◌, ◌≤◌, ◌∙◌, refl, sym, ap, subst, inl, inr, arith}
 use Rattle.std.proofs.{lemmas.Bool.and_parts, lemmas.Bool.cases_Bool, lemmas.Bool.cases_eq, lemmas.Bool.false≢true}
 use Rattle.std.proofs.{lemmas.Option.none-some, lemmas.Bool.Decides.nat_tests}
 use Rattle.events.specs.{declared.event.Event.Event, declared.event.Event.TheVariants.Issue}
-use Rattle.issue_queue.specs.{Entry.has_values, Entry.can_issue, declared.entry.Entry.Entry, Queue.AreEntriesRising}
+use Rattle.issue_queue.specs.{Entry.has_values, Entry.can_issue, declared.entry.Entry.Entry, Queue.first_ready, Queue.IsOldestReady}
 use Rattle.rv_instr.specs.{Registers.op_unit, Registers.same_unit, declared.op.UnitKind.UnitKind}
 use Rattle.smt_model.specs.{Picture.picture, Setup.Setup, Basics.holds_of}
 use Rattle.smt_model.specs.{Jobs.is_actor, Jobs.job, Jobs.unit_of_actor, Registers.is_ready}
@@ -52,24 +52,63 @@ module _ (setup : Setup) (past : List Event) (legal : is_legal setup past) (s : 
 abbrev pub passes : UnitKind → ℕ → Entry → Bool
 passes kind n x = not (nat_lt x.seq n && can_issue kind x)
 
-no_lower : (kind : UnitKind) (n : ℕ) (x : Entry) → n ≤ x.seq → passes kind n x ≡ true
-no_lower kind n x above =
-    let apart : nat_lt x.seq n ≡ false = grind (arith, nat_tests, above) in
-    rw apart refl
+passes_above : (kind : UnitKind) (n : ℕ) (x : Entry) → (can_issue kind x ≡ true → n ≤ x.seq) → passes kind n x ≡ true
+passes_above kind n x above = above_by (can_issue kind x) above
+  where
+    above_by : (b : Bool) → (b ≡ true → n ≤ x.seq) → not (nat_lt x.seq n && b) ≡ true
+    above_by true above = let over : n ≤ x.seq = above refl in grind (arith, nat_tests)
+    above_by false above = grind (arith, nat_tests)
 
-all_above : (kind : UnitKind) (n m : ℕ) (xs : List Entry) → n ≤ m → AllByRecursion (λ y. m < y.seq) xs
+none_lower : (kind : UnitKind) (n m : ℕ) (xs : List Entry) → n ≤ m
+    → AllByRecursion (λ x. can_issue kind x ≡ true → m ≤ x.seq) xs → list_all (passes kind n) xs ≡ true
+none_lower kind n m [] low all = refl
+none_lower kind n m (x ∷ xs) low all =
+    let here : passes kind n x ≡ true =
+    passes_above kind n x (λ ready. let above : m ≤ x.seq = all.0 ready in omega arith) in
+    rw here (none_lower kind n m xs low all.1)
+
+none_ready : (kind : UnitKind) (n : ℕ) (xs : List Entry) → first_ready kind xs ≡ None
     → list_all (passes kind n) xs ≡ true
-all_above kind n m [] above all = refl
-all_above kind n m (x ∷ xs) above all =
-    rw (no_lower kind n x (omega (arith, above, all.0))) (all_above kind n m xs above all.1)
+none_ready kind n [] none = refl
+none_ready kind n (x ∷ xs) none =
+    elim (cases_Bool (can_issue kind x)) [
+      | inl is ↦ let it : Some x ≡ None = sym (rw is refl) ∙ none in absurd cc
+      | inr is ↦
+          let behind : first_ready kind xs ≡ None = sym (rw is refl) ∙ none in
+          let here : passes kind n x ≡ true =
+          passes_above kind n x (λ ready. absurd (false≢true (sym is ∙ ready))) in
+          rw here (none_ready kind n xs behind)
+    ]
 
-pub none_behind : (kind : UnitKind) (n i : ℕ) (d : Entry) (xs : List Entry) → AreEntriesRising xs → i < length xs
-    → n ≤ (get_or xs i d).seq → list_all (passes kind n) (drop i xs) ≡ true
-none_behind kind n i d [] rising inside above = absurd (omega (arith, inside))
-none_behind kind n zero d (x ∷ xs) rising inside above =
-    rw (no_lower kind n x above) (all_above kind n x.seq xs above rising.0)
-none_behind kind n (suc i) d (x ∷ xs) rising inside above =
-    none_behind kind n i d xs rising.1 (omega (arith, inside)) above
+one_lower : (kind : UnitKind) (n : ℕ) (e : Entry) (xs : List Entry) → e.seq < n → first_ready kind xs ≡ Some e
+    → list_all (passes kind n) xs ≡ false
+one_lower kind n e [] low some = absurd cc
+one_lower kind n e (x ∷ xs) low some =
+    elim (cases_Bool (can_issue kind x)) [
+      | inl is ↦
+          let found : Some x ≡ Some e = sym (rw is refl) ∙ some in
+          let it : x ≡ e = cc in
+          let lower : nat_lt x.seq n ≡ true = rw it (grind (arith, nat_tests)) in
+          rw (lower, is) refl
+      | inr is ↦
+          let behind : first_ready kind xs ≡ Some e = sym (rw is refl) ∙ some in
+          let here : passes kind n x ≡ true =
+          passes_above kind n x (λ ready. absurd (false≢true (sym is ∙ ready))) in
+          rw here (one_lower kind n e xs low behind)
+    ]
+
+pub none_oldest : (kind : UnitKind) (n : ℕ) (xs : List Entry) → None ≡ first_ready kind xs
+    → true ≡ list_all (passes kind n) xs
+none_oldest kind n xs none = sym (none_ready kind n xs (sym none))
+
+pub oldest_passes : (kind : UnitKind) (n : ℕ) (e : Entry) (xs : List Entry) → Some e ≡ first_ready kind xs
+    → IsOldestReady kind xs e → (b : Bool) → b ≡ nat_le n e.seq → b ≡ list_all (passes kind n) xs
+oldest_passes kind n e xs is oldest true above =
+    let low : n ≤ e.seq = grind (arith, nat_tests, above) in
+    sym (none_lower kind n e.seq xs low oldest.oldest)
+oldest_passes kind n e xs is oldest false above =
+    let low : e.seq < n = grind (arith, nat_tests, above) in
+    sym (one_lower kind n e xs low (sym is))
 
 -- ---- The rules
 

@@ -8,7 +8,7 @@ use Rattle.smt_model.specs.{Basics.below, Basics.how_many, Picture.is_free, Regi
 use Rattle.smt_model.specs.{Rules.is_legal, Setup.Setup, Setup.registers_of}
 use Rattle.smt_laws.proofs.Registers.Counts.{claims-once}
 use Rattle.smt_model.proofs.Lists.{filter-append}
-use Rattle.register_renaming.specs.Flags.{holds}
+use Rattle.free_list.specs.Flags.{holds}
 use Rattle.core_parts.specs.{Listed.listed}
 use Rattle.core_parts.proofs.Listing.{one_kept, one_lost, nothing_behind, listed_same}
 use Rattle.core_state.specs.{View.CoreView, declared.state.State.TheInside.Inside}

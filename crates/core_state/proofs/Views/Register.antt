@@ -2,7 +2,7 @@
 use Rattle.std.specs.Prelude.{◌≡◌, ℕ, ◌<◌, ◌==◌, ◌&&◌, nat_lt, true, false, length, Option, None, slice_index_or}
 use Rattle.std.specs.Prelude.{if◌then◌else◌}
 use Rattle.std.proofs.{Common.sym, Common.subst, Common.arith, lemmas.Bool.Decides.nat_tests}
-use Rattle.register_renaming.specs.Maps.{committed_of}
+use Rattle.rename_map.specs.Maps.{committed_of}
 use Rattle.smt_model.specs.{Account.committed_value, Picture.is_free, Registers.committed}
 use Rattle.smt_model.proofs.Registers.Claims.{IsRegister, committed_claimed}
 use Rattle.smt_laws.proofs.Registers.Counts.{committed-range}

@@ -20,11 +20,11 @@ use super::State;
 use crate::sizes::is_same_config;
 use arrayvec::ArrayVec;
 use core_parts::{Parts, count_jobs, registers_in, value_of};
+use elf_image::Image;
 use events::{Event, Record};
 use memory_system::Memory;
 use numbers::sizes::MOST_REGISTERS;
 use numbers::{Phys, Reg, first_extra};
-use program_image::Image;
 use smt_model::{Config, Status};
 
 impl State {

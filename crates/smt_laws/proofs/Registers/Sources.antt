@@ -183,7 +183,7 @@ source-is past h r b w found =
       named = passes.1;
     }
 
--- The same of the committed one.
+-- Instruction w has committed register r of hart h: it writes it, has retired, and is one that was named.
 pub record IsCommitter (past : List Event) (h r w : ℕ) : Type 0 where
   pub writes_it : writes past h r w ≡ true
   pub of_hart : is_of past h w ≡ true

@@ -4,7 +4,7 @@ use Rattle.std.specs.Prelude.{None, is_some}
 use Rattle.std.specs.List.{list_all}
 use Rattle.std.proofs.Common.{◌∙◌, refl, sym, ap, subst, inl, inr, arith}
 use Rattle.std.proofs.{lemmas.Bool.cases_eq, lemmas.Bool.cases_lt, lemmas.Bool.Decides.nat_tests}
-use Rattle.program_image.specs.Image.{code_word}
+use Rattle.elf_image.specs.Image.{code_word}
 use Rattle.events.specs.{declared.effect.Outcome.Outcome, declared.effect.Effect.Effect, declared.event.Event.Event}
 use Rattle.events.specs.declared.event.Event.TheVariants.{Fetch, Decode, Rename, Issue, Complete, Drop, Retire}
 use Rattle.smt_model.specs.{Basics.first, Setup.Setup, Kinds.writes_register, Registers.is_ready}

@@ -129,7 +129,7 @@ images-bound f (x ∷ xs) ps rises =
     let sums = total-plus (λ p. one_if (f x == p)) (λ p. how_many (λ y. f y == p) xs) ps in
     omega arith
 
--- The same of a family of such counts.
+-- Where each count of a family is at most so many, all of them together are at most so many each.
 pub sums-bound : (count : ℕ → ℕ → ℕ) (most : ℕ) (hs ps : List ℕ) → ((h : ℕ) → total (count h) ps ≤ most)
     → total (λ p. total (λ h. count h p) hs) ps ≤ most * length hs
 sums-bound count most [] ps each = let none = total-none ps in omega arith

@@ -6,7 +6,7 @@ use Rattle.std.specs.List.{filter}
 use Rattle.std.proofs.Common.{◌∙◌, refl, sym, ap, subst, inl, inr, arith}
 use Rattle.std.proofs.{lemmas.Bool.cases_Bool, lemmas.Bool.cases_eq}
 use Rattle.std.proofs.{lemmas.Bool.Decides.nat_tests}
-use Rattle.program_image.specs.Image.{code_word}
+use Rattle.elf_image.specs.Image.{code_word}
 use Rattle.events.specs.{declared.event.Event.Event, declared.event.Event.TheVariants.Fetch}
 use Rattle.smt_model.specs.Basics.{below, first_least, least_from, same_number}
 use Rattle.smt_model.specs.{Setup.Setup, Flights.in_decode, Flights.icount, Flights.numbers, Memory.is_going}

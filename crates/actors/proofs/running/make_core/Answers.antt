@@ -1,6 +1,6 @@
 use Rattle.std.proofs.Common.{◌∙◌, ap}
 use Rattle.std.specs.Prelude.{Err}
-use Rattle.threaded_runs.specs.declared.refused.RunRefused.TheVariants as refused
+use Rattle.actors.specs.declared.refused.RunRefused.TheVariants as refused
 use Rattle.core_state.specs.declared.refused.CoreRefused.TheVariants as core_refused
 use Rattle.actors.proofs.Refusing.{roles_config, config_roles, memory_config, memory_roles, no_err, this, another, none, by_core, by_memory, accepted, lacks, both}
 use Rattle.actors.proofs.running.make_core.Goals as goal

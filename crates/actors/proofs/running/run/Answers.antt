@@ -1,6 +1,6 @@
 use Rattle.std.proofs.Common.{◌∙◌}
 use Rattle.std.proofs.lemmas.Result.{IfOk-weaker}
-use Rattle.threaded_runs.specs.declared.refused.RunRefused.TheVariants.{Config, Roles}
+use Rattle.actors.specs.declared.refused.RunRefused.TheVariants.{Config, Roles}
 use Rattle.actors.proofs.Refusing.{handed_on, neither, begun}
 use Rattle.actors.proofs.running.run.Goals as goal
 
@@ -12,28 +12,28 @@ returns-in-Err-clause-roles g c = handed_on _ _ _ Roles c.in-Err.ensures.roles
 
 pub returns-in-Ok-clause-config : goal.returns-in-Ok-clause-config
 returns-in-Ok-clause-config g c =
-    neither c.in-Ok.core c.run_made.result Config c.in-Ok.ensures.config (begun c.run_made.result c.run_made.ensures.refused).0
+    neither c.in-Ok.core c.run_actors-finished.result Config c.in-Ok.ensures.config (begun c.run_actors-finished.result c.run_actors-finished.ensures.refused).0
 
 pub returns-in-Ok-clause-roles : goal.returns-in-Ok-clause-roles
 returns-in-Ok-clause-roles g c =
-    neither c.in-Ok.core c.run_made.result Roles c.in-Ok.ensures.roles (begun c.run_made.result c.run_made.ensures.refused).1
+    neither c.in-Ok.core c.run_actors-finished.result Roles c.in-Ok.ensures.roles (begun c.run_actors-finished.result c.run_actors-finished.ensures.refused).1
 
 pub returns-in-Ok-clause-setup : goal.returns-in-Ok-clause-setup
 returns-in-Ok-clause-setup g c =
-    IfOk-weaker c.run_made.result _ _ (λ left is. is.setup ∙ c.in-Ok.ensures.setup) c.run_made.ensures.made
+    IfOk-weaker c.run_actors-finished.result _ _ (λ finished is. is.setup ∙ c.in-Ok.ensures.setup) c.run_actors-finished.ensures.ran
 
 pub returns-in-Ok-clause-limit : goal.returns-in-Ok-clause-limit
 returns-in-Ok-clause-limit g c =
-    IfOk-weaker c.run_made.result _ _ (λ left is. is.limit ∙ c.in-Ok.ensures.limit) c.run_made.ensures.made
+    IfOk-weaker c.run_actors-finished.result _ _ (λ finished is. is.limit ∙ c.in-Ok.ensures.limit) c.run_actors-finished.ensures.ran
 
 pub returns-in-Ok-clause-own : goal.returns-in-Ok-clause-own
-returns-in-Ok-clause-own g c = IfOk-weaker c.run_made.result _ _ (λ left is. is.own) c.run_made.ensures.made
+returns-in-Ok-clause-own g c = IfOk-weaker c.run_actors-finished.result _ _ (λ finished is. is.own) c.run_actors-finished.ensures.ran
 
 pub returns-in-Ok-clause-counted : goal.returns-in-Ok-clause-counted
-returns-in-Ok-clause-counted g c = IfOk-weaker c.run_made.result _ _ (λ left is. is.counted) c.run_made.ensures.made
+returns-in-Ok-clause-counted g c = IfOk-weaker c.run_actors-finished.result _ _ (λ finished is. is.counted) c.run_actors-finished.ensures.ran
 
 pub returns-in-Ok-clause-told : goal.returns-in-Ok-clause-told
-returns-in-Ok-clause-told g c = IfOk-weaker c.run_made.result _ _ (λ left is. is.told) c.run_made.ensures.made
+returns-in-Ok-clause-told g c = IfOk-weaker c.run_actors-finished.result _ _ (λ finished is. is.told) c.run_actors-finished.ensures.ran
 
 pub returns-in-Ok-clause-shown : goal.returns-in-Ok-clause-shown
-returns-in-Ok-clause-shown g c = IfOk-weaker c.run_made.result _ _ (λ left is. is.shown) c.run_made.ensures.made
+returns-in-Ok-clause-shown g c = IfOk-weaker c.run_actors-finished.result _ _ (λ finished is. is.shown) c.run_actors-finished.ensures.ran

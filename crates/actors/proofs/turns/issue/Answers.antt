@@ -7,5 +7,5 @@ returns-clause-asked g c = (
   c.ask-said.ensures.answered,
   c.ask-said.ensures.counted,
   c.job_of.ensures,
-  c.of-progress.ensures,
+  c.of-outcome.ensures,
 )

@@ -2,7 +2,7 @@
 use Rattle.std.specs.Prelude.{◌≡◌, ◌≢◌, ℕ, List, [], ◌∷◌, ◌++◌, map}
 use Rattle.std.specs.List.{AllByRecursion}
 use Rattle.std.proofs.Common.{◌∙◌, refl, subst, sym, ap}
-use Rattle.register_renaming.specs.Maps.{lookup, committed_of}
+use Rattle.rename_map.specs.Maps.{lookup, committed_of}
 use Rattle.core_parts.specs.{Agree.IsSlot, Agree.IsActive, Agree.HartAgrees, Decode.IsDecoded, declared.slot.Slot.Slot}
 use Rattle.core_parts.specs.{declared.hart.HartState.HartState}
 use Rattle.smt_model.specs.{Picture.Picture, Steps.IsDecode}

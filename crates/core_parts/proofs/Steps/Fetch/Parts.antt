@@ -3,7 +3,7 @@ use Rattle.std.specs.Prelude.{◌≡◌, ◌≢◌, ℕ, ◌+◌, [], ◌∷◌,
 use Rattle.std.specs.List.{AllByRecursion}
 use Rattle.std.proofs.Common.{◌∙◌, subst, sym, ap}
 use Rattle.rv_instr.specs.Decode.{op_of_word}
-use Rattle.register_renaming.specs.Maps.{lookup, committed_of}
+use Rattle.rename_map.specs.Maps.{lookup, committed_of}
 use Rattle.core_parts.specs.{Agree.IsSlot, Agree.IsActive, Agree.HartAgrees, Fetch.IsFetchedInto, Fetch.fetched_of}
 use Rattle.core_parts.specs.{declared.slot.Slot.Slot, declared.hart.HartState.HartState}
 use Rattle.smt_model.specs.{Picture.Picture, Steps.IsFetch}

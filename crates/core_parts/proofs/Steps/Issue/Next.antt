@@ -7,9 +7,8 @@ use Rattle.std.proofs.Common.{◌∙◌, refl, sym, ap, subst, inl, inr, arith}
 use Rattle.std.proofs.{lemmas.Bool.and_parts, lemmas.Bool.cases_Bool, lemmas.Bool.cases_eq}
 use Rattle.std.proofs.{lemmas.Bool.Decides.nat_tests}
 use Rattle.rv_instr.specs.{Registers.op_unit, declared.op.UnitKind.UnitKind}
-use Rattle.issue_queue.specs.{Entry.has_values, Entry.is_value, Entry.can_issue, Queue.AreEntriesRising}
+use Rattle.issue_queue.specs.{Entry.has_values, Entry.is_value, Entry.can_issue, Queue.IsOldestReady}
 use Rattle.issue_queue.specs.{Queue.first_ready, declared.entry.Entry.Entry}
-use Rattle.issue_queue.proofs.Rising.{IsOldest-first_ready}
 use Rattle.smt_model.specs.{Kinds.first_source, Kinds.second_source, Kinds.same_unit, Fates.op_of_fetched}
 use Rattle.smt_model.specs.{Picture.Picture, Steps.op_in}
 use Rattle.core_parts.specs.Agree.{PartsAgree, source_of, source_at, IsEntry, HasOpenJob}
@@ -110,12 +109,11 @@ idle_known p k (Some job) none is = absurd cc
 
 pub can_issue_it : (p : Picture) (x : Parts) (k : ℕ) (kind : UnitKind) (e : Entry) → PartsAgree p x → k < 16
     → slice_index_or x.jobs k None ≡ None
-    → AreEntriesRising x.queue.entries → first_ready kind x.queue.entries ≡ Some e
+    → IsOldestReady kind x.queue.entries e → first_ready kind x.queue.entries ≡ Some e
     → IsEntry p e × CanIssue p k kind e.seq
-can_issue_it p x k kind e agrees actor idle rising found =
+can_issue_it p x k kind e agrees actor idle oldest found =
     let xs = x.queue.entries in
-    let is = found_in (IsEntry p) (can_issue kind) e xs agrees.queue.entries found in
-    let oldest = IsOldest-first_ready kind e xs rising found in (
+    let is = found_in (IsEntry p) (can_issue kind) e xs agrees.queue.entries found in (
       is,
       record {
         idle = idle_known p k (slice_index_or x.jobs k None) idle (agrees.jobs k None actor);
@@ -167,12 +165,12 @@ found_ready kind xs (Some e) is =
     (and_parts (same_unit kind (op_unit e.op)) (has_values e) (found_passes (can_issue kind) e xs (sym is))).1
 
 pub found_can : (x : Parts) (k : ℕ) (kind : UnitKind) (r : Option Entry) → k < 16 → slice_index_or x.jobs k None ≡ None
-    → AreEntriesRising x.queue.entries
+    → IfSome r (IsOldestReady kind x.queue.entries)
     → r ≡ first_ready kind x.queue.entries
     → IfSome r (λ e. (p : Picture) → PartsAgree p x → IsEntry p e × CanIssue p k kind e.seq)
-found_can x k kind None actor idle rising is = tt
-found_can x k kind (Some e) actor idle rising is =
-    λ p agrees. can_issue_it p x k kind e agrees actor idle rising (sym is)
+found_can x k kind None actor idle oldest is = tt
+found_can x k kind (Some e) actor idle oldest is =
+    λ p agrees. can_issue_it p x k kind e agrees actor idle oldest (sym is)
 
 pub none_can : (x : Parts) (k : ℕ) (kind : UnitKind) (r : Option Entry) → r ≡ first_ready kind x.queue.entries
     → IfNone r ((p : Picture) → PartsAgree p x → (n : ℕ) → CanIssue p k kind n → ⊥)

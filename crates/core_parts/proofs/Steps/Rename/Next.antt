@@ -7,7 +7,7 @@ use Rattle.std.proofs.Common.{◌∙◌, refl, sym, ap, subst, arith}
 use Rattle.std.proofs.{lemmas.Bool.or_parts, lemmas.Bool.Decides.nat_tests, lemmas.List.length-map}
 use Rattle.std.proofs.{lemmas.List.Sums.length-filter}
 use Rattle.rv_instr.specs.declared.op.Op.{Op}
-use Rattle.register_renaming.specs.Flags.{holds}
+use Rattle.free_list.specs.Flags.{holds}
 use Rattle.retire_squash.specs.declared.active.Active.{Active}
 use Rattle.smt_model.specs.{Basics.first, Basics.how_many, Picture.Picture, Steps.op_in}
 use Rattle.smt_model.specs.Kinds.{kind_of, is_loading, is_storing, destination}

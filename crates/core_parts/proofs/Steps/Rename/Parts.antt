@@ -9,10 +9,10 @@ use Rattle.std.proofs.{lemmas.Bool.cases_Bool, lemmas.Bool.cases_eq, lemmas.Bool
 use Rattle.std.proofs.lemmas.List.{get_or_default, map_push, length-set, get_or-set_same, get_or-set_other}
 use Rattle.rv_instr.specs.{Registers.op_rs1, Registers.op_rs2, Table.OpInRange, declared.op.Op.Op}
 use Rattle.rv_instr.proofs.DecodedLemmas.{op_of_word_in_range, op_rs1_below, op_rs2_below}
-use Rattle.register_renaming.specs.Flags.{holds}
+use Rattle.free_list.specs.Flags.{holds}
 use Rattle.issue_queue.specs.{Queue.Queue, Queue.has_number, declared.entry.Entry.Entry, declared.entry.Source.Source}
 use Rattle.issue_queue.specs.Queue as entries
-use Rattle.register_renaming.specs.Maps.{Maps}
+use Rattle.rename_map.specs.Maps.{Maps}
 use Rattle.retire_squash.specs.{Active.Above, declared.active.Active.Active}
 use Rattle.smt_model.specs.{Basics.first, Basics.or_zero, Kinds.destination, Kinds.first_source, Kinds.second_source}
 use Rattle.smt_model.specs.{Picture.Picture}
@@ -319,7 +319,7 @@ ready_to_rename p q x size h taken state d renaming agrees inside at =
           (slot_op p h renaming.number (slice_index_or state.rename_latch.items 0 d) next.number next.is));
     }
 
--- The same of the slot as the code reads it.
+-- The slot is ready too as the code reads it, from a list of slots at a place.
 pub ready_at : (x : Parts) (h : ℕ) (taken : Option ℕ) (i : ℕ) (state : HartState) (slots : List Slot) (d : Slot)
     → From x h (λ p q. IsRenaming p q x.queue.size h taken) → i ≡ h → state ≡ slice_index_or x.harts.items i state
     → slots ≡ state.rename_latch.items

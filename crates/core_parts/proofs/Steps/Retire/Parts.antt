@@ -8,8 +8,8 @@ use Rattle.smt_model.specs.{Basics.same_number, declared.config.Status.Status, K
 use Rattle.smt_model.specs.{Fates.Renamed, Fates.Completed, Picture.Picture}
 use Rattle.std.proofs.lemmas.Bool.Decides.{nat_tests}
 use Rattle.events.specs.declared.effect.Effect.{Effect}
-use Rattle.register_renaming.specs.Flags.{holds}
-use Rattle.register_renaming.specs.Maps.{committed_of}
+use Rattle.free_list.specs.Flags.{holds}
+use Rattle.rename_map.specs.Maps.{committed_of}
 use Rattle.retire_squash.specs.declared.active.Active.{Active}
 use Rattle.smt_model.specs.Steps.{KeepsFetched, KeepsFlights, KeepsReadings, filled_value, renamed_map, op_in, AreOwn}
 use Rattle.memory_system.specs.Contents.{Contents}

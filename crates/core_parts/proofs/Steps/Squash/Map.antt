@@ -2,7 +2,7 @@
 use Rattle.std.specs.Prelude.{◌≡◌, ℕ, ◌+◌, ◌<◌, ◌==◌, if◌then◌else◌, List, [], ◌∷◌, ◌++◌, length}
 use Rattle.std.proofs.Common.{◌∙◌, refl, ap, take, get_or}
 use Rattle.std.proofs.lemmas.List.{take_more}
-use Rattle.register_renaming.specs.Maps.{renamed_by}
+use Rattle.rename_map.specs.Maps.{renamed_by}
 use Rattle.retire_squash.specs.declared.active.Active.{Active}
 use Rattle.smt_model.specs.Steps.{renamed_map}
 use Rattle.core_parts.specs.Squash.{mapped_by}

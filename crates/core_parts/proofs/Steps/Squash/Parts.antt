@@ -3,8 +3,8 @@ use Rattle.std.specs.Prelude.{◌≡◌, ℕ, suc, ◌<◌, ◌≤◌, Bool, tru
 use Rattle.std.specs.List.{AllByRecursion, list_any}
 use Rattle.std.proofs.Common.{◌∙◌, refl, sym, ap, subst, inl, inr, arith}
 use Rattle.std.proofs.{lemmas.Bool.cases_Bool, lemmas.Bool.Decides.nat_tests, lemmas.List.Sums.length-filter}
-use Rattle.register_renaming.specs.Flags.{holds}
-use Rattle.register_renaming.specs.Maps.{lookup}
+use Rattle.free_list.specs.Flags.{holds}
+use Rattle.rename_map.specs.Maps.{lookup}
 use Rattle.retire_squash.specs.{declared.active.Active.Active, declared.active.Stage.Stage}
 use Rattle.retire_squash.specs.declared.active.Stage.TheVariants as stage
 use Rattle.smt_model.specs.{Basics.how_many, Kinds.destination, Picture.Picture}

@@ -4,7 +4,7 @@ use Rattle.std.specs.Prelude.{None, IfSome}
 use Rattle.std.specs.List.{AllByRecursion, list_any}
 use Rattle.std.proofs.Common.{◌∙◌, refl, sym, ap, subst, arith, append_assoc}
 use Rattle.std.proofs.{lemmas.Bool.Decides.nat_tests, lemmas.List.append-nil, lemmas.List.Elements.filter-append}
-use Rattle.register_renaming.specs.Flags.{holds}
+use Rattle.free_list.specs.Flags.{holds}
 use Rattle.retire_squash.specs.{Active.Within, declared.active.Active.Active}
 use Rattle.smt_model.specs.Basics.{same_number}
 use Rattle.core_parts.specs.Squash.{older, younger, has_phys, IsOwned, HaveOwn}

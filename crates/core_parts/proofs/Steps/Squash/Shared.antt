@@ -4,7 +4,7 @@ use Rattle.std.specs.Prelude.{map, length, Option, slice_index_or, slice_set}
 use Rattle.std.specs.List.{AllByRecursion, list_any}
 use Rattle.std.proofs.Common.{◌∙◌, refl, sym, ap, subst, inl, inr, arith}
 use Rattle.std.proofs.{lemmas.Bool.cases_Bool, lemmas.Bool.Decides.nat_tests}
-use Rattle.register_renaming.specs.Flags.{holds}
+use Rattle.free_list.specs.Flags.{holds}
 use Rattle.issue_queue.specs.{Queue.Queue, Queue.stays, declared.entry.Entry.Entry}
 use Rattle.smt_model.specs.{Basics.holds_of, Fates.is, Picture.Picture, Steps.IsSquash, Steps.is_hart_of}
 use Rattle.memory_system.specs.Queues.{Changes, squashed}

@@ -1,5 +1,5 @@
 use Rattle.std.proofs.Common.{arith}
-use Rattle.register_renaming.specs.Flags.{holds}
+use Rattle.free_list.specs.Flags.{holds}
 use Rattle.core_parts.proofs.Listing.{listed_fits, listed_whole}
 use Rattle.core_parts.proofs.parts.registers_in.Goals as goal
 

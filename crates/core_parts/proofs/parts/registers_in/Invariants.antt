@@ -1,5 +1,5 @@
 use Rattle.std.proofs.Common.{◌≡◌, filter}
-use Rattle.register_renaming.specs.Flags.{holds}
+use Rattle.free_list.specs.Flags.{holds}
 use Rattle.smt_model.specs.Basics.{below}
 use Rattle.core_parts.proofs.parts.registers_in.Given as goal
 

@@ -1,5 +1,5 @@
 use Rattle.std.proofs.Common.{◌∙◌, sym, ap}
-use Rattle.register_renaming.specs.Maps.{renamed_by}
+use Rattle.rename_map.specs.Maps.{renamed_by}
 use Rattle.smt_model.specs.Steps.{renamed_map}
 use Rattle.core_parts.proofs.Steps.Squash.Map.{renamed_by-append}
 use Rattle.core_parts.proofs.squash.add_renaming.Goals as goal

@@ -1,5 +1,5 @@
 use Rattle.std.proofs.Common.{◌≡◌, ◌<◌, ◌≤◌, ℕ, take, length, All}
-use Rattle.register_renaming.specs.Maps.{renamed_by, IsWritable}
+use Rattle.rename_map.specs.Maps.{renamed_by, IsWritable}
 use Rattle.core_parts.specs.Squash.{mapped_by}
 use Rattle.core_parts.proofs.squash.renamings_of.Given as goal
 

@@ -3,7 +3,7 @@
 use Rattle.std.specs.Prelude.{◌≡◌, ℕ, List, Some, None}
 use Rattle.std.proofs.Common.{◌∙◌, refl, sym, ap, inl, inr}
 use Rattle.std.proofs.{lemmas.Bool.cases_Bool, lemmas.Option.same_Some}
-use Rattle.program_image.specs.Image.{ProgramImage}
+use Rattle.elf_image.specs.Image.{ProgramImage}
 use Rattle.rv_instr.specs.declared.op.Op.{Op}
 use Rattle.events.specs.{declared.effect.Outcome.Outcome, declared.event.Event.Event}
 use Rattle.exec_units.specs.Job.{JobView, outcome_of_job}

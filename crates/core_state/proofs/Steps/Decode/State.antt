@@ -19,7 +19,7 @@ pub record IsDecodeIn (i : Inside) (actor h s : ℕ) : Type 0 where
   pub inside : h < length i.parts.harts.items
   pub can : (p : Picture) → PartsAgree p i.parts → CanDecode p h s
 
--- The same from what the code has found.
+-- It holds so of what the code has found.
 pub decode_in : (i : Inside) (v : CoreView) → view_of i ≡ v → (actor h s : ℕ) (tested : Bool)
     → tested ≡ is_actor v.setup actor → tested ≡ true
     → h < length i.parts.harts.items → ((p : Picture) → PartsAgree p i.parts → CanDecode p h s) → IsDecodeIn i actor h s

@@ -1,7 +1,7 @@
 -- A core's retirement: what its parts' step starts from, and that the state is a core's again after it.
 use Rattle.std.specs.Prelude.{◌≡◌, ℕ, ◌<◌, ◌≤◌, ◌+◌, ◌==◌, Bool, true, List, [], ◌∷◌, ◌++◌, Option, Some, None, IfNone}
 use Rattle.std.specs.Prelude.{length, reverse, vec_capacity, IfSome}
-use Rattle.program_image.specs.Image.{ProgramImage}
+use Rattle.elf_image.specs.Image.{ProgramImage}
 use Rattle.rv_instr.specs.declared.op.Op.{Op}
 use Rattle.std.proofs.Common.{◌∙◌, Vec, Global, refl, sym, ap, subst, arith}
 use Rattle.std.proofs.{lemmas.Bool.Decides.nat_tests, lemmas.List.length_push, lemmas.List.reverse-append}

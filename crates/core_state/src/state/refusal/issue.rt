@@ -1,7 +1,7 @@
-ghost use Rattle.std.specs.Prelude.{◌≡◌, ◌==◌, ◌&&◌, not, nat_lt, find, IfSome, IfNone, true, false};
+ghost use Rattle.std.specs.Prelude.{◌≡◌, ◌==◌, ◌&&◌, not, nat_lt, IfSome, IfNone, true, false};
 ghost use Rattle.std.specs.List.{list_all};
 ghost use Rattle.events.specs.declared.event.Event.TheVariants.{Issue};
-ghost use Rattle.issue_queue.specs.{Entry.can_issue, Queue.AreEntriesRising};
+ghost use Rattle.issue_queue.specs.Entry.{can_issue};
 ghost use Rattle.rv_instr.specs.Registers.{op_unit, same_unit};
 ghost use Rattle.smt_model.specs.Fates.{fate, is, Renamed};
 ghost use Rattle.smt_model.specs.Jobs.{is_actor};
@@ -12,7 +12,7 @@ ghost use Rattle.core_state.specs.Refusals.{idle_unit, IsEntryOf};
 use super::first_failing;
 use crate::state::State;
 use core_parts::unit_of;
-use issue_queue::Entry;
+use issue_queue::{Entry, SlabQueue};
 use numbers::Seq;
 use rv_instr::{Op, UnitKind};
 
@@ -33,7 +33,7 @@ impl State {
         first_failing(&[
             (4, is_for(kind, entry.op)),
             (5, entry.is_ready()),
-            (6, is_oldest_ready(self.parts.queue.entries(), kind, seq)),
+            (6, is_oldest_ready(&self.parts.queue, kind, seq)),
         ])
     }
 
@@ -53,20 +53,8 @@ impl State {
         ensures waits { IfSome result (IsEntryOf (picture self.now.setup self.now.past) seq) }
         ensures none { IfNone result (is (fate self.now.past seq) Renamed ≡ false) }
     {
-        entry_with(self.parts.queue.entries(), seq)
+        self.parts.queue.get(seq)
     }
-}
-
-/// The entry of this number.
-fn entry_with(entries: &[Entry], seq: Seq) -> Option<Entry>
-    ensures { result ≡ find (λ x. x.seq == seq) entries.now }
-{
-    for entry in entries {
-        if entry.seq == seq {
-            return Some(*entry);
-        }
-    }
-    None
 }
 
 /// Whether a unit of this kind executes the instruction.
@@ -76,19 +64,12 @@ fn is_for(kind: UnitKind, op: Op) -> bool
     kind == op.unit()
 }
 
-/// Whether no entry of a lower number may be taken up by a unit of this kind. The numbers rise, so
-/// none is looked at from the first on that is no lower.
-fn is_oldest_ready(entries: &[Entry], kind: UnitKind, seq: Seq) -> bool
-    requires { AreEntriesRising entries.now }
-    ensures { result ≡ list_all (λ x. not (nat_lt x.seq seq && can_issue kind x)) entries.now }
+/// Whether no entry of a lower number may be taken up by a unit of this kind.
+fn is_oldest_ready(queue: &SlabQueue, kind: UnitKind, seq: Seq) -> bool
+    ensures { result ≡ list_all (λ x. not (nat_lt x.seq seq && can_issue kind x)) queue.now.entries }
 {
-    for entry in entries {
-        if entry.seq >= seq {
-            return true;
-        }
-        if entry.can_issue(kind) {
-            return false;
-        }
+    match queue.oldest_entry(kind) {
+        None => true,
+        Some(oldest) => seq <= oldest.seq,
     }
-    true
 }

@@ -1,4 +1,4 @@
-use Rattle.program_image.specs.Image.{IsRamSize}
+use Rattle.elf_image.specs.Image.{IsRamSize}
 use Rattle.elf_image.proofs.Loading.{good, well_formed, is_image}
 use Rattle.elf_image.proofs.loader.make_image.Goals as goal
 

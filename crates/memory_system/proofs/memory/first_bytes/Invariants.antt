@@ -1,5 +1,5 @@
 use Rattle.std.proofs.Common.{◌≡◌, ℕ, ◌+◌, ◌<◌, length, slice_index}
-use Rattle.program_image.specs.Image.{ram_start, byte_in}
+use Rattle.elf_image.specs.Image.{ram_start, byte_in}
 use Rattle.memory_system.proofs.memory.first_bytes.Given as goal
 
 -- the bytes up to this address

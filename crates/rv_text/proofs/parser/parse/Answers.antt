@@ -1,5 +1,5 @@
 use Rattle.std.proofs.Common.{rules, sym, ◌∙◌, ap}
-use Rattle.rv_print.specs.Spelling.{mnemonic_of}
+use Rattle.rv_text.specs.Spelling.{mnemonic_of}
 use Rattle.rv_text.specs.Reading.{instr_at}
 use Rattle.rv_text.proofs.TextLaws.{row_named, said_is_read, result_is_said}
 use Rattle.rv_text.proofs.parser.parse.Goals as goal

@@ -1,6 +1,6 @@
 use Rattle.std.proofs.Common.{take, flat_map}
 use Rattle.std.specs.Io.KnownBytes.{Appends}
-use Rattle.sim_script.specs.Lines.{line_text}
+use Rattle.scripts.specs.Lines.{line_text}
 use Rattle.schedules.specs.Turns.{turn_lines}
 use Rattle.schedules.proofs.schedule.write_turns.Given as goal
 

@@ -8,14 +8,14 @@ returns-in-Ok-try_get_matches_from-clause-ok c =
     let words : List Text = map (λ word. word.now) c.args.words.now in
     let found = c.in-Ok-try_get_matches_from in
     asked words _ found.matches c.line_in.result c.ok_or.result c.ok_or.ensures.value c.in-Ok.ensures
-    found.ensures.matches found.ensures.kinds c.line_in.ensures.held
+    found.ensures.matches found.ensures.kinds c.line_in.ensures
 
 pub returns-in-Ok-try_get_matches_from-clause-refused : goal.returns-in-Ok-try_get_matches_from-clause-refused
 returns-in-Ok-try_get_matches_from-clause-refused c =
     let words : List Text = map (λ word. word.now) c.args.words.now in
     let found = c.in-Ok-try_get_matches_from in
     not_asked words _ found.matches c.line_in.result c.ok_or.result c.ok_or.ensures.value c.in-Ok.ensures
-    found.ensures.matches found.ensures.kinds c.line_in.ensures.none
+    found.ensures.matches found.ensures.kinds c.line_in.ensures
 
 pub returns-in-Err-clause-refused : goal.returns-in-Err-clause-refused
 returns-in-Err-clause-refused c =

@@ -1,7 +1,7 @@
 use Rattle.std.proofs.Common.{◌≡◌, ◌∙◌, refl, sym, ap, arith, length}
 use Rattle.std.proofs.lemmas.List.{length-reverse}
 use Rattle.smt_core.proofs.Counting.{all_from_0}
-use Rattle.board.proofs.Laid.{four_more}
+use Rattle.core_lock.proofs.Laid.{four_more}
 use Rattle.core_lock.proofs.held.Held.new.Goals as goal
 
 pub deal_four-a-requires-clause-amount : goal.deal_four-a-requires-clause-amount

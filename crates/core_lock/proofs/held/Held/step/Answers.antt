@@ -5,26 +5,26 @@ use Rattle.core_lock.proofs.held.Held.step.Goals as goal
 
 pub invariant_of-self-clause-counted : goal.invariant_of-self-clause-counted
 invariant_of-self-clause-counted g c =
-    counted_still _ _ _ _ _ _ _ c.make-said.ensures.answer c.args.self.now.counted
+    counted_still _ _ _ _ _ _ _ c.ask_core-said.ensures.answer c.args.self.now.counted
     (c.note.ensures.total ∙ ap (more c.args.self.now.book.total) c.event.ensures)
 
 pub invariant_of-self-clause-setup : goal.invariant_of-self-clause-setup
-invariant_of-self-clause-setup g c = setup_still _ _ _ _ _ c.make-said.ensures.answer ∙ c.args.self.now.setup
+invariant_of-self-clause-setup g c = setup_still _ _ _ _ _ c.ask_core-said.ensures.answer ∙ c.args.self.now.setup
 
 pub invariant_of-self-clause-limit : goal.invariant_of-self-clause-limit
-invariant_of-self-clause-limit g c = limit_still _ _ _ _ _ c.make-said.ensures.answer ∙ c.args.self.now.limit
+invariant_of-self-clause-limit g c = limit_still _ _ _ _ _ c.ask_core-said.ensures.answer ∙ c.args.self.now.limit
 
 pub invariant_of-result : goal.invariant_of-result
 invariant_of-result g c = record {
-  own = subst (λ a. is_reply c.args.pass.now.actor a c.make-said.result ≡ true) (sym c.asked-asked.ensures)
-      (own_reply _ _ _ _ _ c.make-said.ensures.answer);
+  own = subst (λ a. is_reply c.args.pass.now.actor a c.ask_core-said.result ≡ true) (sym c.asked-asked.ensures)
+      (own_reply _ _ _ _ _ c.ask_core-said.ensures.answer);
 }
 
 pub returns-clause-told : goal.returns-clause-told
 returns-clause-told g c = λ told.
-    subst (λ k. IsTold c.make-said.new.core.past k c.note.new.pass.count c.note.new.pass.last)
+    subst (λ k. IsTold c.ask_core-said.new.core.past k c.note.new.pass.count c.note.new.pass.last)
     (sym c.note.ensures.actor)
-    (told_still _ _ _ _ _ _ _ _ _ c.make-said.ensures.answer
+    (told_still _ _ _ _ _ _ _ _ _ c.ask_core-said.ensures.answer
     (c.note.ensures.count ∙ ap (more c.args.pass.now.count) c.event.ensures)
     (c.note.ensures.last ∙ ap (later c.args.pass.now.last) c.event.ensures) told)
 
@@ -38,10 +38,10 @@ pub returns-clause-own : goal.returns-clause-own
 returns-clause-own g c = search rules
 
 pub returns-clause-predicted : goal.returns-clause-predicted
-returns-clause-predicted g c = c.make-said.ensures.predicted
+returns-clause-predicted g c = c.ask_core-said.ensures.predicted
 
 pub returns-clause-grows : goal.returns-clause-grows
-returns-clause-grows g c = reply_grows _ _ _ _ _ c.make-said.ensures.answer
+returns-clause-grows g c = reply_grows _ _ _ _ _ c.ask_core-said.ensures.answer
 
 pub returns-clause-shown : goal.returns-clause-shown
 returns-clause-shown g c = (c.show.ensures.shown, c.show-2.ensures.shown)

@@ -1,6 +1,6 @@
 use Rattle.std.specs.Prelude.{ℕ, ◌<◌, Option, Some, None, IfSome}
 use Rattle.std.proofs.Common.{subst, sym}
-use Rattle.register_renaming.specs.Maps.{IsWritable}
+use Rattle.rename_map.specs.Maps.{IsWritable}
 use Rattle.core_parts.proofs.hart.HartState.rename.Goals as goal
 
 writable : (phys : Option ℕ) (rd : ℕ) → IfSome phys (λ x. 0 < rd) → rd < 32 → IfSome phys (λ x. IsWritable rd)

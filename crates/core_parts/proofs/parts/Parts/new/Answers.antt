@@ -38,6 +38,6 @@ returns-clause-begins c =
     let kept = c.loop-hart.invariant in
     begins c.args.harts c.args.extra c.args.image.now _ (kept.0 ∙ all)
     (subst (λ e. AreNew e c.loop-hart.each.items) c.entry-entry.ensures.value kept.1)
-    (ap (λ (q : Queue). q.entries) c.new-2.ensures) c.new-3.ensures kept.3
+    (ap (λ (q : Queue). q.entries) c.in_ok-new.ensures) c.new-3.ensures kept.3
     (subst (λ n. AreFirst c.args.harts n c.loop-hart.values) all kept.2) refl
-    (λ k d inside. get_or-replicate 16 k None d inside) c.requires.harts_fit c.new-4.ensures c.in_ok-new.ensures
+    (λ k d inside. get_or-replicate 16 k None d inside) c.requires.harts_fit c.new-4.ensures c.in_ok-new-2.ensures

@@ -1,7 +1,7 @@
 use Rattle.std.specs.Prelude.{◌≡◌, true, Some, None, slice_index_or}
 use Rattle.std.proofs.Common.{◌∙◌, sym, ap, subst, arith}
 use Rattle.std.proofs.lemmas.Bool.Decides.{nat_tests}
-use Rattle.register_renaming.specs.Flags.{holds}
+use Rattle.free_list.specs.Flags.{holds}
 use Rattle.core_parts.proofs.Steps.Rename.Next.{can_rename, must_enter, needs_register, same_first}
 use Rattle.core_parts.specs.declared.slot.Slot.{Slot}
 use Rattle.core_parts.proofs.parts.Parts.next_to_rename.Goals as goal

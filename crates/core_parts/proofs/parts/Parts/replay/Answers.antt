@@ -1,6 +1,6 @@
 use Rattle.std.specs.Prelude.{◌<◌, IfSome}
 use Rattle.std.proofs.Common.{sym, subst}
-use Rattle.program_image.specs.Image.{ProgramImage}
+use Rattle.elf_image.specs.Image.{ProgramImage}
 use Rattle.core_parts.specs.Accesses.{CanWrite}
 use Rattle.core_parts.proofs.Steps.Retire.Replay.{commits_then}
 use Rattle.core_parts.proofs.parts.Parts.replay.Goals as goal

@@ -1,7 +1,4 @@
 -- The entry that the queue has is the instruction that waits.
-use Rattle.std.proofs.Common.{◌∙◌, ap}
-use Rattle.issue_queue.specs.declared.entry.Entry.{Entry}
-use Rattle.std.specs.Prelude.{find, ◌==◌}
 use Rattle.core_state.proofs.Following.Issue.{waits, waits_not}
 use Rattle.core_state.proofs.Following.Place.{parts_agree, is_legal_view}
 use Rattle.core_state.proofs.state.State.entry_of.Goals as goal
@@ -12,8 +9,8 @@ returns-clause-waits c =
     let v = c.args.self.now in
     let agrees = parts_agree i c.self.invariant v c.self.view_is in
     waits v.setup v.past (is_legal_view i c.self.invariant v c.self.view_is) c.args.seq i.parts.queue.entries
-    agrees.queue.numbers agrees.queue.entries c.entry_with.result
-    (c.entry_with.ensures ∙ ap (λ es. find (λ (e : Entry). e.seq == c.args.seq) es) c.entries.ensures.entries)
+    agrees.queue.numbers agrees.queue.entries c.get.result
+    c.get.ensures
 
 pub returns-clause-none : goal.returns-clause-none
 returns-clause-none c =
@@ -21,5 +18,5 @@ returns-clause-none c =
     let v = c.args.self.now in
     let agrees = parts_agree i c.self.invariant v c.self.view_is in
     waits_not v.setup v.past (is_legal_view i c.self.invariant v c.self.view_is) c.args.seq i.parts.queue.entries
-    agrees.queue.numbers agrees.queue.entries c.entry_with.result
-    (c.entry_with.ensures ∙ ap (λ es. find (λ (e : Entry). e.seq == c.args.seq) es) c.entries.ensures.entries)
+    agrees.queue.numbers agrees.queue.entries c.get.result
+    c.get.ensures

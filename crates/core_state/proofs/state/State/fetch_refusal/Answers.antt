@@ -1,7 +1,7 @@
 -- The tests of the parts are the rules of a fetch.
 use Rattle.std.proofs.Common.{◌∙◌, ◌==◌, sym, ap}
 use Rattle.core_state.proofs.Following.Fetch.{no_actor, not_chosen, there, chosen_there, fetched_view}
-use Rattle.program_image.specs.Image.{code_word}
+use Rattle.elf_image.specs.Image.{code_word}
 use Rattle.smt_model.specs.Basics.{same_number}
 use Rattle.core_state.specs.View.{CoreView}
 use Rattle.core_state.proofs.state.State.fetch_refusal.Goals as goal

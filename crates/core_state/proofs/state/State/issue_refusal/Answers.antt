@@ -1,7 +1,5 @@
 -- The tests of the parts are the rules of an issue.
-use Rattle.std.proofs.Common.{◌∙◌, ◌&&◌, not, nat_lt, sym, ap}
-use Rattle.std.specs.List.{list_all}
-use Rattle.issue_queue.specs.{Entry.can_issue, declared.entry.Entry.Entry}
+use Rattle.std.proofs.Common.{◌∙◌, sym}
 use Rattle.core_state.proofs.Following.Issue.{no_actor, busy, waits_nowhere, there}
 use Rattle.core_state.proofs.Following.Place.{parts_agree}
 use Rattle.core_state.proofs.state.State.issue_refusal.Goals as goal
@@ -35,6 +33,4 @@ returns c =
     c.is_for.result c.is_ready.result c.is_oldest_ready.result
     (sym c.has_actor.ensures ∙ c.if-not-has_actor.false) (sym c.idle_unit.ensures ∙ c.in-Some.is)
     c.in-Some-entry_of.ensures.waits agrees.queue.numbers agrees.queue.entries c.is_for.ensures c.is_ready.ensures
-    (c.is_oldest_ready.ensures
-    ∙ ap (λ es. list_all (λ (e : Entry). not (nat_lt e.seq c.args.seq && can_issue c.in-Some.kind e)) es)
-    c.entries.ensures.entries))
+    c.is_oldest_ready.ensures)

@@ -1,5 +1,5 @@
 use Rattle.std.proofs.Common.{◌≡◌, ◌*◌, length, arith}
-use Rattle.program_image.specs.Image.{code_size}
+use Rattle.elf_image.specs.Image.{code_size}
 use Rattle.decoded_code.proofs.Fetching.{decoded}
 use Rattle.decoded_code.proofs.code.Code.new.Goals as goal
 

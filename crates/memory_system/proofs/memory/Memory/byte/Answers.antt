@@ -1,6 +1,6 @@
 use Rattle.std.proofs.Common.{◌<◌, length, slice_index, ◌-◌, sym, ap, ◌∙◌, arith}
 use Rattle.std.proofs.lemmas.List.{get_or_read}
-use Rattle.program_image.specs.Image.{ram_start}
+use Rattle.elf_image.specs.Image.{ram_start}
 use Rattle.memory_system.specs.Contents.{Contents}
 use Rattle.memory_system.proofs.Places.{byte_there, read_within, read_inside}
 use Rattle.memory_system.proofs.memory.Memory.byte.Goals as goal

@@ -1,0 +1,38 @@
+ghost use Rattle.std.specs.Prelude.{◌≡◌, true};
+
+use core_lock::BoardView;
+
+/// Where an actor asks its gate.
+#[derive(Clone, Copy, PartialEq, Eq, Drop)]
+pub enum Point {
+    /// Before each turn.
+    Turn,
+    /// With a job in hand, and the lock not held.
+    Job,
+}
+
+/// What every actor of a run asks whether it may go on. A gate is given no leave to wait: it may
+/// look, keep what it sees, and give its processor away for a while.
+pub trait Gate {
+    /// A run begins whose history has room for so many events. No actor has asked yet.
+    fn begin(&self, _limit: u32) {}
+
+    /// Whether actor `actor` may go on. `seen` is what it read of the board before this turn.
+    /// Where it may not, it asks all actors to stop.
+    fn at(&self, actor: u8, point: Point, seen: &BoardView) -> bool;
+
+    /// The run that began is over: all threads are joined, and no actor asks any more.
+    fn end(&self) {}
+}
+
+/// The gate that lets all pass.
+#[derive(Clone, Copy, PartialEq, Eq, Drop)]
+pub struct Open;
+
+impl Gate for Open {
+    fn at(&self, _actor: u8, _point: Point, _seen: &BoardView) -> bool
+        ensures { result ≡ true }
+    {
+        true
+    }
+}

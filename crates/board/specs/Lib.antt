@@ -1,4 +1,0 @@
-pub mod Reasons
-pub mod Knowledge
-pub mod Rule
-pub mod Seats

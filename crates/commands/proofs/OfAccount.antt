@@ -1,0 +1,54 @@
+-- What is printed of a core, from what its report says of its account.
+use Rattle.std.specs.Prelude.{◌≡◌, ℕ, Bool, false, List, [], ◌++◌, Option, Result, Ok, Err, is_err, OnOk}
+use Rattle.std.specs.Prelude.{length}
+use Rattle.std.proofs.{Common.refl, Common.sym, Common.ap, Common.subst, Common.◌∙◌, lemmas.Bool.false≢true}
+use Rattle.std.specs.Io.KnownBytes.{Appends}
+use Rattle.core_state.specs.{View.CoreView}
+use Rattle.smt_model.specs.{declared.config.Status.Status, Account.open_job_count, Memory.output}
+use Rattle.events.specs.declared.effect.Record.{Record}
+use Rattle.reports.specs.Report.{records_text, report_text, status_number}
+use Rattle.reports.proofs.Appending.{appends_more}
+use Rattle.commands.specs.Account.{AreTables, IsReported, statuses_of, retired_of, report_of}
+
+-- A call that gave no error has done what it does where it gives none.
+pub on_ok_done : {A E : Type 0} (r : Result A E) (P : Type 0) → is_err r ≡ false → OnOk r P → P
+on_ok_done (Ok x) P done holds = holds
+on_ok_done (Err e) P done holds = absurd (false≢true (sym done))
+
+-- An account that is this core's, and how its harts stand.
+module _ (core : CoreView) (with_records : Bool) (rs : List Record) (events lent : ℕ) (statuses : List Status)
+    (put : List ℕ) (is_records : rs ≡ retired_of core) (is_events : events ≡ length core.past)
+    (is_lent : lent ≡ open_job_count core.setup core.past) (is_statuses : statuses ≡ statuses_of core)
+    (is_put : put ≡ output core.past) where
+  same_text : records_text with_records rs ++ report_text events (length rs) lent statuses put
+      ≡ records_text with_records (retired_of core) ++ report_of core
+  same_text = rw (is_records, is_events, is_lent, is_statuses, is_put) refl
+
+  -- Its tables were printed, and then its report.
+  pub reported : (with_tables : Bool) (old mid new : Option (List ℕ)) (tables bytes : List ℕ)
+      (stand : List Status) (exit_status : ℕ) → AreTables with_tables tables → bytes ≡ tables → Appends old mid bytes
+      → Appends mid new (records_text with_records rs ++ report_text events (length rs) lent statuses put)
+      → stand ≡ statuses → exit_status ≡ status_number stand
+      → IsReported core with_records with_tables old new exit_status
+  reported with_tables old mid new tables bytes stand exit_status are same first next is_stand harts = record {
+    printed = (
+      tables ++ (records_text with_records rs ++ report_text events (length rs) lent statuses put),
+      record { tables = tables; are_tables = are; whole = ap (λ t. tables ++ t) same_text },
+      appends_more old mid new _ _ (subst (Appends old mid) same first) next,
+    );
+    harts = harts ∙ ap status_number (is_stand ∙ is_statuses);
+  }
+
+  -- Its report alone was printed.
+  pub reported_untabled : (old new : Option (List ℕ)) (stand : List Status) (exit_status : ℕ)
+      → Appends old new (records_text with_records rs ++ report_text events (length rs) lent statuses put)
+      → stand ≡ statuses → exit_status ≡ status_number stand
+      → IsReported core with_records false old new exit_status
+  reported_untabled old new stand exit_status written is_stand harts = record {
+    printed = (
+      records_text with_records rs ++ report_text events (length rs) lent statuses put,
+      record { tables = []; are_tables = refl; whole = same_text },
+      written,
+    );
+    harts = harts ∙ ap status_number (is_stand ∙ is_statuses);
+  }

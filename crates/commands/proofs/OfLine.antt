@@ -1,0 +1,141 @@
+-- What a line is refused for and what it comes to, from the same of its files and of its command.
+use Rattle.std.specs.Prelude.{◌≡◌, ◌⊎◌, ℕ, Bool, true, false, IsTrue, List, Option, Result, Ok, Err, IfErr}
+use Rattle.std.specs.Borrow.{Bor}
+use Rattle.std.proofs.Common.{refl, sym, ap, ◌∙◌}
+use Rattle.std.proofs.lemmas.Bool.{true≢false}
+use mathlib.Core.Logic.{inl, inr}
+use Rattle.std.specs.Io.KnownBytes.{Keeps}
+use Rattle.elf_image.specs.{Loaded.IsImageOf}
+use Rattle.elf_image.specs.Image.{ProgramImage}
+use Rattle.core_state.specs.View.{CoreView}
+use Rattle.sim_inputs.specs.{declared.line.Command.Command, declared.settings.Settings.Settings}
+use Rattle.sim_inputs.specs.{Configuration.IsConfiguration}
+use Rattle.reports.specs.Statuses.{says_harts}
+use Rattle.commands.specs.declared.refused.Refused.{Refused}
+use Rattle.commands.specs.declared.refused.Refused.TheVariants.{Image, Config, Script, Order, Step, Memory, File}
+use Rattle.commands.specs.declared.refused.Refused.TheVariants.{Output, Thread, Trace, Event, NoUnit, Limit}
+use Rattle.commands.specs.declared.refused.Unread.{Unread}
+use Rattle.commands.specs.declared.refused.Unread.TheVariants as unread
+use Rattle.commands.specs.Refused.{exit_status_of, refusal_of, AreAccepted, PassesAll}
+use Rattle.commands.specs.Inputs.{Read}
+use Rattle.commands.specs.Commands.{IsCommandRefusal, CommandComesTo}
+use Rattle.commands.specs.Perform.{IsRefusal, LineComesTo}
+use Rattle.commands.proofs.SoundCommands.{sound}
+
+-- The settings of a configuration are a core's.
+pub accepted_of : (text : List ℕ) (settings : Settings) → IsConfiguration text settings → AreAccepted settings
+accepted_of text settings is = λ image. is.sets.in_range.accepted
+
+-- ---- Refusals
+
+-- A configuration and an image that make these settings and this program image.
+module _ (command : Command) (text : List ℕ) (settings : Settings) (file : List ℕ) (program : ProgramImage)
+    (second : Read) (configured : IsConfiguration text settings) (passes : PassesAll file settings.ram)
+    (loaded : IsImageOf file settings.ram program) where
+  pub command_refusal : (reason : Refused) → IsCommandRefusal command settings program second reason
+      → IsRefusal command (Ok text) (Ok file) second reason
+  command_refusal (Image number) is = absurd ((sound command settings program second).no_image number is)
+  command_refusal Config is =
+      let unfit = (sound command settings program second).unfit (accepted_of text settings configured) is in
+      inr (settings, configured, (passes, program, loaded, unfit))
+  command_refusal (Script number) is = (settings, configured, (passes, program, loaded, is))
+  command_refusal (Order index) is = (settings, configured, (passes, program, loaded, is))
+  command_refusal (Step index why) is = (settings, configured, (passes, program, loaded, is))
+  command_refusal (Trace line rule) is = (settings, configured, (passes, program, loaded, is))
+  command_refusal (Event index rule) is = (settings, configured, (passes, program, loaded, is))
+  command_refusal (NoUnit kind) is = (settings, configured, (passes, program, loaded, is))
+  command_refusal (Limit least) is = (settings, configured, (passes, program, loaded, is))
+  command_refusal Memory is = tt
+  command_refusal Thread is = (settings, configured, (passes, program, loaded, is))
+  command_refusal File is = inr (inr (settings, configured, (passes, program, loaded, is)))
+  command_refusal Output is = (settings, configured, (passes, program, loaded, is))
+
+  -- Behind what the command comes to, only the output may still be refused; and once that is flushed, the
+  -- line has come to it.
+  module _ (Traced : Bool → CoreView → Type 0) (old mid : Option (List ℕ)) (status : ℕ)
+      (ended : CommandComesTo command settings program second Traced old mid status) where
+    pub output_refusal : IsRefusal command (Ok text) (Ok file) second Output
+    output_refusal =
+        command_refusal Output ((sound command settings program second).output Traced old mid status ended)
+
+    pub comes_to : (new : Option (List ℕ)) → Keeps mid new
+        → LineComesTo command (Ok text) (Ok file) second Traced old new status
+    comes_to new flushed = (
+      settings,
+      configured,
+      (
+        passes,
+        program,
+        loaded,
+        (
+          accepted_of text settings configured,
+          (sound command settings program second).flushed Traced old mid new status flushed ended,
+        ),
+      ),
+    )
+
+-- ---- The exit status
+
+pub status_says : (command : Command) (config image second : Read) (Traced : Bool → CoreView → Type 0)
+    (old new : Option (List ℕ)) (status : ℕ) → LineComesTo command config image second Traced old new status
+    → IsTrue (says_harts status)
+status_says command (Ok text) (Ok file) second Traced old new status is =
+    (sound command is.0 is.2.1 second).says Traced old new status is.2.3.1
+status_says command (Ok text) (Err why) second Traced old new status is = absurd is.2
+status_says command (Err why) image second Traced old new status is = absurd is
+
+-- A refusal's exit status is 2, 4 or 5, and so never one that says how harts stand; it is 5 for a
+-- file that is unread.
+pub known_refusal : (reason : Refused) (status : ℕ) → status ≡ exit_status_of reason
+    → IsTrue (says_harts status) ⊎ (status ≡ 2) ⊎ (status ≡ 4) ⊎ (status ≡ 5)
+known_refusal (Image number) status is = inr (inl is)
+known_refusal Config status is = inr (inl is)
+known_refusal (Script number) status is = inr (inl is)
+known_refusal (Order index) status is = inr (inl is)
+known_refusal (Step index why) status is = inr (inl is)
+known_refusal (Trace line rule) status is = inr (inr (inl is))
+known_refusal (Event index rule) status is = inr (inr (inl is))
+known_refusal (NoUnit kind) status is = inr (inl is)
+known_refusal (Limit least) status is = inr (inl is)
+known_refusal Memory status is = inr (inr (inr is))
+known_refusal Thread status is = inr (inr (inr is))
+known_refusal File status is = inr (inr (inr is))
+known_refusal Output status is = inr (inr (inr is))
+
+never_says : (reason : Refused) → says_harts (exit_status_of reason) ≡ false
+never_says (Image number) = refl
+never_says Config = refl
+never_says (Script number) = refl
+never_says (Order index) = refl
+never_says (Step index why) = refl
+never_says (Trace line rule) = refl
+never_says (Event index rule) = refl
+never_says (NoUnit kind) = refl
+never_says (Limit least) = refl
+never_says Memory = refl
+never_says Thread = refl
+never_says File = refl
+never_says Output = refl
+
+pub refused_harts : (reason : Refused) (status : ℕ) → status ≡ exit_status_of reason → IsTrue (says_harts status) → ⊥
+refused_harts reason status is harts =
+    true≢false (sym harts ∙ (ap says_harts is ∙ never_says reason))
+
+unread_status : (why : Unread) → exit_status_of (refusal_of why) ≡ 5
+unread_status unread.File = refl
+unread_status unread.Memory = refl
+
+pub unset_refusal : (config : Result (Bor (List ℕ)) Unread) (A : Type 0) (reason : Refused) (status : ℕ)
+    → status ≡ exit_status_of reason
+    → IfErr config (λ why. ◌≡◌ {A = Result A Refused} (Err reason) (Err (refusal_of why)))
+    → IfErr config (λ why. status ≡ 5)
+unset_refusal (Ok text) A reason status is unset = tt
+unset_refusal (Err why) A reason status is unset =
+    let same : reason ≡ refusal_of why = cc in
+    is ∙ (ap exit_status_of same ∙ unread_status why)
+
+-- A line that has an exit status has a configuration that was read.
+pub was_read : (config : Result (Bor (List ℕ)) Unread) (A : Type 0) (x : A) (P : Unread → Type 0)
+    → IfErr config (λ why. ◌≡◌ {A = Result A Refused} (Ok x) (Err (refusal_of why))) → IfErr config P
+was_read (Ok text) A x P unread = tt
+was_read (Err why) A x P unread = absurd (cc)

@@ -1,0 +1,182 @@
+-- Each command's definitions are as `perform` needs them.
+use Rattle.std.specs.Prelude.{◌≡◌, true, false, List, [], Ok, Err, length, reverse}
+use Rattle.std.proofs.Common.{sym, subst, ◌∙◌, arith}
+use Rattle.std.proofs.lemmas.Bool.{true≢false}
+use Rattle.std.proofs.lemmas.Bool.Decides.{nat_tests}
+use mathlib.Core.Logic.{inl, inr}
+use Rattle.elf_image.specs.Image.{ProgramImage}
+use Rattle.sc_machine.specs.Steps.{are_harts}
+use Rattle.smt_model.specs.{Setup.is_accepted, Rules.is_legal}
+use Rattle.sim_inputs.specs.{declared.line.Command.Command, declared.settings.Settings.Settings}
+use Rattle.sim_inputs.specs.declared.line.Command.TheVariants as commands
+use Rattle.sim_inputs.specs.declared.line.StepCommand.{StepCommand}
+use Rattle.sim_inputs.specs.declared.line.RunCommand.{RunCommand}
+use Rattle.sim_inputs.specs.declared.line.CheckCommand.{CheckCommand}
+use Rattle.sim_inputs.specs.declared.line.PlainCommand.{PlainCommand}
+use Rattle.sim_inputs.specs.declared.line.ScheduleCommand.{ScheduleCommand}
+use Rattle.sim_inputs.specs.declared.line.ListCommand.{ListCommand}
+use Rattle.commands.specs.Refused.{AreAccepted, AreRefused}
+use Rattle.commands.specs.Inputs.{Read}
+use Rattle.commands.specs.{Account.statuses_of, Plain.standing}
+use Rattle.commands.proofs.Sound.{IsSound, no_unread_image, no_unread_config, kept, prints_kept, status_says, zero_says}
+
+-- Sizes of a core aren't refused, nor are its harts too few or too many for the plain machine.
+never_refused : (settings : Settings) → AreAccepted settings → AreRefused settings → ⊥
+never_refused settings accepted refused =
+    let empty : ProgramImage = record { ram = 0; entry = 0; segments = [] } in
+    true≢false (sym (accepted empty) ∙ refused empty)
+
+never_without_harts : (settings : Settings) → AreAccepted settings → are_harts settings.config.harts ≡ false → ⊥
+never_without_harts settings accepted refused =
+    let empty : ProgramImage = record { ram = 0; entry = 0; segments = [] } in
+    let both = accepted empty in
+    absurd (grind (arith, nat_tests, both, refused))
+
+of_step : (step : StepCommand) (settings : Settings) (program : ProgramImage) (second : Read)
+    → IsSound (commands.Step step) settings program second
+of_step step settings program (Ok script) = record {
+  no_image = λ number is. is;
+  unfit = λ accepted is. never_refused settings accepted is;
+  output = λ Traced old new status is. (is.accepted, is.is_asking);
+  flushed = λ Traced old mid new status flushed is. record {
+    accepted = is.accepted;
+    is_asking = is.is_asking;
+    core = is.core;
+    setup = is.setup;
+    limit = is.limit;
+    shown = is.shown;
+    traced = is.traced;
+    printed = prints_kept old mid new _ is.printed flushed;
+    harts = is.harts;
+  };
+  says = λ Traced old new status is. status_says status (statuses_of is.core) is.harts;
+}
+of_step step settings program (Err why) = record {
+  no_image = λ number is. no_unread_image number why is;
+  unfit = λ accepted is. no_unread_config why is;
+  output = λ Traced old new status is. absurd is;
+  flushed = λ Traced old mid new status flushed is. absurd is;
+  says = λ Traced old new status is. absurd is;
+}
+
+of_run : (run : RunCommand) (settings : Settings) (program : ProgramImage) (second : Read)
+    → IsSound (commands.Run run) settings program second
+of_run run settings program second = record {
+  no_image = λ number is. is;
+  unfit = λ accepted is. elim is [
+    | inl refused ↦ absurd (never_refused settings accepted refused)
+    | inr lacks ↦ lacks.1
+  ];
+  output = λ Traced old new status is. (is.accepted, is.manned);
+  flushed = λ Traced old mid new status flushed is. record {
+    accepted = is.accepted;
+    manned = is.manned;
+    core = is.core;
+    setup = is.setup;
+    limit = is.limit;
+    shown = is.shown;
+    traced = is.traced;
+    printed = prints_kept old mid new _ is.printed flushed;
+    harts = is.harts;
+  };
+  says = λ Traced old new status is. status_says status (statuses_of is.core) is.harts;
+}
+
+of_check : (check : CheckCommand) (settings : Settings) (program : ProgramImage) (second : Read)
+    → IsSound (commands.Check check) settings program second
+of_check check settings program (Ok trace) = record {
+  no_image = λ number is. is;
+  unfit = λ accepted is. is;
+  output = λ Traced old new status is. (
+    is.events,
+    is.is_trace,
+    (
+      subst (λ setup. is_accepted setup (length is.events) ≡ true) is.setup
+          (subst (λ limit. is_accepted is.core.setup limit ≡ true) is.limit is.accepted),
+      subst (λ setup. is_legal setup (reverse is.events)) is.setup
+          (subst (λ past. is_legal is.core.setup past) is.past is.shown.legal),
+    ),
+  );
+  flushed = λ Traced old mid new status flushed is. record {
+    events = is.events;
+    is_trace = is.is_trace;
+    core = is.core;
+    setup = is.setup;
+    limit = is.limit;
+    past = is.past;
+    accepted = is.accepted;
+    shown = is.shown;
+    printed = prints_kept old mid new _ is.printed flushed;
+    harts = is.harts;
+  };
+  says = λ Traced old new status is. status_says status (statuses_of is.core) is.harts;
+}
+of_check check settings program (Err why) = record {
+  no_image = λ number is. no_unread_image number why is;
+  unfit = λ accepted is. no_unread_config why is;
+  output = λ Traced old new status is. absurd is;
+  flushed = λ Traced old mid new status flushed is. absurd is;
+  says = λ Traced old new status is. absurd is;
+}
+
+of_plain : (plain : PlainCommand) (settings : Settings) (program : ProgramImage) (second : Read)
+    → IsSound (commands.Plain plain) settings program second
+of_plain plain settings program (Ok order) = record {
+  no_image = λ number is. is;
+  unfit = λ accepted is. never_without_harts settings accepted is.1;
+  output = λ Traced old new status is. (is.harts, is.is_order);
+  flushed = λ Traced old mid new status flushed is. record {
+    harts = is.harts;
+    is_order = is.is_order;
+    ran = is.ran;
+    runs = is.runs;
+    printed = kept old mid new _ is.printed flushed;
+    stands = is.stands;
+  };
+  says = λ Traced old new status is. status_says status (standing settings.config.harts is.ran) is.stands;
+}
+of_plain plain settings program (Err why) = record {
+  no_image = λ number is. no_unread_image number why is;
+  unfit = λ accepted is. no_unread_config why is;
+  output = λ Traced old new status is. absurd is;
+  flushed = λ Traced old mid new status flushed is. absurd is;
+  says = λ Traced old new status is. absurd is;
+}
+
+of_schedule : (schedule : ScheduleCommand) (settings : Settings) (program : ProgramImage) (second : Read)
+    → IsSound (commands.Schedule schedule) settings program second
+of_schedule schedule settings program (Ok order) = record {
+  no_image = λ number is. is;
+  unfit = λ accepted is. never_refused settings accepted (λ image. is.2);
+  output = λ Traced old new status is. (is.printed.0, is.printed.1);
+  flushed = λ Traced old mid new status flushed is.
+      record { printed = prints_kept old mid new _ is.printed flushed; zero = is.zero };
+  says = λ Traced old new status is. zero_says status is.zero;
+}
+of_schedule schedule settings program (Err why) = record {
+  no_image = λ number is. no_unread_image number why is;
+  unfit = λ accepted is. no_unread_config why is;
+  output = λ Traced old new status is. absurd is;
+  flushed = λ Traced old mid new status flushed is. absurd is;
+  says = λ Traced old new status is. absurd is;
+}
+
+of_list : (list : ListCommand) (settings : Settings) (program : ProgramImage) (second : Read)
+    → IsSound (commands.List list) settings program second
+of_list list settings program second = record {
+  no_image = λ number is. is;
+  unfit = λ accepted is. is;
+  output = λ Traced old new status is. tt;
+  flushed = λ Traced old mid new status flushed is.
+      record { printed = kept old mid new _ is.printed flushed; zero = is.zero };
+  says = λ Traced old new status is. zero_says status is.zero;
+}
+
+pub sound : (command : Command) (settings : Settings) (program : ProgramImage) (second : Read)
+    → IsSound command settings program second
+sound (commands.Step step) settings program second = of_step step settings program second
+sound (commands.Run run) settings program second = of_run run settings program second
+sound (commands.Check check) settings program second = of_check check settings program second
+sound (commands.Plain plain) settings program second = of_plain plain settings program second
+sound (commands.Schedule schedule) settings program second = of_schedule schedule settings program second
+sound (commands.List list) settings program second = of_list list settings program second

@@ -1,0 +1,29 @@
+-- Behind a command that is refused, and before and behind the flush.
+use Rattle.commands.specs.Inputs.{as_read}
+use Rattle.commands.specs.Account.{IsTraceWritten}
+use Rattle.commands.proofs.OfLine.{command_refusal, output_refusal, comes_to}
+use Rattle.commands.proofs.performing.read_and_perform.Goals as goal
+
+pub returns-in-Err-clause-refused : goal.returns-in-Err-clause-refused
+returns-in-Err-clause-refused g c =
+    rw (c.in_ok-config.was, c.in_ok-file.was)
+    (command_refusal c.args.line.now.command _ _ _ _ (as_read c.args.inputs.now.second)
+    c.in_ok-settings.ensures.settings c.in_ok-image.ensures.passed c.in_ok-image.ensures.image
+    c.in-Err.refused c.in-Err.ensures.refused)
+
+pub returns-clause-refused : goal.returns-clause-refused
+returns-clause-refused g c =
+    rw (c.in_ok-config.was, c.in_ok-file.was)
+    (output_refusal c.args.line.now.command _ _ _ _ (as_read c.args.inputs.now.second) c.in_ok-settings.ensures.settings
+    c.in_ok-image.ensures.passed c.in_ok-image.ensures.image
+    (IsTraceWritten g.S.Sink.written g.S.Sink.has_failed c.args.trace.now c.perform_command.new.trace)
+    (g.W.Write.contents c.args.out.now) (g.W.Write.contents c.perform_command.new.out) _ c.in-Ok.ensures.ended)
+
+pub returns-in-Ok-flush-clause-ended : goal.returns-in-Ok-flush-clause-ended
+returns-in-Ok-flush-clause-ended g c =
+    rw (c.in_ok-config.was, c.in_ok-file.was)
+    (comes_to c.args.line.now.command _ _ _ _ (as_read c.args.inputs.now.second) c.in_ok-settings.ensures.settings
+    c.in_ok-image.ensures.passed c.in_ok-image.ensures.image
+    (IsTraceWritten g.S.Sink.written g.S.Sink.has_failed c.args.trace.now c.perform_command.new.trace)
+    (g.W.Write.contents c.args.out.now) (g.W.Write.contents c.perform_command.new.out) _ c.in-Ok.ensures.ended
+    _ c.flush.ensures.bytes)

@@ -1,0 +1,24 @@
+use Rattle.std.proofs.lemmas.Result.{IfErr-weaker}
+use Rattle.commands.proofs.OfAnswer.{with_both}
+use Rattle.commands.proofs.OfRun.{report_refusal, comes_to}
+use Rattle.commands.proofs.run.perform_run.Goals as goal
+
+pub returns : goal.returns
+returns g c =
+    let ran = c.in_ok-finished.ensures in
+    let account = c.write_account.ensures in
+    let answer = c.write_account.result in
+    record {
+      refused =
+          IfErr-weaker answer _ _
+          (λ reason is. report_refusal c.args.settings.now reason ran.accepted ran.manned is)
+          account.refused;
+      ended =
+          with_both answer _ _ _ account.traced account.reported
+          (λ traced status reported. comes_to c.args.settings.now c.args.image.now c.args.wanted.records
+          c.args.wanted.tables c.in_ok-finished.finished.core _ _ _ status c.requires.untabled ran.accepted ran.manned
+          ran.setup ran.limit ran.shown traced reported);
+      unwanted = account.unwanted;
+      unbroken = account.unbroken;
+      unreported = account.unreported;
+    }

@@ -1,0 +1,26 @@
+use Rattle.std.proofs.lemmas.Result.{IfErr-weaker}
+use Rattle.commands.proofs.OfAnswer.{with_both}
+use Rattle.commands.proofs.OfStep.{report_refusal, comes_to, unreported}
+use Rattle.commands.proofs.step.perform_step.Goals as goal
+
+pub returns : goal.returns
+returns g c =
+    let asked = c.in_ok-finished.ensures in
+    let account = c.write_account.ensures in
+    let answer = c.write_account.result in
+    record {
+      refused =
+          IfErr-weaker answer _ _
+          (λ reason is. report_refusal c.args.settings.now c.args.script.now reason asked.accepted asked.script is)
+          account.refused;
+      ended =
+          with_both answer _ _ _ account.traced account.reported
+          (λ traced status reported. comes_to g.P.Predict.predicts _ _ c.args.settings.now c.args.image.now
+          c.args.script.now c.args.wanted.records c.args.wanted.tables c.in_ok-finished.finished.core _ _ _ _ status
+          asked.accepted asked.script asked.setup asked.limit asked.shown asked.asked traced reported);
+      unwanted = account.unwanted;
+      unbroken = account.unbroken;
+      unreported = λ failed.
+          unreported g.P.Predict.predicts _ _ c.args.script.now c.in_ok-finished.finished.core _ _ _ asked.asked
+          (account.unreported failed);
+    }

@@ -1,0 +1,72 @@
+-- What is owed on a command, of its settings, its program image and its second file as it was read:
+-- each row names the definitions of one command. (This project's own choice.)
+use Rattle.std.specs.Prelude.{◌≡◌, ℕ, Bool, false, List, Option, is_some}
+use Rattle.elf_image.specs.Image.{ProgramImage}
+use Rattle.core_state.specs.View.{CoreView}
+use Rattle.text_fields.specs.{Printing.Prints}
+use Rattle.scripts.specs.{Session.AreAsked}
+use Rattle.sim_inputs.specs.{declared.line.Command.Command, declared.settings.Settings.Settings}
+use Rattle.sim_inputs.specs.declared.line.Command.TheVariants as commands
+use Rattle.commands.specs.{declared.refused.Refused.Refused}
+use Rattle.commands.specs.Inputs.{Read, OfFile, BehindFile}
+use Rattle.commands.specs.Step.{IsStepRefusal, StepComesTo}
+use Rattle.commands.specs.Run.{IsRunRefusal, RunComesTo, LackARole}
+use Rattle.commands.specs.Check.{IsCheckRefusal, CheckComesTo, OfEvents, AreTooMany}
+use Rattle.commands.specs.Plain.{IsPlainRefusal, PlainComesTo}
+use Rattle.commands.specs.Schedule.{IsScheduleRefusal, ScheduleComesTo}
+use Rattle.commands.specs.List.{IsListRefusal, ListComesTo}
+
+-- When each refusal of a command comes. One that has a second file is refused where that is unread.
+abbrev pub IsCommandRefusal : Command → Settings → ProgramImage → Read → Refused → Type 0
+IsCommandRefusal (commands.Step step) settings image second reason =
+    BehindFile second (IsStepRefusal settings) reason
+IsCommandRefusal (commands.Run run) settings image second reason = IsRunRefusal settings reason
+IsCommandRefusal (commands.Check check) settings image second reason =
+    BehindFile second (IsCheckRefusal settings image) reason
+IsCommandRefusal (commands.Plain plain) settings image second reason =
+    BehindFile second (IsPlainRefusal settings image) reason
+IsCommandRefusal (commands.Schedule schedule) settings image second reason =
+    BehindFile second (IsScheduleRefusal settings image) reason
+IsCommandRefusal (commands.List list) settings image second reason = IsListRefusal reason
+
+-- What a command comes to. `Traced` says of a core whether its trace is written where that is
+-- wanted.
+abbrev pub CommandComesTo : Command → Settings → ProgramImage → Read → (Bool → CoreView → Type 0)
+    → Option (List ℕ) → Option (List ℕ) → ℕ → Type 0
+CommandComesTo (commands.Step step) settings image second Traced old new status =
+    OfFile second (λ script. StepComesTo settings image script step.records step.show
+    (Traced (is_some step.trace)) old new status)
+CommandComesTo (commands.Run run) settings image second Traced old new status =
+    RunComesTo settings image run.records (Traced (is_some run.trace)) old new status
+CommandComesTo (commands.Check check) settings image second Traced old new status =
+    OfFile second (λ trace. CheckComesTo settings image trace check.records old new status)
+CommandComesTo (commands.Plain plain) settings image second Traced old new status =
+    OfFile second (λ order. PlainComesTo settings image order plain.records old new status)
+CommandComesTo (commands.Schedule schedule) settings image second Traced old new status =
+    OfFile second (λ order. ScheduleComesTo settings image order old new status)
+CommandComesTo (commands.List list) settings image second Traced old new status =
+    ListComesTo image old new status
+
+-- What a command may refuse of settings that are a configuration's: a run of threads needs an actor
+-- of each role, and a trace may have no more events than a core. No other command refuses any.
+abbrev pub AreUnfit : Command → Settings → ProgramImage → Read → Type 0
+AreUnfit (commands.Run run) settings image second = LackARole settings
+AreUnfit (commands.Check check) settings image second =
+    OfFile second (λ trace. OfEvents settings image trace AreTooMany)
+AreUnfit _ settings image second = ⊥
+
+-- What a command prints that doesn't come to its report since its trace couldn't be written: a
+-- core's answers to the asks, where it makes steps; nothing, where it runs threads. No other command
+-- writes a trace.
+abbrev pub IsUnreported : Command → Read → Option (List ℕ) → Option (List ℕ) → Type 0
+IsUnreported (commands.Step step) second old new =
+    (core : CoreView)
+    × Prints old new (λ text. OfFile second (λ script. AreAsked script core text))
+IsUnreported (commands.Run run) second old new = new ≡ old
+IsUnreported _ second old new = ⊥
+
+-- The command names a file for the trace of its core.
+abbrev pub wants_trace : Command → Bool
+wants_trace (commands.Step step) = is_some step.trace
+wants_trace (commands.Run run) = is_some run.trace
+wants_trace _ = false

@@ -1,0 +1,12 @@
+pub mod Refused
+pub mod Inputs
+pub mod Account
+pub mod Step
+pub mod Run
+pub mod Check
+pub mod Plain
+pub mod Schedule
+pub mod List
+pub mod Commands
+pub mod Perform
+pub mod Retiring

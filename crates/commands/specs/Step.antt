@@ -1,0 +1,60 @@
+-- The command `step`: a script's asks, made of a core. (This project's own choice.)
+use Rattle.std.specs.Prelude.{◌≡◌, ℕ, Bool, List, ◌++◌, Option}
+use Rattle.elf_image.specs.Image.{ProgramImage}
+use Rattle.core_state.specs.{Setup.setup_of, View.CoreView}
+use Rattle.smt_core.specs.Shown.{Shown}
+use Rattle.text_fields.specs.{Printing.Prints}
+use Rattle.scripts.specs.{declared.actions.ScriptWord.ScriptWord, Script.IsScript}
+use Rattle.scripts.specs.{Script.IsFirstMisspelled, Session.AreAsked}
+use Rattle.sim_inputs.specs.declared.settings.Settings.{Settings}
+use Rattle.commands.specs.declared.refused.Refused.{Refused}
+use Rattle.commands.specs.declared.refused.Refused.TheVariants.{Config, Script, Memory, Output}
+use Rattle.commands.specs.Refused.{AreAccepted, AreRefused}
+use Rattle.reports.specs.Report.{status_number}
+use Rattle.commands.specs.Account.{IsAccount, statuses_of}
+
+-- The text is a script.
+abbrev pub IsAsking : List ℕ → Type 0
+IsAsking script = (words : List ScriptWord) × IsScript script words
+
+-- When each refusal comes: the sizes of the core are looked at first, then the words of the script.
+-- The output is refused only behind them. Of memory nothing is said.
+abbrev pub IsStepRefusal : Settings → List ℕ → Refused → Type 0
+IsStepRefusal settings script Config = AreRefused settings
+IsStepRefusal settings script (Script number) =
+    AreAccepted settings × IsFirstMisspelled script number
+IsStepRefusal settings script Memory = Unit {0}
+IsStepRefusal settings script Output = AreAccepted settings × IsAsking script
+IsStepRefusal settings script _ = ⊥
+
+-- The part of it that the reading of a script answers.
+abbrev pub IsScriptRefusal : List ℕ → Refused → Type 0
+IsScriptRefusal script (Script number) = IsFirstMisspelled script number
+IsScriptRefusal script Memory = Unit {0}
+IsScriptRefusal script _ = ⊥
+
+-- The lines of all that a script has asked of a core, and then what is printed of it.
+pub record AreAsksAndAccount (core : CoreView) (script : List ℕ) (with_records with_tables : Bool)
+    (text : List ℕ) : Type 0 where
+  pub asks : List ℕ
+  pub account : List ℕ
+  pub are_asked : AreAsked script core asks
+  pub is_account : IsAccount core with_records with_tables account
+  pub both : text ≡ asks ++ account
+
+-- What the command comes to. There is a core of this image and these settings, one of those that
+-- may be shown. Its trace is written where that is wanted (`Traced`). What was printed are its own
+-- answers to the script's asks, and then what is printed of it; the exit status is that of its
+-- harts.
+pub record StepComesTo (settings : Settings) (image : ProgramImage) (script : List ℕ)
+    (with_records with_tables : Bool) (Traced : CoreView → Type 0) (old new : Option (List ℕ))
+    (exit_status : ℕ) : Type 0 where
+  pub accepted : AreAccepted settings
+  pub is_asking : IsAsking script
+  pub core : CoreView
+  pub setup : core.setup ≡ setup_of image settings.config
+  pub limit : core.limit ≡ settings.limit
+  pub shown : Shown core
+  pub traced : Traced core
+  pub printed : Prints old new (AreAsksAndAccount core script with_records with_tables)
+  pub harts : exit_status ≡ status_number (statuses_of core)

@@ -1,0 +1,97 @@
+//! The command `check`: whether a trace is a history of the core.
+
+ghost use Rattle.std.specs.Prelude.{◌≡◌, IfOk, IfErr, length, reverse};
+ghost use Rattle.std.specs.Prelude.{true, false};
+ghost use Rattle.smt_core.specs.Shown.{Shown};
+ghost use Rattle.smt_model.specs.Setup.{is_accepted};
+ghost use Rattle.core_state.specs.Setup.{setup_of};
+ghost use Rattle.commands.specs.declared.refused.Refused.TheVariants.{Output};
+ghost use Rattle.commands.specs.Check.{IsCheckRefusal, CheckComesTo, IsTraceOf};
+ghost use Rattle.commands.specs.Check.{IsTraceRefusal, IsHistoryRefusal};
+ghost use Rattle.commands.specs.Account.{IsReported};
+
+use crate::refused::Refused;
+use elf_image::Image;
+use event_text::{Trace, TraceRefused, read_trace};
+use events::Event;
+use history_check::{CheckRefused, Checked, check};
+use reports::{report, status_of};
+use sim_inputs::Settings;
+use std::alloc::Global;
+use std::io::Write;
+
+/// Checks that the events of a trace are a history of the core of an image, and writes what the
+/// history comes to: the records where they are wanted, and the report. Answers the exit status: how
+/// the harts stand.
+///
+/// Refused are, in this order, the first line of the trace that breaks a rule, sizes of no core or
+/// too many events, and the first event that isn't allowed; then nothing is printed. `Output` is
+/// answered where `out` failed.
+#[inline(never)]
+pub fn perform_check<W: Write>(
+    image: &Image,
+    settings: &Settings,
+    trace: &[u8],
+    records: bool,
+    out: &mut W,
+    alloc: Global,
+) -> Result<u8, Refused>
+    ensures refused { IfErr result (IsCheckRefusal settings.now image.now trace.now) }
+    ensures ended { IfOk result (CheckComesTo settings.now image.now trace.now records
+        (W.contents out.old) (W.contents out.new)) }
+{
+    let trace = read_events(trace, alloc)?;
+    let checked = follow_all(image, settings, trace.events(), alloc)?;
+    report_checked(&checked, records, out)
+}
+
+/// The events of a trace's text.
+fn read_events(text: &[u8], alloc: Global) -> Result<Trace, Refused>
+    ensures trace { IfOk result (IsTraceOf text.now) }
+    ensures refused { IfErr result (IsTraceRefusal text.now) }
+{
+    match read_trace(text, alloc) {
+        Ok(trace) => Ok(trace),
+        Err(TraceRefused::Line { line, rule }) => Err(Refused::Trace { line, rule }),
+        Err(TraceRefused::Memory) => Err(Refused::Memory),
+    }
+}
+
+/// A core of an image that has followed these events, with room for no more.
+fn follow_all(
+    image: &Image,
+    settings: &Settings,
+    events: &[Event],
+    alloc: Global,
+) -> Result<Checked, Refused>
+    ensures whole { IfOk result
+        (λ checked. checked ≡ record {
+          setup = setup_of image.now settings.now.config;
+          limit = length events.now;
+          past = reverse events.now;
+        }) }
+    ensures accepted { IfOk result (λ checked. is_accepted checked.setup checked.limit ≡ true) }
+    ensures shown { IfOk result (λ checked. Shown checked) }
+    ensures refused { IfErr result
+        (IsHistoryRefusal (setup_of image.now settings.now.config) events.now) }
+{
+    match check(image, settings.config.copied(), events, alloc) {
+        Ok(checked) => Ok(checked),
+        Err(CheckRefused::BadConfig) => Err(Refused::Config),
+        Err(CheckRefused::Memory) => Err(Refused::Memory),
+        Err(CheckRefused::Event { index, rule }) => Err(Refused::Event { index, rule }),
+    }
+}
+
+/// Writes the report of the history that was checked. Answers how the harts stand.
+fn report_checked<W: Write>(checked: &Checked, records: bool, out: &mut W) -> Result<u8, Refused>
+    ensures refused { IfErr result (λ reason. reason ≡ Output) }
+    ensures reported { IfOk result
+        (IsReported checked.now records false (W.contents out.old) (W.contents out.new)) }
+{
+    let account = checked.account();
+    match report(&account, records, out) {
+        Ok(()) => Ok(status_of(account.statuses.as_slice())),
+        Err(_) => Err(Refused::Output),
+    }
+}

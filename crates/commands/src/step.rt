@@ -1,0 +1,158 @@
+//! The command `step`: a script's asks, made of a core.
+
+ghost use Rattle.std.specs.Prelude.{◌≡◌, [], All, IsTrue, IfOk, IfErr, OnOk, true, false};
+ghost use Rattle.std.specs.Prelude.{length, sum};
+ghost use Rattle.elf_image.specs.Loaded.{IsImageOf};
+ghost use Rattle.core_state.specs.Setup.{setup_of};
+ghost use Rattle.core_state.specs.View.{CoreView};
+ghost use Rattle.smt_core.specs.Shown.{Shown};
+ghost use Rattle.smt_core.specs.Counts.{AreCounts};
+ghost use Rattle.text_fields.specs.Printing.{Prints};
+ghost use Rattle.scripts.specs.Script.{IsScript, IsInRange};
+ghost use Rattle.scripts.specs.Session.{AreAsked, AreAskedWith};
+ghost use Rattle.commands.specs.Refused.{PassesAll, AreAccepted, BehindImage, IsCoreRefusal};
+ghost use Rattle.commands.specs.Step.{IsStepRefusal, StepComesTo, IsAsking, IsScriptRefusal};
+ghost use Rattle.commands.specs.Account.{IsTraceWritten};
+
+use crate::account::{Wanted, write_account};
+use crate::inputs::image_of;
+use crate::refused::Refused;
+use elf_image::Image;
+use event_text::Sink;
+use scripts::{ScriptRefused, ScriptWord, Unwritten, ask_core, read_script};
+use sim_inputs::Settings;
+use smt_core::{Core, CoreRefused, Finished, Predict};
+use std::alloc::Global;
+use std::io::Write;
+
+/// Makes the asks of a script in order, each of them of one core of an image's file, and prints a
+/// line for each: what the core answers. The whole script is read before the first ask.
+///
+/// Refused are, in this order, the image, the configuration, and the first word of the script that
+/// says nothing; then nothing is printed. `Output` is answered where `out` failed. What is finished
+/// is the core of this image and these settings, and its `counts` are those of its history.
+pub fn step_bytes<P: Predict, W: Write>(
+    image: &[u8],
+    settings: &Settings,
+    script: &[u8],
+    predict: &mut P,
+    out: &mut W,
+    alloc: Global,
+) -> Result<Finished, Refused>
+    ensures refused { IfErr result
+        (BehindImage image.now settings.now.ram (IsStepRefusal settings.now script.now)) }
+    ensures passed { OnOk result (PassesAll image.now settings.now.ram) }
+    ensures accepted { OnOk result (AreAccepted settings.now) }
+    ensures script { OnOk result (IsAsking script.now) }
+    ensures image { IfOk result
+        (λ finished. IsImageOf image.now settings.now.ram finished.core.setup.image) }
+    ensures setup { IfOk result
+        (λ finished. finished.core.setup ≡ setup_of finished.core.setup.image settings.now.config) }
+    ensures limit { IfOk result (λ finished. finished.core.limit ≡ settings.now.limit) }
+    ensures own { IfOk result (λ finished. IsTrue finished.own) }
+    ensures told { IfOk result (λ finished. IsTrue finished.told) }
+    ensures counts { IfOk result (λ finished. AreCounts finished.core.past finished.counts) }
+    ensures counted { IfOk result (λ finished. sum finished.counts ≡ length finished.core.past) }
+    ensures shown { IfOk result (λ finished. Shown finished.core) }
+    ensures asked { IfOk result
+        (λ finished. Prints (W.contents out.old) (W.contents out.new)
+        (AreAskedWith P.predicts predict.old predict.new script.now finished.core)) }
+{
+    let image = image_of(image, settings.ram, alloc)?;
+    step_image(&image, settings, script, predict, out, alloc)
+}
+
+/// Makes the asks of a script in order, each of them of one core of an image.
+fn step_image<P: Predict, W: Write>(
+    image: &Image,
+    settings: &Settings,
+    script: &[u8],
+    predict: &mut P,
+    out: &mut W,
+    alloc: Global,
+) -> Result<Finished, Refused>
+    ensures refused { IfErr result (IsStepRefusal settings.now script.now) }
+    ensures accepted { OnOk result (AreAccepted settings.now) }
+    ensures script { OnOk result (IsAsking script.now) }
+    ensures setup { IfOk result
+        (λ finished. finished.core.setup ≡ setup_of image.now settings.now.config) }
+    ensures limit { IfOk result (λ finished. finished.core.limit ≡ settings.now.limit) }
+    ensures own { IfOk result (λ finished. IsTrue finished.own) }
+    ensures told { IfOk result (λ finished. IsTrue finished.told) }
+    ensures counts { IfOk result (λ finished. AreCounts finished.core.past finished.counts) }
+    ensures counted { IfOk result (λ finished. sum finished.counts ≡ length finished.core.past) }
+    ensures shown { IfOk result (λ finished. Shown finished.core) }
+    ensures asked { IfOk result
+        (λ finished. Prints (W.contents out.old) (W.contents out.new)
+        (AreAskedWith P.predicts predict.old predict.new script.now finished.core)) }
+{
+    let core = new_core(image, settings, alloc)?;
+    let words = words_of(script, alloc)?;
+    match ask_core(
+        core,
+        words.as_slice(),
+        image,
+        &settings.config,
+        predict,
+        out,
+    ) {
+        Ok(finished) => Ok(finished),
+        Err(Unwritten) => Err(Refused::Output),
+    }
+}
+
+/// A core of an image and some settings, before its first event.
+fn new_core(image: &Image, settings: &Settings, alloc: Global) -> Result<Core, Refused>
+    ensures accepted { OnOk result (AreAccepted settings.now) }
+    ensures refused { IfErr result (IsCoreRefusal settings.now) }
+    ensures setup { IfOk result (λ core. core.setup ≡ setup_of image.now settings.now.config) }
+    ensures limit { IfOk result (λ core. core.limit ≡ settings.now.limit) }
+    ensures unasked { IfOk result (λ core. core.past ≡ []) }
+{
+    match Core::new(image, settings.config.copied(), settings.limit, alloc) {
+        Ok(core) => Ok(core),
+        Err(CoreRefused::Config) => Err(Refused::Config),
+        Err(CoreRefused::Memory) => Err(Refused::Memory),
+    }
+}
+
+/// The words of a script's text.
+fn words_of(script: &[u8], alloc: Global) -> Result<Vec<ScriptWord>, Refused>
+    ensures script { IfOk result (λ words. IsScript script.now words.items) }
+    ensures in_range { IfOk result (λ words. All (λ word. IsInRange word.action) words.items) }
+    ensures refused { IfErr result (IsScriptRefusal script.now) }
+{
+    match read_script(script, alloc) {
+        Ok(words) => Ok(words),
+        Err(ScriptRefused::Word(number)) => Err(Refused::Script(number)),
+        Err(ScriptRefused::Memory) => Err(Refused::Memory),
+    }
+}
+
+/// Makes the asks of a script, writes the core's trace where it is wanted, and then what else is
+/// wanted of it and its report. Answers the exit status: how the harts stand.
+#[inline(never)]
+pub fn perform_step<P: Predict + Copy, S: Sink, W: Write>(
+    image: &Image,
+    settings: &Settings,
+    script: &[u8],
+    wanted: Wanted,
+    predict: P,
+    trace: &mut S,
+    out: &mut W,
+    alloc: Global,
+) -> Result<u8, Refused>
+    requires works { S.has_failed trace.old ≡ false }
+    ensures refused { IfErr result (IsStepRefusal settings.now script.now) }
+    ensures ended { IfOk result (StepComesTo settings.now image.now script.now wanted.records
+        wanted.tables (IsTraceWritten S.written S.has_failed trace.old trace.new wanted.trace)
+        (W.contents out.old) (W.contents out.new)) }
+    ensures unwanted { wanted.trace ≡ false → trace.new ≡ trace.old }
+    ensures unbroken { OnOk result (S.has_failed trace.new ≡ false) }
+    ensures unreported { S.has_failed trace.new ≡ true → (core : CoreView)
+        × Prints (W.contents out.old) (W.contents out.new) (AreAsked script.now core) }
+{
+    let mut predict = predict;
+    let finished = step_image(image, settings, script, &mut predict, out, alloc)?;
+    write_account(&finished.core, wanted, trace, out, alloc)
+}

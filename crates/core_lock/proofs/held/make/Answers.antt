@@ -1,5 +1,0 @@
-use Rattle.std.proofs.Common.{rules}
-use Rattle.core_lock.proofs.held.make.Goals as goal
-
-pub returns-in-Rename-clause-answer : goal.returns-in-Rename-clause-answer
-returns-in-Rename-clause-answer g c = search rules

@@ -1,0 +1,33 @@
+//! A board of seventeen words, by which the threads of a run see how far the others are: a count
+//! for each of sixteen actors, and a word that says whether to stop and why.
+//!
+//! Each call is a few single atomic steps on the words, and returns whatever other threads do. None
+//! takes the handle `Wait`, so nothing here can wait for a lock: a board behind a mutex can't be
+//! had.
+//!
+//! Read in this order: `reason` (why a run stops), `knowledge` (what a seat knows of the words, the
+//! rule that the words keep, and what each step tells), `seat` (who may write which word), `view`
+//! (what a reader sees), `calls` (what can be done with a board).
+
+ghost use Rattle.std.specs.Prelude.{◌≡◌};
+
+mod calls;
+pub mod knowledge;
+pub mod reason;
+pub mod seat;
+pub mod view;
+
+use atomic_table::Table;
+use knowledge::{BoardRule, Knowledge};
+pub use reason::Reason;
+pub use seat::Seat;
+use std::alloc::Global;
+pub use view::BoardView;
+
+/// Seventeen words that many threads may write and read at once.
+#[derive(Drop)]
+pub struct Board {
+    table: Table<u8, Knowledge, (), BoardRule, Global>,
+    ghost sized: { table.shared.table_id.words ≡ 17 },
+    ghost no_slots: { table.shared.table_id.slots ≡ 0 },
+}

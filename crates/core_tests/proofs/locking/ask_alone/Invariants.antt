@@ -1,8 +1,0 @@
-use Rattle.core_tests.proofs.locking.ask_alone.Given as goal
-
--- the ledger is the new one, and the core is the one that was made
-abbrev pub ghosts-ask_alone_with-L-Ledger : goal.ghosts-ask_alone_with-L-Ledger
-ghosts-ask_alone_with-L-Ledger a = record { name = a.blank.name; parts = a.blank.parts }
-
-abbrev pub ghosts-ask_alone_with-L-Origin : goal.ghosts-ask_alone_with-L-Origin
-ghosts-ask_alone_with-L-Origin a = record { setup = a.core.setup; limit = a.core.limit }

@@ -1,8 +1,0 @@
-use denote.Text.{Utf8}
-use denote.Shadow.{shadow}
-use Rattle.core_tests.proofs.whole_runs.asking.first_stray.Given as goal
-
--- what is left is text
-abbrev pub invariant-loop-word : goal.invariant-loop-word
-invariant-loop-word l =
-    (goal.iterator-loop-word).can_next l.word-iterator × (goal.iterator-loop-word).is_finite l.word-iterator × shadow (Utf8 l.rest)

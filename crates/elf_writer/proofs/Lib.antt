@@ -1,4 +1,0 @@
-pub mod Written
-pub mod WrittenFields
-pub mod Rising
-pub mod RoundTrip

@@ -1,0 +1,11 @@
+use Rattle.std.proofs.Common.{◌∙◌, ap, arith}
+use Rattle.slab.specs.Slab.{Slab}
+use Rattle.issue_queue.specs.declared.entry.Entry.{Entry}
+use Rattle.issue_queue.proofs.Agreeing.{empty_sound}
+use Rattle.issue_queue.proofs.parts.QueueParts.new.Goals as goal
+
+pub returns-clause-sound : goal.returns-clause-sound
+returns-clause-sound c =
+    empty_sound (record { entries = c.reserve.new.self; waiting = c.new.result; ready = c.new-2.result })
+    (ap (λ (s : Slab Entry). s.slots) c.reserve.ensures.rest_kept ∙ c.new-entries.ensures.empty)
+    (omega (arith, c.if-capacity-gt-MOST_QUEUED.false, c.capacity.ensures.value)) c.new.ensures c.new-2.ensures

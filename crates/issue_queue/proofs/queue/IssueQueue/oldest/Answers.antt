@@ -1,5 +1,0 @@
-use Rattle.std.proofs.Common.{rules}
-use Rattle.issue_queue.proofs.queue.IssueQueue.oldest.Goals as goal
-
-pub returns : goal.returns
-returns c = search rules

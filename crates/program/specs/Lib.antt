@@ -1,0 +1,4 @@
+pub mod Files
+pub mod Performed
+pub mod ProgressLine
+pub mod Words

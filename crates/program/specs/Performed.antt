@@ -1,0 +1,47 @@
+-- What comes of the program's words. (This project's own choice.)
+use Rattle.std.specs.Prelude.{◌≡◌, ◌⊎◌, ℕ, false, List, [], Option, IfNone, Result, Ok, Err, Vec}
+use Rattle.std.specs.Borrow.{Bor}
+use Rattle.sim_inputs.specs.{declared.line.Line.Line, declared.line.WordsRefused.WordsRefused}
+use Rattle.sim_inputs.specs.CommandLine.{Asks, AreWordsRefusedFor}
+use Rattle.sim_inputs.specs.{Files.files_of}
+use Rattle.reports.specs.Statuses.{says_harts}
+use Rattle.commands.specs.{declared.refused.Refused.Refused, declared.refused.Unread.Unread}
+use Rattle.commands.specs.{Inputs.Read, Refused.exit_status_of, Perform.IsRefusal}
+use Rattle.program.specs.Words.{IsWordsStatus}
+
+-- A file as it was read, of the vector that holds its bytes.
+abbrev pub read_of : {A : Type 0} → Result (Vec ℕ A) Unread → Read
+read_of (Ok bytes) = Ok bytes.items
+read_of (Err why) = Err why
+
+-- A file that isn't named is read as an empty one.
+abbrev pub IsReadAs : Option (Bor (List ℕ)) → Read → Type 0
+IsReadAs name read = IfNone name (read ≡ Ok [])
+
+-- A line was performed with this exit status: where that says that there is no report, the reason is
+-- one of this line, with its files as they were read.
+pub record HasPerformed (line : Line) (status : ℕ) : Type 0 where
+  pub config : Read
+  pub image : Read
+  pub second : Read
+  pub has_config : IsReadAs (files_of line).config config
+  pub has_image : IsReadAs (files_of line).image image
+  pub has_second : IsReadAs (files_of line).second second
+  pub refused : says_harts status ≡ false → (reason : Refused)
+      × (exit_status_of reason ≡ status) × IsRefusal line.command config image second reason
+
+-- Words asked for a line, and it was performed with this exit status.
+pub record HavePerformed (words : List (List ℕ)) (status : ℕ) : Type 0 where
+  pub line : Line
+  pub asked : Asks words line
+  pub performed : HasPerformed line status
+
+-- Words were refused with this exit status.
+pub record AreRefused (words : List (List ℕ)) (status : ℕ) : Type 0 where
+  pub why : WordsRefused
+  pub refused : AreWordsRefusedFor words why
+  pub has_status : IsWordsStatus why status
+
+-- One of the two came of words with this exit status.
+abbrev pub HaveEnded : List (List ℕ) → ℕ → Type 0
+HaveEnded words status = HavePerformed words status ⊎ AreRefused words status

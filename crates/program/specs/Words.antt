@@ -1,0 +1,17 @@
+-- What becomes of words that ask for no line. (This project's own choice.)
+use Rattle.std.specs.Prelude.{◌≡◌, ◌⊎◌, ℕ}
+use Rattle.std.specs.{declared.io.ErrorKind.ErrorKind}
+use Rattle.std.specs.{declared.io.ErrorKind.TheVariants.OutOfMemory}
+use Rattle.sim_inputs.specs.{declared.line.WordsRefused.WordsRefused}
+use Rattle.sim_inputs.specs.declared.line.WordsRefused.TheVariants as words
+
+-- Why words are refused whose reading failed for a reason of this kind.
+abbrev pub words_refused : ErrorKind → WordsRefused
+words_refused OutOfMemory = words.Memory
+words_refused _ = words.Refused
+
+-- The exit status of words that ask for no line: 0 for help, or 5 where the output takes no more.
+abbrev pub IsWordsStatus : WordsRefused → ℕ → Type 0
+IsWordsStatus (words.Help text) status = (status ≡ 0) ⊎ (status ≡ 5)
+IsWordsStatus words.Refused status = status ≡ 2
+IsWordsStatus words.Memory status = status ≡ 5

@@ -1,0 +1,157 @@
+ghost use Rattle.std.specs.Prelude.{◌≡◌, ◌%◌, ◌^◌, true, sum};
+ghost use Rattle.std.specs.Bool.{then_some};
+ghost use Rattle.program.specs.ProgressLine.{progress_line};
+
+use actors::{Gate, Point};
+use arrayvec::ArrayString;
+use core_lock::BoardView;
+use std::io::Write;
+use std::sync::atomic::{AtomicBool, AtomicU64, Ordering};
+use std::time::Clock;
+use text_fields::{push_ascii, push_decimal};
+
+/// How many turns its actor takes from one look at the clock to the next.
+const TURNS_A_LOOK: u64 = 1024;
+
+/// How many milliseconds pass from one line to the next.
+const MILLISECONDS_A_LINE: u64 = 1000;
+
+/// The actor in whose turns the clock is looked at. Every run has it.
+const WATCHER: u8 = 0;
+
+/// Back to the beginning of a terminal's line, all of which it is to forget.
+const CLEARED: &[u8] = b"\r\x1b[K";
+
+/// The line that is shown of a run.
+type ProgressLine = ArrayString<96>;
+
+/// A gate that lets every actor on, and shows on a terminal how far the run is: about once a
+/// second, from its first second on, on one line, which is cleared when the run is over.
+///
+/// It takes no lock. Only the turns of one actor change its numbers, so none of them is lost.
+#[derive(Drop)]
+pub struct Progress<C: Clock + Copy, W: Write + Copy> {
+    clock: C,
+    /// Where the line is shown; none where nothing is.
+    terminal: Option<W>,
+    /// How many events the run may make.
+    limit: AtomicU64,
+    /// How many turns the watcher has begun.
+    turns: AtomicU64,
+    /// What the clock showed as the run began, in milliseconds.
+    start: AtomicU64,
+    /// What the clock has to show for the next line, in milliseconds.
+    due: AtomicU64,
+    /// Whether there is a line to clear.
+    shows: AtomicBool,
+}
+
+impl<C: Clock + Copy, W: Write + Copy> Progress<C, W> {
+    /// A gate for a run that hasn't begun. It writes on `stream` where that is a terminal, and
+    /// nowhere else.
+    pub fn new(clock: C, stream: W, is_terminal: bool) -> Self
+        ensures { result.terminal ≡ then_some is_terminal stream }
+    {
+        Progress {
+            clock,
+            terminal: is_terminal.then_some(stream),
+            limit: AtomicU64::new(0),
+            turns: AtomicU64::new(0),
+            start: AtomicU64::new(0),
+            due: AtomicU64::new(u64::MAX),
+            shows: AtomicBool::new(false),
+        }
+    }
+
+    /// Shows a new line where one is due. The clock is looked at in few of the turns.
+    fn look(&self, seen: &BoardView) {
+        let turn = self.turns.fetch_add(1, Ordering::SeqCst);
+        if turn % TURNS_A_LOOK != 0 {
+            return;
+        }
+        let Some(now) = milliseconds(&self.clock) else {
+            return;
+        };
+        if now < self.due.load(Ordering::SeqCst) {
+            return;
+        }
+        let next = now.saturating_add(MILLISECONDS_A_LINE);
+        self.due.store(next, Ordering::SeqCst);
+        self.show(seen, now);
+    }
+
+    fn show(&self, seen: &BoardView, now: u64) {
+        let limit = self.limit.load(Ordering::SeqCst);
+        let taken = now.saturating_sub(self.start.load(Ordering::SeqCst));
+        self.shows.store(true, Ordering::SeqCst);
+        self.write(line_of(total(&seen.counts), limit, taken / 1000).as_bytes());
+    }
+
+    fn write(&self, text: &[u8]) {
+        if let Some(mut terminal) = self.terminal {
+            // A terminal that takes no line is no reason to end the run.
+            let _ = terminal.write_all(text);
+        }
+    }
+}
+
+impl<C: Clock + Copy, W: Write + Copy> Gate for Progress<C, W> {
+    fn begin(&self, limit: u32) {
+        self.limit.store(u64::from(limit), Ordering::SeqCst);
+        if let Some(now) = milliseconds(&self.clock) {
+            self.start.store(now, Ordering::SeqCst);
+            let first = now.saturating_add(MILLISECONDS_A_LINE);
+            self.due.store(first, Ordering::SeqCst);
+        }
+    }
+
+    fn at(&self, actor: u8, point: Point, seen: &BoardView) -> bool
+        ensures { result ≡ true }
+    {
+        if self.terminal.is_some() && actor == WATCHER && point == Point::Turn {
+            self.look(seen);
+        }
+        true
+    }
+
+    fn end(&self) {
+        if self.shows.swap(false, Ordering::SeqCst) {
+            self.write(CLEARED);
+        }
+    }
+}
+
+/// What the clock shows, in milliseconds since its start; none where it can't be read.
+fn milliseconds<C: Clock>(clock: &C) -> Option<u64> {
+    let now = clock.monotonic().ok()?;
+    u64::try_from(now.as_millis()).ok()
+}
+
+/// How many events these are together, as they would be counted in 64 bits.
+fn total(counts: &[u64]) -> u64
+    ensures { result ≡ sum counts.now % 2 ^ 64 }
+{
+    let mut all = 0_u64;
+    for count in counts {
+        all = all.wrapping_add(*count);
+    }
+    all
+}
+
+/// The line of a run with so many events, of those that it may make, after so many seconds.
+fn line_of(events: u64, limit: u64, seconds: u64) -> ProgressLine
+    ensures { result.bytes ≡ progress_line events limit seconds }
+{
+    let mut line = ProgressLine::new();
+    push_ascii(&mut line, b'\r');
+    line.push_str("smtsim: ");
+    push_decimal(&mut line, events);
+    line.push_str(" of ");
+    push_decimal(&mut line, limit);
+    line.push_str(" events, ");
+    push_decimal(&mut line, seconds);
+    line.push_str(" s");
+    push_ascii(&mut line, 27);
+    line.push_str("[K");
+    line
+}

@@ -1,7 +1,0 @@
-use Rattle.std.proofs.Common.{rules}
-use Rattle.program_image.specs.{Image.code_word}
-use Rattle.program_image.proofs.image.Image.code_word.Goals as goal
-
-pub returns-then-has_code_word : goal.returns-then-has_code_word
-unfolding code_word
-returns-then-has_code_word c = search rules

@@ -1,8 +1,0 @@
-use Rattle.std.proofs.Common.{rules}
-use Rattle.program_image.proofs.ram_size.RamSize.bytes.Goals as goal
-
-pub returns-clause-value : goal.returns-clause-value
-returns-clause-value c = search rules
-
-pub returns-clause-valid : goal.returns-clause-valid
-returns-clause-valid c = search rules

@@ -1,7 +1,0 @@
-use Rattle.std.proofs.Common.{◌≡◌, ℕ, ◌<◌, slice_index_or}
-use Rattle.program_image.specs.Image.{ProgramSegment}
-use Rattle.program_image.proofs.segment.same_segments.Given as goal
-
--- the segments before i are the same in both
-abbrev pub invariant-loop-i : goal.invariant-loop-i
-invariant-loop-i l = (k : ℕ) (d : ProgramSegment) → k < l.i → slice_index_or l.some k d ≡ slice_index_or l.others k d

@@ -1,0 +1,151 @@
+//! Runs with a thread for each actor, as the program makes them: how they end, and which inputs
+//! they refuse.
+
+use super::{ENDING, SINGLE, is_like};
+use crate::lines::run_line;
+use crate::performing::{Performed, image_inputs_of, perform_whole};
+use crate::rows::{ends, shows, text_of};
+use commands::{Inputs, Unread};
+use std::alloc::Global;
+use std::process::Abort;
+use std::sync::Wait;
+use std::thread::Threads;
+use test_files::file_of;
+
+/// A program's words that are run; what is printed, in which a star stands for any text, what is
+/// written to standard error, and the exit status.
+#[derive(Clone, Copy, Drop)]
+struct Row {
+    config: &'static [u8],
+    words: &'static [u32],
+    records: bool,
+    prints: &'static str,
+    faults: &'static str,
+    status: u8,
+}
+
+const FOUR: &[u8] = b"harts = 4\nram = 8192\nlimit = 2000000\n";
+
+/// Each hart adds 1 to a word a thousand times, and to another word once; hart 0 waits until that
+/// one has the number of harts, and puts out the first.
+const COUNTER: &[u32] = &[
+    0x80001337, 0x00100293, 0x3E800E13, 0x0053202F, 0xFFFE0E13, 0xFE0E1CE3, 0x00430393, 0x0053A02F,
+    0x0003AE83, 0xFEBE9EE3, 0x02051263, 0x00032403, 0x00100893, 0x00400493, 0x00040513, 0x00000073,
+    0x00845413, 0xFFF48493, 0xFE0498E3, 0x00000513, 0x05D00893, 0x00000073,
+];
+
+/// Each hart takes a lock a hundred times and adds 1 to a word behind it; each ends with its own
+/// number, but hart 0 with the word.
+const LOCK: &[u32] = &[
+    0x80001337, 0x06400E13, 0x100322AF, 0xFE029EE3, 0x00100393, 0x187322AF, 0xFE0298E3, 0x00432403,
+    0x00140413, 0x00832223, 0x00032023, 0xFFFE0E13, 0xFC0E1CE3, 0x00830493, 0x0074A02F, 0x0004AE83,
+    0xFEBE9EE3, 0x00051463, 0x00432503, 0x05D00893, 0x00000073,
+];
+
+static ROWS: [Row; 6] = [
+    Row {
+        config: FOUR,
+        words: COUNTER,
+        records: false,
+        prints: "events *lent 0
+hart 0 ended 0
+hart 1 ended 0
+hart 2 ended 0
+hart 3 ended 0
+output a00f0000
+",
+        faults: "",
+        status: 0,
+    },
+    Row {
+        config: FOUR,
+        words: LOCK,
+        records: false,
+        prints: "events *lent 0
+hart 0 ended 400
+hart 1 ended 1
+hart 2 ended 2
+hart 3 ended 3
+output -
+",
+        faults: "",
+        status: 1,
+    },
+    Row {
+        config: b"",
+        words: ENDING,
+        records: true,
+        prints: "0 80000000 00500513 00000005 p80000004 - - -
+0 80000004 05d00893 0000005d p80000008 - - -
+0 80000008 00000073 - e00000005 - - -
+events *
+retired 3
+lent 0
+hart 0 ended 5
+output -
+",
+        faults: "",
+        status: 1,
+    },
+    Row {
+        config: b"limit = 0\n",
+        words: ENDING,
+        records: false,
+        prints: "events 0
+retired 0
+lent 0
+hart 0 going
+output -
+",
+        faults: "",
+        status: 3,
+    },
+    Row {
+        config: SINGLE,
+        words: ENDING,
+        records: false,
+        prints: "",
+        faults: "smtsim: config refused\n",
+        status: 2,
+    },
+    Row {
+        config: SINGLE,
+        words: &[],
+        records: false,
+        prints: "",
+        faults: "smtsim: image refused 12\n",
+        status: 2,
+    },
+];
+
+/// Asserts that a row's line prints its texts and answers its exit status.
+fn runs<R: Threads + Wait + Abort + Sync>(rt: &R, row: &Row, alloc: Global) {
+    let Ok(file) = file_of(row.words, 0, alloc) else {
+        return shows(rt, row.prints, "no memory", false);
+    };
+    let inputs = image_inputs_of(row.config, &file);
+    let line = run_line(row.records, None);
+    let Performed { status, out, err } = perform_whole(rt, &line, &inputs, alloc);
+    let is = status == row.status && is_like(&out, row.prints) && text_of(&err) == row.faults;
+    ends(rt, row.faults, status, text_of(&out), is);
+}
+
+#[test]
+fn threads_run_to_the_ends_of_their_programs(rt: HostRuntime) {
+    for row in &ROWS {
+        runs(&rt, row, rt.alloc());
+    }
+}
+
+#[test]
+fn a_run_needs_its_image(rt: HostRuntime) {
+    let inputs = Inputs {
+        config: Ok(SINGLE),
+        image: Err(Unread::File),
+        second: Ok(b""),
+    };
+    let line = run_line(false, None);
+    let Performed { status, out, err } = perform_whole(&rt, &line, &inputs, rt.alloc());
+    let is = status == 5 && out.is_empty() && text_of(&err) == "smtsim: file\n";
+    ends(&rt, "no image", status, text_of(&err), is);
+}

@@ -1,0 +1,62 @@
+//! Lines of the program, as their words are read. None names a configuration.
+
+use sim_inputs::{
+    CheckCommand, Command, Line, ListCommand, PlainCommand, RunCommand, ScheduleCommand,
+    StepCommand,
+};
+
+macro_rules! line {
+    ($command:expr) => {
+        Line {
+            config: None,
+            command: $command,
+        }
+    };
+}
+
+/// A script that is run.
+pub fn step_line(records: bool, show: bool, trace: Option<&'static str>) -> Line<'static> {
+    line!(Command::Step(StepCommand {
+        image: "image",
+        script: "script",
+        trace,
+        records,
+        show,
+    },))
+}
+
+/// A run with a thread for each actor.
+pub fn run_line(records: bool, trace: Option<&'static str>) -> Line<'static> {
+    line!(Command::Run(RunCommand {
+        image: "image",
+        trace,
+        records,
+    },))
+}
+
+/// A trace that is checked.
+pub fn check_line(records: bool) -> Line<'static> {
+    line!(Command::Check(CheckCommand {
+        image: "image",
+        trace: "trace",
+        records,
+    },))
+}
+
+/// The plain machine, run in an order.
+pub fn plain_line(records: bool) -> Line<'static> {
+    line!(Command::Plain(PlainCommand {
+        image: "image",
+        order: "order",
+        records,
+    },))
+}
+
+/// The script of an order.
+pub const SCHEDULE: Line<'static> = line!(Command::Schedule(ScheduleCommand {
+    image: "image",
+    order: "order",
+},));
+
+/// The listing of an image's code.
+pub const LIST: Line<'static> = line!(Command::List(ListCommand { image: "image" }));

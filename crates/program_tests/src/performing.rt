@@ -1,0 +1,96 @@
+//! Lines of the program, performed on files that are handed in.
+
+ghost use Rattle.std.specs.Prelude.{◌≡◌, false};
+
+use actors::{Open, StaticPredictor};
+use commands::{Inputs, Unread, perform};
+use event_text::{Over, Sink};
+use sim_inputs::Line;
+use smt_core::Predict;
+use std::alloc::Global;
+use std::io::Write;
+use std::sync::Wait;
+use std::thread::Threads;
+
+/// The exit status, and what was written to standard error.
+#[derive(Drop)]
+pub struct Ending {
+    pub status: u8,
+    pub err: Vec<u8>,
+}
+
+/// Performs a line, whose trace goes into a sink.
+pub fn perform_into<P: Predict + Copy + Send, S: Sink, W: Write, R: Threads + Wait + Sync>(
+    rt: &R,
+    line: &Line<'_>,
+    inputs: &Inputs<'_>,
+    predict: P,
+    trace: &mut S,
+    out: &mut W,
+    alloc: Global,
+) -> Ending
+    requires { S.has_failed trace.old ≡ false }
+{
+    let mut err = Vec::new(alloc);
+    let status = perform(
+        rt, line, inputs, &Open, predict, trace, out, &mut err, alloc,
+    );
+    Ending { status, err }
+}
+
+/// Performs a line that writes no trace.
+pub fn perform_line<P: Predict + Copy + Send, W: Write, R: Threads + Wait + Sync>(
+    rt: &R,
+    line: &Line<'_>,
+    inputs: &Inputs<'_>,
+    predict: P,
+    out: &mut W,
+    alloc: Global,
+) -> Ending {
+    let mut trace = Over::new(Vec::new(alloc));
+    perform_into(rt, line, inputs, predict, &mut trace, out, alloc)
+}
+
+/// The files of a line: those of its configuration and its image as they are, and the one that is a
+/// script, an order or a trace as it was read.
+pub fn inputs_of<'a>(
+    config: &'a [u8],
+    image: &'a [u8],
+    second: Result<&'a [u8], Unread>,
+) -> Inputs<'a> {
+    Inputs {
+        config: Ok(config),
+        image: Ok(image),
+        second,
+    }
+}
+
+/// The files of a line that has no script, order or trace.
+pub fn image_inputs_of<'a>(config: &'a [u8], image: &'a [u8]) -> Inputs<'a> {
+    Inputs {
+        config: Ok(config),
+        image: Ok(image),
+        second: Ok(b""),
+    }
+}
+
+/// All that a line comes to: its exit status, and what it wrote to standard output and to standard
+/// error.
+#[derive(Drop)]
+pub struct Performed {
+    pub status: u8,
+    pub out: Vec<u8>,
+    pub err: Vec<u8>,
+}
+
+/// Performs a line that writes no trace, under the program's own predictor, and takes what it prints.
+pub fn perform_whole<R: Threads + Wait + Sync>(
+    rt: &R,
+    line: &Line<'_>,
+    inputs: &Inputs<'_>,
+    alloc: Global,
+) -> Performed {
+    let mut out = Vec::new(alloc);
+    let Ending { status, err } = perform_line(rt, line, inputs, StaticPredictor, &mut out, alloc);
+    Performed { status, out, err }
+}

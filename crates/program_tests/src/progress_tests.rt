@@ -1,0 +1,144 @@
+//! The gate that shows on a terminal how far a run is, with a clock and a terminal of the test's
+//! own.
+
+use actors::{Gate, Point};
+use core_lock::BoardView;
+use program::Progress;
+use std::alloc::{AllocError, Global};
+use std::io;
+use std::io::Write;
+use std::sync::atomic::{AtomicU64, AtomicUsize, Ordering};
+use std::time::{Clock, Duration};
+
+/// A clock that goes on by as many milliseconds with each reading, from 0 on.
+#[derive(Drop)]
+struct Ticking {
+    step: u64,
+    readings: AtomicU64,
+}
+
+impl Ticking {
+    fn new(step: u64) -> Ticking {
+        Ticking {
+            step,
+            readings: AtomicU64::new(0),
+        }
+    }
+}
+
+impl Clock for Ticking {
+    fn monotonic(&self) -> io::Result<Duration> {
+        let readings = self.readings.fetch_add(1, Ordering::SeqCst);
+        Ok(Duration::from_millis(readings.saturating_mul(self.step)))
+    }
+
+    fn since_1970(&self) -> io::Result<Duration> {
+        self.monotonic()
+    }
+}
+
+/// A terminal that shows what is written on it, as far as it has room.
+#[derive(Drop)]
+struct Screen {
+    bytes: Vec<AtomicU64>,
+    length: AtomicUsize,
+}
+
+impl Screen {
+    fn new(alloc: Global) -> Result<Screen, AllocError> {
+        let mut bytes = Vec::new(alloc);
+        for _ in 0..256 {
+            bytes.push(AtomicU64::new(0))?;
+        }
+        Ok(Screen {
+            bytes,
+            length: AtomicUsize::new(0),
+        })
+    }
+
+    fn has(&self, text: &str) -> bool {
+        let mut same = self.length.load(Ordering::SeqCst) == text.len();
+        for (place, byte) in self.bytes.iter().zip(text.as_bytes()) {
+            same &= place.load(Ordering::SeqCst) == u64::from(*byte);
+        }
+        same
+    }
+}
+
+impl Write for &Screen {
+    fn write(&mut self, buf: &[u8]) -> io::Result<usize> {
+        for byte in buf {
+            let at = self.length.fetch_add(1, Ordering::SeqCst);
+            if let Some(place) = self.bytes.get(at) {
+                place.store(u64::from(*byte), Ordering::SeqCst);
+            }
+        }
+        Ok(buf.len())
+    }
+
+    fn flush(&mut self) -> io::Result<()> {
+        Ok(())
+    }
+}
+
+/// A board on which the first actor has posted 10 events and the second 20.
+fn thirty_events() -> BoardView {
+    let mut counts = [0; 16];
+    counts[0] = 10;
+    counts[1] = 20;
+    BoardView { counts, stop: 0 }
+}
+
+/// Whether this is what stands on a terminal when a run of so many turns is over, in each of which
+/// one actor asks at one point, and the clock is so many milliseconds further at each reading.
+fn shows(
+    is_terminal: bool,
+    step: u64,
+    asked: (u8, Point),
+    turns: u64,
+    text: &str,
+    alloc: Global,
+) -> Option<bool> {
+    let clock = Ticking::new(step);
+    let screen = Screen::new(alloc).ok()?;
+    let progress = Progress::new(&clock, &screen, is_terminal);
+    let seen = thirty_events();
+    let mut all_let_on = true;
+    progress.begin(100);
+    for _ in 0..turns {
+        all_let_on &= progress.at(asked.0, asked.1, &seen);
+    }
+    progress.end();
+    Some(all_let_on && screen.has(text))
+}
+
+const TURN: (u8, Point) = (0, Point::Turn);
+
+#[test]
+fn a_line_a_second_is_shown_and_cleared(rt: HostRuntime) {
+    let shown =
+        "\rsmtsim: 30 of 100 events, 1 s\x1b[K\rsmtsim: 30 of 100 events, 3 s\x1b[K\r\x1b[K";
+    assert!(rt; shows(true, 1500, TURN, 1025, shown, rt.alloc()) == Some(true));
+}
+
+#[test]
+fn the_clock_is_seldom_looked_at(rt: HostRuntime) {
+    let shown = "\rsmtsim: 30 of 100 events, 1 s\x1b[K\r\x1b[K";
+    assert!(rt; shows(true, 1500, TURN, 1024, shown, rt.alloc()) == Some(true));
+}
+
+#[test]
+fn no_line_is_shown_in_the_first_second(rt: HostRuntime) {
+    assert!(rt; shows(true, 999, TURN, 1024, "", rt.alloc()) == Some(true));
+}
+
+#[test]
+fn nothing_is_shown_where_there_is_no_terminal(rt: HostRuntime) {
+    assert!(rt; shows(false, 1500, TURN, 1025, "", rt.alloc()) == Some(true));
+}
+
+#[test]
+fn one_actor_alone_shows_a_line_and_before_its_turns_alone(rt: HostRuntime) {
+    assert!(rt; shows(true, 1500, (1, Point::Turn), 1025, "", rt.alloc()) == Some(true));
+    assert!(rt; shows(true, 1500, (0, Point::Job), 1025, "", rt.alloc()) == Some(true));
+}

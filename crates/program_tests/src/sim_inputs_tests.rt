@@ -1,0 +1,349 @@
+//! The words of a line: what they ask for; and in the modules beside it words that are refused, the
+//! configuration and the help.
+
+mod configuration;
+mod help;
+mod refused_words;
+
+use crate::rows::holds;
+use sim_inputs::{
+    CheckCommand, Command, Line, ListCommand, PlainCommand, RunCommand, ScheduleCommand,
+    StepCommand, read_words,
+};
+use std::alloc::{AllocError, Global};
+
+/// The words of a text: a space stands between two.
+fn words_of(text: &str, alloc: Global) -> Result<Vec<&str>, AllocError> {
+    let mut words = Vec::new(alloc);
+    for word in text.split(' ') {
+        words.push(word)?;
+    }
+    Ok(words)
+}
+
+/// Words, and what they ask for.
+static LINES: [(&str, Line<'_>); 18] = [
+    (
+        "smtsim step first.elf first.script",
+        Line {
+            config: None,
+            command: Command::Step(StepCommand {
+                image: "first.elf",
+                script: "first.script",
+                trace: None,
+                records: false,
+                show: false,
+            }),
+        },
+    ),
+    (
+        "smtsim step a b --config c",
+        Line {
+            config: Some("c"),
+            command: Command::Step(StepCommand {
+                image: "a",
+                script: "b",
+                trace: None,
+                records: false,
+                show: false,
+            }),
+        },
+    ),
+    (
+        "smtsim step --config=c a b",
+        Line {
+            config: Some("c"),
+            command: Command::Step(StepCommand {
+                image: "a",
+                script: "b",
+                trace: None,
+                records: false,
+                show: false,
+            }),
+        },
+    ),
+    (
+        "smtsim step a --records b",
+        Line {
+            config: None,
+            command: Command::Step(StepCommand {
+                image: "a",
+                script: "b",
+                trace: None,
+                records: true,
+                show: false,
+            }),
+        },
+    ),
+    (
+        "smtsim step --show a b",
+        Line {
+            config: None,
+            command: Command::Step(StepCommand {
+                image: "a",
+                script: "b",
+                trace: None,
+                records: false,
+                show: true,
+            }),
+        },
+    ),
+    (
+        "smtsim step a b --trace t",
+        Line {
+            config: None,
+            command: Command::Step(StepCommand {
+                image: "a",
+                script: "b",
+                trace: Some("t"),
+                records: false,
+                show: false,
+            }),
+        },
+    ),
+    (
+        "smtsim step --show a --config c --trace=t b --records",
+        Line {
+            config: Some("c"),
+            command: Command::Step(StepCommand {
+                image: "a",
+                script: "b",
+                trace: Some("t"),
+                records: true,
+                show: true,
+            }),
+        },
+    ),
+    (
+        "smtsim run a",
+        Line {
+            config: None,
+            command: Command::Run(RunCommand {
+                image: "a",
+                trace: None,
+                records: false,
+            }),
+        },
+    ),
+    (
+        "smtsim run --records --config c a",
+        Line {
+            config: Some("c"),
+            command: Command::Run(RunCommand {
+                image: "a",
+                trace: None,
+                records: true,
+            }),
+        },
+    ),
+    (
+        "smtsim run --trace t a",
+        Line {
+            config: None,
+            command: Command::Run(RunCommand {
+                image: "a",
+                trace: Some("t"),
+                records: false,
+            }),
+        },
+    ),
+    (
+        "smtsim check a t",
+        Line {
+            config: None,
+            command: Command::Check(CheckCommand {
+                image: "a",
+                trace: "t",
+                records: false,
+            }),
+        },
+    ),
+    (
+        "smtsim check --records a --config c t",
+        Line {
+            config: Some("c"),
+            command: Command::Check(CheckCommand {
+                image: "a",
+                trace: "t",
+                records: true,
+            }),
+        },
+    ),
+    (
+        "smtsim plain a b",
+        Line {
+            config: None,
+            command: Command::Plain(PlainCommand {
+                image: "a",
+                order: "b",
+                records: false,
+            }),
+        },
+    ),
+    (
+        "smtsim plain --config c a --records b",
+        Line {
+            config: Some("c"),
+            command: Command::Plain(PlainCommand {
+                image: "a",
+                order: "b",
+                records: true,
+            }),
+        },
+    ),
+    (
+        "smtsim schedule a b",
+        Line {
+            config: None,
+            command: Command::Schedule(ScheduleCommand {
+                image: "a",
+                order: "b",
+            }),
+        },
+    ),
+    (
+        "smtsim schedule a --config c b",
+        Line {
+            config: Some("c"),
+            command: Command::Schedule(ScheduleCommand {
+                image: "a",
+                order: "b",
+            }),
+        },
+    ),
+    (
+        "smtsim list list.elf",
+        Line {
+            config: None,
+            command: Command::List(ListCommand { image: "list.elf" }),
+        },
+    ),
+    (
+        "smtsim list --config c.toml list.elf",
+        Line {
+            config: Some("c.toml"),
+            command: Command::List(ListCommand { image: "list.elf" }),
+        },
+    ),
+];
+
+/// The files of a line: its configuration, its image, the other one that is read, and the one that is
+/// written.
+type Named<'a> = (
+    Option<&'a str>,
+    Option<&'a str>,
+    Option<&'a str>,
+    Option<&'a str>,
+);
+
+fn files_of<'a>(line: &Line<'a>) -> Named<'a> {
+    let files = line.files();
+    (files.config, files.image, files.second, files.trace)
+}
+
+/// The command of a line, and its flags: records and tables.
+fn flags_of(line: &Line<'_>) -> (&'static str, bool, bool) {
+    match line.command {
+        Command::Step(step) => ("step", step.records, step.show),
+        Command::Run(run) => ("run", run.records, false),
+        Command::Check(check) => ("check", check.records, false),
+        Command::Plain(plain) => ("plain", plain.records, false),
+        Command::Schedule(_) => ("schedule", false, false),
+        Command::List(_) => ("list", false, false),
+    }
+}
+
+/// Whether two lines have the same command, files and flags.
+fn is_same(read: &Line<'_>, line: &Line<'_>) -> bool {
+    files_of(read) == files_of(line) && flags_of(read) == flags_of(line)
+}
+
+/// Whether words ask for this, where there is memory for them.
+fn asks(text: &str, line: &Line<'_>, alloc: Global) -> Result<bool, AllocError> {
+    let words = words_of(text, alloc)?;
+    match read_words(&words, alloc) {
+        Ok(read) => Ok(is_same(&read, line)),
+        Err(_) => Ok(false),
+    }
+}
+
+#[test]
+fn each_line_is_read_with_its_files_and_options(rt: HostRuntime) {
+    for (text, line) in &LINES {
+        holds(&rt, text, asks(text, line, rt.alloc()) == Ok(true));
+    }
+}
+
+/// A line of each command, and its files.
+static NAMED: [(Line<'_>, Named<'_>); 6] = [
+    (
+        Line {
+            config: Some("c"),
+            command: Command::Step(StepCommand {
+                image: "a",
+                script: "b",
+                trace: Some("t"),
+                records: true,
+                show: true,
+            }),
+        },
+        (Some("c"), Some("a"), Some("b"), Some("t")),
+    ),
+    (
+        Line {
+            config: Some("c"),
+            command: Command::Run(RunCommand {
+                image: "a",
+                trace: Some("t"),
+                records: true,
+            }),
+        },
+        (Some("c"), Some("a"), None, Some("t")),
+    ),
+    (
+        Line {
+            config: Some("c"),
+            command: Command::Check(CheckCommand {
+                image: "a",
+                trace: "t",
+                records: true,
+            }),
+        },
+        (Some("c"), Some("a"), Some("t"), None),
+    ),
+    (
+        Line {
+            config: Some("c"),
+            command: Command::Plain(PlainCommand {
+                image: "a",
+                order: "b",
+                records: false,
+            }),
+        },
+        (Some("c"), Some("a"), Some("b"), None),
+    ),
+    (
+        Line {
+            config: Some("c"),
+            command: Command::Schedule(ScheduleCommand {
+                image: "a",
+                order: "b",
+            }),
+        },
+        (Some("c"), Some("a"), Some("b"), None),
+    ),
+    (
+        Line {
+            config: Some("c"),
+            command: Command::List(ListCommand { image: "a" }),
+        },
+        (Some("c"), Some("a"), None, None),
+    ),
+];
+
+#[test]
+fn a_line_names_its_files(rt: HostRuntime) {
+    for (line, files) in &NAMED {
+        assert!(rt; files_of(line) == *files);
+    }
+}

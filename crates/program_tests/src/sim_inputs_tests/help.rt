@@ -1,0 +1,89 @@
+//! The help of the program and of its commands.
+
+use super::configuration::is_default;
+use super::words_of;
+use crate::rows::holds;
+use sim_inputs::{WordsRefused, read_words};
+use std::alloc::Global;
+use std::process::Abort;
+use std::test::Fail;
+
+/// The columns of a common terminal.
+const COLUMNS: usize = 80;
+
+/// The words that ask for help, and what it tells; a bar stands between two of those.
+static HELPS: [(&str, &str); 7] = [
+    (
+        "smtsim --help",
+        "Usage: smtsim <COMMAND>|step|run|check|plain|schedule|list|\
+harts|extra|queue|ram|limit|turns|actors",
+    ),
+    (
+        "smtsim step --help",
+        "Usage: smtsim step [OPTIONS] <IMAGE> <SCRIPT>|--config <FILE>|--records|--show|\
+--trace <FILE>",
+    ),
+    (
+        "smtsim run --help",
+        "Usage: smtsim run [OPTIONS] <IMAGE>|--config <FILE>|--records|--trace <FILE>",
+    ),
+    (
+        "smtsim check --help",
+        "Usage: smtsim check [OPTIONS] <IMAGE> <TRACE>|--config <FILE>|--records|smt-trace 1|\
+F actor hart number pc word predicted|T actor number value next address data out",
+    ),
+    (
+        "smtsim plain --help",
+        "Usage: smtsim plain [OPTIONS] <IMAGE> <ORDER>|--config <FILE>|--records|0 to 255",
+    ),
+    (
+        "smtsim schedule --help",
+        "Usage: smtsim schedule [OPTIONS] <IMAGE> <ORDER>|--config <FILE>|0 to 255",
+    ),
+    (
+        "smtsim list --help",
+        "Usage: smtsim list [OPTIONS] <IMAGE>|--config <FILE>",
+    ),
+];
+
+/// The help that the words ask for; nothing where they ask for none.
+fn help_of(text: &str, alloc: Global) -> Option<String> {
+    let Ok(words) = words_of(text, alloc) else {
+        return None;
+    };
+    match read_words(&words, alloc) {
+        Err(WordsRefused::Help(help)) => Some(help),
+        _ => None,
+    }
+}
+
+/// Asserts that a help has each of the texts, and no line that is too long.
+fn tells(rt: &impl Abort, help: &str, texts: &str) {
+    for text in texts.split('|') {
+        holds(rt, text, help.contains(text));
+    }
+    for line in help.lines() {
+        holds(rt, line, line.len() <= COLUMNS);
+    }
+}
+
+#[test]
+fn help_tells_all_there_is_and_fits_a_common_terminal(rt: HostRuntime) -> Result<(), Fail> {
+    for (words, texts) in &HELPS {
+        let help = help_of(words, rt.alloc()).ok_or("no help")?;
+        tells(&rt, help.as_str(), texts);
+    }
+    Ok(())
+}
+
+/// Whether the keys that the program's help tells are a configuration of the defaults.
+fn tells_the_defaults(alloc: Global) -> Option<bool> {
+    let help = help_of("smtsim --help", alloc)?;
+    let (_, text) = help.as_str().split_once("absent:")?;
+    Some(is_default(text.as_bytes(), alloc))
+}
+
+#[test]
+fn help_of_the_program_has_a_configuration_of_the_defaults(rt: HostRuntime) {
+    assert!(rt; tells_the_defaults(rt.alloc()) == Some(true));
+}

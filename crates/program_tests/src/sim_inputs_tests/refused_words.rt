@@ -1,0 +1,67 @@
+//! Words that ask for nothing.
+
+use super::words_of;
+use crate::rows::holds;
+use sim_inputs::{Line, WordsRefused, read_words};
+use std::alloc::{AllocError, Global};
+
+/// A line for each.
+const REFUSED: &str = "smtsim
+smtsim walk first.elf first.script
+smtsim step
+smtsim step first.elf
+smtsim step first.elf first.script more
+smtsim step --fast first.elf first.script
+smtsim step --show --show a b
+smtsim step --show=yes a b
+smtsim step --record a b
+smtsim step a b --config
+smtsim step a b --trace
+smtsim step --trace t --trace t a b
+smtsim --config c step a b
+smtsim run
+smtsim run a b
+smtsim run --show a
+smtsim run a --trace
+smtsim run --trace t --trace u a
+smtsim check
+smtsim check a
+smtsim check a t u
+smtsim check --trace t a u
+smtsim check --show a t
+smtsim plain a
+smtsim plain a b c
+smtsim plain --show a b
+smtsim plain --trace t a b
+smtsim schedule a
+smtsim schedule a b c
+smtsim schedule --records a b
+smtsim schedule --show a b
+smtsim schedule --trace t a b
+smtsim list
+smtsim list first.elf first.script
+smtsim list --records first.elf
+smtsim list --show first.elf
+smtsim list --trace t first.elf
+smtsim list --config c --config c a";
+
+/// Whether words are refused, where there is memory for them.
+fn are_refused(text: &str, alloc: Global) -> Result<bool, AllocError> {
+    let words = words_of(text, alloc)?;
+    Ok(is_refusal(read_words(&words, alloc)))
+}
+
+fn is_refusal(read: Result<Line<'_>, WordsRefused>) -> bool {
+    matches!(read, Err(WordsRefused::Refused))
+}
+
+#[test]
+fn other_words_are_refused(rt: HostRuntime) {
+    let mut rows = 0u32;
+    for text in REFUSED.lines() {
+        holds(&rt, text, are_refused(text, rt.alloc()) == Ok(true));
+        rows = rows.wrapping_add(1);
+    }
+    assert!(rt; rows == 38);
+    assert!(rt; is_refusal(read_words(&[], rt.alloc())));
+}

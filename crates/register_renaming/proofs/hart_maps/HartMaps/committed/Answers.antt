@@ -1,5 +1,0 @@
-use Rattle.std.proofs.Common.{rules}
-use Rattle.register_renaming.proofs.hart_maps.HartMaps.committed.Goals as goal
-
-pub returns : goal.returns
-returns c = search rules

@@ -1,8 +1,0 @@
-use Rattle.std.proofs.Common.{rules}
-use Rattle.register_renaming.proofs.hart_maps.HartMaps.rename.Goals as goal
-
-pub returns-clause-renamed : goal.returns-clause-renamed
-returns-clause-renamed c = search rules
-
-pub returns-clause-committed : goal.returns-clause-committed
-returns-clause-committed c = search rules

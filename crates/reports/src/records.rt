@@ -1,0 +1,46 @@
+ghost use Rattle.std.specs.Prelude.{flat_map, OnOk};
+ghost use Rattle.std.specs.Io.KnownBytes.{Appends};
+ghost use Rattle.reports.specs.Report.{record_line, records_text};
+
+use arrayvec::ArrayString;
+use event_text::print_record;
+use events::Record;
+use std::io;
+use std::io::Write;
+use text_fields::push_ascii;
+
+/// Writes a line for each record where they are wanted: hart, pc, word, value, next, the address
+/// and number written, and the byte put out.
+pub fn report_records<W: Write>(wanted: bool, records: &[Record], out: &mut W) -> io::Result<()>
+    ensures { OnOk result
+        (Appends (W.contents out.old) (W.contents out.new) (records_text wanted records.now)) }
+{
+    if !wanted {
+        return out.write_all(b"");
+    }
+    write_records(records, out)
+}
+
+fn write_records<W: Write>(records: &[Record], out: &mut W) -> io::Result<()>
+    ensures { OnOk result
+        (Appends (W.contents out.old) (W.contents out.new) (flat_map record_line records.now)) }
+{
+    for record in records {
+        write_record(record, out)?;
+    }
+    Ok(())
+}
+
+/// One write for one line.
+#[tactic(auto, using(crate::proofs::RecordLines::short_write))]
+fn write_record<W: Write>(record: &Record, out: &mut W) -> io::Result<()>
+    ensures { OnOk result
+        (Appends (W.contents out.old) (W.contents out.new) (record_line record.now)) }
+{
+    // A write says its width, 1, 2 or 4 bytes, as it is read: so it has room on the line.
+    let _write = record.effect.write();
+    let mut line = ArrayString::<80>::new();
+    line.push_str(print_record(record).as_str());
+    push_ascii(&mut line, b'\n');
+    out.write_all(line.as_bytes())
+}

@@ -1,0 +1,136 @@
+ghost use Rattle.std.specs.Prelude.{◌≡◌, ◌+◌, ◌≤◌, ◌++◌, length, flat_map, OnOk};
+ghost use Rattle.std.specs.Io.KnownBytes.{Appends};
+ghost use Rattle.arrayvec.specs.ArrayString.{array_string_len};
+ghost use Rattle.text_fields.specs.Spelling.{hex};
+ghost use Rattle.reports.specs.Report.{count_line};
+ghost use Rattle.reports.specs.Report.{status_text, hart_line, hart_lines, output_line};
+ghost use Rattle.reports.specs.Report.{records_text, report_text, plain_report_text};
+
+use crate::records::report_records;
+use arrayvec::ArrayString;
+use plain_run::PlainRun;
+use smt_laws::Account;
+use smt_model::Status;
+use std::io;
+use std::io::Write;
+use text_fields::{push_ascii, push_decimal, push_hex};
+
+/// Room for the name of a line with its number, or for the line of a hart.
+type Line = ArrayString<64>;
+
+/// Writes the report of an account: with `records` a line for each retired instruction, then how
+/// many events and retired instructions there are, how many jobs are with units, how each hart
+/// stands, and the output's bytes in hexadecimal. Where it answers Ok, it has written exactly these
+/// lines.
+pub fn report<W: Write>(account: &Account<'_>, records: bool, out: &mut W) -> io::Result<()>
+    ensures { OnOk result
+        (Appends (W.contents out.old) (W.contents out.new)
+        (records_text records account.now.records.now
+        ++ report_text account.now.events (length account.now.records.now) account.now.lent
+        account.now.statuses.items account.now.output.now)) }
+{
+    report_records(records, account.records, out)?;
+    report_count("events", u64::from(account.events), out)?;
+    report_count("retired", account.records.len() as u64, out)?;
+    report_count("lent", u64::from(account.lent), out)?;
+    report_harts(account.statuses.as_slice(), out)?;
+    report_output(account.output, out)
+}
+
+/// Writes the report of a run of the plain machine: with `records` a line for each of its steps,
+/// then how many there are, how each hart stands, and the output's bytes in hexadecimal. Where it
+/// answers Ok, it has written exactly these lines.
+pub fn report_plain<W: Write>(ran: &PlainRun, records: bool, out: &mut W) -> io::Result<()>
+    ensures { OnOk result
+        (Appends (W.contents out.old) (W.contents out.new)
+        (records_text records ran.now.records
+        ++ plain_report_text (length ran.now.records) ran.now.statuses ran.now.machine.output)) }
+{
+    report_records(records, ran.records(), out)?;
+    report_count("retired", ran.records().len() as u64, out)?;
+    report_harts(ran.statuses().as_slice(), out)?;
+    report_output(ran.output(), out)
+}
+
+fn report_count<W: Write>(name: &str, count: u64, out: &mut W) -> io::Result<()>
+    requires { length name.now ≤ 16 }
+    ensures { OnOk result
+        (Appends (W.contents out.old) (W.contents out.new) (count_line name.now count)) }
+{
+    let mut line = Line::new();
+    line.push_str(name);
+    push_ascii(&mut line, b' ');
+    push_decimal(&mut line, count);
+    push_ascii(&mut line, b'\n');
+    out.write_all(line.as_bytes())
+}
+
+fn report_harts<W: Write>(statuses: &[Status], out: &mut W) -> io::Result<()>
+    ensures { OnOk result
+        (Appends (W.contents out.old) (W.contents out.new) (hart_lines 0 statuses.now)) }
+{
+    for (hart, status) in statuses.iter().enumerate() {
+        report_hart(hart, *status, out)?;
+    }
+    Ok(())
+}
+
+fn report_hart<W: Write>(hart: usize, status: Status, out: &mut W) -> io::Result<()>
+    ensures { OnOk result
+        (Appends (W.contents out.old) (W.contents out.new) (hart_line hart status)) }
+{
+    let mut line = Line::new();
+    line.push_str("hart ");
+    push_decimal(&mut line, hart);
+    push_status(&mut line, status);
+    push_ascii(&mut line, b'\n');
+    out.write_all(line.as_bytes())
+}
+
+fn push_status(line: &mut Line, status: Status)
+    requires { array_string_len line.old + 17 ≤ 64 }
+    ensures spelled { line.new.bytes ≡ line.old.bytes ++ status_text status }
+    ensures length { array_string_len line.new ≤ array_string_len line.old + 17 }
+{
+    match status {
+        Status::Going => line.push_str(" going"),
+        Status::Ended(number) => {
+            line.push_str(" ended ");
+            push_decimal(line, number);
+        }
+        Status::Stopped(cause) => {
+            line.push_str(" stopped ");
+            push_decimal(line, cause);
+        }
+    }
+}
+
+fn report_output<W: Write>(output: &[u8], out: &mut W) -> io::Result<()>
+    ensures { OnOk result
+        (Appends (W.contents out.old) (W.contents out.new) (output_line output.now)) }
+{
+    if output.is_empty() {
+        return out.write_all(b"output -\n");
+    }
+    out.write_all(b"output ")?;
+    write_bytes(output, out)?;
+    out.write_all(b"\n")
+}
+
+fn write_bytes<W: Write>(bytes: &[u8], out: &mut W) -> io::Result<()>
+    ensures { OnOk result
+        (Appends (W.contents out.old) (W.contents out.new) (flat_map (hex 2) bytes.now)) }
+{
+    for byte in bytes {
+        write_byte(*byte, out)?;
+    }
+    Ok(())
+}
+
+fn write_byte<W: Write>(byte: u8, out: &mut W) -> io::Result<()>
+    ensures { OnOk result (Appends (W.contents out.old) (W.contents out.new) (hex 2 byte)) }
+{
+    let mut digits = ArrayString::<2>::new();
+    push_hex(&mut digits, u32::from(byte), 2);
+    out.write_all(digits.as_bytes())
+}

@@ -1,2 +1,0 @@
-pub mod Mnemonic
-pub mod Spelling

@@ -1,4 +1,0 @@
-use Rattle.rv_text.proofs.mnemonic.shift_named.Goals as goal
-
-pub returns-in-srai-clause-found : goal.returns-in-srai-clause-found
-returns-in-srai-clause-found c = c.in-srai.is

@@ -1,0 +1,10 @@
+pub mod Parts
+pub mod Decimals
+pub mod Spellings
+pub mod Pieces
+pub mod Reading
+pub mod Written
+pub mod Lines
+pub mod Unambiguous
+pub mod Asking
+pub mod Sessions

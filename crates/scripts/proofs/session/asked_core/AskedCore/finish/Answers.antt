@@ -1,0 +1,17 @@
+use Rattle.std.proofs.Common.{sym, subst}
+use Rattle.core_lock.proofs.Telling.{told_counts}
+use Rattle.core_state.specs.View.{CoreView}
+use Rattle.scripts.proofs.Asking.{AllTold}
+use Rattle.scripts.proofs.session.asked_core.AskedCore.finish.Goals as goal
+
+pub returns-clause-counts : goal.returns-clause-counts
+returns-clause-counts g c =
+    told_counts (λ p. p.actor) (λ p. p.count) (λ p. p.last) _ c.self.inside.passes _ c.finish.ensures.counts
+    (subst (λ (v : CoreView). AllTold (λ p. p.actor) (λ p. p.count) (λ p. p.last) v.past c.self.inside.passes)
+    (sym c.finish.ensures.core) c.self.invariant)
+
+pub returns-clause-told : goal.returns-clause-told
+returns-clause-told g c =
+    c.finish.ensures.told.1
+    (subst (λ (v : CoreView). AllTold (λ p. p.actor) (λ p. p.count) (λ p. p.last) v.past c.self.inside.passes)
+    (sym c.finish.ensures.core) c.self.invariant)

@@ -1,0 +1,10 @@
+use Rattle.scripts.proofs.Asking.{all_dealt}
+use Rattle.scripts.proofs.session.asked_core.AskedCore.new.Goals as goal
+
+pub invariant_of-result : goal.invariant_of-result
+invariant_of-result g c =
+    let dealt = c.new-held.ensures in
+    let told =
+    all_dealt (λ p. p.actor) (λ p. p.count) (λ p. p.last) c.args.core.past c.new-held.result.1 dealt.actors dealt.counts
+    dealt.lasts in
+    rw dealt.core told

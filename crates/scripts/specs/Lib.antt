@@ -1,0 +1,5 @@
+pub mod Script
+pub mod Order
+pub mod Lines
+pub mod Unambiguous
+pub mod Session

@@ -1,0 +1,51 @@
+ghost use Rattle.std.specs.Prelude.{◌≡◌, ℕ, ◌≤◌, ◌<◌, ◌==◌, ◌&&◌, ◌||◌, nat_lt, ◌∷◌, ◌++◌, length};
+ghost use Rattle.std.specs.Prelude.{slice_index, Some, IfSome};
+ghost use Rattle.std.specs.Fmt.{decimal};
+ghost use Rattle.scripts.specs.Order.{SpellsHart};
+
+use crate::splitting::split_at_byte;
+use text_fields::laws::decimal_law;
+use text_fields::read_decimal;
+
+/// An actor, 0 to 15.
+pub fn read_actor(text: &[u8]) -> Option<u8>
+    ensures found { IfSome result (λ actor. (actor ≤ 15) × (text.now ≡ decimal actor)) }
+    ensures only { (actor : ℕ) → actor ≤ 15 → text.now ≡ decimal actor → result ≡ Some actor }
+{
+    read_number(text, 15).map(|number| number as u8)
+}
+
+/// A hart of an order, 0 to 255. Whether there is such a hart is for the machine to say.
+pub fn read_hart(text: &[u8]) -> Option<u8>
+    ensures found { IfSome result (SpellsHart text.now) }
+    ensures only { (hart : ℕ) → SpellsHart text.now hart → result ≡ Some hart }
+{
+    if let [digit @ b'0'..=b'9'] = text {
+        return Some(*digit - b'0');
+    }
+    read_number(text, 255).map(|number| number as u8)
+}
+
+/// An actor, a point, and a hart, 0 to 7.
+pub fn read_actor_and_hart(text: &[u8]) -> Option<(u8, u8)>
+    ensures found { IfSome result
+        (λ p. (p.0 ≤ 15) × (p.1 ≤ 7) × (text.now ≡ decimal p.0 ++ 46 ∷ decimal p.1)) }
+    ensures only { (actor hart : ℕ) → actor ≤ 15 → hart ≤ 7
+        → text.now ≡ decimal actor ++ 46 ∷ decimal hart →
+        result ≡ Some (actor, hart) }
+{
+    let (actor, hart) = split_at_byte(text, b'.')?;
+    Some((read_actor(actor)?, read_number(hart, 7)? as u8))
+}
+
+/// A decimal number of at most `max`, without leading zeros.
+pub fn read_number(text: &[u8], max: u32) -> Option<u32>
+    ensures found { IfSome result (λ n. (n ≤ max) × (text.now ≡ decimal n)) }
+    ensures only { (n : ℕ) → n ≤ max → text.now ≡ decimal n → result ≡ Some n }
+{
+    decimal_law();
+    match read_decimal(text, max) {
+        Ok(number) => Some(number),
+        Err(_) => None,
+    }
+}

@@ -1,3 +1,0 @@
-pub mod CheckTelling
-pub mod PlainTelling
-pub mod ScheduleTelling

@@ -1,5 +1,0 @@
-use Rattle.std.proofs.Common.{rules}
-use Rattle.sim_commands.proofs.plain.read_harts.Goals as goal
-
-pub returns-in-Err-Word-clause-refused : goal.returns-in-Err-Word-clause-refused
-returns-in-Err-Word-clause-refused c = search rules

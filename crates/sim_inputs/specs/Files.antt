@@ -1,0 +1,50 @@
+-- The files that a line names. (This project's own choice.)
+use Rattle.std.specs.Prelude.{List, ℕ, Option, None, Some}
+use Rattle.std.specs.Borrow.{Bor}
+use Rattle.sim_inputs.specs.{declared.files.Files.Files}
+use Rattle.sim_inputs.specs.{declared.line.Line.Line, declared.line.Command.Command}
+use Rattle.sim_inputs.specs.declared.line.Command.TheVariants as commands
+
+-- The files of a command, beside the configuration of its line.
+abbrev files_with : Option (Bor (List ℕ)) → Command → Files
+files_with config (commands.Step step) = record {
+  config = config;
+  image = Some step.image;
+  second = Some step.script;
+  trace = step.trace;
+}
+files_with config (commands.Run run) = record {
+  config = config;
+  image = Some run.image;
+  second = None;
+  trace = run.trace;
+}
+files_with config (commands.Check check) = record {
+  config = config;
+  image = Some check.image;
+  second = Some check.trace;
+  trace = None;
+}
+files_with config (commands.Plain plain) = record {
+  config = config;
+  image = Some plain.image;
+  second = Some plain.order;
+  trace = None;
+}
+files_with config (commands.Schedule schedule) = record {
+  config = config;
+  image = Some schedule.image;
+  second = Some schedule.order;
+  trace = None;
+}
+files_with config (commands.List list) = record {
+  config = config;
+  image = Some list.image;
+  second = None;
+  trace = None;
+}
+
+-- The configuration, the image, the file that is read beside them (the script, the trace that is
+-- checked, or the order), and the file that the trace of a core is written to.
+abbrev pub files_of : Line → Files
+files_of line = files_with line.config line.command

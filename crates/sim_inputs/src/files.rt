@@ -1,0 +1,39 @@
+ghost use Rattle.std.specs.Prelude.{◌≡◌};
+ghost use Rattle.sim_inputs.specs.Files.{files_of};
+
+use crate::line::{Command, Line};
+
+/// The files that a line names: three that are read, in this order, and one that is written.
+#[derive(Clone, Copy, Drop)]
+pub struct Files<'a> {
+    /// The configuration.
+    pub config: Option<&'a str>,
+    /// The program that the harts run.
+    pub image: Option<&'a str>,
+    /// The script, the trace that is checked, or the order.
+    pub second: Option<&'a str>,
+    /// The file that the trace of a core is written to.
+    pub trace: Option<&'a str>,
+}
+
+impl<'a> Line<'a> {
+    /// The files that the line names.
+    pub fn files(&self) -> Files<'a>
+        ensures { result ≡ files_of self.now }
+    {
+        let (image, second, trace) = match self.command {
+            Command::Step(step) => (Some(step.image), Some(step.script), step.trace),
+            Command::Run(run) => (Some(run.image), None, run.trace),
+            Command::Check(check) => (Some(check.image), Some(check.trace), None),
+            Command::Plain(plain) => (Some(plain.image), Some(plain.order), None),
+            Command::Schedule(schedule) => (Some(schedule.image), Some(schedule.order), None),
+            Command::List(list) => (Some(list.image), None, None),
+        };
+        Files {
+            config: self.config,
+            image,
+            second,
+            trace,
+        }
+    }
+}

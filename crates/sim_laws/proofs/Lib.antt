@@ -1,4 +1,0 @@
-pub mod Replying
-pub mod Scripted
-pub mod Retired
-pub mod OneImage

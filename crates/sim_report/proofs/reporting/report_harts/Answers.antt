@@ -1,5 +1,0 @@
-use Rattle.sim_report.proofs.Appending.{harts_step}
-use Rattle.sim_report.proofs.reporting.report_harts.Goals as goal
-
-pub loop-hart-preserved : goal.loop-hart-preserved
-loop-hart-preserved g c = harts_step _ _ _ _ _ _ c.loop-hart-test.true c.loop-hart.invariant c.in_ok-report_hart.ensures

@@ -1,5 +1,0 @@
-use Rattle.sim_script.proofs.Lines.{lines_are_scripts}
-use Rattle.sim_script.proofs.laws.lines_are_scripts.Goals as goal
-
-pub returns : goal.returns
-returns c = record { lines = lines_are_scripts }

@@ -1,5 +1,0 @@
-use Rattle.sim_script.proofs.Unambiguous.{scripts_are_unambiguous}
-use Rattle.sim_script.proofs.laws.scripts_are_unambiguous.Goals as goal
-
-pub returns : goal.returns
-returns c = record { one = scripts_are_unambiguous }

@@ -1,5 +1,0 @@
-use Rattle.std.proofs.Common.{rules}
-use Rattle.sim_script.proofs.printing.print_word.Goals as goal
-
-pub returns-then-word-eq1 : goal.returns-then-word-eq1
-returns-then-word-eq1 c = search rules

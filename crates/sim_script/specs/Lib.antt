@@ -1,4 +1,0 @@
-pub mod Script
-pub mod Order
-pub mod Lines
-pub mod Unambiguous

@@ -1,3 +1,0 @@
-pub mod Prediction
-pub mod ProgressLine
-pub mod Roles
