@@ -1,6 +1,6 @@
 //! The files of a line, as they were read, and what is made of the first two of them.
 
-ghost use Rattle.std.specs.Prelude.{◌≡◌, IfOk, IfErr, OnOk};
+ghost use Rattle.std.specs.Prelude.{IfOk, IfErr, OnOk};
 ghost use Rattle.elf_image.specs.Loaded.{IsImageOf};
 ghost use Rattle.sim_inputs.specs.Configuration.{IsConfiguration};
 ghost use Rattle.commands.specs.Refused.{PassesAll, IsImageRefusal};

@@ -1,7 +1,7 @@
 //! An image: what memory holds at the start, where the code is, and the entry.
 
 ghost use Rattle.std.specs.Prelude.{◌≡◌, ◌+◌, ◌%◌, ◌^◌, ◌<◌, ◌≤◌, ◌↔◌, Some, IsTrue, IsSome};
-ghost use Rattle.std.specs.Prelude.{IfSome, IfOk, length, drop};
+ghost use Rattle.std.specs.Prelude.{IfSome, IfOk, length};
 ghost use Rattle.elf_image.specs.Image.{IsWellFormed, ram_start, in_ram, byte_in, code_segment};
 ghost use Rattle.elf_image.specs.Image.{code_start, code_size, in_code, word_in, has_code_word};
 ghost use Rattle.elf_image.specs.Image.{code_word};

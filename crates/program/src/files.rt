@@ -1,5 +1,5 @@
 ghost use Rattle.std.specs.Prelude.{◌≡◌, ◌≢◌, ◌≤◌, ◌<◌, ◌+◌, ◌^◌, ◌++◌, IfOk, OnOk, IfErr, IfSome};
-ghost use Rattle.std.specs.Prelude.{length, vec_len};
+ghost use Rattle.std.specs.Prelude.{vec_len};
 ghost use Rattle.std.specs.IoError.{error_kind};
 ghost use Rattle.std.specs.declared.io.ErrorKind.TheVariants.{Interrupted};
 ghost use Rattle.program.specs.Files.{why_unread, why_refused, unread_for, IsRefusedFor};

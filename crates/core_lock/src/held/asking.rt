@@ -33,7 +33,8 @@ fn plain_answer(answer: Answer) -> Said
     }
 }
 
-/// Asks a core for a job.
+/// Asks a core for a job. It stands in its caller, or the job would be copied on its way out.
+#[inline(always)]
 fn issue(core: &mut Core, actor: u8) -> Said
     ensures { IssueReplied actor core.old result core.new }
 {
@@ -44,7 +45,8 @@ fn issue(core: &mut Core, actor: u8) -> Said
     }
 }
 
-/// Hands a job back to a core.
+/// Hands a job back to a core. It stands in its caller, or the job would be copied on its way in.
+#[inline(always)]
 fn complete(core: &mut Core, actor: u8, done: Done) -> Said
     ensures { CompleteReplied actor done.job core.old result core.new }
 {
