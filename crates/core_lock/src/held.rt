@@ -1,6 +1,5 @@
 ghost use Rattle.std.specs.Prelude.{◌≡◌, ◌≤◌, ◌↔◌, ℕ, Bool, true, Some, IsTrue, IfSome};
 ghost use Rattle.std.specs.Prelude.{length, map, sum, slice_get};
-ghost use Rattle.events.specs.Range.{HasShortWrite};
 ghost use Rattle.core_state.specs.Setup.{setup_of};
 ghost use Rattle.smt_model.specs.Account.{event_count, last_event_of};
 ghost use Rattle.core_lock.specs.Asks.{Replied, IsPredictedBy, asked_of, event_in, grown_by};
@@ -103,7 +102,6 @@ impl<L: Origin> Held<L> {
         ensures count { pass.new.count ≡ more pass.old.count (event_in result.said) }
         ensures last { pass.new.last ≡ later pass.old.last (event_in result.said) }
         ensures own { is_reply pass.old.actor (asked_of ask) result.said ≡ true }
-        ensures printable { IfSome (event_in result.said) HasShortWrite }
         ensures shown { Shown self.old.core × Shown self.new.core }
         ensures origin { (self.old.core.setup ≡ L.setup) × (self.old.core.limit ≡ L.limit) }
         ensures told { IsTold self.old.core.past pass.old.actor pass.old.count pass.old.last

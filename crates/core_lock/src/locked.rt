@@ -1,6 +1,5 @@
 ghost use Rattle.std.specs.Prelude.{◌≡◌, ◌↔◌, ℕ, Bool, true, Some, IsTrue, IfSome, length, map};
 ghost use Rattle.std.specs.Prelude.{sum, slice_get};
-ghost use Rattle.events.specs.Range.{HasShortWrite};
 ghost use Rattle.core_state.specs.Setup.{setup_of};
 ghost use Rattle.core_state.specs.View.{CoreView};
 ghost use Rattle.smt_model.specs.Account.{event_count, last_event_of};
@@ -53,7 +52,6 @@ impl<L: Origin> LockedCore<L> {
         ensures count { pass.new.count ≡ more pass.old.count (event_in result.said) }
         ensures last { pass.new.last ≡ later pass.old.last (event_in result.said) }
         ensures own { is_reply pass.old.actor (asked_of ask) result.said ≡ true }
-        ensures printable { IfSome (event_in result.said) HasShortWrite }
         ensures predicted { IsPredictedBy P.predicts predict.old
             (asked_of ask) result.said predict.new }
         ensures step { (old : CoreView) × (new : CoreView) × Shown old × Shown new

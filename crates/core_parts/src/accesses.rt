@@ -7,7 +7,7 @@ ghost use Rattle.smt_model.specs.Kinds.{kind_of, is_loading, is_storing};
 ghost use Rattle.smt_model.specs.Looks.{stored_by};
 ghost use Rattle.core_parts.specs.Accesses.{with_access, with_write, without_access};
 
-use events::OutcomeFields;
+use events::Outcome;
 use memory_system::{LoadStore, access_size};
 use numbers::Seq;
 use rv_instr::{Kind, Op};
@@ -36,7 +36,7 @@ pub(crate) fn resolve_access(
     hart: u8,
     op: Op,
     seq: Seq,
-    outcome: OutcomeFields,
+    outcome: Outcome,
 )
     requires { hart < most_harts }
     ensures { Changes (with_write seq (stored_by op outcome)) hart accesses.old accesses.new }

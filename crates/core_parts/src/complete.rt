@@ -20,7 +20,7 @@ use crate::accesses::resolve_access;
 use crate::hart::HartState;
 use crate::parts::{Parts, set_job};
 use crate::slot::OpenJob;
-use events::{Next, OutcomeFields};
+use events::{Next, Outcome};
 use exec_units::{Done, Job};
 use memory_system::completion;
 use numbers::Seq;
@@ -59,7 +59,7 @@ impl OpenJob {
 
 impl HartState {
     /// The instruction of this number has its outcome, and the hart is fetched from `goes_on`.
-    fn complete(&mut self, seq: Seq, outcome: OutcomeFields, goes_on: u32)
+    fn complete(&mut self, seq: Seq, outcome: Outcome, goes_on: u32)
         ensures { self.new
             ≡ record self.old {
               active = with_stage seq (Stage.Completed outcome) self.old.active;
@@ -101,7 +101,7 @@ impl Parts {
     /// What the completion of a job says, from the outcome that its unit handed back: with the fault
     /// of its access, or with the first look of a load.
     #[inline(always)]
-    pub fn completion_of(&self, job: &OpenJob, outcome: OutcomeFields) -> OutcomeFields
+    pub fn completion_of(&self, job: &OpenJob, outcome: Outcome) -> Outcome
         requires { job.now.hart < most_harts }
         ensures { (c : Computed) → outcome ≡ outcome_of job.now.op c None
             → result ≡ outcome_of job.now.op (checked self.now.memory.image job.now.op c)
@@ -122,7 +122,7 @@ impl Parts {
     /// goes elsewhere than was predicted, all younger ones of its hart are squashed, and the hart
     /// is fetched from there.
     #[inline(always)]
-    pub fn finish(&mut self, actor: u8, hart: u8, active: &Active, outcome: &OutcomeFields)
+    pub fn finish(&mut self, actor: u8, hart: u8, active: &Active, outcome: &Outcome)
         requires step { From self.old hart (λ p q. IsFinish p q hart actor active.now outcome.now) }
         ensures agrees { (p q : Picture) → PartsAgree p self.old
             → IsFinish p q hart actor active.now outcome.now → PartsAgree q self.new }
@@ -145,7 +145,7 @@ impl Parts {
         actor: u8,
         hart: u8,
         active: &Active,
-        outcome: &OutcomeFields,
+        outcome: &Outcome,
         goes_on: u32,
     )
         requires inside { hart < length self.old.harts.items }

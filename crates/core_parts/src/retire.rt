@@ -11,13 +11,13 @@ use crate::accesses::remove_access;
 use crate::hart::HartState;
 use crate::memory::{address_at, commit_access};
 use crate::parts::{Parts, give_back};
-use events::{EffectFields, Next, OutcomeFields};
+use events::{Effect, Next, Outcome};
 use numbers::{Phys, Reg};
 use retire_squash::{Active, Stage};
 use smt_model::Status;
 
 /// Whether it is a load that reads another number as it retires than it did as it completed.
-fn is_replay(active: &Active, effect: EffectFields) -> bool
+fn is_replay(active: &Active, effect: Effect) -> bool
     ensures { result ≡ is_replay active.now effect }
 {
     active.op.kind().is_loading() && first_value(active.stage) != effect.value
@@ -36,7 +36,7 @@ fn first_value(stage: Stage) -> Option<u32>
 impl Parts {
     /// Hart `hart`'s oldest instruction in flight and its outcome, where it is completed. None
     /// where it isn't, where there is none, and where there is no such hart.
-    pub fn next_to_retire(&self, hart: u8) -> Option<(Active, OutcomeFields)>
+    pub fn next_to_retire(&self, hart: u8) -> Option<(Active, Outcome)>
         ensures inside { IfSome result (λ r. hart < length self.now.harts.items) }
         ensures some { IfSome result
             (λ r. (p : Picture) → PartsAgree p self.now → CanRetire p hart r.0 r.1) }
@@ -53,7 +53,7 @@ impl Parts {
     /// Retires hart `hart`'s oldest instruction in flight, `active`, with this effect: it commits,
     /// or ends or stops its hart.
     #[inline(always)]
-    pub fn retire(&mut self, hart: u8, active: &Active, effect: EffectFields)
+    pub fn retire(&mut self, hart: u8, active: &Active, effect: Effect)
         requires step { From self.old hart (λ p q. Retires p q hart active.now effect) }
         requires write { IfSome effect.write (CanWrite self.old.memory.image) }
         ensures agrees { (p q : Picture) → PartsAgree p self.old → Retires p q hart active.now effect
@@ -77,7 +77,7 @@ impl Parts {
     /// A load that reads another number now than it did as it completed: all younger ones are
     /// squashed, then it commits with the number of now, and its hart is fetched from `pc`.
     #[inline(never)]
-    fn replay(&mut self, hart: u8, active: &Active, effect: EffectFields, pc: u32)
+    fn replay(&mut self, hart: u8, active: &Active, effect: Effect, pc: u32)
         requires step { From self.old hart (λ p q. Replays p q hart active.now effect pc) }
         requires write { IfSome effect.write (CanWrite self.old.memory.image) }
         ensures agrees { (p q : Picture) → PartsAgree p self.old
@@ -91,7 +91,7 @@ impl Parts {
     /// Its register becomes the committed one, and the one before becomes free. Memory is written
     /// and its hart's reservation changes as its effect says; the hart is fetched from `pc`.
     #[inline(always)]
-    fn commit(&mut self, hart: u8, active: &Active, effect: EffectFields, pc: u32)
+    fn commit(&mut self, hart: u8, active: &Active, effect: Effect, pc: u32)
         requires step { From self.old hart (λ p q. Commits p q hart active.now effect pc) }
         requires write { IfSome effect.write (CanWrite self.old.memory.image) }
         ensures agrees { (p q : Picture) → PartsAgree p self.old

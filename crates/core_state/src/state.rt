@@ -3,7 +3,6 @@ ghost use Rattle.std.specs.Prelude.{IsTrue, IfSome, IfNone, IfOk, None, Some, fa
 ghost use Rattle.std.specs.Prelude.{Err, if◌then◌else◌};
 ghost use Rattle.numbers.specs.Sizes.{most_harts, most_extra, most_queued};
 ghost use Rattle.numbers.specs.Sizes.{most_events};
-ghost use Rattle.events.specs.Range.{HasShortWrite};
 ghost use Rattle.events.specs.declared.event.Event.TheVariants.{Issue};
 ghost use Rattle.core_parts.specs.Agree.{IsActive, IsEntry};
 ghost use Rattle.core_state.specs.View.{CoreView, grown};
@@ -199,7 +198,6 @@ impl State {
         ensures allowed { IfSome result (λ e. refused self.old.setup self.old.past e ≡ None) }
         ensures answer { IfSome result
             (λ e. answers (AskDecode actor hart) self.old.past e ≡ true) }
-        ensures short { IfSome result HasShortWrite }
         ensures idle { IfNone result
             (AllowsNone self.old.setup (AskDecode actor hart) self.old.past) }
         ensures none { IfNone result (self.new ≡ self.old) }
@@ -221,7 +219,6 @@ impl State {
         ensures allowed { IfSome result (λ e. refused self.old.setup self.old.past e ≡ None) }
         ensures answer { IfSome result
             (λ e. answers (AskRename actor hart) self.old.past e ≡ true) }
-        ensures short { IfSome result HasShortWrite }
         ensures least { IfSome result (TakesLeast self.old.setup self.old.past) }
         ensures idle { IfNone result
             (AllowsNone self.old.setup (AskRename actor hart) self.old.past) }
@@ -242,7 +239,6 @@ impl State {
         ensures made { IfSome result (λ r. self.new ≡ grown r.1 self.old) }
         ensures allowed { IfSome result (λ r. refused self.old.setup self.old.past r.1 ≡ None) }
         ensures answer { IfSome result (λ r. answers (AskIssue actor) self.old.past r.1 ≡ true) }
-        ensures short { IfSome result (λ r. HasShortWrite r.1) }
         ensures job { IfSome result (λ r. IsJobOf self.new.setup self.new.past actor r.0) }
         ensures idle { IfNone result (AllowsNone self.old.setup (AskIssue actor) self.old.past) }
         ensures none { IfNone result (self.new ≡ self.old) }
@@ -274,7 +270,6 @@ impl State {
         ensures made { IfSome result (λ e. self.new ≡ grown e self.old) }
         ensures allowed { IfSome result (λ e. refused self.old.setup self.old.past e ≡ None) }
         ensures answer { IfSome result (λ e. answers (AskComplete actor) self.old.past e ≡ true) }
-        ensures short { IfSome result HasShortWrite }
         ensures job { IfSome result (λ e. IsJobOf self.old.setup self.old.past actor done.now.job) }
         ensures stranger { IfNone result
             (IsStrange self.old.setup self.old.past actor done.now.job) }
@@ -284,9 +279,8 @@ impl State {
         let Some(active) = self.parts.in_flight(job.hart, job.seq) else {
             return Some(self.drop_job(actor, job.seq));
         };
-        let fields = self.parts.completion_of(&job, done.outcome().fields());
-        let outcome = Outcome::new(fields);
-        Some(self.finish(actor, job.hart, &active, outcome, &fields))
+        let outcome = self.parts.completion_of(&job, done.outcome());
+        Some(self.finish(actor, job.hart, &active, outcome))
     }
 
     /// Retires hart `hart`'s oldest instruction in flight. None where there is none, it isn't
@@ -298,7 +292,6 @@ impl State {
         ensures allowed { IfSome result (λ e. refused self.old.setup self.old.past e ≡ None) }
         ensures answer { IfSome result
             (λ e. answers (AskRetire actor hart) self.old.past e ≡ true) }
-        ensures short { IfSome result HasShortWrite }
         ensures idle { IfNone result
             (AllowsNone self.old.setup (AskRetire actor hart) self.old.past) }
         ensures none { IfNone result (self.new ≡ self.old) }
@@ -307,8 +300,8 @@ impl State {
             return None;
         }
         let (active, outcome) = self.parts.next_to_retire(hart)?;
-        let fields = effect(&self.parts.memory, hart, active.op, outcome);
-        Some(self.write_retire(actor, hart, &active, Effect::new(fields)))
+        let effect = effect(&self.parts.memory, hart, active.op, outcome);
+        Some(self.write_retire(actor, hart, &active, effect))
     }
 
     /// Whether the core has this actor.

@@ -61,7 +61,7 @@ pub fn end_of(core: &Core) -> End {
     let account = core.account();
     End {
         records: account.records.len(),
-        last: account.records.last().map(|record| record.effect.next()),
+        last: account.records.last().map(|record| record.effect.next),
         ended: account.statuses.as_slice() == [Status::Ended(5)].as_slice(),
     }
 }

@@ -1,6 +1,6 @@
 //! The plain machine, by programs worked by hand from the ISA's chapters "RV32I" and "A".
 
-use events::{EffectFields, Next, Record};
+use events::{Effect, Next, Record};
 use memory_system::{AccessKind, Memory};
 use sc_machine::{Plain, PlainRefused, Stopped, StoppedAt};
 use smt_core::Status;
@@ -48,16 +48,16 @@ fn seen(machine: &Plain, hart: u8) -> Option<(Status, u32, [u32; 7])> {
 
 /// The record of a step: its hart, pc and word, and the fields of its effect; or the number of why
 /// there is none.
-fn fields_of(step: Result<Record, Stopped>) -> Result<(u8, u32, Option<u32>, EffectFields), u8> {
+fn fields_of(step: Result<Record, Stopped>) -> Result<(u8, u32, Option<u32>, Effect), u8> {
     match step {
-        Ok(record) => Ok((record.hart, record.pc, record.word, record.effect.fields())),
+        Ok(record) => Ok((record.hart, record.pc, record.word, record.effect)),
         Err(why) => Err(why.number()),
     }
 }
 
 /// The effect of an instruction that gives a number, where there is one, and goes on or ends.
-fn effect(value: Option<u32>, next: Next) -> EffectFields {
-    EffectFields {
+fn effect(value: Option<u32>, next: Next) -> Effect {
+    Effect {
         value,
         next,
         write: None,

@@ -8,7 +8,7 @@ use crate::asking::{AnswerKind, config, issue, kind_of};
 use crate::first_program::{End, FIRST_END, end_of, ended_core, first_core, first_image};
 use crate::rows::{holds, holds_at};
 use elf_image::Image;
-use events::{Event, Next, Outcome, OutcomeFields};
+use events::{Event, Next, Outcome};
 use smt_core::{Answer, CompleteAnswer, Core, CoreRefused, IssueAnswer};
 use std::alloc::Global;
 use std::process::Abort;
@@ -224,13 +224,13 @@ fn of_two_actors(alloc: Global) -> Option<Exchanged> {
 
 #[test]
 fn another_actors_job_is_a_strangers(rt: HostRuntime) {
-    let outcome = Outcome::new(OutcomeFields {
+    let outcome = Outcome {
         value: Some(93),
         next: Next::Pc(0x8000_0008),
         addr: None,
         datum: None,
         out: None,
-    });
+    };
     let done = CompleteAnswer::Done(Event::Complete {
         actor: 1,
         seq: 1,

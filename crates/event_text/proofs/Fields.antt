@@ -1,8 +1,8 @@
 -- The fields of an event's line: it is they, joined by spaces, and none has a space or a newline.
 
 use Rattle.std.proofs.Common.{◌≡◌, ℕ, ◌*◌, ◌^◌, ◌<◌, false, List, [], ◌∷◌, ◌++◌, Option, None, Some, refl, ◌∙◌, ap, arith}
-use Rattle.std.proofs.Common.{append_assoc}
-use Rattle.std.specs.{Char.is_ascii_digit, Fmt.decimal, Prelude.IfSome}
+use Rattle.std.proofs.Common.{append_assoc, inl, inr}
+use Rattle.std.specs.{Char.is_ascii_digit, Fmt.decimal, Prelude.IfSome, Prelude.min}
 use Rattle.text_fields.specs.{Reading.is_hex_digit, Spelling.dash, Spelling.hex, Spelling.optional, Splitting.Lacks}
 use Rattle.text_fields.proofs.LacksLaws.{Lacks-append, Lacks-decimal, Lacks-hex}
 use Rattle.events.specs.{declared.effect.Next.Next, declared.effect.Next.TheVariants.Pc}
@@ -10,10 +10,16 @@ use Rattle.events.specs.{declared.effect.Next.TheVariants.Ended, declared.effect
 use Rattle.events.specs.{declared.effect.Written.Written, declared.event.Event.Event, Kind.event_kind, Kind.letter_of}
 use Rattle.events.specs.declared.kind.EventKind.{EventKind}
 use Rattle.events.specs.declared.kind.EventKind.TheVariants as kind
-use Rattle.events.specs.{Range.IsEventInRange, Range.IsNext}
+use Rattle.events.specs.{Range.IsEventInRange, Range.IsNext, Width.IsWidth}
 use Rattle.events.specs.declared.event.Event.TheVariants.{Fetch, Decode, Rename, Issue, Complete, Drop, Retire}
 use Rattle.event_text.specs.Line.{address_text, datum_text, line_of, next_text}
 use Rattle.event_text.proofs.Joining.{AllLack, joined, Lacks-joined}
+
+-- a number of 1, 2 or 4 bytes is spelled with all of them
+pub at_most_four : (n : ℕ) → IsWidth n → min n 4 ≡ n
+at_most_four n (inl is) = rw is refl
+at_most_four n (inr (inl is)) = rw is refl
+at_most_four n (inr (inr is)) = rw is refl
 
 -- the fields after the letter
 abbrev pub fields_of : Event → List (List ℕ)
@@ -108,7 +114,7 @@ module _ (byte : ℕ) (apart : IsApart byte) where
 
   pub datum_lacks : (w : Option Written) → Lacks byte (datum_text w)
   datum_lacks None = apart.dashes
-  datum_lacks (Some w) = Lacks-hex byte (2 * w.n) w.datum apart.hex_digits
+  datum_lacks (Some w) = Lacks-hex byte (2 * min w.n 4) w.datum apart.hex_digits
 
   pub phys_lacks : (phys : Option ℕ) → IfSome phys (λ p. p < 504) → Lacks byte (optional decimal phys)
   phys_lacks None within = apart.dashes

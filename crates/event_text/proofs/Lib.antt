@@ -5,7 +5,6 @@ pub mod LineEnds
 pub mod LineOnly
 pub mod NotingLaws
 pub mod QuickLaws
-pub mod RangeLaws
 pub mod ReadBack
 pub mod ReadOnly
 pub mod SinkLaws

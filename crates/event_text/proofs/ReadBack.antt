@@ -22,7 +22,7 @@ use Rattle.event_text.specs.Reading.{issue_of, kind_named, next_field, of_fields
 use Rattle.event_text.specs.Reading.{retire_of, sized_field, stopped_of, write_fields}
 use Rattle.event_text.proofs.Joining.{AllLack, count-joined, first-joined, joined, others-joined}
 use Rattle.event_text.proofs.Fields.{address_lacks, datum_lacks, fields_lack, fields_of, line_of-joined, next_lacks}
-use Rattle.event_text.proofs.Fields.{number_lacks, optional_hex_lacks, space}
+use Rattle.event_text.proofs.Fields.{at_most_four, number_lacks, optional_hex_lacks, space}
 
 -- what a line of so many fields is read as, by its letter
 letter_lacks : (k : EventKind) → Lacks 32 (letter_of k ∷ [])
@@ -101,7 +101,12 @@ some_sized_back n datum size small =
 pub write_back : (w : Option Written) → IfSome w IsWritten → write_fields (address_text w) (datum_text w) ≡ Ok w
 unfolding write_fields
 write_back None within = rw (words_back None tt, no_sized_back) refl
-write_back (Some w) within = rw (words_back (Some w.addr) within.0, some_sized_back w.n w.datum within.1 within.2) refl
+write_back (Some w) within =
+    rw (
+      words_back (Some w.addr) within.0,
+      at_most_four w.n within.1,
+      some_sized_back w.n w.datum within.1 within.2,
+    ) refl
 
 -- five fields in turn, of an outcome or an effect
 outcome_back : (o : Outcome) → IsOutcome o →

@@ -2,9 +2,9 @@
 
 use Rattle.std.proofs.Common.{◌≡◌, ℕ, suc, ◌*◌, ◌/◌, ◌||◌, ◌^◌, ◌<◌, ◌≤◌, ◌⊎◌, inl, inr, Bool, true, false, ◌==◌, cond}
 use Rattle.std.proofs.Common.{List, [], ◌∷◌, ◌++◌, length, Option, None, Some, Result, Ok, Err, refl, ◌∙◌, ap, arith}
-use Rattle.std.proofs.Common.{lit<}
+use Rattle.std.proofs.Common.{lit<, sym}
 use Rattle.std.proofs.lemmas.Bool.Decides.{nat_tests}
-use Rattle.std.specs.{Fmt.decimal, Prelude.IfSome}
+use Rattle.std.specs.{Fmt.decimal, Prelude.IfSome, Prelude.min}
 use Rattle.text_fields.specs.{declared.read.FieldError.FieldError, declared.read.FieldError.TheVariants.Misspelled}
 use Rattle.text_fields.specs.{Reading.decimal_field, Reading.hex_field, Reading.optional_field, Spelling.hex}
 use Rattle.text_fields.specs.{Spelling.optional, Splitting.field_count}
@@ -19,7 +19,7 @@ use Rattle.event_text.specs.{Line.datum_text, Line.next_text}
 use Rattle.events.specs.Range.{IsEffect, IsNext, IsOutcome, IsWord, IsWritten}
 use Rattle.event_text.specs.Reading.{◌>>=◌, cause_read, effect_of, ended_of, first_field, next_field, others, outcome_of}
 use Rattle.event_text.specs.Reading.{pc_field, sized_field, stopped_of, write_fields, written_of}
-use Rattle.event_text.proofs.Joining.{joined}
+use Rattle.event_text.proofs.{Fields.at_most_four, Joining.joined}
 
 -- a reading that went well: what its first step read, and that the others went well with it
 pub bind_only : {A B E : Type 0} (r : Result A E) (next : A → Result B E) (b : B) → (r >>= next) ≡ Ok b →
@@ -193,7 +193,9 @@ written_only None None w a d addr_is number_is read =
 written_only (Some addr) (Some number) w a d addr_is number_is read =
     let written : Written = record { addr = addr; n = number.0; datum = number.1 } in
     let is : Some written ≡ w = cc in
-    rw (← is) ((addr_is.0, number_is.0.0, number_is.0.1), addr_is.1, number_is.1)
+    let sized : sized_text number ≡ hex (2 * min number.0 4) number.1 =
+    ap (λ n. hex (2 * n) number.1) (sym (at_most_four number.0 number_is.0.0)) in
+    rw (← is) ((addr_is.0, number_is.0.0, number_is.0.1), addr_is.1, number_is.1 ∙ sized)
 written_only None (Some number) w a d addr_is number_is read = cc
 written_only (Some addr) None w a d addr_is number_is read = cc
 

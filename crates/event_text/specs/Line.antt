@@ -1,7 +1,7 @@
 -- How events and records are spelled, each on one line without its newline. The fields stand apart
 -- by one space; `-` is no value. (This project's own choice.)
 
-use Rattle.std.specs.Prelude.{ℕ, ◌*◌, List, ◌∷◌, ◌++◌, Option, codes}
+use Rattle.std.specs.Prelude.{ℕ, ◌*◌, min, List, ◌∷◌, ◌++◌, Option, codes}
 use Rattle.std.specs.Fmt.{decimal}
 use Rattle.text_fields.specs.Spelling.{hex, optional}
 use Rattle.events.specs.{declared.effect.Effect.Effect, declared.effect.Next.Next}
@@ -27,9 +27,9 @@ next_text (Stopped cause) = codes "s" ++ decimal cause
 abbrev pub address_text : Option Written → List ℕ
 address_text write = optional (λ w. hex 8 w.addr) write
 
--- the number that a write puts, two digits for each of its bytes
+-- the number that a write puts, two digits for each of its bytes, of which there are at most four
 abbrev pub datum_text : Option Written → List ℕ
-datum_text write = optional (λ w. hex (2 * w.n) w.datum) write
+datum_text write = optional (λ w. hex (2 * min w.n 4) w.datum) write
 
 -- value next addr data out
 abbrev pub outcome_text : Outcome → List ℕ

@@ -1,10 +1,9 @@
 //! Printing: the line of an event, and that of a record. No function here takes memory.
 
-ghost use Rattle.std.specs.Prelude.{◌≡◌, ◌+◌, ◌*◌, ◌<◌, ◌≤◌, ◌∷◌, ◌++◌, [], IfSome};
+ghost use Rattle.std.specs.Prelude.{◌≡◌, ◌+◌, ◌*◌, ◌<◌, ◌≤◌, ◌∷◌, ◌++◌, []};
 ghost use Rattle.std.specs.Fmt.{decimal};
 ghost use Rattle.arrayvec.specs.ArrayString.{array_string_len};
 ghost use Rattle.text_fields.specs.Spelling.{hex, optional};
-ghost use Rattle.events.specs.Width.{HasWidth};
 ghost use Rattle.event_text.specs.Line.{after_space, next_text, address_text, datum_text, outcome_text};
 ghost use Rattle.event_text.specs.Line.{effect_text, step_text, line_of, record_text_of};
 
@@ -94,8 +93,7 @@ fn push_stopped<const N: usize>(line: &mut ArrayString<N>, cause: Cause)
 }
 
 fn push_write_fields<const N: usize>(line: &mut ArrayString<N>, write: Option<Written>)
-    requires room { array_string_len line.old + 18 ≤ N }
-    requires sized { IfSome write HasWidth }
+    requires { array_string_len line.old + 18 ≤ N }
     ensures spelled { line.new.bytes ≡ line.old.bytes ++ after_space (address_text write)
         ++ after_space (datum_text write) }
     ensures length { array_string_len line.new ≤ array_string_len line.old + 18 }
@@ -108,7 +106,7 @@ fn push_write_fields<const N: usize>(line: &mut ArrayString<N>, write: Option<Wr
         Some(written) => {
             push_word_after(line, b' ', written.addr);
             push_ascii(line, b' ');
-            push_hex(line, written.datum, 2 * usize::from(written.n));
+            push_hex(line, written.datum, 2 * usize::from(written.n).min(4));
         }
     }
 }
@@ -118,11 +116,11 @@ fn push_outcome<const N: usize>(line: &mut ArrayString<N>, outcome: &Outcome)
     ensures spelled { line.new.bytes ≡ line.old.bytes ++ outcome_text outcome.now }
     ensures length { array_string_len line.new ≤ array_string_len line.old + 40 }
 {
-    push_optional_word_field(line, outcome.value());
-    push_next_field(line, outcome.next());
-    push_optional_word_field(line, outcome.addr());
-    push_optional_word_field(line, outcome.datum());
-    push_optional_byte_field(line, outcome.out());
+    push_optional_word_field(line, outcome.value);
+    push_next_field(line, outcome.next);
+    push_optional_word_field(line, outcome.addr);
+    push_optional_word_field(line, outcome.datum);
+    push_optional_byte_field(line, outcome.out);
 }
 
 fn push_effect<const N: usize>(line: &mut ArrayString<N>, effect: &Effect)
@@ -130,10 +128,10 @@ fn push_effect<const N: usize>(line: &mut ArrayString<N>, effect: &Effect)
     ensures spelled { line.new.bytes ≡ line.old.bytes ++ effect_text effect.now }
     ensures length { array_string_len line.new ≤ array_string_len line.old + 40 }
 {
-    push_optional_word_field(line, effect.value());
-    push_next_field(line, effect.next());
-    push_write_fields(line, effect.write());
-    push_optional_byte_field(line, effect.out());
+    push_optional_word_field(line, effect.value);
+    push_next_field(line, effect.next);
+    push_write_fields(line, effect.write);
+    push_optional_byte_field(line, effect.out);
 }
 
 // A line that begins with the letter of an event, its actor and the instruction that it moves on.

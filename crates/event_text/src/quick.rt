@@ -10,7 +10,7 @@ ghost use Rattle.event_text.specs.Quick.{HasFirst, IsRest, IsOutcomeRest, IsEffe
 ghost use Rattle.text_fields.specs.Spelling.{hex};
 
 use crate::read::{LAST_ACTOR, LAST_HART, LAST_PHYS, LAST_SEQ};
-use events::{Effect, EffectFields, Event, Next, Outcome, OutcomeFields, Phys, Written};
+use events::{Effect, Event, Next, Outcome, Phys, Written};
 use text_fields::{front_dash, front_decimal, front_hex, front_optional_hex, front_small};
 
 /// The event of the first line, and the text behind that line.
@@ -107,7 +107,7 @@ fn quick_complete(actor: u8, fields: &[u8]) -> Option<(Event, &[u8])>
     let event = Event::Complete {
         actor,
         seq,
-        outcome: Outcome::new(outcome),
+        outcome: outcome,
     };
     Some((event, others))
 }
@@ -131,14 +131,14 @@ fn quick_retire(actor: u8, fields: &[u8]) -> Option<(Event, &[u8])>
     let event = Event::Retire {
         actor,
         seq,
-        effect: Effect::new(effect),
+        effect: effect,
     };
     Some((event, others))
 }
 
 // The fields of an outcome, which end the line.
 #[inline(always)]
-fn quick_outcome(fields: &[u8]) -> Option<(OutcomeFields, &[u8])>
+fn quick_outcome(fields: &[u8]) -> Option<(Outcome, &[u8])>
     ensures { IfSome result (λ p. IsOutcomeRest fields.now p.0 p.1.now) }
 {
     let (value, fields) = front_optional_hex(fields, 8, b' ')?;
@@ -146,7 +146,7 @@ fn quick_outcome(fields: &[u8]) -> Option<(OutcomeFields, &[u8])>
     let (addr, fields) = front_optional_hex(fields, 8, b' ')?;
     let (datum, fields) = front_optional_hex(fields, 8, b' ')?;
     let (out, others) = front_optional_hex(fields, 2, b'\n')?;
-    let outcome = OutcomeFields {
+    let outcome = Outcome {
         value,
         next,
         addr,
@@ -158,14 +158,14 @@ fn quick_outcome(fields: &[u8]) -> Option<(OutcomeFields, &[u8])>
 
 // The fields of an effect, which end the line.
 #[inline(always)]
-fn quick_effect(fields: &[u8]) -> Option<(EffectFields, &[u8])>
+fn quick_effect(fields: &[u8]) -> Option<(Effect, &[u8])>
     ensures { IfSome result (λ p. IsEffectRest fields.now p.0 p.1.now) }
 {
     let (value, fields) = front_optional_hex(fields, 8, b' ')?;
     let (next, fields) = quick_next(fields)?;
     let (write, fields) = quick_write(fields)?;
     let (out, others) = front_optional_hex(fields, 2, b'\n')?;
-    let effect = EffectFields {
+    let effect = Effect {
         value,
         next,
         write,

@@ -16,7 +16,7 @@ ghost use Rattle.event_text.specs.Reading.{of_fields};
 use crate::noting::{
     first_next, first_number, first_optional_word, first_word, first_write, noted, number,
 };
-use events::{Effect, EffectFields, Event, EventKind, Next, Outcome, OutcomeFields, Phys, Written};
+use events::{Effect, Event, EventKind, Next, Outcome, Phys, Written};
 use std::fmt;
 use text_fields::{
     FieldError, field_count, read_decimal, read_hex, read_optional_decimal, read_optional_hex,
@@ -234,13 +234,13 @@ fn read_outcome(fields: &[u8], refused: &mut Option<FieldError>) -> Outcome
     let (next, fields) = first_next(fields, refused);
     let (addr, fields) = first_optional_word(fields, refused);
     let (datum, out) = first_optional_word(fields, refused);
-    Outcome::new(OutcomeFields {
+    Outcome {
         value,
         next,
         addr,
         datum,
         out: noted(read_optional_byte(out), None, refused),
-    })
+    }
 }
 
 fn read_effect(fields: &[u8], refused: &mut Option<FieldError>) -> Effect
@@ -249,12 +249,12 @@ fn read_effect(fields: &[u8], refused: &mut Option<FieldError>) -> Effect
     let (value, fields) = first_optional_word(fields, refused);
     let (next, fields) = first_next(fields, refused);
     let (write, out) = first_write(fields, refused);
-    Effect::new(EffectFields {
+    Effect {
         value,
         next,
         write,
         out: noted(read_optional_byte(out), None, refused),
-    })
+    }
 }
 
 fn read_complete(fields: &[u8], refused: &mut Option<FieldError>) -> Event

@@ -1,10 +1,6 @@
-pub mod EffectInside
 pub mod Event
 pub mod History
 pub mod HistoryInside
 pub mod Kind
-pub mod OutcomeInside
 pub mod Range
-pub mod TagLaws
-pub mod Tagged
 pub mod Width

@@ -10,16 +10,6 @@ use Rattle.events.specs.{declared.event.Event.Event}
 use Rattle.events.specs.declared.event.Event.TheVariants.{Fetch, Decode, Rename, Issue, Complete}
 use Rattle.events.specs.declared.event.Event.TheVariants.{Drop, Retire}
 
--- all that a line needs to have room for an event: a write is of four bytes at most
-abbrev pub HasShortWrite : Event → Type 0
-HasShortWrite (Retire actor seq effect) = IfSome effect.write (λ w. w.n ≤ 4)
-HasShortWrite (Fetch actor hart seq pc word predicted) = Unit {0}
-HasShortWrite (Decode actor seq) = Unit {0}
-HasShortWrite (Rename actor seq phys) = Unit {0}
-HasShortWrite (Issue actor seq) = Unit {0}
-HasShortWrite (Complete actor seq outcome) = Unit {0}
-HasShortWrite (Drop actor seq) = Unit {0}
-
 -- a number of 32 bits
 abbrev pub IsWord : ℕ → Type 0
 IsWord n = n < 2 ^ 32

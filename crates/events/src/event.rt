@@ -45,8 +45,8 @@ pub enum Event {
     },
 }
 
-// A history of ten million events is to have room in a third of a gigabyte.
-const _: () = prove!(size_of::<Event>() <= 32);
+// A list of ten million events is to have room in half a gigabyte.
+const _: () = prove!(size_of::<Event>() <= 44);
 
 impl Event {
     ghost use Rattle.events.specs.Event.{actor_of, seq_of};

@@ -9,7 +9,7 @@ pub mod event;
 pub mod history;
 pub mod kind;
 
-pub use effect::{Cause, Effect, EffectFields, Next, Outcome, OutcomeFields, Record, Written};
+pub use effect::{Cause, Effect, Next, Outcome, Record, Written};
 pub use event::{Event, Phys, Seq};
 pub use history::{Full, History};
 pub use kind::EventKind;

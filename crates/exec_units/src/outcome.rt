@@ -5,7 +5,7 @@ ghost use Rattle.smt_model.specs.Kinds.{writes_register};
 ghost use Rattle.smt_model.specs.Nexts.{is_last};
 ghost use Rattle.smt_model.specs.Outcomes.{last_outcome, outcome_of};
 
-use events::{Next, Outcome, OutcomeFields};
+use events::{Next, Outcome};
 use rv_execute::Computed;
 use rv_instr::{Kind, Op};
 
@@ -23,31 +23,31 @@ pub fn outcome(op: Op, computed: Computed) -> Outcome
         out,
     } = computed;
     if is_last(next) {
-        return Outcome::new(says(next));
+        return says(next);
     }
-    Outcome::new(match op.kind() {
-        Kind::Loading | Kind::Reserving => OutcomeFields {
+    match op.kind() {
+        Kind::Loading | Kind::Reserving => Outcome {
             addr: Some(addr),
             ..says(next)
         },
-        Kind::Storing | Kind::Conditional | Kind::Atomic => OutcomeFields {
+        Kind::Storing | Kind::Conditional | Kind::Atomic => Outcome {
             addr: Some(addr),
             datum: Some(datum),
             ..says(next)
         },
-        Kind::Computing => OutcomeFields {
+        Kind::Computing => Outcome {
             value: op.writes_register().then_some(value),
             out,
             ..says(next)
         },
-    })
+    }
 }
 
 /// Only what comes next.
-fn says(next: Next) -> OutcomeFields
+fn says(next: Next) -> Outcome
     ensures { result ≡ last_outcome next }
 {
-    OutcomeFields {
+    Outcome {
         value: None,
         next,
         addr: None,

@@ -13,7 +13,7 @@ ghost use Rattle.memory_system.specs.Queues.{queues_of};
 use crate::accesses::{access_size, fault, read_value};
 use crate::memory::Memory;
 use crate::queues::LoadStore;
-use events::{Cause, Next, OutcomeFields, Seq};
+use events::{Cause, Next, Outcome, Seq};
 use rv_instr::Op;
 
 /// What the core says as the hart's instruction `seq` completes, from the outcome that a unit
@@ -26,8 +26,8 @@ pub fn completion(
     hart: u8,
     seq: Seq,
     op: Op,
-    outcome: OutcomeFields,
-) -> OutcomeFields
+    outcome: Outcome,
+) -> Outcome
     requires { hart < 8 }
     ensures { (c : Computed) → outcome ≡ outcome_of op c None
         → result ≡ outcome_of op (checked memory.now.image op c)
@@ -39,7 +39,7 @@ pub fn completion(
     if let Some(cause) = fault(memory, op, addr) {
         return stop(cause);
     }
-    OutcomeFields {
+    Outcome {
         value: first_look(memory, accesses, hart, seq, op, addr),
         ..outcome
     }
@@ -68,10 +68,10 @@ fn first_look(
 }
 
 /// The hart stops for this cause, and nothing else is said.
-fn stop(cause: Cause) -> OutcomeFields
+fn stop(cause: Cause) -> Outcome
     ensures { result ≡ last_outcome (Stopped cause) }
 {
-    OutcomeFields {
+    Outcome {
         value: None,
         next: Next::Stopped(cause),
         addr: None,

@@ -12,7 +12,7 @@ ghost use Rattle.memory_system.specs.Contents.{byte_of, reserved_of};
 
 use crate::accesses::{access_size, fault, read};
 use crate::memory::Memory;
-use events::{EffectFields, Next, OutcomeFields, Written};
+use events::{Effect, Next, Outcome, Written};
 use rv_instr::{Instr, Kind, Op};
 use rv_word::amo;
 
@@ -20,7 +20,7 @@ use rv_word::amo;
 /// they are now: a load reads again, LR and AMO read, a store writes, SC writes where the hart
 /// holds the word, and an AMO writes what it makes of the word.
 #[inline(always)]
-pub fn effect(memory: &Memory, hart: u8, op: Op, outcome: OutcomeFields) -> EffectFields
+pub fn effect(memory: &Memory, hart: u8, op: Op, outcome: Outcome) -> Effect
     requires { hart < 8 }
     ensures { (c : Computed) (look : Option ℕ)
         → outcome ≡ outcome_of op (checked memory.now.image op c) look
@@ -28,7 +28,7 @@ pub fn effect(memory: &Memory, hart: u8, op: Op, outcome: OutcomeFields) -> Effe
         (read op (byte_of memory.now) c.addr) (holds_word (reserved_of memory.now hart) c.addr) }
 {
     let Some(addr) = outcome.addr else {
-        return EffectFields {
+        return Effect {
             value: outcome.value,
             out: outcome.out,
             ..only(outcome.next)
@@ -47,8 +47,8 @@ fn access_effect(
     hart: u8,
     op: Op,
     addr: u32,
-    outcome: OutcomeFields,
-) -> EffectFields
+    outcome: Outcome,
+) -> Effect
     requires hart { hart < 8 }
     requires no_fault { fault memory.now.image op addr ≡ None }
     ensures { touches_memory (kind_of op) ≡ true
@@ -61,17 +61,17 @@ fn access_effect(
     let datum = outcome.datum.unwrap_or(0);
     match op.kind() {
         Kind::Computing => only(next),
-        Kind::Loading | Kind::Reserving => EffectFields {
+        Kind::Loading | Kind::Reserving => Effect {
             value: writes.then_some(read(memory, op, addr)),
             ..only(next)
         },
-        Kind::Storing => EffectFields {
+        Kind::Storing => Effect {
             write: Some(written(addr, access_size(op), datum)),
             ..only(next)
         },
         Kind::Conditional => {
             let held = is_reserved(memory, hart, addr);
-            EffectFields {
+            Effect {
                 value: writes.then_some(u32::from(!held)),
                 write: held.then_some(written(addr, 4, datum)),
                 ..only(next)
@@ -79,7 +79,7 @@ fn access_effect(
         }
         Kind::Atomic => {
             let old = read(memory, op, addr);
-            EffectFields {
+            Effect {
                 value: writes.then_some(old),
                 write: Some(written(addr, 4, atomic_result(op, old, datum))),
                 ..only(next)
@@ -117,10 +117,10 @@ fn written(addr: u32, n: u8, datum: u32) -> Written
 }
 
 /// Only what comes next.
-fn only(next: Next) -> EffectFields
+fn only(next: Next) -> Effect
     ensures { result ≡ last_effect next }
 {
-    EffectFields {
+    Effect {
         value: None,
         next,
         write: None,

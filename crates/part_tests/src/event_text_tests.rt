@@ -6,7 +6,7 @@ mod traces;
 use crate::rows::holds;
 use arrayvec::ArrayString;
 use event_text::{print_event, print_record, push_event, push_record, read_event_line};
-use events::{Effect, EffectFields, Event, Next, Outcome, OutcomeFields, Record, Written};
+use events::{Effect, Event, Next, Outcome, Record, Written};
 
 macro_rules! fetch {
     ($seq:expr, $pc:expr, $word:expr, $predicted:expr) => {
@@ -26,13 +26,13 @@ macro_rules! complete {
         Event::Complete {
             actor: $actor,
             seq: $seq,
-            outcome: Outcome::new(OutcomeFields {
+            outcome: Outcome {
                 value: $value,
                 next: $next,
                 addr: $addr,
                 datum: $datum,
                 out: None,
-            }),
+            },
         }
     };
 }
@@ -42,12 +42,12 @@ macro_rules! retire {
         Event::Retire {
             actor: $actor,
             seq: $seq,
-            effect: Effect::new(EffectFields {
+            effect: Effect {
                 value: $value,
                 next: $next,
                 write: $write,
                 out: $out,
-            }),
+            },
         }
     };
 }
@@ -209,12 +209,12 @@ fn prints_the_record_of_a_byte_store(rt: HostRuntime) {
         hart: 0,
         pc: 0x8000_0014,
         word: Some(0x0073_00a3),
-        effect: Effect::new(EffectFields {
+        effect: Effect {
             value: None,
             next: BEHIND,
             write: written!(1),
             out: None,
-        }),
+        },
     };
     assert!(rt; print_record(&record).as_str() == "0 80000014 007300a3 - p80000018 80001001 aa -");
 }
@@ -235,12 +235,12 @@ fn prints_an_event_and_a_record_behind_a_text(rt: HostRuntime) {
         hart: 1,
         pc: 0x8000_0014,
         word: None,
-        effect: Effect::new(EffectFields {
+        effect: Effect {
             value: Some(5),
             next: BEHIND,
             write: None,
             out: None,
-        }),
+        },
     };
     push_record(&mut text, &record);
     assert!(rt; text.as_str() == "done D 4 70605, 1 80000014 - 00000005 p80000018 - - -");

@@ -1,6 +1,6 @@
 //! Histories with a limit, and the letters of the kinds of events.
 
-use events::{Effect, EffectFields, Event, EventKind, History, Next};
+use events::{Effect, Event, EventKind, History, Next};
 use std::alloc::Global;
 
 /// The first three issues.
@@ -93,12 +93,12 @@ fn names_the_kind_of_an_event_by_its_letter(rt: HostRuntime) {
     let retired = Event::Retire {
         actor: 0,
         seq: 0,
-        effect: Effect::new(EffectFields {
+        effect: Effect {
             value: None,
             next: Next::Ended(0),
             write: None,
             out: None,
-        }),
+        },
     };
     assert!(rt; (dropped.kind().letter(), retired.kind().letter()) == (b'X', b'T'));
     assert!(rt; EventKind::from_letter(b'X') == Some(EventKind::Drop));

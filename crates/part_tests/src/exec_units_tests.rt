@@ -1,7 +1,7 @@
 //! What a unit computes of a job, by hand from the chapters "RV32I" and "M" of the ISA.
 
 use crate::rows::holds;
-use events::{Next, OutcomeFields};
+use events::{Next, Outcome};
 use exec_units::{Job, work};
 use rv_instr::{BranchOp, ImmediateOp, Instr, LoadOp, MulDivOp, Op};
 
@@ -48,7 +48,7 @@ const EBREAK: Op = Op::Known(Instr::Ebreak);
 
 macro_rules! outcome {
     ($value:expr, $next:expr, $out:expr) => {
-        OutcomeFields {
+        Outcome {
             value: $value,
             next: $next,
             addr: None,
@@ -61,7 +61,7 @@ macro_rules! outcome {
 const BEHIND: Next = Next::Pc(0x8000_0004);
 
 /// An instruction with its two numbers, and what it computes.
-static ROWS: [(&str, Op, u32, u32, OutcomeFields); 12] = [
+static ROWS: [(&str, Op, u32, u32, Outcome); 12] = [
     ("addi", ADDI, 0, 0, outcome!(Some(5), BEHIND, None)),
     (
         "addi wraps",
@@ -126,7 +126,7 @@ static ROWS: [(&str, Op, u32, u32, OutcomeFields); 12] = [
         LW,
         0x8000_1000,
         0,
-        OutcomeFields {
+        Outcome {
             value: None,
             next: BEHIND,
             addr: Some(0x8000_1000),
@@ -139,17 +139,17 @@ static ROWS: [(&str, Op, u32, u32, OutcomeFields); 12] = [
 /// A job that is done: its outcome, its instruction, and its outcome again as it is handed back.
 #[derive(Clone, Copy, Drop)]
 struct Worked {
-    outcome: OutcomeFields,
+    outcome: Outcome,
     op: Op,
-    handed_back: OutcomeFields,
+    handed_back: Outcome,
 }
 
 fn work_on(op: Op, first: u32, second: u32) -> Worked {
     let done = work(Job::new(3, op, PC, first, second));
     Worked {
-        outcome: done.outcome().fields(),
+        outcome: done.outcome(),
         op: done.job().op(),
-        handed_back: done.into_outcome().fields(),
+        handed_back: done.into_outcome(),
     }
 }
 

@@ -2,7 +2,7 @@
 
 ghost use Rattle.std.specs.Prelude.{◌≡◌};
 
-use events::{Next, OutcomeFields};
+use events::{Next, Outcome};
 use retire_squash::{Active, ActiveList, Stage};
 use rv_instr::Op;
 
@@ -81,7 +81,7 @@ fn stages(active: &ActiveList) -> [Option<Stage>; 4] {
 
 #[test]
 fn a_stage_is_set_at_one_number_alone(rt: HostRuntime) {
-    let outcome = OutcomeFields {
+    let outcome = Outcome {
         value: Some(9),
         next: Next::Pc(0x8000_000c),
         addr: None,

@@ -51,12 +51,3 @@ made_more setup order said h room one old new made steps =
           ∙ sym (reverse-append (record_at setup made.ran.state h ∷ []) made.ran.records));
       agrees = now.agrees;
     }
-
--- ---- What a record writes
-
-short_write : (o : Option Written) → IfSome o HasWidth → bytes_of o ≤ 4
-short_write None is = omega arith
-short_write (Some w) is = grind arith
-
-pub short_record : (r : Record) (o : Option Written) → o ≡ r.effect.write → IfSome o HasWidth → WritesAWord r
-short_record r o same is = subst (λ o. bytes_of o ≤ 4) same (short_write o is)

@@ -1,6 +1,5 @@
-ghost use Rattle.std.specs.Prelude.{◌≡◌, ◌≤◌, length, All};
+ghost use Rattle.std.specs.Prelude.{◌≡◌, ◌≤◌, length};
 ghost use Rattle.numbers.specs.Sizes.{most_harts};
-ghost use Rattle.smt_laws.specs.Writes.{WritesAWord};
 
 use arrayvec::ArrayVec;
 use events::Record;
@@ -29,10 +28,9 @@ impl Model for PlainRun {
 }
 
 impl PlainRun {
-    /// The records of its steps, the first step first. Each writes at most a word.
+    /// The records of its steps, the first step first.
     pub fn records(&self) -> &[Record]
-        ensures value { result.now ≡ self.now.records }
-        ensures short { All WritesAWord result.now }
+        ensures { result.now ≡ self.now.records }
     {
         self.records.as_slice()
     }

@@ -42,11 +42,7 @@ pub fn run_order(
     };
     for index in 0..order.len() {
         match machine.step(order[index]) {
-            Ok(record) => {
-                // It writes at most a word: that is a clause of this call.
-                let _write = record.effect.write();
-                records.push(record).unwrap();
-            }
+            Ok(record) => records.push(record).unwrap(),
             Err(why) => return Err(OrderStopped::Step { index, why }),
         }
     }

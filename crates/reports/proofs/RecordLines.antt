@@ -1,19 +1,11 @@
 -- The lines of the records.
-use Rattle.std.specs.Prelude.{◌≡◌, ℕ, ◌+◌, ◌≤◌, ◌<◌, List, [], ◌++◌, length, take, get_or, flat_map, Option, Some, None}
-use Rattle.std.specs.Prelude.{IfSome}
-use Rattle.std.proofs.Common.{sym, ap, subst, ◌∙◌, inl, inr, arith}
+use Rattle.std.specs.Prelude.{◌≡◌, ℕ, ◌+◌, ◌≤◌, ◌<◌, List, [], ◌++◌, length, take, get_or, flat_map, Option}
+use Rattle.std.proofs.Common.{sym, ap, subst, ◌∙◌}
 use Rattle.std.specs.Io.KnownBytes.{Appends}
 use Rattle.std.proofs.lemmas.List.{take_more, flat_map_more}
-use Rattle.events.specs.{declared.effect.Record.Record, declared.effect.Written.Written}
-use Rattle.events.specs.Width.{HasWidth}
+use Rattle.events.specs.{declared.effect.Record.Record}
 use Rattle.reports.specs.Report.{record_line}
 use Rattle.reports.proofs.Appending.{appends_more}
-
-pub short_write : (write : Option Written) → IfSome write HasWidth → IfSome write (λ w. w.n ≤ 4)
-short_write None sized = tt
-short_write (Some w) (inl byte) = omega (arith, byte)
-short_write (Some w) (inr (inl half)) = omega (arith, half)
-short_write (Some w) (inr (inr whole)) = omega (arith, whole)
 
 -- a turn of the loop over the records
 pub records_step : (old mid new : Option (List ℕ)) (records : List Record) (i : ℕ) (d : Record) → i < length records

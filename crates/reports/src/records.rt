@@ -32,13 +32,10 @@ fn write_records<W: Write>(records: &[Record], out: &mut W) -> io::Result<()>
 }
 
 /// One write for one line.
-#[tactic(auto, using(crate::proofs::RecordLines::short_write))]
 fn write_record<W: Write>(record: &Record, out: &mut W) -> io::Result<()>
     ensures { OnOk result
         (Appends (W.contents out.old) (W.contents out.new) (record_line record.now)) }
 {
-    // A write says its width, 1, 2 or 4 bytes, as it is read: so it has room on the line.
-    let _write = record.effect.write();
     let mut line = ArrayString::<80>::new();
     line.push_str(print_record(record).as_str());
     push_ascii(&mut line, b'\n');

@@ -1,6 +1,6 @@
 ghost use Rattle.std.specs.Prelude.{◌≡◌, None};
 
-use events::OutcomeFields;
+use events::Outcome;
 use numbers::{Phys, Reg, Seq};
 use rv_instr::Op;
 
@@ -12,7 +12,7 @@ pub enum Stage {
     /// A unit works on it.
     Issued,
     /// It waits to retire, with this outcome.
-    Completed(OutcomeFields),
+    Completed(Outcome),
 }
 
 /// An instruction in flight: renamed, and not yet retired or squashed.

@@ -5,7 +5,7 @@ ghost use Rattle.retire_squash.specs.Active.{Above, Within, AreActivesRising, wi
 
 use crate::active::{Active, Stage};
 use arrayvec::ArrayVec;
-use events::OutcomeFields;
+use events::Outcome;
 use numbers::Seq;
 use numbers::sizes::MOST_IN_FLIGHT;
 use std::marker::Model;
@@ -133,7 +133,7 @@ impl ActiveList {
     }
 
     /// The instruction of this number has its outcome, if it is in flight.
-    pub fn complete(&mut self, seq: Seq, outcome: OutcomeFields)
+    pub fn complete(&mut self, seq: Seq, outcome: Outcome)
         ensures { self.new ≡ with_stage seq (Stage.Completed outcome) self.old }
     {
         let stage = Stage::Completed(outcome);

@@ -8,12 +8,12 @@ ghost use Rattle.smt_model.specs.Reservations.{reservation_after_write};
 ghost use Rattle.sc_machine.specs.Access.{IsWritable, CanWrite, WritesAlone};
 
 use crate::access::is_last;
-use events::{EffectFields, Written};
+use events::{Effect, Written};
 use memory_system::Memory;
 use rv_instr::{Kind, Op};
 
 /// Does what the effect of a hart's instruction at an address says.
-pub fn change_memory(memory: &mut Memory, hart: u8, op: Op, addr: u32, effect: EffectFields)
+pub fn change_memory(memory: &mut Memory, hart: u8, op: Op, addr: u32, effect: Effect)
     requires hart { hart < 8 }
     requires allowed { CanWrite memory.old.image effect }
     requires alone { WritesAlone effect }

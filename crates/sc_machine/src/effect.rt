@@ -1,7 +1,6 @@
 //! What an instruction does to the machine as it stands.
 
 ghost use Rattle.std.specs.Prelude.{◌≡◌, ◌<◌, Bool, if◌then◌else◌, IfSome};
-ghost use Rattle.events.specs.Width.{HasWidth};
 ghost use Rattle.memory_system.specs.Contents.{byte_of, reserved_of};
 ghost use Rattle.smt_model.specs.Bytes.{read, write_of};
 ghost use Rattle.smt_model.specs.Effects.{effect_of, last_effect};
@@ -10,7 +9,7 @@ ghost use Rattle.smt_model.specs.Reservations.{holds_word};
 ghost use Rattle.sc_machine.specs.Access.{HasNoFault, CanWrite, WritesAlone};
 
 use crate::access::{access_size, atomic_result, is_last, read};
-use events::{EffectFields, Next, Written};
+use events::{Effect, Next, Written};
 use memory_system::Memory;
 use rv_execute::Computed;
 use rv_instr::{Kind, Op};
@@ -18,7 +17,7 @@ use rv_instr::{Kind, Op};
 /// The effect of an instruction of a hart on memory and reservations as they stand. One that ends
 /// or stops its hart does nothing else.
 #[tactic(auto, using(crate::proofs::Accesses::allowed))]
-pub fn effect_of(memory: &Memory, hart: u8, op: Op, computed: Computed) -> EffectFields
+pub fn effect_of(memory: &Memory, hart: u8, op: Op, computed: Computed) -> Effect
     requires hart { hart < 8 }
     requires no_fault { HasNoFault memory.now.image op computed }
     ensures value { result ≡ effect_of op computed (read op (byte_of memory.now) computed.addr)
@@ -39,22 +38,22 @@ pub fn effect_of(memory: &Memory, hart: u8, op: Op, computed: Computed) -> Effec
     }
     let writes = op.writes_register();
     match op.kind() {
-        Kind::Computing => EffectFields {
+        Kind::Computing => Effect {
             value: given(writes, value),
             out,
             ..only
         },
-        Kind::Loading | Kind::Reserving => EffectFields {
+        Kind::Loading | Kind::Reserving => Effect {
             value: given(writes, read(memory, op, addr)),
             ..only
         },
-        Kind::Storing => EffectFields {
+        Kind::Storing => Effect {
             write: Some(write_of(addr, access_size(op), datum)),
             ..only
         },
         Kind::Conditional => {
             let held = holds_word(memory, hart, addr);
-            EffectFields {
+            Effect {
                 value: given(writes, if held { 0 } else { 1 }),
                 write: held.then_some(write_of(addr, 4, datum)),
                 ..only
@@ -62,7 +61,7 @@ pub fn effect_of(memory: &Memory, hart: u8, op: Op, computed: Computed) -> Effec
         }
         Kind::Atomic => {
             let old = read(memory, op, addr);
-            EffectFields {
+            Effect {
                 value: given(writes, old),
                 write: Some(write_of(addr, 4, atomic_result(op, old, datum))),
                 ..only
@@ -72,10 +71,10 @@ pub fn effect_of(memory: &Memory, hart: u8, op: Op, computed: Computed) -> Effec
 }
 
 /// Only what comes next.
-fn last_effect(next: Next) -> EffectFields
+fn last_effect(next: Next) -> Effect
     ensures { result ≡ last_effect next }
 {
-    EffectFields {
+    Effect {
         value: None,
         next,
         write: None,

@@ -12,7 +12,7 @@ use crate::access::stop_at_fault;
 use crate::effect::effect_of;
 use crate::hart::Hart;
 use decoded_code::Code;
-use events::{Effect, Record};
+use events::Record;
 use memory_system::Memory;
 use rv_execute::execute;
 use rv_instr::{Op, Reg};
@@ -51,7 +51,7 @@ pub fn next_execution(memory: &Memory, code: &Code, hart: u8, state: &Hart) -> E
             hart,
             pc: state.pc,
             word,
-            effect: Effect::new(effect),
+            effect,
         },
     }
 }

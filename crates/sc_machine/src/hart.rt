@@ -3,7 +3,7 @@ ghost use Rattle.smt_model.specs.Nexts.{pc_after};
 ghost use Rattle.smt_model.specs.Plain.{is_going_status, register_after, status_after};
 ghost use Rattle.sc_machine.specs.Harts.{IsFirst, register_written};
 
-use events::{EffectFields, Next};
+use events::{Effect, Next};
 use rv_instr::Reg;
 use smt_model::Status;
 
@@ -49,7 +49,7 @@ impl Hart {
     }
 
     /// Does what an instruction with this effect does to the hart, which writes `rd`, 0 for none.
-    pub fn advance(&mut self, rd: Reg, effect: EffectFields)
+    pub fn advance(&mut self, rd: Reg, effect: Effect)
         requires { rd < 32 }
         ensures registers { (r : ℕ) → slice_index self.new.registers r
             ≡ register_written rd effect.value r (slice_index self.old.registers r) }

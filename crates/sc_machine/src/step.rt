@@ -75,7 +75,7 @@ impl Plain {
             && nat_le self.now.room (length self.now.output)) }
         ensures room { OnFalse result (HasRoom self.now execution.now) }
     {
-        execution.record.effect.out().is_some() && self.output.len() >= self.room
+        execution.record.effect.out.is_some() && self.output.len() >= self.room
     }
 
     /// What a hart does next.
@@ -102,7 +102,7 @@ impl Plain {
         ensures room { self.new.room ≡ self.old.room }
     {
         let Execution { op, addr, record } = execution;
-        let effect = record.effect.fields();
+        let effect = record.effect;
         self.harts[usize::from(hart)].advance(op.destination(), effect);
         change_memory(&mut self.memory, hart, op, addr, effect);
         put(&mut self.output, effect.out);

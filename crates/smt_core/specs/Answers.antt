@@ -1,7 +1,6 @@
 -- What the calls of a core answer, and what they change.
 use Rattle.std.specs.Prelude.{◌≡◌, ◌<◌, ℕ, true, List, length, Option, Some, None}
 use Rattle.events.specs.{declared.event.Event.Event, declared.event.Event.TheVariants.Fetch}
-use Rattle.events.specs.{Range.HasShortWrite}
 use Rattle.smt_model.specs.{Exec.next_pc, Setup.Setup, Rules.refused}
 use Rattle.exec_units.specs.Job.{JobView}
 use Rattle.smt_model.specs.Asks.{Ask, AskRename, AskIssue, AskComplete, answers}
@@ -19,15 +18,14 @@ abbrev pub Decides : Ask → Setup → List Event → Event → Type 0
 Decides (AskRename actor hart) setup past e = TakesLeast setup past e
 Decides _ setup past e = Unit {0}
 
--- The step was made: there was room, the event is allowed and one that was asked for, the history
--- has grown by it alone, and it fits the line of an event.
+-- The step was made: there was room, the event is allowed and one that was asked for, and the
+-- history has grown by it alone.
 pub record IsMade (ask : Ask) (old : CoreView) (e : Event) (new : CoreView) : Type 0 where
   pub room : length old.past < old.limit
   pub allowed : refused old.setup old.past e ≡ None
   pub asked : answers ask old.past e ≡ true
   pub decided : Decides ask old.setup old.past e
   pub grows : new ≡ grown e old
-  pub printable : HasShortWrite e
 
 -- No step was made, though there was room: no event that answers the ask is allowed, and nothing
 -- has changed.

@@ -32,7 +32,7 @@ use memory_system::Memory;
 use numbers::Phys;
 use numbers::sizes::MOST_REGISTERS;
 use smt_laws::Account;
-use smt_laws::laws::{refines_the_plain_machine, writes_at_most_a_word};
+use smt_laws::laws::refines_the_plain_machine;
 use smt_model::{Config, Status};
 use std::alloc::Global;
 use std::marker::Model;
@@ -186,9 +186,8 @@ impl Core {
         ensures sequential { IsPlainRun self.now.setup result.records.now result.output.now
             result.statuses.items }
     {
-        // Their contracts speak of every legal history, so of this one; the first is the headline.
+        // Its contract, the headline, speaks of every legal history, so of this one.
         refines_the_plain_machine();
-        writes_at_most_a_word();
         Account {
             records: self.state.records(),
             output: self.state.output(),

@@ -1,6 +1,3 @@
-ghost use Rattle.std.specs.Prelude.{All};
-ghost use Rattle.smt_laws.specs.Writes.{WritesAWord};
-
 use arrayvec::ArrayVec;
 use events::Record;
 use smt_model::Status;
@@ -18,5 +15,4 @@ pub struct Account<'a> {
     pub lent: u32,
     /// How many events there are.
     pub events: u32,
-    ghost short: { All WritesAWord records.now },
 }

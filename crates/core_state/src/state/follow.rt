@@ -143,7 +143,7 @@ impl State {
     {
         let hart = self.judge_completion(actor, seq, outcome)?;
         let active = self.flying(hart, seq);
-        self.finish(actor, hart, &active, outcome, &outcome.fields());
+        self.finish(actor, hart, &active, outcome);
         Ok(())
     }
 

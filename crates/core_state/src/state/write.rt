@@ -13,7 +13,7 @@ ghost use Rattle.core_state.specs.View.{CoreView, grown};
 
 use super::State;
 use crate::log::{append, put_out};
-use events::{Effect, Event, Outcome, OutcomeFields, Record};
+use events::{Effect, Event, Outcome, Record};
 use exec_units::Job;
 use issue_queue::Entry;
 use numbers::{Phys, Seq};
@@ -76,8 +76,7 @@ impl State {
         (job, event)
     }
 
-    /// Writes the completion of an instruction in flight, which may come next with this outcome; its
-    /// fields are given beside it, since whoever decides has them.
+    /// Writes the completion of an instruction in flight, which may come next with this outcome.
     #[inline(always)]
     pub(super) fn finish(
         &mut self,
@@ -85,9 +84,7 @@ impl State {
         hart: u8,
         active: &Active,
         outcome: Outcome,
-        fields: &OutcomeFields,
     ) -> Event
-        requires fields { fields.now ≡ outcome }
         requires room { length self.old.past < self.old.limit }
         requires allowed { refused self.old.setup self.old.past
             (Complete actor active.now.seq outcome) ≡ None }
@@ -95,7 +92,7 @@ impl State {
         ensures event { result ≡ Complete actor active.now.seq outcome }
         ensures made { self.new ≡ grown result self.old }
     {
-        self.parts.finish(actor, hart, active, fields);
+        self.parts.finish(actor, hart, active, &outcome);
         let event = Event::Complete {
             actor,
             seq: active.seq,
@@ -134,14 +131,14 @@ impl State {
         ensures event { result ≡ Retire actor active.now.seq effect }
         ensures made { self.new ≡ grown result self.old }
     {
-        self.parts.retire(hart, active, effect.fields());
+        self.parts.retire(hart, active, effect);
         self.records.push_reserved(Record {
             hart,
             pc: active.pc,
             word: active.word,
             effect,
         });
-        put_out(&mut self.output, effect.out());
+        put_out(&mut self.output, effect.out);
         let event = Event::Retire {
             actor,
             seq: active.seq,

@@ -5,7 +5,7 @@ ghost use Rattle.std.specs.Prelude.{◌<◌};
 
 use super::{first_memory, put};
 use crate::rows::holds_at;
-use events::{EffectFields, Next, OutcomeFields, Written};
+use events::{Effect, Next, Outcome, Written};
 use memory_system::{LoadStore, Memory, completion, effect};
 use rv_decode::decode_op;
 use std::test::Fail;
@@ -114,8 +114,8 @@ static EFFECTS: [(u32, u32, Option<u32>, Option<u32>, Write); 14] = [
 ];
 
 /// What a unit computes of an access.
-fn computed(addr: u32, datum: Option<u32>) -> OutcomeFields {
-    OutcomeFields {
+fn computed(addr: u32, datum: Option<u32>) -> Outcome {
+    Outcome {
         value: None,
         next: BEHIND,
         addr: Some(addr),
@@ -125,10 +125,10 @@ fn computed(addr: u32, datum: Option<u32>) -> OutcomeFields {
 }
 
 /// The outcome of an access with this number for its register, or of one that stops.
-fn completed(handed: OutcomeFields, value: Result<Option<u32>, u8>) -> OutcomeFields {
+fn completed(handed: Outcome, value: Result<Option<u32>, u8>) -> Outcome {
     match value {
-        Ok(value) => OutcomeFields { value, ..handed },
-        Err(cause) => OutcomeFields {
+        Ok(value) => Outcome { value, ..handed },
+        Err(cause) => Outcome {
             next: Next::Stopped(cause),
             addr: None,
             datum: None,
@@ -138,8 +138,8 @@ fn completed(handed: OutcomeFields, value: Result<Option<u32>, u8>) -> OutcomeFi
 }
 
 /// The effect of an access that gives this number and writes this.
-fn retired(value: Option<u32>, write: Write) -> EffectFields {
-    EffectFields {
+fn retired(value: Option<u32>, write: Write) -> Effect {
+    Effect {
         value,
         next: BEHIND,
         write: write.map(|(addr, n, datum)| Written { addr, n, datum }),
@@ -212,7 +212,7 @@ fn what_touches_no_memory_stays(rt: HostRuntime) -> Result<(), Fail> {
     let queues = LoadStore::new();
     // The byte of a call stands beside its number.
     let op = decode_op(Some(ADDI));
-    let outcome = OutcomeFields {
+    let outcome = Outcome {
         value: Some(5),
         next: BEHIND,
         addr: None,

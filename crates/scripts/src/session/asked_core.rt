@@ -2,7 +2,6 @@
 
 ghost use Rattle.std.specs.Prelude.{◌≡◌, ◌<◌, ◌↔◌, true, IsTrue, IfSome, length, sum};
 ghost use Rattle.numbers.specs.Sizes.{most_actors};
-ghost use Rattle.events.specs.Range.{HasShortWrite};
 ghost use Rattle.core_state.specs.Setup.{setup_of};
 ghost use Rattle.smt_core.specs.Counts.{AreCounts};
 ghost use Rattle.smt_core.specs.Shown.{Shown};
@@ -55,7 +54,6 @@ impl<L: Origin> AskedCore<L> {
         ensures replied { Replied actor ask self.old result self.new }
         ensures guessed { HasGuessed P.predicts self.old.past self.new.past
             predict.old predict.new }
-        ensures printable { IfSome (event_in result) HasShortWrite }
     {
         let pass = &mut self.passes[usize::from(actor)];
         self.held.step(pass, ask, predict).said()

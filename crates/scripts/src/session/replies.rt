@@ -2,7 +2,6 @@
 
 ghost use Rattle.std.specs.Prelude.{◌≡◌, ◌+◌, ◌≤◌, ◌++◌, codes, IfSome};
 ghost use Rattle.arrayvec.specs.ArrayString.{array_string_len};
-ghost use Rattle.events.specs.Range.{HasShortWrite};
 ghost use Rattle.core_lock.specs.Asks.{event_in};
 ghost use Rattle.scripts.specs.Session.{done_line, reply_line, job_in};
 
@@ -16,7 +15,6 @@ use text_fields::push_ascii;
 /// Appends the line of a reply, and gives the job that came with it.
 #[inline(always)]
 pub fn push_reply(lines: &mut Lines, said: Said) -> Option<Job>
-    requires printable { IfSome (event_in said) HasShortWrite }
     requires room { array_string_len lines.old + 70 ≤ 3072 }
     ensures job { result ≡ job_in said }
     ensures line { lines.new.bytes ≡ lines.old.bytes ++ reply_line said }
@@ -48,7 +46,6 @@ pub fn push_reply(lines: &mut Lines, said: Said) -> Option<Job>
 
 /// Appends the line of a step that was made.
 fn push_done(lines: &mut Lines, event: &Event)
-    requires printable { HasShortWrite event.now }
     requires room { array_string_len lines.old + 70 ≤ 3072 }
     ensures line { lines.new.bytes ≡ lines.old.bytes ++ done_line event.now }
     ensures length { array_string_len lines.new ≤ array_string_len lines.old + 70 }

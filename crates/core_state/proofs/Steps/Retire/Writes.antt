@@ -5,7 +5,7 @@ use Rattle.std.proofs.Common.{refl, sym, ap, subst, inl, inr, arith}
 use Rattle.std.proofs.lemmas.Bool.{cases_Bool}
 use Rattle.elf_image.specs.Image.{ProgramImage}
 use Rattle.events.specs.{declared.effect.Next.Next, declared.effect.Next.TheVariants.Stopped}
-use Rattle.events.specs.{declared.effect.Written.Written, Width.HasWidth}
+use Rattle.events.specs.{declared.effect.Written.Written}
 use Rattle.rv_instr.specs.{declared.op.Op.Op, declared.op.Op.TheVariants.Known, declared.op.Op.TheVariants.Illegal}
 use Rattle.rv_instr.specs.{declared.op.Op.TheVariants.NoWord, declared.instr.Instr.Instr}
 use Rattle.rv_instr.specs.{declared.instr.LoadOp.LoadOp, declared.instr.StoreOp.StoreOp}
@@ -107,7 +107,3 @@ can_write image op c now held = elim (cases_Bool (is_last (checked image op c).n
       rw going (written_by (kind_of op) image op (checked image op c) now held refl
       (subst (λ addr. fault image op addr ≡ None) (sym (checked-address image op c)) (faultless image op c going)))
 ]
-
-pub has_width : (image : ProgramImage) (write : Option Written) → IfSome write (CanWrite image) → IfSome write HasWidth
-has_width image None can = tt
-has_width image (Some w) can = can.size

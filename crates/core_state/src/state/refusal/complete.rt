@@ -13,7 +13,7 @@ ghost use Rattle.exec_units.specs.Job.{outcome_of_job};
 use super::same::is_same_outcome;
 use crate::state::State;
 use core_parts::OpenJob;
-use events::{Event, Outcome, OutcomeFields};
+use events::{Event, Outcome};
 use exec_units::{Job, work};
 use numbers::Seq;
 
@@ -40,7 +40,7 @@ impl State {
             return Err(3);
         }
         let now = self.parts.completion_of(&job, worked(&job));
-        if !is_same_outcome(outcome.fields(), now) {
+        if !is_same_outcome(outcome, now) {
             return Err(4);
         }
         Ok(job.hart)
@@ -84,10 +84,8 @@ impl State {
 }
 
 /// What a unit makes of a job.
-fn worked(job: &OpenJob) -> OutcomeFields
+fn worked(job: &OpenJob) -> Outcome
     ensures { result ≡ outcome_of_job (open_view job.now) }
 {
-    work(Job::new(job.seq, job.op, job.pc, job.first, job.second))
-        .into_outcome()
-        .fields()
+    work(Job::new(job.seq, job.op, job.pc, job.first, job.second)).into_outcome()
 }

@@ -6,7 +6,7 @@ ghost use Rattle.core_state.specs.Refusals.{outcome_at, HasInFlight};
 
 use super::same::is_same_effect;
 use crate::state::State;
-use events::{Effect, OutcomeFields};
+use events::{Effect, Outcome};
 use memory_system::effect;
 use numbers::Seq;
 use retire_squash::{Active, Stage};
@@ -37,7 +37,7 @@ impl State {
             return Err(3);
         }
         let now = effect(&self.parts.memory, hart, active.op, outcome);
-        if !is_same_effect(said.fields(), now) {
+        if !is_same_effect(said, now) {
             return Err(4);
         }
         Ok(hart)
@@ -45,7 +45,7 @@ impl State {
 }
 
 /// The outcome of a completed instruction.
-fn outcome_at(stage: Stage) -> Option<OutcomeFields>
+fn outcome_at(stage: Stage) -> Option<Outcome>
     ensures { result ≡ outcome_at stage }
 {
     match stage {

@@ -4,7 +4,7 @@ ghost use Rattle.std.specs.Prelude.{◌≡◌};
 ghost use Rattle.smt_model.specs.Basics.{same_number};
 ghost use Rattle.smt_model.specs.Comparisons.{same_next, same_write, same_outcome, same_effect};
 
-use events::{EffectFields, Next, OutcomeFields, Written};
+use events::{Effect, Next, Outcome, Written};
 
 pub(super) fn is_same_number(one: Option<u32>, other: Option<u32>) -> bool
     ensures { result ≡ same_number one other }
@@ -30,7 +30,7 @@ fn is_same_write(one: Option<Written>, other: Option<Written>) -> bool
     one == other
 }
 
-pub(super) fn is_same_outcome(one: OutcomeFields, other: OutcomeFields) -> bool
+pub(super) fn is_same_outcome(one: Outcome, other: Outcome) -> bool
     ensures { result ≡ same_outcome one other }
 {
     is_same_number(one.value, other.value)
@@ -40,7 +40,7 @@ pub(super) fn is_same_outcome(one: OutcomeFields, other: OutcomeFields) -> bool
         && is_same_byte(one.out, other.out)
 }
 
-pub(super) fn is_same_effect(one: EffectFields, other: EffectFields) -> bool
+pub(super) fn is_same_effect(one: Effect, other: Effect) -> bool
     ensures { result ≡ same_effect one other }
 {
     is_same_number(one.value, other.value)

@@ -6,7 +6,7 @@ use Rattle.event_text.proofs.quick.quick_retire.Goals as goal
 
 pub returns : goal.returns
 returns c =
-    rw c.new.ensures (
+    (
       step_fields 84 (decimal c.args.actor) (decimal c.in_ok-seq.seq) (effect_text c.in_ok-effect.effect)
           c.args.fields.now c.in_ok-seq.fields.now c.in_ok-effect.others.now c.in_ok-seq.ensures.begins
           c.in_ok-effect.ensures.0,

@@ -1,10 +1,7 @@
 use Rattle.std.proofs.Common.{◌≡◌, ◌≤◌, ◌+◌, [], ◌∷◌, ◌++◌, length, get_or, take, ap, sym, subst, ◌∙◌, arith, List}
 use Rattle.std.proofs.lemmas.List.{length_push, take_all, take_more}
-use Rattle.std.proofs.{lemmas.List.Elements.All-nil, lemmas.List.Elements.All-push}
-use Rattle.std.specs.Prelude.{All}
 use Rattle.events.specs.declared.effect.Record.{Record}
-use Rattle.smt_laws.specs.Writes.{WritesAWord}
-use Rattle.plain_run.proofs.{Running.HasMade, Running.made_none, Running.made_more, Running.short_record, Refusing.stops_at}
+use Rattle.plain_run.proofs.{Running.HasMade, Running.made_none, Running.made_more, Refusing.stops_at}
 use Rattle.plain_run.proofs.order.run_order.Goals as goal
 
 pub loop-index-init : goal.loop-index-init
@@ -13,7 +10,6 @@ loop-index-init c =
     record {
       room = c.in-Ok.ensures.ok.room_is;
       count = ap length none;
-      short = subst (All WritesAWord) (sym none) (All-nil WritesAWord);
       space = c.in-Ok-with_capacity.ensures.capacity;
       made = λ setup of_image of_harts.
           subst (λ (xs : List Record). HasMade setup [] xs c.in-Ok.machine) (sym none)
@@ -38,9 +34,6 @@ loop-index-preserved c =
       room = c.step.ensures.room ∙ c.loop-index.invariant.room;
       count = ap length more ∙ (length_push said one ∙ ap (λ n. n + 1) c.loop-index.invariant.count);
       space = omega arith;
-      short = subst (All WritesAWord) (sym more)
-          (All-push WritesAWord said one c.loop-index.invariant.short
-          (short_record one c.write-write.result c.write-write.ensures.value c.write-write.ensures.sized));
       made = λ setup of_image of_harts.
           subst (λ xs. HasMade setup xs c.push.new.self.items c.step.new.self) (sym (take_more order k 0 inside))
           (subst (λ (xs : List Record). HasMade setup (take k order ++ get_or order k 0 ∷ []) xs c.step.new.self)

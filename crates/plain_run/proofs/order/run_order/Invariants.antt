@@ -1,6 +1,4 @@
 use Rattle.std.proofs.Common.{◌≡◌, ◌≤◌, length, take, vec_capacity}
-use Rattle.std.specs.Prelude.{All}
-use Rattle.smt_laws.specs.Writes.{WritesAWord}
 use Rattle.plain_run.specs.Orders.{OfEachSetup}
 use Rattle.plain_run.proofs.Running.{HasMade}
 use Rattle.plain_run.proofs.order.run_order.Given as goal
@@ -11,6 +9,5 @@ invariant-loop-index l = record {
   room : l.machine.room ≡ length l.order;
   count : length l.records.items ≡ l.index;
   space : length l.order ≤ vec_capacity l.records;
-  short : All WritesAWord l.records.items;
   made : OfEachSetup l.image l.harts (λ setup. HasMade setup (take l.index l.order) l.records.items l.machine);
 }

@@ -1,6 +1,5 @@
 -- The tests of the parts are the rules of a completion.
-use Rattle.std.proofs.Common.{◌∙◌, true, false, sym, ap}
-use Rattle.smt_model.specs.Comparisons.{same_outcome}
+use Rattle.std.proofs.Common.{◌∙◌, true, false, sym}
 use Rattle.core_parts.proofs.Agreement.Queues.{has_place}
 use Rattle.core_state.proofs.Following.Complete.{no_actor, no_job, squashed, tells, lent_it, hart_inside, gone_by}
 use Rattle.core_state.proofs.Following.Complete.{flies_by, says_by, is_none_by, has_by}
@@ -50,7 +49,7 @@ returns-then-not-is_same_outcome-clause-rule c =
     (says_by c.self.inside c.self.invariant c.args.self.now c.self.view_is c.args.actor c.args.seq c.in-Some.job
     c.in-Some.ensures.some
     c.worked.result c.completion_of-now.result c.args.outcome false c.worked.ensures
-    c.completion_of-now.ensures (sym (sym c.is_same_outcome.ensures ∙ c.if-not-is_same_outcome.true) ∙ ap (λ o. same_outcome o c.completion_of-now.result) c.fields.ensures)))
+    c.completion_of-now.ensures (sym (sym c.is_same_outcome.ensures ∙ c.if-not-is_same_outcome.true))))
 
 pub returns-clause-rule : goal.returns-clause-rule
 returns-clause-rule c =
@@ -63,7 +62,7 @@ returns-clause-rule c =
     (says_by c.self.inside c.self.invariant c.args.self.now c.self.view_is c.args.actor c.args.seq c.in-Some.job
     c.in-Some.ensures.some
     c.worked.result c.completion_of-now.result c.args.outcome true c.worked.ensures
-    c.completion_of-now.ensures (sym (sym c.is_same_outcome.ensures ∙ c.if-not-is_same_outcome.false) ∙ ap (λ o. same_outcome o c.completion_of-now.result) c.fields.ensures)))
+    c.completion_of-now.ensures (sym (sym c.is_same_outcome.ensures ∙ c.if-not-is_same_outcome.false))))
 
 pub returns-clause-there : goal.returns-clause-there
 returns-clause-there c =

@@ -1,7 +1,7 @@
 -- The tests of the parts are the rules of a retirement.
 use Rattle.std.proofs.Common.{◌∙◌, true, false, sym, ap, map}
 use Rattle.retire_squash.specs.declared.active.Active.{Active}
-use Rattle.smt_model.specs.{Rules.is_first, Comparisons.same_effect}
+use Rattle.smt_model.specs.Rules.{is_first}
 use Rattle.core_state.proofs.Following.Retire.{no_actor, gone, waits, not_oldest, can_retire, tells}
 use Rattle.core_state.proofs.Following.Retire.{effect_view}
 use Rattle.core_parts.proofs.Agreement.Queues.{has_place}
@@ -59,8 +59,7 @@ returns-then-not-is_same_effect-clause-rule c =
     (c.if-not-is_oldest_active.false) c.effect-now.result false
     (effect_view c.self.inside c.self.invariant c.args.self.now c.self.view_is c.in-Some.hart c.in-Some.active
     c.in-Some-outcome_at.outcome c.effect-now.result can c.effect-now.ensures)
-    (sym (sym c.is_same_effect.ensures ∙ c.if-not-is_same_effect.true)
-    ∙ ap (λ e. same_effect e c.effect-now.result) c.fields.ensures.value))
+    (sym (sym c.is_same_effect.ensures ∙ c.if-not-is_same_effect.true)))
 
 pub returns-clause-rule : goal.returns-clause-rule
 returns-clause-rule c =
@@ -80,8 +79,7 @@ returns-clause-rule c =
     (c.if-not-is_oldest_active.false) c.effect-now.result true
     (effect_view c.self.inside c.self.invariant c.args.self.now c.self.view_is c.in-Some.hart c.in-Some.active
     c.in-Some-outcome_at.outcome c.effect-now.result can c.effect-now.ensures)
-    (sym (sym c.is_same_effect.ensures ∙ c.if-not-is_same_effect.false)
-    ∙ ap (λ e. same_effect e c.effect-now.result) c.fields.ensures.value))
+    (sym (sym c.is_same_effect.ensures ∙ c.if-not-is_same_effect.false)))
 
 pub returns-clause-there : goal.returns-clause-there
 returns-clause-there c = (c.in-Some.active, c.in-Some.ensures.there)

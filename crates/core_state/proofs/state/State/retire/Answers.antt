@@ -7,7 +7,6 @@ use Rattle.std.proofs.lemmas.Bool.Decides.{nat_tests}
 use Rattle.core_state.proofs.Steps.Retire.Rules.{no_actor_retires}
 use Rattle.core_state.proofs.Steps.Retire.State.{finds_in, allowed_in, its_own_in, none_in}
 use Rattle.core_state.proofs.Steps.Retire.State.{if_none, place_in, write_in_core}
-use Rattle.core_state.proofs.Steps.Retire.Writes.{has_width}
 use Rattle.core_state.proofs.state.State.retire.Goals as goal
 
 both_true : (actor : ℕ) (own : Bool) → own ≡ true → ((actor == actor) && own) ≡ true
@@ -24,34 +23,18 @@ returns-in_err-active-clause-idle c =
     (none_in c.self.inside c.args.self.now c.args.actor c.args.hart c.self.view_is c.self.invariant
     c.in_err-active.ensures.none)
 
-pub effect-fields-requires : goal.effect-fields-requires
-effect-fields-requires c = place_in c.self.inside c.args.hart c.self.invariant c.in_ok-active.ensures.inside
-
-pub new-requires : goal.new-requires
-new-requires c =
-    let finds =
-    (finds_in c.self.inside c.args.self.now c.args.actor c.args.hart c.in_ok-active.active c.in_ok-active.outcome
-    c.effect-fields.result
-    c.has_actor.result c.self.view_is c.has_actor.ensures c.if-not-has_actor.false c.in_ok-active.ensures.inside
-    c.in_ok-active.ensures.some c.self.invariant
-    c.effect-fields.ensures) in
-    record {
-      sized =
-          has_width c.self.inside.parts.memory.image c.effect-fields.result.write
-          (write_in_core c.self.inside c.args.hart c.in_ok-active.active c.effect-fields.result c.self.invariant
-          finds.effect_is);
-    }
+pub effect-effect-requires : goal.effect-effect-requires
+effect-effect-requires c = place_in c.self.inside c.args.hart c.self.invariant c.in_ok-active.ensures.inside
 
 pub write_retire-requires-clause-allowed : goal.write_retire-requires-clause-allowed
 write_retire-requires-clause-allowed c =
-    rw c.new.ensures
     (allowed_in c.self.inside c.args.self.now c.args.actor c.args.hart c.in_ok-active.active c.in_ok-active.outcome
-    c.effect-fields.result c.self.view_is c.self.invariant
+    c.effect-effect.result c.self.view_is c.self.invariant
     (finds_in c.self.inside c.args.self.now c.args.actor c.args.hart c.in_ok-active.active c.in_ok-active.outcome
-    c.effect-fields.result
+    c.effect-effect.result
     c.has_actor.result c.self.view_is c.has_actor.ensures c.if-not-has_actor.false c.in_ok-active.ensures.inside
     c.in_ok-active.ensures.some c.self.invariant
-    c.effect-fields.ensures))
+    c.effect-effect.ensures))
 
 pub write_retire-requires-clause-active : goal.write_retire-requires-clause-active
 write_retire-requires-clause-active c =
@@ -61,24 +44,24 @@ write_retire-requires-clause-active c =
 
 pub returns-clause-allowed : goal.returns-clause-allowed
 returns-clause-allowed c =
-    rw (c.write_retire.ensures.event, c.new.ensures)
+    rw c.write_retire.ensures.event
     (allowed_in c.self.inside c.args.self.now c.args.actor c.args.hart c.in_ok-active.active c.in_ok-active.outcome
-    c.effect-fields.result c.self.view_is c.self.invariant
+    c.effect-effect.result c.self.view_is c.self.invariant
     (finds_in c.self.inside c.args.self.now c.args.actor c.args.hart c.in_ok-active.active c.in_ok-active.outcome
-    c.effect-fields.result
+    c.effect-effect.result
     c.has_actor.result c.self.view_is c.has_actor.ensures c.if-not-has_actor.false c.in_ok-active.ensures.inside
     c.in_ok-active.ensures.some c.self.invariant
-    c.effect-fields.ensures))
+    c.effect-effect.ensures))
 
 pub returns-clause-answer : goal.returns-clause-answer
 returns-clause-answer c =
     rw c.write_retire.ensures.event
     (both_true c.args.actor _
     (its_own_in c.self.inside c.args.self.now c.args.actor c.args.hart c.in_ok-active.active c.in_ok-active.outcome
-    c.effect-fields.result
+    c.effect-effect.result
     c.self.view_is c.self.invariant
     (finds_in c.self.inside c.args.self.now c.args.actor c.args.hart c.in_ok-active.active c.in_ok-active.outcome
-    c.effect-fields.result
+    c.effect-effect.result
     c.has_actor.result c.self.view_is c.has_actor.ensures c.if-not-has_actor.false c.in_ok-active.ensures.inside
     c.in_ok-active.ensures.some c.self.invariant
-    c.effect-fields.ensures)))
+    c.effect-effect.ensures)))

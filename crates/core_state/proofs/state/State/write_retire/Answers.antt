@@ -6,10 +6,10 @@ pub retire-requires : goal.retire-requires
 retire-requires c =
     let finds = finds_next c.self.inside c.self.invariant c.args.self.now c.self.view_is c.args.actor c.args.hart
     c.args.active.now c.args.effect c.requires.allowed c.requires.active in
-    rw c.fields.ensures.value (record {
+    record {
       step = found_from c.self.inside c.args.actor c.args.hart c.args.active.now _ c.args.effect c.self.invariant finds;
       write = write_in_core c.self.inside c.args.hart c.args.active.now c.args.effect c.self.invariant finds.effect_is;
-    })
+    }
 
 pub invariant_of-self : goal.invariant_of-self
 invariant_of-self c =
@@ -20,6 +20,6 @@ invariant_of-self c =
     c.args.effect c.self.invariant
     (finds_next c.self.inside c.self.invariant c.args.self.now c.self.view_is c.args.actor c.args.hart
     c.args.active.now c.args.effect c.requires.allowed c.requires.active)
-    (rw c.fields.ensures.value at c.retire.ensures.agrees) c.retire.ensures.sizes c.push_reserved.ensures.items
-    c.push_reserved.ensures.capacity (rw c.out.ensures at c.put_out.ensures.items)
+    c.retire.ensures.agrees c.retire.ensures.sizes c.push_reserved.ensures.items
+    c.push_reserved.ensures.capacity c.put_out.ensures.items
     c.put_out.ensures.capacity c.append.ensures

@@ -1,4 +1,4 @@
-use Rattle.std.proofs.Common.{◌≡◌, List, [], ◌∷◌, ◌++◌, append_assoc, drop, get_or, subst, take, ◌∙◌, ap}
+use Rattle.std.proofs.Common.{◌≡◌, ℕ, ◌+◌, ◌<◌, List, [], ◌∷◌, ◌++◌, append_assoc, drop, get_or, length, subst, take, ◌∙◌, ap}
 use Rattle.std.proofs.{lemmas.List.take_all, lemmas.Result.on_ok_weaker}
 use Rattle.events.specs.{declared.event.Event.Event}
 use Rattle.event_text.specs.{Line.line_of, Sinking.HasBroken, Sinking.HasPut, Sinking.HasPutBut}
@@ -28,20 +28,25 @@ returns-in_err-make_room-clause-broken g c =
     c.in_err-make_room.ensures.broken)) in
     when_err _ whole
 
+-- an event's line, appended to the text that is held back
+with_line : (P : List ℕ → List ℕ → Type 0) (events : List Event) (i : ℕ) (e : Event) (held line new : List ℕ)
+    → i < length events → line ≡ held ++ line_of (get_or events i e) → new ≡ line ++ 10 ∷ []
+    → P (trace_text (take i events) ++ ended (line_of (get_or events i e)))
+    (held ++ ended (line_of (get_or events i e)))
+    → P (trace_text (take (i + 1) events)) new
+with_line P events i e held line new inside line_is new_is had =
+    let is : new ≡ held ++ ended (line_of (get_or events i e)) =
+    new_is ∙ ap (λ bytes. bytes ++ 10 ∷ []) line_is ∙ append_assoc held _ (10 ∷ []) in
+    rw (trace_text-more events i e inside, is) had
+
 pub loop-event-preserved : goal.loop-event-preserved
 loop-event-preserved g c =
     let events = c.args.events.now in
     let i = c.loop-event.event-index in
-    let item = c.event-item.result in
     let held = c.make_room.new.piece.bytes in
-    let line : c.push_ascii.new.text.bytes ≡ held ++ ended (line_of (get_or events i item)) =
-    c.push_ascii.ensures.spelled
-    ∙ ap (λ bytes. bytes ++ 10 ∷ []) c.push_event.ensures.spelled
-    ∙ append_assoc held _ (10 ∷ [])
-    ∙ ap (λ event. held ++ ended (line_of event)) c.event-item.is in
-    rw (trace_text-more events i item c.loop-event-test.true, line)
-    (HasPutBut-more g.S.Sink.written g.S.Sink.has_failed _ _ (trace_text (take i events)) held
-    (ended (line_of (get_or events i item)))
+    with_line (HasPutBut g.S.Sink.written g.S.Sink.has_failed c.args.sink.now c.make_room.new.sink) events i _ held _ _
+    c.loop-event-test.true c.push_event.ensures.spelled c.push_ascii.ensures.spelled
+    (HasPutBut-more g.S.Sink.written g.S.Sink.has_failed _ _ (trace_text (take i events)) held _
     (HasPutBut-step g.S.Sink.written g.S.Sink.has_failed _ _ _ _ _ _ c.loop-event.invariant
     c.in_ok-make_room.ensures.held))
 

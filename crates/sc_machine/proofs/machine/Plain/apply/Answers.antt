@@ -11,7 +11,7 @@ returns-clause-agrees c = λ setup s agrees.
     let h = c.args.hart in
     let op = c.args.execution.op in
     let addr = c.args.execution.addr in
-    let e = c.fields-effect.result in
+    let e = c.args.execution.record.effect in
     let m = machine_of c.self.inside in
     let x = c.index_mut.result.now in
     let y = c.advance.new.self in
@@ -30,6 +30,5 @@ returns-clause-agrees c = λ setup s agrees.
     (λ r. subst (λ rd. slice_index y.registers r ≡ register_written rd e.value r (slice_index x.registers r))
     c.destination.ensures.value (c.advance.ensures.registers r)) c.advance.ensures.pc
     c.advance.ensures.status in
-    subst (λ e. Agrees setup (after s h op addr e) n) c.fields-effect.ensures.value
-    (advanced setup s m n h op addr e y here inside own (ap (λ i. slice_set m.harts i y) c.from.ensures)
-    c.change_memory.ensures.image c.change_memory.ensures.bytes c.change_memory.ensures.reserved c.put.ensures.items)
+    advanced setup s m n h op addr e y here inside own (ap (λ i. slice_set m.harts i y) c.from.ensures)
+    c.change_memory.ensures.image c.change_memory.ensures.bytes c.change_memory.ensures.reserved c.put.ensures.items

@@ -1,5 +1,0 @@
-use Rattle.std.proofs.Common.{rules}
-use Rattle.events.proofs.effect.Outcome.addr.Goals as goal
-
-pub returns : goal.returns
-returns c = search rules
