@@ -11,10 +11,11 @@ use Rattle.retire_squash.specs.declared.active.Stage.TheVariants as stage
 use Rattle.smt_model.specs.{Basics.or_zero, Faults.write_fault, Fates.is, Fates.Completed}
 use Rattle.smt_model.specs.{Looks.stored_by, Picture.Picture, Steps.op_in}
 use Rattle.smt_model.specs.Kinds.{Kind, Loading, Storing, kind_of, is_loading, is_storing}
-use Rattle.memory_system.specs.Contents.{Contents, IsSize, byte_of, reserved_of}
-use Rattle.memory_system.specs.{Queues.Queues, Queues.queues_of, declared.store.Store.Store}
-use Rattle.memory_system.specs.Queues.{with_load, with_store, with_resolved, without_load}
-use Rattle.memory_system.specs.Queues.{without_store}
+use Rattle.rv_execute.specs.Access.{IsSize}
+use Rattle.shared_memory.specs.Contents.{Contents, byte_of, reserved_of}
+use Rattle.load_store.specs.{Queues.Queues, Queues.queues_of, declared.store.Store.Store}
+use Rattle.load_store.specs.Queues.{with_load, with_store, with_resolved, without_load}
+use Rattle.load_store.specs.Queues.{without_store}
 use Rattle.core_parts.specs.declared.hart.HartState.{HartState}
 
 -- ---- In the parts' words

@@ -2,7 +2,7 @@
 
 ghost use Rattle.std.specs.Prelude.{◌≡◌, ◌<◌, true, length};
 ghost use Rattle.numbers.specs.Sizes.{most_harts, most_accesses};
-ghost use Rattle.memory_system.specs.Queues.{Above, Changes, numbers, queues_of};
+ghost use Rattle.load_store.specs.Queues.{Above, Changes, numbers, queues_of};
 ghost use Rattle.smt_model.specs.Kinds.{kind_of, is_loading, is_storing};
 ghost use Rattle.smt_model.specs.Looks.{stored_by};
 ghost use Rattle.core_parts.specs.Accesses.{with_access, with_write, without_access};

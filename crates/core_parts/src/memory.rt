@@ -2,7 +2,7 @@
 
 ghost use Rattle.std.specs.Prelude.{◌≡◌, ℕ, ◌<◌, ◌==◌, if◌then◌else◌, IfSome};
 ghost use Rattle.numbers.specs.Sizes.{most_harts};
-ghost use Rattle.memory_system.specs.Contents.{byte_of, reserved_of};
+ghost use Rattle.shared_memory.specs.Contents.{byte_of, reserved_of};
 ghost use Rattle.smt_model.specs.Bytes.{byte_after};
 ghost use Rattle.smt_model.specs.Kinds.{kind_of};
 ghost use Rattle.smt_model.specs.Reservations.{own_reservation, reservation_after_write};

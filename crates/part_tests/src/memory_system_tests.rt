@@ -1,7 +1,7 @@
 //! The memory that all harts share, the two looks of a load, and what accesses complete and retire
 //! as.
 
-ghost use Rattle.memory_system.specs.Contents.{IsSize};
+ghost use Rattle.rv_execute.specs.Access.{IsSize};
 ghost use Rattle.std.specs.Prelude.{◌<◌};
 
 mod accesses;

@@ -2,7 +2,7 @@
 use Rattle.std.proofs.Common.{◌≡◌, ℕ, ap}
 use Rattle.std.specs.Prelude.{◌-◌, nat_le, if◌then◌else◌, slice_index}
 use Rattle.elf_image.specs.Image.{ram_start}
-use Rattle.memory_system.specs.Contents.{Contents, byte_of}
+use Rattle.shared_memory.specs.Contents.{Contents, byte_of}
 
 pub same_bytes : (m n : Contents) (addr : ℕ) → n.bytes ≡ m.bytes → byte_of n addr ≡ byte_of m addr
 unfolding byte_of

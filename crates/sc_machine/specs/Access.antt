@@ -1,7 +1,7 @@
 -- What is asked of an instruction before it touches memory.
 use Rattle.std.specs.Prelude.{◌≡◌, true, false, None, IfSome}
 use Rattle.elf_image.specs.Image.{ProgramImage}
-use Rattle.memory_system.specs.Contents.{IsSize}
+use Rattle.rv_execute.specs.Access.{IsSize}
 use Rattle.smt_model.specs.Words.{Op, Effect, Written}
 use Rattle.smt_model.specs.{Exec.Computed, Nexts.is_last, Faults.fault, Faults.write_fault}
 

@@ -1,7 +1,7 @@
 -- What a hart does next.
 use Rattle.std.specs.Prelude.{◌≡◌, ℕ, ◌<◌, length, is_some, IsTrue}
 use Rattle.rv_instr.specs.Kinds.{destination, first_source, second_source}
-use Rattle.memory_system.specs.Contents.{Contents}
+use Rattle.shared_memory.specs.Contents.{Contents}
 use Rattle.smt_model.specs.{Setup.Setup, Plain.Plain, Plain.op_at_pc, Plain.computes}
 use Rattle.smt_model.specs.{Plain.record_at}
 use Rattle.sc_machine.specs.{Access.CanWrite, Access.WritesAlone, Machine.Machine}

@@ -2,7 +2,8 @@
 //! faults.
 
 ghost use Rattle.std.specs.Prelude.{◌≡◌, None};
-ghost use Rattle.memory_system.specs.Contents.{IsSize, byte_of};
+ghost use Rattle.rv_execute.specs.Access.{IsSize};
+ghost use Rattle.shared_memory.specs.Contents.{byte_of};
 ghost use Rattle.smt_model.specs.Kinds.{load_size, store_size, access_size};
 ghost use Rattle.smt_model.specs.Bytes.{load_value, read_value, read};
 ghost use Rattle.smt_model.specs.Effects.{atomic_result};

@@ -1,7 +1,8 @@
 //! What an effect changes in memory and in the reservations.
 
 ghost use Rattle.std.specs.Prelude.{◌≡◌, ℕ, ◌<◌, ◌==◌, if◌then◌else◌, IfSome};
-ghost use Rattle.memory_system.specs.Contents.{IsSize, byte_of, reserved_of};
+ghost use Rattle.rv_execute.specs.Access.{IsSize};
+ghost use Rattle.shared_memory.specs.Contents.{byte_of, reserved_of};
 ghost use Rattle.smt_model.specs.Bytes.{byte_after};
 ghost use Rattle.smt_model.specs.Reservations.{own_reservation, reservation_after};
 ghost use Rattle.smt_model.specs.Reservations.{reservation_after_write};

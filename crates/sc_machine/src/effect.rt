@@ -2,7 +2,7 @@
 
 ghost use Rattle.std.specs.Prelude.{◌≡◌, ◌<◌, Bool, if◌then◌else◌, IfSome};
 ghost use Rattle.events.specs.Width.{HasWidth};
-ghost use Rattle.memory_system.specs.Contents.{byte_of, reserved_of};
+ghost use Rattle.shared_memory.specs.Contents.{byte_of, reserved_of};
 ghost use Rattle.smt_model.specs.Bytes.{read, write_of};
 ghost use Rattle.smt_model.specs.Effects.{effect_of, last_effect};
 ghost use Rattle.smt_model.specs.Outcomes.{given};

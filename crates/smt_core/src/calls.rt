@@ -14,7 +14,7 @@ ghost use Rattle.smt_model.specs.Flights.{icount};
 ghost use Rattle.smt_model.specs.Picture.{is_free, picture};
 ghost use Rattle.smt_model.specs.Registers.{claims};
 ghost use Rattle.smt_model.specs.Memory.{byte_at, reserved, status, output, is_going};
-ghost use Rattle.memory_system.specs.Contents.{byte_of, reserved_of};
+ghost use Rattle.shared_memory.specs.Contents.{byte_of, reserved_of};
 ghost use Rattle.smt_model.specs.Rules.{is_legal};
 ghost use Rattle.smt_core.specs.Headline.{IsPlainRun, IsPlainRegister, IsPlainMemory};
 ghost use Rattle.smt_core.specs.Answers.{Answered, IssueAnswered, CompleteAnswered, IsPredicted};

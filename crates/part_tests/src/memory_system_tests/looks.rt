@@ -1,6 +1,6 @@
 //! The two looks of a load, by hand: stores in flight over memory, byte by byte.
 
-ghost use Rattle.memory_system.specs.Contents.{IsSize};
+ghost use Rattle.rv_execute.specs.Access.{IsSize};
 ghost use Rattle.std.specs.Prelude.{◌<◌};
 
 use super::{first_memory, get, put};
