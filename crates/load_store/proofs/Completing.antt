@@ -10,7 +10,7 @@ use Rattle.smt_model.specs.{Exec.Computed, Nexts.is_last, Faults.fault, Faults.c
 use Rattle.smt_model.specs.Kinds.{Kind, Computing, Loading, Storing, Reserving, Conditional, Atomic, kind_of}
 use Rattle.smt_model.specs.Kinds.{is_loading, touches_memory, writes_register}
 use Rattle.smt_model.specs.Outcomes.{given, last_outcome, outcome_by, outcome_of}
-use Rattle.shared_memory.proofs.Checking.{checked_last, checked_faultless, checked_faulting, computing_faultless}
+use Rattle.load_store.proofs.Checking.{checked_last, checked_faultless, checked_faulting, computing_faultless}
 
 -- ---- What an outcome's address says of its instruction
 

@@ -10,7 +10,7 @@ use Rattle.smt_model.specs.{Outcomes.outcome_by, Outcomes.outcome_of}
 use Rattle.smt_model.specs.Effects.{last_effect, effect_by, effect_of}
 use Rattle.smt_model.specs.Kinds.{Kind, Computing, Loading, Storing, Reserving, Conditional, Atomic, kind_of}
 use Rattle.smt_model.specs.Kinds.{touches_memory, writes_register}
-use Rattle.shared_memory.proofs.Checking.{checked_last, checked_faultless, checked_faulting}
+use Rattle.load_store.proofs.Checking.{checked_last, checked_faultless, checked_faulting}
 use Rattle.load_store.proofs.Completing.{IsAccess, computes, goes_on, accesses, going_says}
 
 true_false : true ≢ false
@@ -32,6 +32,18 @@ keeps op c look o now held is none =
 abbrev pub access_of : Next → ℕ → ℕ → Computed
 access_of next addr datum = record (just_next next) { addr = addr; datum = datum }
 
+next_said : (kind : Kind) (writes : Bool) (c : Computed) (look : Option ℕ) → (outcome_by kind writes c look).next ≡ c.next
+next_said Computing writes c look = refl
+next_said Loading writes c look = refl
+next_said Storing writes c look = refl
+next_said Reserving writes c look = refl
+next_said Conditional writes c look = refl
+next_said Atomic writes c look = refl
+
+going_does : (op : Op) (c : Computed) (now : ℕ) (held : Bool) → is_last c.next ≡ false
+    → effect_of op c now held ≡ effect_by (kind_of op) op (writes_register op) c now held
+going_does op c now held going = rw going refl
+
 kind_does : (kind : Kind) (op : Op) (writes : Bool) (c : Computed) (look : Option ℕ) (now : ℕ) (held : Bool)
     → touches_memory kind ≡ true
     → let o = outcome_by kind writes c look in
@@ -46,18 +58,20 @@ kind_does Atomic op writes c look now held touches = refl
 
 pub does : (op : Op) (c : Computed) (look : Option ℕ) (o : Outcome) (addr now : ℕ) (held : Bool)
     → o ≡ outcome_of op c look → o.addr ≡ Some addr
-    → effect_by (kind_of op) op (writes_register op) (access_of o.next addr (unwrap_or o.datum 0)) now held
-    ≡ effect_of op c now held
+    → effect_of op (access_of o.next addr (unwrap_or o.datum 0)) now held ≡ effect_of op c now held
 does op c look o addr now held is some =
     let going = goes_on op c look o addr some is in
     let access = accesses op c look o addr some is in
     let kind = kind_of op in
     let writes = writes_register op in
-    ap (λ a. effect_by kind op writes (access_of o.next a (unwrap_or o.datum 0)) now held) (sym access.at)
-    ∙ ap (λ (o : Outcome). effect_by kind op writes (access_of o.next c.addr (unwrap_or o.datum 0)) now held)
-    (is ∙ going_says op c look going)
+    let said = is ∙ going_says op c look going in
+    let goes : is_last o.next ≡ false =
+    ap (λ (o : Outcome). is_last o.next) said ∙ ap is_last (next_said kind writes c look) ∙ going in
+    going_does op (access_of o.next addr (unwrap_or o.datum 0)) now held goes
+    ∙ ap (λ a. effect_by kind op writes (access_of o.next a (unwrap_or o.datum 0)) now held) (sym access.at)
+    ∙ ap (λ (o : Outcome). effect_by kind op writes (access_of o.next c.addr (unwrap_or o.datum 0)) now held) said
     ∙ kind_does kind op writes c look now held access.touches
-    ∙ rw going refl
+    ∙ sym (going_does op c now held going)
 
 -- ---- An address that was said is one of an access that doesn't fault
 
@@ -97,12 +111,8 @@ module _ (image : ProgramImage) (op : Op) (c : Computed) (look : Option ℕ) (o 
   pub no_fault : fault image op addr ≡ None
   no_fault = ap (fault image op) (sym at) ∙ faultless
 
-  pub touching : touches_memory (kind_of op) ≡ true
-  touching = access.touches
-
   pub does_there : (now : ℕ → ℕ) (held : ℕ → Bool)
-      → effect_by (kind_of op) op (writes_register op) (access_of o.next addr (unwrap_or o.datum 0)) (now addr)
-      (held addr)
+      → effect_of op (access_of o.next addr (unwrap_or o.datum 0)) (now addr) (held addr)
       ≡ effect_of op (checked image op c) (now c.addr) (held c.addr)
   does_there now held =
       does op (checked image op c) look o addr (now addr) (held addr) is some

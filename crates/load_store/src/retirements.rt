@@ -3,13 +3,13 @@
 ghost use Rattle.std.specs.Prelude.{◌≡◌, ℕ, ◌<◌, Option};
 ghost use Rattle.smt_model.specs.Bytes.{read};
 ghost use Rattle.smt_model.specs.Effects.{effect_of};
-ghost use Rattle.smt_model.specs.Exec.{Computed as ComputedView};
+ghost use Rattle.smt_model.specs.Exec.{Computed as ComputedView, just_next};
 ghost use Rattle.smt_model.specs.Faults.{checked};
 ghost use Rattle.smt_model.specs.Outcomes.{outcome_of};
 ghost use Rattle.smt_model.specs.Reservations.{holds_word};
 ghost use Rattle.shared_memory.specs.Contents.{byte_of, reserved_of};
 
-use events::{EffectFields, OutcomeFields};
+use events::{EffectFields, Next, OutcomeFields};
 use rv_execute::{Computed, effect_of, last_effect};
 use rv_instr::Op;
 use shared_memory::{Memory, fault, read};
@@ -36,11 +36,20 @@ pub fn effect(memory: &Memory, hart: u8, op: Op, outcome: OutcomeFields) -> Effe
     if fault(memory, op, addr).is_some() {
         return only;
     }
-    let access = Computed {
-        addr,
-        datum: outcome.datum.unwrap_or(0),
-        ..Computed::just_next(outcome.next)
-    };
+    let access = access_at(outcome.next, addr, outcome.datum.unwrap_or(0));
     let now = read(memory, op, addr);
     effect_of(op, access, now, memory.holds_word(hart, addr))
+}
+
+/// What an access had computed, as far as its outcome tells.
+fn access_at(next: Next, addr: u32, datum: u32) -> Computed
+    ensures { result ≡ record (just_next next) { addr = addr; datum = datum } }
+{
+    Computed {
+        value: 0,
+        next,
+        addr,
+        datum,
+        out: None,
+    }
 }

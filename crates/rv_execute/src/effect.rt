@@ -1,6 +1,6 @@
 //! What an instruction does as it retires, once memory has been asked.
 
-ghost use Rattle.std.specs.Prelude.{◌≡◌, ℕ, false};
+ghost use Rattle.std.specs.Prelude.{◌≡◌, ℕ, true};
 ghost use Rattle.smt_model.specs.Bytes.{write_of};
 ghost use Rattle.smt_model.specs.Effects.{effect_of};
 ghost use Rattle.smt_model.specs.Kinds.{kind_of};
@@ -18,8 +18,7 @@ use rv_instr::{Kind, Op};
 /// that ends or stops its hart does nothing else. Where memory isn't read, any `now` will do.
 #[inline(always)]
 pub fn effect_of(op: Op, computed: Computed, now: u32, held: bool) -> EffectFields
-    ensures value { result ≡ effect_of op computed now held }
-    ensures unread { reads_memory (kind_of op) ≡ false → (n : ℕ)
+    ensures { (n : ℕ) → (reads_memory (kind_of op) ≡ true → now ≡ n)
         → result ≡ effect_of op computed n held }
 {
     let Computed {

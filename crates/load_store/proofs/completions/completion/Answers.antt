@@ -8,7 +8,7 @@ returns-in_default c = λ d is. stays c.args.memory.now.image c.args.op d c.args
 
 pub returns-in-Some-fault : goal.returns-in-Some-fault
 returns-in-Some-fault c = λ d is.
-    c.stop.ensures
+    c.last_outcome.ensures
     ∙ faults c.args.memory.now.image c.args.op d c.args.outcome is c.in-Some.addr c.in-Some-fault.cause c.in-Some.is
     (sym c.fault.ensures ∙ c.in-Some-fault.is) _
 

@@ -1,7 +1,8 @@
 use Rattle.std.proofs.Common.{◌≡◌, true, ◌∙◌, ap, rules}
 use Rattle.smt_model.specs.Faults.{read_fault}
 use Rattle.smt_model.specs.Kinds.{kind_of, is_loading}
-use Rattle.shared_memory.proofs.Checking.{can_read, loading_touches}
+use Rattle.shared_memory.proofs.Checking.{can_read}
+use Rattle.load_store.proofs.Checking.{loading_reads}
 use Rattle.load_store.proofs.completions.first_look.Goals as goal
 
 pub first_look-number-requires-clause-no_fault : goal.first_look-number-requires-clause-no_fault
@@ -10,4 +11,4 @@ first_look-number-requires-clause-no_fault c =
     let op = c.args.op in
     let loads : is_loading (kind_of op) ≡ true = search rules in
     ap (read_fault m.image c.args.addr) c.access_size.ensures.value
-    ∙ can_read m.image op c.args.addr (loading_touches (kind_of op) loads) c.requires.no_fault
+    ∙ can_read m.image op c.args.addr (loading_reads (kind_of op) loads) c.requires.no_fault
