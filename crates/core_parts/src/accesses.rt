@@ -8,8 +8,9 @@ ghost use Rattle.smt_model.specs.Looks.{stored_by};
 ghost use Rattle.core_parts.specs.Accesses.{with_access, with_write, without_access};
 
 use events::OutcomeFields;
-use memory_system::{LoadStore, access_size};
+use load_store::LoadStore;
 use numbers::Seq;
+use rv_execute::access_size;
 use rv_instr::{Kind, Op};
 
 /// Adds an instruction that is renamed, where it is a load or a store.

@@ -22,7 +22,7 @@ use crate::parts::{Parts, set_job};
 use crate::slot::OpenJob;
 use events::{Next, OutcomeFields};
 use exec_units::{Done, Job};
-use memory_system::completion;
+use load_store::completion;
 use numbers::Seq;
 use retire_squash::{Active, Stage};
 

@@ -22,9 +22,9 @@ use arrayvec::ArrayVec;
 use core_parts::{Parts, count_jobs, registers_in, value_of};
 use elf_image::Image;
 use events::{Event, Record};
-use memory_system::Memory;
 use numbers::sizes::MOST_REGISTERS;
 use numbers::{Phys, Reg, first_extra};
+use shared_memory::Memory;
 use smt_model::{Config, Status};
 
 impl State {
