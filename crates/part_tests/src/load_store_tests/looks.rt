@@ -3,8 +3,9 @@
 ghost use Rattle.rv_execute.specs.Access.{IsSize};
 ghost use Rattle.std.specs.Prelude.{◌<◌};
 
-use super::{first_memory, get, put};
-use memory_system::{AccessKind, LoadStore, Memory};
+use crate::shared_memory_tests::{first_memory, get, put};
+use load_store::LoadStore;
+use shared_memory::{AccessKind, Memory};
 use std::test::Fail;
 
 /// A load's first and second look, or none where it faults.

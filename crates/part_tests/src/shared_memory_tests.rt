@@ -1,25 +1,23 @@
-//! The memory that all harts share, the two looks of a load, and what accesses complete and retire
-//! as.
+//! The memory that all harts share, and the accesses of instructions to it.
 
 ghost use Rattle.rv_execute.specs.Access.{IsSize};
 ghost use Rattle.std.specs.Prelude.{◌<◌};
 
 mod accesses;
-mod looks;
 mod memory;
 
-use memory_system::{AccessKind, Memory};
+use shared_memory::{AccessKind, Memory};
 use std::alloc::Global;
 use test_files::{EXIT_WITH_5, image_of};
 
 /// The memory of the program of three words at 80000000, with 8192 bytes of RAM.
-fn first_memory(alloc: Global) -> Option<Memory> {
+pub fn first_memory(alloc: Global) -> Option<Memory> {
     let image = image_of(&EXIT_WITH_5, 8192, alloc)?;
     Memory::new(&image, alloc).ok()
 }
 
 /// What is read, or the cause for which it faults.
-fn get(memory: &Memory, addr: u32, n: u8) -> Result<u32, u8>
+pub fn get(memory: &Memory, addr: u32, n: u8) -> Result<u32, u8>
     requires { IsSize n }
 {
     match memory.fault(addr, n, AccessKind::Load) {
@@ -29,7 +27,7 @@ fn get(memory: &Memory, addr: u32, n: u8) -> Result<u32, u8>
 }
 
 /// Writes a number, or answers the cause for which that faults.
-fn put(memory: &mut Memory, addr: u32, n: u8, datum: u32) -> Result<(), u8>
+pub fn put(memory: &mut Memory, addr: u32, n: u8, datum: u32) -> Result<(), u8>
     requires { IsSize n }
 {
     match memory.fault(addr, n, AccessKind::Store) {

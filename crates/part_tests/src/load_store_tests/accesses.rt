@@ -3,11 +3,12 @@
 
 ghost use Rattle.std.specs.Prelude.{◌<◌};
 
-use super::{first_memory, put};
 use crate::rows::holds_at;
+use crate::shared_memory_tests::{first_memory, put};
 use events::{EffectFields, Next, OutcomeFields, Written};
-use memory_system::{LoadStore, Memory, completion, effect};
+use load_store::{LoadStore, completion, effect};
 use rv_decode::decode_op;
+use shared_memory::Memory;
 use std::test::Fail;
 
 // Each reads its address from x6, gives its number to x5, and takes what it writes from x7.
