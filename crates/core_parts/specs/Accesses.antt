@@ -5,16 +5,15 @@ use Rattle.std.specs.Prelude.{option_and_then, if◌then◌else◌, slice_index_
 use Rattle.numbers.specs.Sizes.{most_harts}
 use Rattle.rv_instr.specs.declared.op.Op.{Op}
 use Rattle.events.specs.declared.effect.Written.{Written}
-use Rattle.elf_image.specs.Image.{ProgramImage}
 use Rattle.retire_squash.specs.{declared.active.Active.Active, declared.active.Stage.Stage}
 use Rattle.retire_squash.specs.declared.active.Stage.TheVariants as stage
-use Rattle.smt_model.specs.{Basics.or_zero, Faults.write_fault, Fates.is, Fates.Completed}
+use Rattle.smt_model.specs.{Basics.or_zero, Fates.is, Fates.Completed}
 use Rattle.smt_model.specs.{Looks.stored_by, Picture.Picture, Steps.op_in}
 use Rattle.smt_model.specs.Kinds.{Kind, Loading, Storing, kind_of, is_loading, is_storing}
-use Rattle.memory_system.specs.Contents.{Contents, IsSize, byte_of, reserved_of}
-use Rattle.memory_system.specs.{Queues.Queues, Queues.queues_of, declared.store.Store.Store}
-use Rattle.memory_system.specs.Queues.{with_load, with_store, with_resolved, without_load}
-use Rattle.memory_system.specs.Queues.{without_store}
+use Rattle.shared_memory.specs.Contents.{Contents, byte_of, reserved_of}
+use Rattle.load_store.specs.{Queues.Queues, Queues.queues_of, declared.store.Store.Store}
+use Rattle.load_store.specs.Queues.{with_load, with_store, with_resolved, without_load}
+use Rattle.load_store.specs.Queues.{without_store}
 use Rattle.core_parts.specs.declared.hart.HartState.{HartState}
 
 -- ---- In the parts' words
@@ -108,8 +107,3 @@ abbrev pub address_at : Stage → ℕ
 address_at stage.Renamed = 0
 address_at stage.Issued = 0
 address_at (stage.Completed outcome) = or_zero outcome.addr
-
--- The write is of a size that a store has, and has no fault.
-pub record CanWrite (image : ProgramImage) (w : Written) : Type 0 where
-  pub size : IsSize w.n
-  pub no_fault : write_fault image w.addr w.n ≡ None

@@ -2,14 +2,15 @@
 
 ghost use Rattle.std.specs.Prelude.{◌≡◌, ◌<◌, true, length};
 ghost use Rattle.numbers.specs.Sizes.{most_harts, most_accesses};
-ghost use Rattle.memory_system.specs.Queues.{Above, Changes, numbers, queues_of};
+ghost use Rattle.load_store.specs.Queues.{Above, Changes, numbers, queues_of};
 ghost use Rattle.smt_model.specs.Kinds.{kind_of, is_loading, is_storing};
 ghost use Rattle.smt_model.specs.Looks.{stored_by};
 ghost use Rattle.core_parts.specs.Accesses.{with_access, with_write, without_access};
 
 use events::Outcome;
-use memory_system::{LoadStore, access_size};
+use load_store::LoadStore;
 use numbers::Seq;
+use rv_execute::access_size;
 use rv_instr::{Kind, Op};
 
 /// Adds an instruction that is renamed, where it is a load or a store.

@@ -2,8 +2,8 @@ ghost use Rattle.std.specs.Prelude.{◌≡◌, ℕ, ◌<◌, ◌==◌, ◌↔◌
 ghost use Rattle.std.specs.Prelude.{Option, false, length, slice_index_or};
 ghost use Rattle.std.specs.List.{list_any};
 ghost use Rattle.numbers.specs.Sizes.{most_harts};
-ghost use Rattle.memory_system.specs.Looks.{seen};
-ghost use Rattle.memory_system.specs.Queues.{queues_of};
+ghost use Rattle.load_store.specs.Looks.{seen};
+ghost use Rattle.load_store.specs.Queues.{queues_of};
 ghost use Rattle.retire_squash.specs.Active.{with_stage};
 ghost use Rattle.smt_model.specs.Bytes.{read};
 ghost use Rattle.smt_model.specs.Exec.{Computed};
@@ -22,7 +22,7 @@ use crate::parts::{Parts, set_job};
 use crate::slot::OpenJob;
 use events::{Next, Outcome};
 use exec_units::{Done, Job};
-use memory_system::completion;
+use load_store::completion;
 use numbers::Seq;
 use retire_squash::{Active, Stage};
 

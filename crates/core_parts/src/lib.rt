@@ -4,9 +4,8 @@
 //! Read in this order: `slot` (an instruction before it is renamed) and `latch` (where such ones
 //! wait), `hart` (what each hart has of its own), `parts` (what all harts share), then the steps in
 //! the order of the pipeline: `fetch` with `point` (where the next fetch is), `decode`, `rename`,
-//! `issue`, `complete`, `retire`, and `squash`, which the last two share; `accesses` and `memory`
-//! (what these do with the loads and stores in flight, and with memory); and `place` (where an
-//! instruction is).
+//! `issue`, `complete`, `retire`, and `squash`, which the last two share; `accesses` (what these do
+//! with the loads and stores in flight); and `place` (where an instruction is).
 #![tactic(auto)]
 
 mod accesses;
@@ -16,7 +15,6 @@ mod fetch;
 mod hart;
 mod issue;
 mod latch;
-mod memory;
 mod parts;
 mod place;
 mod point;

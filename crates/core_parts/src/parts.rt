@@ -14,9 +14,10 @@ use arrayvec::ArrayVec;
 use elf_image::Image;
 use free_list::FreeList;
 use issue_queue::SlabQueue;
-use memory_system::{LoadStore, Memory};
+use load_store::LoadStore;
 use numbers::sizes::{MOST_ACTORS, MOST_REGISTERS};
 use numbers::{Phys, Reg, first_register};
+use shared_memory::Memory;
 use std::alloc::{AllocError, Global};
 
 /// The parts of the core that its steps move instructions through.

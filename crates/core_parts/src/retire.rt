@@ -1,7 +1,8 @@
 ghost use Rattle.std.specs.Prelude.{◌≡◌, ℕ, ◌<◌, IfSome, IfNone, length};
 ghost use Rattle.rename_map.specs.Maps.{IsWritable};
 ghost use Rattle.smt_model.specs.Picture.{Picture};
-ghost use Rattle.core_parts.specs.Accesses.{CanWrite};
+ghost use Rattle.shared_memory.specs.Contents.{CanWrite};
+ghost use Rattle.core_parts.specs.Accesses.{address_at};
 ghost use Rattle.core_parts.specs.Agree.{PartsAgree, KeepsSizes, From};
 ghost use Rattle.core_parts.specs.Retirement.{CanRetire, NoneCanRetire, Retires};
 ghost use Rattle.core_parts.specs.Retirement.{Commits, Replays, Ends, Leaves, HasCommitted, HasLeft};
@@ -9,11 +10,11 @@ ghost use Rattle.core_parts.specs.Retirement.{first_value, is_replay};
 
 use crate::accesses::remove_access;
 use crate::hart::HartState;
-use crate::memory::{address_at, commit_access};
 use crate::parts::{Parts, give_back};
 use events::{Effect, Next, Outcome};
 use numbers::{Phys, Reg};
 use retire_squash::{Active, Stage};
+use shared_memory::commit_access;
 use smt_model::Status;
 
 /// Whether it is a load that reads another number as it retires than it did as it completed.
@@ -30,6 +31,16 @@ fn first_value(stage: Stage) -> Option<u32>
     match stage {
         Stage::Completed(outcome) => outcome.value,
         Stage::Renamed | Stage::Issued => None,
+    }
+}
+
+/// The address that a completed instruction names, 0 where it names none.
+fn address_at(stage: Stage) -> u32
+    ensures { result ≡ address_at stage }
+{
+    match stage {
+        Stage::Completed(outcome) => outcome.addr.unwrap_or(0),
+        Stage::Renamed | Stage::Issued => 0,
     }
 }
 

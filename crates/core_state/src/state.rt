@@ -32,7 +32,7 @@ use elf_image::Image;
 use events::{Effect, Event, History, Outcome, Record};
 use exec_units::{Done, Job};
 use issue_queue::Entry;
-use memory_system::effect;
+use load_store::effect;
 use numbers::Seq;
 use retire_squash::Active;
 use smt_model::Config;

@@ -1,7 +1,7 @@
 //! The plain machine, by programs worked by hand from the ISA's chapters "RV32I" and "A".
 
 use events::{Effect, Next, Record};
-use memory_system::{AccessKind, Memory};
+use shared_memory::{AccessKind, Memory};
 use sc_machine::{Plain, PlainRefused, Stopped, StoppedAt};
 use smt_core::Status;
 use std::alloc::Global;

@@ -2,11 +2,10 @@
 
 ghost use Rattle.std.specs.Prelude.{◌≡◌, None};
 ghost use Rattle.smt_model.specs.Kinds.{writes_register};
-ghost use Rattle.smt_model.specs.Nexts.{is_last};
-ghost use Rattle.smt_model.specs.Outcomes.{last_outcome, outcome_of};
+ghost use Rattle.smt_model.specs.Outcomes.{outcome_of};
 
-use events::{Next, Outcome};
-use rv_execute::Computed;
+use events::Outcome;
+use rv_execute::{Computed, is_last, last_outcome};
 use rv_instr::{Kind, Op};
 
 /// What the completion says before memory is looked at: an instruction that ends or stops its hart
@@ -23,45 +22,22 @@ pub fn outcome(op: Op, computed: Computed) -> Outcome
         out,
     } = computed;
     if is_last(next) {
-        return says(next);
+        return last_outcome(next);
     }
     match op.kind() {
         Kind::Loading | Kind::Reserving => Outcome {
             addr: Some(addr),
-            ..says(next)
+            ..last_outcome(next)
         },
         Kind::Storing | Kind::Conditional | Kind::Atomic => Outcome {
             addr: Some(addr),
             datum: Some(datum),
-            ..says(next)
+            ..last_outcome(next)
         },
         Kind::Computing => Outcome {
             value: op.writes_register().then_some(value),
             out,
-            ..says(next)
+            ..last_outcome(next)
         },
-    }
-}
-
-/// Only what comes next.
-fn says(next: Next) -> Outcome
-    ensures { result ≡ last_outcome next }
-{
-    Outcome {
-        value: None,
-        next,
-        addr: None,
-        datum: None,
-        out: None,
-    }
-}
-
-/// Whether the hart ends or stops.
-fn is_last(next: Next) -> bool
-    ensures { result ≡ is_last next }
-{
-    match next {
-        Next::Pc(_) => false,
-        Next::Ended(_) | Next::Stopped(_) => true,
     }
 }

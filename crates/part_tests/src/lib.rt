@@ -22,7 +22,7 @@ mod image_tests;
 #[cfg(test)]
 mod issue_queue_tests;
 #[cfg(test)]
-mod memory_system_tests;
+mod load_store_tests;
 #[cfg(test)]
 mod placing;
 #[cfg(test)]
@@ -43,6 +43,8 @@ mod rv_instr_tests;
 mod rv_text_tests;
 #[cfg(test)]
 mod rv_word_tests;
+#[cfg(test)]
+mod shared_memory_tests;
 #[cfg(test)]
 mod text_fields_tests;
 #[cfg(test)]

@@ -3,7 +3,7 @@ use Rattle.std.proofs.Common.{◌≡◌, ℕ, ◌<◌, length, get_or, sym, ap, 
 use Rattle.std.specs.Prelude.{◌==◌, slice_set}
 use Rattle.std.proofs.lemmas.Bool.{cases_eq}
 use Rattle.std.proofs.lemmas.List.{length-set, get_or-set_same, get_or-set_other}
-use Rattle.memory_system.specs.Contents.{byte_of, reserved_of}
+use Rattle.shared_memory.specs.Contents.{byte_of, reserved_of}
 use Rattle.smt_model.specs.Words.{Op, Effect}
 use Rattle.smt_model.specs.{Setup.Setup, Bytes.byte_after, Reservations.reservation_after}
 use Rattle.smt_model.specs.Plain.{Plain, after, output_after}

@@ -3,7 +3,7 @@ use Rattle.std.proofs.Common.{◌≡◌, ℕ, zero, suc, ◌+◌, ◌<◌, Optio
 use Rattle.std.specs.Prelude.{slice_index}
 use Rattle.elf_image.specs.Image.{code_word}
 use Rattle.rv_instr.specs.Decode.{op_of_word}
-use Rattle.memory_system.specs.Contents.{byte_of, reserved_of}
+use Rattle.shared_memory.specs.Contents.{byte_of, reserved_of}
 use Rattle.smt_model.specs.Words.{Op, Effect, Record}
 use Rattle.smt_model.specs.Kinds.{access_size, first_source, second_source}
 use Rattle.smt_model.specs.{Exec.Computed, Exec.exec, Setup.Setup, Faults.checked, Faults.computed_on}

@@ -1,7 +1,6 @@
 pub mod Accesses
 pub mod Advancing
 pub mod Beginning
-pub mod Changes
 pub mod Executing
 pub mod Harts
 pub mod Running

@@ -1,10 +1,10 @@
 -- What a hart does next.
-use Rattle.std.specs.Prelude.{◌≡◌, ℕ, ◌<◌, length, is_some, IsTrue}
+use Rattle.std.specs.Prelude.{◌≡◌, ℕ, ◌<◌, length, is_some, IsTrue, IfSome}
 use Rattle.rv_instr.specs.Kinds.{destination, first_source, second_source}
-use Rattle.memory_system.specs.Contents.{Contents}
+use Rattle.shared_memory.specs.Contents.{Contents, CanWrite}
 use Rattle.smt_model.specs.{Setup.Setup, Plain.Plain, Plain.op_at_pc, Plain.computes}
 use Rattle.smt_model.specs.{Plain.record_at}
-use Rattle.sc_machine.specs.{Access.CanWrite, Access.WritesAlone, Machine.Machine}
+use Rattle.sc_machine.specs.{Access.WritesAlone, Machine.Machine}
 use Rattle.sc_machine.specs.{Here.word_here, Here.op_here, Here.computed_here, Here.effect_here}
 use Rattle.sc_machine.specs.{declared.hart.Hart.Hart}
 use Rattle.sc_machine.specs.{declared.execution.Execution.Execution}
@@ -23,7 +23,7 @@ pub record IsAllowed (m : Contents) (e : Execution) : Type 0 where
   pub destination : destination e.op < 32
   pub first : first_source e.op < 32
   pub second : second_source e.op < 32
-  pub write : CanWrite m.image e.record.effect
+  pub write : IfSome e.record.effect.write (CanWrite m.image)
   pub alone : WritesAlone e.record.effect
 
 -- There is room for the byte that it puts out.

@@ -2,7 +2,7 @@
 use Rattle.std.specs.Prelude.{ℕ, Option, slice_index}
 use Rattle.elf_image.specs.Image.{code_word}
 use Rattle.rv_instr.specs.Decode.{op_of_word}
-use Rattle.memory_system.specs.Contents.{Contents, byte_of, reserved_of}
+use Rattle.shared_memory.specs.Contents.{Contents, byte_of, reserved_of}
 use Rattle.smt_model.specs.Words.{Op, Effect}
 use Rattle.smt_model.specs.Kinds.{first_source, second_source}
 use Rattle.smt_model.specs.{Exec.Computed, Exec.exec, Faults.checked, Bytes.read}

@@ -1,6 +1,6 @@
 -- The plain machine's parts, and when they are the definitions' machine.
 use Rattle.std.specs.Prelude.{◌≡◌, ℕ, ◌<◌, List, length, slice_index_or}
-use Rattle.memory_system.specs.Contents.{Contents, byte_of, reserved_of}
+use Rattle.shared_memory.specs.Contents.{Contents, byte_of, reserved_of}
 use Rattle.smt_model.specs.{Setup.Setup, Plain.Plain}
 use Rattle.sc_machine.specs.{Harts.HartAgrees, declared.hart.Hart.Hart}
 

@@ -8,14 +8,13 @@ ghost use Rattle.rv_instr.specs.Table.{OpInRange};
 ghost use Rattle.decoded_code.specs.Code.{IsCodeOf};
 ghost use Rattle.sc_machine.specs.Execution.{IsNext, IsAllowed};
 
-use crate::access::stop_at_fault;
-use crate::effect::effect_of;
+use crate::effect::{effect_here, stop_at_fault};
 use crate::hart::Hart;
 use decoded_code::Code;
 use events::Record;
-use memory_system::Memory;
 use rv_execute::execute;
 use rv_instr::{Op, Reg};
+use shared_memory::Memory;
 
 /// An instruction that a hart has yet to execute: what it is, the address that it touches, and its
 /// record.
@@ -43,7 +42,7 @@ pub fn next_execution(memory: &Memory, code: &Code, hart: u8, state: &Hart) -> E
         execute(op, state.pc, state.read(first), state.read(second)),
     );
     let addr = computed.addr;
-    let effect = effect_of(memory, hart, op, computed);
+    let effect = effect_here(memory, hart, op, computed);
     Execution {
         op,
         addr,

@@ -3,12 +3,11 @@
 //! Its meaning is the definitions' machine (`smt_model/specs/Plain`): whatever the machine agrees
 //! with before a step, it agrees with one step later afterwards.
 //!
-//! Read in this order: `refused` (why there is no machine or no step), `hart`, `access` (which bytes
-//! an instruction touches, and its faults), `effect` (what an instruction does to the machine as it
-//! stands), `execution`, `change` (what that changes in memory), `machine`, `step`.
+//! Read in this order: `refused` (why there is no machine or no step), `hart`, `effect` (what an
+//! instruction does to the machine as it stands), `execution`, `change` (what that changes in
+//! memory), `machine`, `step`.
 #![tactic(auto)]
 
-mod access;
 mod change;
 mod effect;
 mod execution;

@@ -12,7 +12,7 @@ use Rattle.smt_model.specs.{Registers.committed, Rules.is_legal}
 use Rattle.smt_laws.specs.Sequential.{IsSequential, EachIsSequential}
 use Rattle.core_state.specs.View.{CoreView}
 use Rattle.smt_model.specs.Memory.{byte_at, reserved}
-use Rattle.memory_system.specs.Contents.{Contents, byte_of, reserved_of}
+use Rattle.shared_memory.specs.Contents.{Contents, byte_of, reserved_of}
 use Rattle.smt_core.specs.Headline.{IsPlainRegister, IsPlainMemory}
 
 -- ---- The account

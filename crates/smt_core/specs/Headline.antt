@@ -4,7 +4,7 @@ use Rattle.std.specs.Prelude.{◌≡◌, ℕ, ◌<◌, List, map, reverse, Some}
 use Rattle.events.specs.declared.effect.Record.{Record}
 use Rattle.smt_model.specs.{declared.config.Status.Status, Account.order, Basics.below, Plain.Run}
 use Rattle.smt_model.specs.{Plain.run, Plain.read_register, Setup.Setup}
-use Rattle.memory_system.specs.Contents.{Contents, byte_of, reserved_of}
+use Rattle.shared_memory.specs.Contents.{Contents, byte_of, reserved_of}
 use Rattle.core_state.specs.View.{CoreView}
 
 -- The plain machine can run the harts of these records in their order, oldest first; it leaves

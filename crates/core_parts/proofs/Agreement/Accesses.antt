@@ -10,8 +10,8 @@ use Rattle.retire_squash.specs.{Active.with_stage, declared.active.Active.Active
 use Rattle.retire_squash.specs.declared.active.Stage.TheVariants as stage
 use Rattle.smt_model.specs.{Looks.stored_by, Kinds.is_loading, Kinds.is_storing, Kinds.kind_of}
 use Rattle.smt_model.specs.Kinds.{Kind, Computing, Loading, Storing, Reserving, Conditional, Atomic}
-use Rattle.memory_system.specs.{Queues.Queues, Queues.new_store, Queues.resolved, Queues.squashed, Queues.stays}
-use Rattle.memory_system.specs.declared.store.Store.{Store}
+use Rattle.load_store.specs.{Queues.Queues, Queues.new_store, Queues.resolved, Queues.squashed, Queues.stays}
+use Rattle.load_store.specs.declared.store.Store.{Store}
 use Rattle.core_parts.specs.Accesses.{is_load, is_store, store_of, write_at, accesses_of, with_kind, with_access}
 use Rattle.core_parts.specs.Accesses.{with_write, without_kind, without_access}
 use Rattle.core_parts.specs.Squash.{older}

@@ -13,8 +13,8 @@ use Rattle.smt_model.specs.{Picture.picture, Picture.is_free, Registers.is_uncla
 use Rattle.smt_model.specs.{Setup.Setup, Setup.first_number}
 use Rattle.smt_model.proofs.Registers.Claims.{IsFlightClaim, IsCommittedClaim, claimant, committed_claimed}
 use Rattle.elf_image.specs.Image.{ProgramImage, byte_in}
-use Rattle.memory_system.specs.Contents.{IsStart}
-use Rattle.memory_system.specs.Queues.{queues_of, empty}
+use Rattle.shared_memory.specs.Contents.{IsStart}
+use Rattle.load_store.specs.Queues.{queues_of, empty}
 use Rattle.core_parts.specs.Accesses.{accesses_of}
 use Rattle.core_parts.specs.Agree.{IsSlot, IsActive, IsEntry, HartAgrees, QueueAgrees}
 use Rattle.core_parts.specs.First.{IsNew, first_values_below, first_values, BeginsAs}

@@ -9,8 +9,8 @@ use Rattle.rv_instr.specs.declared.op.Op.{Op}
 use Rattle.retire_squash.specs.{declared.active.Active.Active, declared.active.Stage.Stage}
 use Rattle.retire_squash.specs.declared.active.Stage.TheVariants as stage
 use Rattle.smt_model.specs.{Fates.Completed, Fates.op_of_fetched, Picture.Picture, Frames.KeepsMemory, Steps.op_in}
-use Rattle.memory_system.specs.Contents.{Contents}
-use Rattle.memory_system.specs.Queues.{Queues, queues_of, Changes}
+use Rattle.shared_memory.specs.Contents.{Contents}
+use Rattle.load_store.specs.Queues.{Queues, queues_of, Changes}
 use Rattle.core_parts.specs.Accesses.{AccessesAgree, MemoryAgrees, accesses_of, queues_in, is_load, is_store}
 use Rattle.core_parts.specs.Accesses.{is_load_in, is_store_in, store_of, store_in, write_at, write_in}
 use Rattle.core_parts.specs.Agree.{HartAgrees, IsActive, IsStage}

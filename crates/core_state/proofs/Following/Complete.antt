@@ -7,7 +7,7 @@ use Rattle.std.proofs.{lemmas.Bool.false≢true, lemmas.Bool.Decides.nat_tests}
 use Rattle.events.specs.{declared.effect.Outcome.Outcome, declared.event.Event.Event}
 use Rattle.events.specs.declared.event.Event.TheVariants.{Complete, Drop}
 use Rattle.exec_units.specs.Job.{outcome_of_job}
-use Rattle.memory_system.specs.{Looks.seen, Queues.queues_of}
+use Rattle.load_store.specs.{Looks.seen, Queues.queues_of}
 use Rattle.retire_squash.specs.declared.active.Active.{Active}
 use Rattle.smt_model.specs.{Basics.holds_of, Basics.same_number, Bytes.read, Comparisons.same_outcome}
 use Rattle.smt_model.specs.{Exec.Computed, Faults.checked, Outcomes.outcome_of, Picture.Picture, Picture.picture}

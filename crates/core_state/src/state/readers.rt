@@ -3,7 +3,7 @@
 ghost use Rattle.std.specs.Prelude.{◌≡◌, ◌≤◌, ◌<◌, ◌+◌, ◌↔◌, ◌==◌, ◌&&◌, ℕ, length, IsTrue, Some, None};
 ghost use Rattle.std.specs.Prelude.{reverse, nat_lt, if◌then◌else◌};
 ghost use Rattle.numbers.specs.Sizes.{most_harts, most_actors, most_events};
-ghost use Rattle.memory_system.specs.Contents.{byte_of, reserved_of};
+ghost use Rattle.shared_memory.specs.Contents.{byte_of, reserved_of};
 ghost use Rattle.smt_model.specs.Account.{records, open_job_count, committed_value};
 ghost use Rattle.smt_model.specs.Basics.{how_many};
 ghost use Rattle.smt_model.specs.Flights.{icount};
@@ -22,9 +22,9 @@ use arrayvec::ArrayVec;
 use core_parts::{Parts, count_jobs, registers_in, value_of};
 use elf_image::Image;
 use events::{Event, Record};
-use memory_system::Memory;
 use numbers::sizes::MOST_REGISTERS;
 use numbers::{Phys, Reg, first_extra};
+use shared_memory::Memory;
 use smt_model::{Config, Status};
 
 impl State {

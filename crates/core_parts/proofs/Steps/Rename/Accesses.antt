@@ -6,7 +6,7 @@ use Rattle.std.proofs.{lemmas.Bool.cases_Bool, lemmas.List.length-map}
 use Rattle.rv_instr.specs.declared.op.Op.{Op}
 use Rattle.smt_model.specs.{Kinds.kind_of, Kinds.is_loading, Kinds.is_storing, Picture.Picture}
 use Rattle.smt_model.specs.Steps.{op_in}
-use Rattle.memory_system.specs.Queues.{Queues, queues_of, Above, numbers}
+use Rattle.load_store.specs.Queues.{Queues, queues_of, Above, numbers}
 use Rattle.core_parts.specs.Accesses.{is_load_in, is_store_in, store_in, queues_in}
 use Rattle.core_parts.specs.{Agree.HartAgrees, Agree.From, Renaming.IsRenaming}
 use Rattle.core_parts.specs.{declared.slot.Slot.Slot, declared.hart.HartState.HartState, declared.parts.Parts.Parts}

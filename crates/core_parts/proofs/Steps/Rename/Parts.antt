@@ -19,7 +19,7 @@ use Rattle.smt_model.specs.{Picture.Picture}
 use Rattle.smt_model.specs.Fates.{is, is_in_flight, Renamed, op_of_fetched}
 use Rattle.smt_model.specs.Steps.{IsRename, IsSameInstruction, renamed_map, is_register_taken, op_in}
 use Rattle.smt_model.specs.Steps as numbers
-use Rattle.memory_system.specs.Queues.{Queues, Changes}
+use Rattle.load_store.specs.Queues.{Queues, Changes}
 use Rattle.core_parts.specs.Accesses.{AccessesAgree, MemoryAgrees, accesses_of, with_access}
 use Rattle.core_parts.specs.Agree.{PartsAgree, From, fetched_as, source_at, IsSlot, IsActive, HartAgrees, EachAgrees}
 use Rattle.core_parts.specs.Agree.{IsEntry, QueueAgrees, FreeAgrees, ValuesAgree, JobsAgree}

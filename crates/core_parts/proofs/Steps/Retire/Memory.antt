@@ -12,8 +12,8 @@ use Rattle.smt_model.specs.{Basics.holds_of, Bytes.byte_after, Kinds.kind_of, Ki
 use Rattle.smt_model.specs.{Fates.Completed, Fates.stage as stage_number, Memory.address_of, Picture.Picture}
 use Rattle.smt_model.specs.{Reservations.own_reservation, Reservations.reservation_after_write}
 use Rattle.smt_model.specs.{Reservations.reservation_after, Steps.op_in, Steps.is_hart_of}
-use Rattle.memory_system.specs.Contents.{Contents, byte_of, reserved_of}
-use Rattle.memory_system.specs.Queues.{Queues, queues_of}
+use Rattle.shared_memory.specs.Contents.{Contents, byte_of, reserved_of}
+use Rattle.load_store.specs.Queues.{Queues, queues_of}
 use Rattle.core_parts.specs.Accesses.{MemoryAgrees, accesses_of, without_access, address_at}
 use Rattle.core_parts.specs.{Agree.IsActive, Agree.IsStage, Agree.HartAgrees, Agree.PartsAgree, Retirement.Commits}
 use Rattle.core_parts.specs.{declared.hart.HartState.HartState, declared.parts.Parts.Parts}

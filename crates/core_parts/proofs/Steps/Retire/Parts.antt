@@ -12,8 +12,8 @@ use Rattle.free_list.specs.Flags.{holds}
 use Rattle.rename_map.specs.Maps.{committed_of}
 use Rattle.retire_squash.specs.declared.active.Active.{Active}
 use Rattle.smt_model.specs.Steps.{KeepsFetched, KeepsFlights, KeepsReadings, filled_value, renamed_map, op_in, AreOwn}
-use Rattle.memory_system.specs.Contents.{Contents}
-use Rattle.memory_system.specs.Queues.{Queues, Changes}
+use Rattle.shared_memory.specs.Contents.{Contents}
+use Rattle.load_store.specs.Queues.{Queues, Changes}
 use Rattle.core_parts.specs.Accesses.{MemoryAgrees, accesses_of, without_access}
 use Rattle.core_parts.specs.Agree.{IsActive, HartAgrees, EachAgrees, IsSlot, FreeAgrees, ValuesAgree, JobsAgree}
 use Rattle.core_parts.specs.Agree.{PartsAgree, IsFilled}

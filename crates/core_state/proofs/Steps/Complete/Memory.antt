@@ -6,9 +6,9 @@ use Rattle.rv_instr.specs.declared.op.Op.{Op}
 use Rattle.exec_units.specs.Job.{JobView, outcome_of_job}
 use Rattle.smt_model.specs.{Bytes.read, Exec.Computed, Faults.checked, Looks.first_look, Outcomes.outcome_of}
 use Rattle.smt_model.specs.{Fates.op_of_fetched, Picture.picture, Rules.outcome_now, Setup.Setup}
-use Rattle.memory_system.specs.{Looks.seen, Queues.queues_of}
-use Rattle.memory_system.specs.{Histories.HasMemory, Stores.stores_at}
-use Rattle.memory_system.proofs.Forwarding.{sees_first_look}
+use Rattle.load_store.specs.{Looks.seen, Queues.queues_of}
+use Rattle.load_store.specs.{Histories.HasMemory, Stores.stores_at}
+use Rattle.load_store.proofs.Forwarding.{sees_first_look}
 use Rattle.core_parts.specs.{Agree.IsOpenJob, Agree.PartsAgree, Complete.IsSameJob}
 use Rattle.core_parts.specs.{declared.hart.HartState.HartState, declared.parts.Parts.Parts}
 use Rattle.core_parts.specs.{declared.slot.OpenJob.OpenJob}

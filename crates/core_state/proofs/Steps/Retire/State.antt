@@ -15,8 +15,8 @@ use Rattle.smt_model.specs.{Basics.or_zero, Exec.Computed, Exec.exec, Faults.che
 use Rattle.smt_model.specs.{Effects.effect_of}
 use Rattle.smt_model.specs.{Bytes.read, Reservations.holds_word, Registers.operand, Fates.op_of_fetched}
 use Rattle.smt_model.specs.{Memory.byte_at, Memory.reserved, Kinds.first_source, Kinds.second_source}
-use Rattle.memory_system.specs.Contents.{Contents, byte_of, reserved_of}
-use Rattle.core_parts.specs.Accesses.{CanWrite}
+use Rattle.shared_memory.specs.Contents.{Contents, byte_of, reserved_of}
+use Rattle.shared_memory.specs.Contents.{CanWrite}
 use Rattle.smt_laws.proofs.Steps.Retire.{records-Retire}
 use Rattle.core_parts.specs.{Agree.PartsAgree, Agree.KeepsSizes, Agree.From}
 use Rattle.core_state.specs.{Answers.AllowsNone, View.CoreView}

@@ -7,7 +7,7 @@ ghost use Rattle.core_state.specs.Refusals.{outcome_at, HasInFlight};
 use super::same::is_same_effect;
 use crate::state::State;
 use events::{Effect, Outcome};
-use memory_system::effect;
+use load_store::effect;
 use numbers::Seq;
 use retire_squash::{Active, Stage};
 

@@ -2,7 +2,7 @@ use Rattle.std.specs.Prelude.{◌≡◌, ◌<◌, length, None, slice_index_or}
 use Rattle.std.proofs.Common.{◌∙◌, sym, ap, subst}
 use Rattle.issue_queue.specs.Queue as entries
 use Rattle.core_parts.specs.{Renaming.HasRenamed, declared.slot.Slot.Slot}
-use Rattle.memory_system.specs.Queues.{Changes}
+use Rattle.load_store.specs.Queues.{Changes}
 use Rattle.core_parts.specs.Accesses.{with_access}
 use Rattle.core_parts.proofs.Steps.Rename.Accesses.{room_at, place_at}
 use Rattle.core_parts.proofs.Steps.Rename.Parts.{same_hart, ready_at, parts_renamed, known_range, same_entry}

@@ -1,7 +1,7 @@
 use Rattle.std.specs.Prelude.{◌<◌, IfSome}
 use Rattle.std.proofs.Common.{sym, subst}
 use Rattle.elf_image.specs.Image.{ProgramImage}
-use Rattle.core_parts.specs.Accesses.{CanWrite}
+use Rattle.shared_memory.specs.Contents.{CanWrite}
 use Rattle.core_parts.proofs.Steps.Retire.Replay.{commits_then}
 use Rattle.core_parts.proofs.parts.Parts.replay.Goals as goal
 

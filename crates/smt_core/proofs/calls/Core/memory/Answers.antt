@@ -1,7 +1,7 @@
 use Rattle.std.specs.Prelude.{◌≡◌, ℕ}
 use Rattle.std.proofs.Common.{subst}
 use Rattle.smt_model.specs.Memory.{byte_at, reserved}
-use Rattle.memory_system.specs.Contents.{byte_of, reserved_of}
+use Rattle.shared_memory.specs.Contents.{byte_of, reserved_of}
 use Rattle.core_state.specs.View.{CoreView}
 use Rattle.smt_core.proofs.Headline.{memory_answered}
 use Rattle.smt_core.proofs.calls.Core.memory.Goals as goal

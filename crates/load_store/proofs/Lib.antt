@@ -1,0 +1,7 @@
+pub mod Rising
+pub mod Resolving
+pub mod Checking
+pub mod Completing
+pub mod Retiring
+pub mod Forwarding
+pub mod Saying

@@ -1,0 +1,4 @@
+pub mod Queues
+pub mod Looks
+pub mod Stores
+pub mod Histories

@@ -1,0 +1,134 @@
+ghost use Rattle.std.specs.Prelude.{◌≡◌, ◌<◌, ◌==◌, List, length, map, IfSome};
+ghost use Rattle.rv_execute.specs.Access.{IsSize};
+ghost use Rattle.load_store.specs.Queues.{empty, Above, numbers, oldest_write, resolved, with_load};
+ghost use Rattle.load_store.specs.Queues.{with_store, with_resolved, without_load, without_store};
+ghost use Rattle.load_store.specs.Queues.{squashed};
+
+use crate::store::Store;
+use arrayvec::ArrayVec;
+use events::{Seq, Written};
+use std::marker::Model;
+
+/// The loads and the stores of one hart in flight, at most 16 of each, oldest first.
+#[derive(Drop)]
+pub struct HartQueues {
+    loads: ArrayVec<Seq, 16>,
+    stores: ArrayVec<Store, 16>,
+}
+
+impl Model for HartQueues {
+    ghost use Rattle.std.specs.List.{AllByRecursion};
+    ghost use Rattle.load_store.specs.Queues.{Queues, IsRising, IsSized, numbers};
+
+    ghost Value = { Queues };
+
+    ghost view = { λ a. record { loads = a.loads.items; stores = a.stores.items } };
+
+    ghost invariant = { λ a. IsRising a.loads.items × IsRising (numbers a.stores.items)
+        × AllByRecursion IsSized a.stores.items };
+}
+
+impl HartQueues {
+    ghost use Rattle.std.specs.List.{AllByRecursion};
+    ghost use Rattle.load_store.specs.Queues.{IsSized};
+
+    /// No loads and no stores.
+    pub fn new() -> Self
+        ensures { result ≡ empty }
+    {
+        HartQueues {
+            loads: ArrayVec::new(),
+            stores: ArrayVec::new(),
+        }
+    }
+
+    /// Whether there is no room for another load.
+    pub fn loads_full(&self) -> bool
+        ensures { result ≡ (length self.now.loads == 16) }
+    {
+        self.loads.is_full()
+    }
+
+    /// Whether there is no room for another store.
+    pub fn stores_full(&self) -> bool
+        ensures { result ≡ (length self.now.stores == 16) }
+    {
+        self.stores.is_full()
+    }
+
+    /// The stores, oldest first.
+    pub fn stores(&self) -> &[Store]
+        ensures value { result.now ≡ self.now.stores }
+        ensures sized { AllByRecursion IsSized result.now }
+    {
+        self.stores.as_slice()
+    }
+
+    /// What the oldest store will write.
+    pub fn oldest_write(&self) -> Option<Written>
+        ensures value { result ≡ oldest_write self.now.stores }
+        ensures sized { IfSome result (λ w. IsSize w.n) }
+    {
+        self.stores.first()?.write
+    }
+
+    /// Adds a load, younger than those that are there.
+    pub fn add_load(&mut self, seq: Seq)
+        requires room { length self.old.loads < 16 }
+        requires above { Above seq self.old.loads }
+        ensures { self.new ≡ with_load seq self.old }
+    {
+        self.loads.push(seq);
+    }
+
+    /// Adds a store, younger than those that are there. It isn't resolved yet.
+    pub fn add_store(&mut self, seq: Seq)
+        requires room { length self.old.stores < 16 }
+        requires above { Above seq (numbers self.old.stores) }
+        ensures { self.new ≡ with_store seq self.old }
+    {
+        self.stores.push(Store { seq, write: None });
+    }
+
+    /// The store of this number will write this, if it is there.
+    pub fn resolve_store(&mut self, seq: Seq, write: Written)
+        requires { IsSize write.n }
+        ensures { self.new ≡ with_resolved seq write self.old }
+    {
+        resolve(self.stores.as_mut_slice(), seq, write);
+    }
+
+    /// Removes the oldest load, which there must be.
+    pub fn remove_load(&mut self)
+        requires { 0 < length self.old.loads }
+        ensures { self.new ≡ without_load self.old }
+    {
+        self.loads.remove(0);
+    }
+
+    /// Removes the oldest store, which there must be.
+    pub fn remove_store(&mut self)
+        requires { 0 < length self.old.stores }
+        ensures { self.new ≡ without_store self.old }
+    {
+        self.stores.remove(0);
+    }
+
+    /// Removes the loads and stores that are younger than this number.
+    pub fn squash(&mut self, after: Seq)
+        ensures { self.new ≡ squashed after self.old }
+    {
+        self.loads.retain(|seq| *seq <= after);
+        self.stores.retain(|store| store.seq <= after);
+    }
+}
+
+fn resolve(stores: &mut [Store], seq: Seq, write: Written)
+    ensures { stores.new ≡ map (resolved seq write) stores.old }
+{
+    for store in stores.iter_mut() {
+        if store.seq == seq {
+            store.write = Some(write);
+        }
+    }
+}

@@ -1,0 +1,163 @@
+ghost use Rattle.std.specs.Prelude.{◌≡◌, ℕ, ◌<◌, ◌==◌, None, Some, length};
+ghost use Rattle.std.specs.Option.{IsSomeAnd};
+ghost use Rattle.smt_model.specs.Bytes.{number_at, write_of};
+ghost use Rattle.smt_model.specs.Faults.{read_fault, write_fault};
+ghost use Rattle.rv_execute.specs.Access.{IsSize};
+ghost use Rattle.shared_memory.specs.Contents.{IsWritten, byte_of};
+ghost use Rattle.load_store.specs.Queues.{Above, numbers, empty, queues_of, Changes, oldest_write};
+ghost use Rattle.load_store.specs.Queues.{with_load, with_store, with_resolved, without_load};
+ghost use Rattle.load_store.specs.Queues.{without_store, squashed};
+ghost use Rattle.load_store.specs.Looks.{seen};
+
+use crate::hart_queues::HartQueues;
+use crate::look::look;
+use events::{Seq, Written};
+use shared_memory::Memory;
+use std::marker::Model;
+
+/// The loads and the stores in flight of up to 8 harts, each hart's in program order: at most 16
+/// loads and 16 stores a hart. A clause sees each hart's queues.
+#[derive(Drop)]
+pub struct LoadStore {
+    harts: [HartQueues; 8],
+}
+
+impl Model for LoadStore {
+    ghost use Rattle.std.specs.Prelude.{◌≡◌, List, length};
+    ghost use Rattle.load_store.specs.Queues.{Queues};
+
+    ghost Value = { List Queues };
+
+    ghost view = { λ a. a.harts };
+
+    ghost invariant = { λ a. length a.harts ≡ 8 };
+}
+
+impl LoadStore {
+    /// No loads and no stores.
+    pub fn new() -> Self
+        ensures { (h : ℕ) → queues_of result h ≡ empty }
+    {
+        LoadStore {
+            harts: [
+                HartQueues::new(),
+                HartQueues::new(),
+                HartQueues::new(),
+                HartQueues::new(),
+                HartQueues::new(),
+                HartQueues::new(),
+                HartQueues::new(),
+                HartQueues::new(),
+            ],
+        }
+    }
+
+    /// Whether the hart has 16 loads in flight.
+    pub fn loads_full(&self, hart: u8) -> bool
+        requires { hart < 8 }
+        ensures { result ≡ (length (queues_of self.now hart).loads == 16) }
+    {
+        self.harts[usize::from(hart)].loads_full()
+    }
+
+    /// Whether the hart has 16 stores in flight.
+    pub fn stores_full(&self, hart: u8) -> bool
+        requires { hart < 8 }
+        ensures { result ≡ (length (queues_of self.now hart).stores == 16) }
+    {
+        self.harts[usize::from(hart)].stores_full()
+    }
+
+    /// Adds a load, younger than those of its hart that are there.
+    pub fn add_load(&mut self, hart: u8, seq: Seq)
+        requires hart { hart < 8 }
+        requires room { length (queues_of self.old hart).loads < 16 }
+        requires above { Above seq (queues_of self.old hart).loads }
+        ensures { Changes (with_load seq) hart self.old self.new }
+    {
+        self.harts[usize::from(hart)].add_load(seq);
+    }
+
+    /// Adds a store, younger than those of its hart that are there. It isn't resolved yet.
+    pub fn add_store(&mut self, hart: u8, seq: Seq)
+        requires hart { hart < 8 }
+        requires room { length (queues_of self.old hart).stores < 16 }
+        requires above { Above seq (numbers (queues_of self.old hart).stores) }
+        ensures { Changes (with_store seq) hart self.old self.new }
+    {
+        self.harts[usize::from(hart)].add_store(seq);
+    }
+
+    /// The hart's store of this number will write the lowest 1, 2 or 4 bytes of a number at an
+    /// address, if it is there.
+    pub fn resolve_store(&mut self, hart: u8, seq: Seq, addr: u32, n: u8, datum: u32)
+        requires hart { hart < 8 }
+        requires size { IsSize n }
+        ensures { Changes (with_resolved seq (write_of addr n datum)) hart self.old self.new }
+    {
+        self.harts[usize::from(hart)].resolve_store(seq, Written { addr, n, datum });
+    }
+
+    /// What load `seq` of the hart reads as it completes: memory as it is now, overlaid byte by
+    /// byte in order with the older stores of the hart that are resolved.
+    pub fn first_look(&self, memory: &Memory, hart: u8, seq: Seq, addr: u32, n: u8) -> u32
+        requires hart { hart < 8 }
+        requires size { IsSize n }
+        requires no_fault { read_fault memory.now.image addr n ≡ None }
+        ensures { result ≡ number_at (seen seq (queues_of self.now hart).stores memory.now) addr n }
+    {
+        look(memory, self.harts[usize::from(hart)].stores(), seq, addr, n)
+    }
+
+    /// What a load reads as it retires: memory alone.
+    pub fn second_look(&self, memory: &Memory, addr: u32, n: u8) -> u32
+        requires size { IsSize n }
+        requires no_fault { read_fault memory.now.image addr n ≡ None }
+        ensures { result ≡ number_at (byte_of memory.now) addr n }
+    {
+        memory.read(addr, n)
+    }
+
+    /// The hart's oldest load retires.
+    pub fn retire_load(&mut self, hart: u8)
+        requires hart { hart < 8 }
+        requires some { 0 < length (queues_of self.old hart).loads }
+        ensures { Changes without_load hart self.old self.new }
+    {
+        self.harts[usize::from(hart)].remove_load();
+    }
+
+    /// The hart's oldest store, which is resolved, writes memory and retires. Answers what it
+    /// wrote.
+    pub fn retire_store(&mut self, memory: &mut Memory, hart: u8) -> Written
+        requires hart { hart < 8 }
+        requires resolved { IsSomeAnd (oldest_write (queues_of self.old hart).stores)
+            (λ w. write_fault memory.old.image w.addr w.n ≡ None) }
+        ensures value { oldest_write (queues_of self.old hart).stores ≡ Some result }
+        ensures memory { IsWritten result memory.old memory.new }
+        ensures rest { Changes without_store hart self.old self.new }
+    {
+        let queues = &mut self.harts[usize::from(hart)];
+        let written = queues.oldest_write().unwrap();
+        queues.remove_store();
+        memory.write(written.addr, written.n, written.datum);
+        written
+    }
+
+    /// The hart's oldest store goes without writing.
+    pub fn drop_store(&mut self, hart: u8)
+        requires hart { hart < 8 }
+        requires some { 0 < length (queues_of self.old hart).stores }
+        ensures { Changes without_store hart self.old self.new }
+    {
+        self.harts[usize::from(hart)].remove_store();
+    }
+
+    /// Removes the hart's loads and stores that are younger than this number.
+    pub fn squash(&mut self, hart: u8, after: Seq)
+        requires { hart < 8 }
+        ensures { Changes (squashed after) hart self.old self.new }
+    {
+        self.harts[usize::from(hart)].squash(after);
+    }
+}

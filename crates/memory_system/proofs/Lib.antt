@@ -1,9 +1,0 @@
-pub mod Places
-pub mod Starting
-pub mod Rising
-pub mod Resolving
-pub mod Checking
-pub mod Completing
-pub mod Retiring
-pub mod Forwarding
-pub mod Saying

@@ -1,5 +1,0 @@
-use Rattle.std.proofs.Common.{rules}
-use Rattle.memory_system.proofs.hart_queues.HartQueues.loads_full.Goals as goal
-
-pub returns : goal.returns
-returns c = search rules

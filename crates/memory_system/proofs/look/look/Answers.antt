@@ -1,8 +1,0 @@
-use Rattle.std.proofs.Common.{rules}
-use Rattle.memory_system.proofs.look.look.Goals as goal
-
-pub loop-index-preserved : goal.loop-index-preserved
-loop-index-preserved c = search rules
-
-pub returns : goal.returns
-returns c = search rules

@@ -1,8 +1,0 @@
-use Rattle.std.proofs.Common.{rules}
-use Rattle.memory_system.proofs.memory.Memory.fault.Goals as goal
-
-pub returns-in-Load : goal.returns-in-Load
-returns-in-Load c = search rules
-
-pub returns-in-Store : goal.returns-in-Store
-returns-in-Store c = search rules

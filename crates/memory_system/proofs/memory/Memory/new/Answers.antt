@@ -1,7 +1,0 @@
-use Rattle.memory_system.proofs.Starting.{is_start, none_reserved}
-use Rattle.memory_system.proofs.memory.Memory.new.Goals as goal
-
-pub returns : goal.returns
-returns c =
-    let made = c.in_ok-first_bytes.ensures in
-    is_start c.args.image.now _ made.well_formed made.length made.bytes c.in_ok-try_clone.ensures none_reserved

@@ -1,5 +1,0 @@
-use Rattle.std.proofs.Common.{rules}
-use Rattle.memory_system.proofs.memory.Memory.reserve.Goals as goal
-
-pub returns-clause-reserved : goal.returns-clause-reserved
-returns-clause-reserved c = search rules

@@ -1,5 +1,0 @@
-pub mod Contents
-pub mod Queues
-pub mod Looks
-pub mod Stores
-pub mod Histories

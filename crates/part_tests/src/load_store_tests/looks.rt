@@ -1,0 +1,89 @@
+//! The two looks of a load, by hand: stores in flight over memory, byte by byte.
+
+ghost use Rattle.rv_execute.specs.Access.{IsSize};
+ghost use Rattle.std.specs.Prelude.{◌<◌};
+
+use crate::shared_memory_tests::{first_memory, get, put};
+use load_store::LoadStore;
+use shared_memory::{AccessKind, Memory};
+use std::test::Fail;
+
+/// A load's first and second look, or none where it faults.
+fn looks(queues: &LoadStore, memory: &Memory, hart: u8, seq: u32, addr: u32) -> Option<(u32, u32)>
+    requires { hart < 8 }
+{
+    match memory.fault(addr, 4, AccessKind::Load) {
+        Some(_) => None,
+        None => Some((
+            queues.first_look(memory, hart, seq, addr, 4),
+            queues.second_look(memory, addr, 4),
+        )),
+    }
+}
+
+#[test]
+fn a_load_sees_the_older_resolved_stores_of_its_hart(rt: HostRuntime) -> Result<(), Fail> {
+    let mut memory = first_memory(rt.alloc()).ok_or("refused")?;
+    let begun = put(&mut memory, 0x8000_0100, 4, 0x1122_3344);
+    let mut queues = LoadStore::new();
+    queues.add_store(0, 3);
+    queues.add_store(0, 5);
+    queues.add_load(0, 6);
+    queues.add_store(0, 7);
+    queues.add_store(1, 4);
+    let unresolved = looks(&queues, &memory, 0, 6, 0x8000_0100);
+    queues.resolve_store(0, 7, 0x8000_0100, 4, 0xffff_ffff);
+    queues.resolve_store(1, 4, 0x8000_0100, 4, 0xeeee_eeee);
+    queues.resolve_store(0, 5, 0x8000_0101, 1, 0xcd);
+    queues.resolve_store(0, 3, 0x8000_0100, 2, 0xaabb);
+    let seen = [
+        unresolved,
+        looks(&queues, &memory, 0, 6, 0x8000_0100),
+        looks(&queues, &memory, 0, 8, 0x8000_0100),
+        looks(&queues, &memory, 1, 6, 0x8000_0100),
+        looks(&queues, &memory, 2, 6, 0x8000_0100),
+    ];
+    queues.squash(0, 5);
+    let after_squash = looks(&queues, &memory, 0, 8, 0x8000_0100);
+    assert!(rt; begun.is_ok() && get(&memory, 0x8000_0100, 4) == Ok(0x1122_3344));
+    assert!(rt;
+        seen == [
+            Some((0x1122_3344, 0x1122_3344)),
+            Some((0x1122_cdbb, 0x1122_3344)),
+            Some((0xffff_ffff, 0x1122_3344)),
+            Some((0xeeee_eeee, 0x1122_3344)),
+            Some((0x1122_3344, 0x1122_3344)),
+        ]
+    );
+    assert!(rt; after_squash == Some((0x1122_cdbb, 0x1122_3344)));
+    Ok(())
+}
+
+#[test]
+fn the_oldest_store_writes_as_it_retires(rt: HostRuntime) -> Result<(), Fail> {
+    let mut memory = first_memory(rt.alloc()).ok_or("refused")?;
+    let mut queues = LoadStore::new();
+    queues.add_store(3, 9);
+    queues.resolve_store(3, 9, 0x8000_0100, 4, 0x5566_7788);
+    let is_free = memory.fault(0x8000_0100, 4, AccessKind::Store).is_none();
+    if !is_free {
+        return Err("fault".into());
+    }
+    let written = queues.retire_store(&mut memory, 3);
+    let write = (written.addr, written.n, written.datum);
+    assert!(rt; write == (0x8000_0100, 4, 0x5566_7788));
+    assert!(rt; get(&memory, 0x8000_0102, 2) == Ok(0x5566) && !queues.stores_full(3));
+    Ok(())
+}
+
+#[test]
+fn what_is_added_can_be_taken_out(rt: HostRuntime) {
+    let mut queues = LoadStore::new();
+    queues.add_load(5, 1);
+    queues.add_store(6, 2);
+    let full = [queues.loads_full(5), queues.stores_full(6)];
+    queues.retire_load(5);
+    queues.drop_store(6);
+    assert!(rt; full == [false, false]);
+    assert!(rt; !queues.loads_full(5) && !queues.stores_full(6));
+}

@@ -1,0 +1,40 @@
+//! The memory that all harts share, and the accesses of instructions to it.
+
+ghost use Rattle.rv_execute.specs.Access.{IsSize};
+ghost use Rattle.std.specs.Prelude.{◌<◌};
+
+mod accesses;
+mod memory;
+
+use shared_memory::{AccessKind, Memory};
+use std::alloc::Global;
+use test_files::{EXIT_WITH_5, image_of};
+
+/// The memory of the program of three words at 80000000, with 8192 bytes of RAM.
+pub fn first_memory(alloc: Global) -> Option<Memory> {
+    let image = image_of(&EXIT_WITH_5, 8192, alloc)?;
+    Memory::new(&image, alloc).ok()
+}
+
+/// What is read, or the cause for which it faults.
+pub fn get(memory: &Memory, addr: u32, n: u8) -> Result<u32, u8>
+    requires { IsSize n }
+{
+    match memory.fault(addr, n, AccessKind::Load) {
+        Some(cause) => Err(cause),
+        None => Ok(memory.read(addr, n)),
+    }
+}
+
+/// Writes a number, or answers the cause for which that faults.
+pub fn put(memory: &mut Memory, addr: u32, n: u8, datum: u32) -> Result<(), u8>
+    requires { IsSize n }
+{
+    match memory.fault(addr, n, AccessKind::Store) {
+        Some(cause) => Err(cause),
+        None => {
+            memory.write(addr, n, datum);
+            Ok(())
+        }
+    }
+}

@@ -1,0 +1,4 @@
+pub mod Places
+pub mod Starting
+pub mod Checking
+pub mod Writing

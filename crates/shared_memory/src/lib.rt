@@ -1,0 +1,19 @@
+//! Memory as the harts share it, as the retired instructions leave it.
+//!
+//! Read in this order: `access` (reads and writes), `bytes` (numbers in a list of bytes),
+//! `reservations`, `memory` (a byte for each address of RAM, little-endian, and one reservation a
+//! hart), `accesses` (why the access of an instruction faults, and what it reads), `commits` (what a
+//! retirement does with memory).
+#![tactic(auto)]
+
+mod access;
+mod accesses;
+mod bytes;
+mod commits;
+mod memory;
+mod reservations;
+
+pub use access::AccessKind;
+pub use accesses::{fault, read};
+pub use commits::commit_access;
+pub use memory::Memory;

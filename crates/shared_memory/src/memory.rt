@@ -1,0 +1,208 @@
+ghost use Rattle.std.specs.Prelude.{◌≡◌, ℕ, ◌+◌, ◌-◌, ◌<◌, ◌≤◌, ◌==◌, if◌then◌else◌, Some, None};
+ghost use Rattle.std.specs.Prelude.{IfOk, length, slice_index};
+ghost use Rattle.elf_image.specs.Image.{IsWellFormed, ram_start, byte_in, in_ram, touches_code};
+ghost use Rattle.smt_model.specs.Bytes.{number_at, write_of};
+ghost use Rattle.smt_model.specs.Faults.{read_fault, write_fault};
+ghost use Rattle.smt_model.specs.Reservations.{holds_word};
+ghost use Rattle.rv_execute.specs.Access.{IsSize};
+ghost use Rattle.shared_memory.specs.Contents.{IsStart, IsWritten, byte_of, reserved_of};
+ghost use Rattle.shared_memory.specs.Contents.{access_fault};
+
+use crate::access::AccessKind;
+use crate::bytes::{number_in, put_number};
+use crate::reservations::{Reservations, end_on_word, held_by, is_on_word};
+use elf_image::{Image, RAM_START};
+use events::Cause;
+use std::alloc::{AllocError, Global};
+use std::marker::Model;
+
+/// The memory of up to 8 harts. A clause sees the image that it started from, its bytes and its
+/// reservations.
+#[derive(Drop)]
+pub struct Memory {
+    image: Image,
+    /// The bytes of RAM, by rising address.
+    bytes: Vec<u8>,
+    reserved: Reservations,
+}
+
+impl Model for Memory {
+    ghost use Rattle.std.specs.Prelude.{◌≡◌, length};
+    ghost use Rattle.shared_memory.specs.Contents.{Contents};
+
+    ghost Value = { Contents };
+
+    ghost view = { λ a. record { image = a.image; bytes = a.bytes.items; reserved = a.reserved } };
+
+    ghost invariant = { λ a. length a.bytes.items ≡ a.image.ram };
+}
+
+impl Memory {
+    /// The memory of an image before the first instruction, with no reservation. All its room is
+    /// taken here.
+    pub fn new(image: &Image, alloc: Global) -> Result<Memory, AllocError>
+        ensures { IfOk result (IsStart image.now) }
+    {
+        Ok(Memory {
+            image: image.try_clone()?,
+            bytes: first_bytes(image, alloc)?,
+            reserved: [None; 8],
+        })
+    }
+
+    /// The image that memory started from.
+    pub fn image(&self) -> &Image
+        ensures { result.now ≡ self.now.image }
+    {
+        &self.image
+    }
+
+    /// Why an access of 1, 2 or 4 bytes faults, where it does: misaligned is decided before outside
+    /// of RAM. For a store the code is outside.
+    pub fn fault(&self, addr: u32, n: u8, kind: AccessKind) -> Option<Cause>
+        requires { IsSize n }
+        ensures { result ≡ access_fault kind self.now.image addr n }
+    {
+        match kind {
+            AccessKind::Load => self.read_fault(addr, n),
+            AccessKind::Store => self.write_fault(addr, n),
+        }
+    }
+
+    /// The number that 1, 2 or 4 bytes are, where a load has no fault.
+    pub fn read(&self, addr: u32, n: u8) -> u32
+        requires size { IsSize n }
+        requires no_fault { read_fault self.now.image addr n ≡ None }
+        ensures { result ≡ number_at (byte_of self.now) addr n }
+    {
+        number_in(&self.bytes, place_of(addr), n)
+    }
+
+    /// The byte at an address, where a load has no fault.
+    pub fn byte(&self, addr: u32) -> u8
+        requires { read_fault self.now.image addr 1 ≡ None }
+        ensures { result ≡ byte_of self.now addr }
+    {
+        self.bytes[place_of(addr)]
+    }
+
+    /// Writes the lowest 1, 2 or 4 bytes of a number, where a store has no fault, and ends every
+    /// reservation on their word.
+    pub fn write(&mut self, addr: u32, n: u8, datum: u32)
+        requires size { IsSize n }
+        requires no_fault { write_fault self.old.image addr n ≡ None }
+        ensures { IsWritten (write_of addr n datum) self.old self.new }
+    {
+        put_number(self.bytes.as_mut_slice(), place_of(addr), n, datum);
+        end_on_word(&mut self.reserved, addr);
+    }
+
+    /// The word that a hart has reserved.
+    pub fn reservation(&self, hart: u8) -> Option<u32>
+        requires { hart < 8 }
+        ensures { result ≡ reserved_of self.now hart }
+    {
+        held_by(&self.reserved, hart)
+    }
+
+    /// Whether a hart's reservation is on the word at an address.
+    pub fn holds_word(&self, hart: u8, addr: u32) -> bool
+        requires { hart < 8 }
+        ensures { result ≡ holds_word (reserved_of self.now hart) addr }
+    {
+        is_on_word(self.reservation(hart), addr)
+    }
+
+    /// A hart reserves the word at an address, and gives up the one that it had.
+    pub fn reserve(&mut self, hart: u8, addr: u32)
+        requires { hart < 8 }
+        ensures reserved { (h : ℕ) → reserved_of self.new h
+            ≡ (if h == hart then Some addr else reserved_of self.old h) }
+        ensures image { self.new.image ≡ self.old.image }
+        ensures bytes { self.new.bytes ≡ self.old.bytes }
+    {
+        self.reserved[usize::from(hart)] = Some(addr);
+    }
+
+    /// Ends a hart's reservation, and tells whether it was on the word at an address.
+    pub fn take_reservation(&mut self, hart: u8, addr: u32) -> bool
+        requires { hart < 8 }
+        ensures held { result ≡ holds_word (reserved_of self.old hart) addr }
+        ensures reserved { (h : ℕ) → reserved_of self.new h
+            ≡ (if h == hart then None else reserved_of self.old h) }
+        ensures image { self.new.image ≡ self.old.image }
+        ensures bytes { self.new.bytes ≡ self.old.bytes }
+    {
+        let held = self.holds_word(hart, addr);
+        self.reserved[usize::from(hart)] = None;
+        held
+    }
+
+    /// Why a read faults: 4 misaligned, 5 outside of RAM.
+    fn read_fault(&self, addr: u32, n: u8) -> Option<Cause>
+        requires { IsSize n }
+        ensures { result ≡ read_fault self.now.image addr n }
+    {
+        if addr % u32::from(n) != 0 {
+            return Some(4);
+        }
+        if !self.in_ram(addr, n) {
+            return Some(5);
+        }
+        None
+    }
+
+    /// Why a write faults: 6 misaligned, 7 outside of RAM or into the code.
+    fn write_fault(&self, addr: u32, n: u8) -> Option<Cause>
+        requires { IsSize n }
+        ensures { result ≡ write_fault self.now.image addr n }
+    {
+        if addr % u32::from(n) != 0 {
+            return Some(6);
+        }
+        if !self.in_ram(addr, n) || self.touches_code(addr, n) {
+            return Some(7);
+        }
+        None
+    }
+
+    /// Whether all of the bytes lie in RAM.
+    fn in_ram(&self, addr: u32, n: u8) -> bool
+        ensures { result ≡ in_ram self.now.image addr n }
+    {
+        let end = u64::from(RAM_START) + u64::from(self.image.ram().bytes());
+        RAM_START <= addr && u64::from(addr) + u64::from(n) <= end
+    }
+
+    /// Whether some of the bytes are part of the code.
+    fn touches_code(&self, addr: u32, n: u8) -> bool
+        ensures { result ≡ touches_code self.now.image addr n }
+    {
+        let (start, size) = self.image.code();
+        let end = u64::from(addr) + u64::from(n);
+        u64::from(addr.max(start)) < end.min(u64::from(start) + u64::from(size))
+    }
+}
+
+/// The place in RAM of an address there.
+fn place_of(addr: u32) -> usize
+    requires { ram_start ≤ addr }
+    ensures { result ≡ addr - ram_start }
+{
+    (addr - RAM_START) as usize
+}
+
+/// The bytes of RAM as an image has them.
+fn first_bytes(image: &Image, alloc: Global) -> Result<Vec<u8>, AllocError>
+    ensures length { IfOk result (λ bytes. length bytes.items ≡ image.now.ram) }
+    ensures bytes { IfOk result (λ bytes. (k : ℕ) → k < image.now.ram
+        → slice_index bytes.items k ≡ byte_in image.now (ram_start + k)) }
+    ensures well_formed { IsWellFormed image.now }
+{
+    let size = image.ram().bytes();
+    let mut bytes = Vec::with_capacity(alloc, size as usize)?;
+    for addr in RAM_START..RAM_START + size {
+        bytes.push(image.byte(addr).unwrap_or(0))?;
+    }
+    Ok(bytes)
+}
