@@ -9,7 +9,7 @@ abbrev pub left_of : Inside → Left
 left_of a =
     record { records = a.records.items; statuses = a.statuses.items; machine = a.machine }
 
--- there are at most 8 harts, and each record's instruction writes at most a word
+-- there are no more harts than there may be, and each record's instruction writes at most a word
 pub record IsSound (a : Inside) : Type 0 where
   pub few : length a.statuses.items ≤ most_harts
   pub short : All WritesAWord a.records.items

@@ -4,6 +4,7 @@ ghost use Rattle.smt_laws.specs.Writes.{WritesAWord};
 
 use arrayvec::ArrayVec;
 use events::Record;
+use numbers::sizes::HART_ROOM;
 use sc_machine::Plain;
 use smt_model::Status;
 use std::marker::Model;
@@ -12,7 +13,7 @@ use std::marker::Model;
 #[derive(Drop)]
 pub struct PlainRun {
     pub(crate) records: Vec<Record>,
-    pub(crate) statuses: ArrayVec<Status, 8>,
+    pub(crate) statuses: ArrayVec<Status, HART_ROOM>,
     pub(crate) machine: Plain,
 }
 
@@ -45,7 +46,7 @@ impl PlainRun {
     }
 
     /// How each hart stands, hart 0 first.
-    pub fn statuses(&self) -> ArrayVec<Status, 8>
+    pub fn statuses(&self) -> ArrayVec<Status, HART_ROOM>
         ensures { result.items ≡ self.now.statuses }
     {
         copy_of(self.statuses.as_slice())
@@ -59,7 +60,7 @@ impl PlainRun {
     }
 }
 
-fn copy_of(statuses: &[Status]) -> ArrayVec<Status, 8>
+fn copy_of(statuses: &[Status]) -> ArrayVec<Status, HART_ROOM>
     requires { length statuses.now ≤ most_harts }
     ensures { result.items ≡ statuses.now }
 {
