@@ -10,7 +10,8 @@ use Rattle.core_lock.specs.Knowledge.{Owns, saw, asks, stop_word, board_words}
 pub record IsTrueOf (words : List ℕ) (v : Knowledge) : Type 0 where
   pub sized : length v.seen ≡ board_words
   pub below : (word : ℕ) → slice_index v.seen word ≤ slice_index words word
-  pub own : (word : ℕ) → Owns v word → word < stop_word → slice_index words word ≡ slice_index v.seen word
+  pub own : (word : ℕ) → Owns v word → word < stop_word
+      → slice_index words word ≡ slice_index v.seen word
   pub asked : v.asked ≤ slice_index v.seen stop_word
   pub reason : v.asked ≤ 4
 

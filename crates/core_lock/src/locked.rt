@@ -26,8 +26,8 @@ pub struct LockedCore<L: Origin> {
 }
 
 impl<L: Origin> LockedCore<L> {
-    /// Puts a core behind a lock, and deals a pass to each actor that there may be: pass k has the number
-    /// of actor k's events in the history so far, and the last of them.
+    /// Puts a core behind a lock, and deals a pass to each actor that there may be: pass k has the
+    /// number of actor k's events in the history so far, and the last of them.
     pub fn new(core: Core, blank: Blank) -> (LockedCore<L>, [Pass<L>; MOST_ACTORS])
         requires name { blank.name ≡ L.name }
         requires parts { (blank.parts ≡ L.parts) × (L.parts ≡ most_actors) }

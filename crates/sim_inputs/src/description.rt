@@ -72,7 +72,8 @@ An order has words apart by spaces or newlines. Each is the number of a hart,
 const CONFIGURATION_FORM: &str = "\
 A configuration is a TOML file. Its keys, with what holds where one is absent:
   harts = 1            # hardware threads, 1 to {MOST_HARTS}
-  extra = 64           # physical registers beside {RENAMED_REGISTERS} of each hart, 1 to {MOST_EXTRA}
+  extra = 64           # physical registers beside {RENAMED_REGISTERS} of each hart, \
+1 to {MOST_EXTRA}
   queue = 16           # entries of the issue queue, {FEWEST_QUEUED} to {MOST_QUEUED}
   ram = 65536          # bytes of memory, a multiple of 4096 up to 16777216
   limit = 1000000      # the most events of a history, up to {MOST_EVENTS}

@@ -3,7 +3,8 @@
 //!
 //! Read in this order: `line` (what the words may ask for), `files` (the files that they name),
 //! `words` (how they are read), `description` (the command line as it is described to `clap`),
-//! `limits` (what stands in its texts for the limits of a core); then `settings`, `configuration` (how they are read), `roles` and `ranges` (its parts).
+//! `limits` (what stands in its texts for the limits of a core); then
+//! `settings`, `configuration` (how they are read), `roles` and `ranges` (its parts).
 #![tactic(auto)]
 
 mod configuration;

@@ -30,7 +30,8 @@ impl Board {
         ensures board { IfOk result (λ r. All (λ s. board_of s ≡ name_of r.0) r.1) }
         ensures posted { IfOk result (λ r. map (λ s. s.posted) r.1 ≡ replicate board_words 0) }
         ensures asked { IfOk result (λ r. map asked_by r.1 ≡ replicate board_words 0) }
-        ensures seen { IfOk result (λ r. map seen_by r.1 ≡ replicate board_words (replicate board_words 0)) }
+        ensures seen { IfOk result
+            (λ r. map seen_by r.1 ≡ replicate board_words (replicate board_words 0)) }
     {
         let (table, mut rest) = Table::of_words(alloc, &[0; BOARD_WORDS], &())?;
         let board = Board { table };

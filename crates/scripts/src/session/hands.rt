@@ -10,8 +10,8 @@ pub struct Hands {
     held: [Option<Done>; MOST_ACTORS],
 }
 
-// `Hands::abandon_all` names what each of so many actors holds: no loop by value goes over what can't
-// be let go.
+// `Hands::abandon_all` names what each of so many actors holds: no loop by value goes over what
+// can't be let go.
 const _: () = prove!(MOST_ACTORS == 16);
 
 impl Hands {
