@@ -1,5 +1,6 @@
 -- Seats at a board: which fits an actor, and the board that is named where no board is.
 use Rattle.std.specs.Prelude.{◌≡◌, ℕ, ◌<◌, ◌≤◌, []}
+use Rattle.numbers.specs.Sizes.{most_actors}
 use Rattle.atomic_table.specs.Seated.{TableId}
 
 -- A table of no words.
@@ -18,4 +19,4 @@ no_board =
 -- An actor with so many events and a seat of this place that has posted so many: it is the actor's
 -- own seat, and the actor may post there what it has made.
 abbrev pub Fits : ℕ → ℕ → ℕ → ℕ → Type 0
-Fits actor count place posted = (actor ≡ place) × (place < 16) × (posted ≤ count)
+Fits actor count place posted = (actor ≡ place) × (place < most_actors) × (posted ≤ count)

@@ -1,8 +1,10 @@
 ghost use Rattle.std.specs.Prelude.{◌≡◌, ◌≤◌, ◌<◌, ◌↔◌, All, IsTrue};
+ghost use Rattle.numbers.specs.Sizes.{most_actors};
 ghost use Rattle.core_lock.specs.Seats.{board_of, name_of};
 ghost use Rattle.actors.specs.Naming.{Fits};
 
-use core_lock::{Board, BoardView, Origin, Pass, Reason, Seat};
+use core_lock::{BOARD_WORDS, Board, BoardView, Origin, Pass, Reason, Seat};
+use numbers::sizes::MOST_ACTORS;
 use std::alloc::{AllocError, Global};
 use std::marker::{Brand, PhantomData};
 
@@ -54,7 +56,7 @@ impl<N: Naming> Placed<N> {
             ↔ Fits pass.now.actor pass.now.count self.now.seat.place self.now.seat.posted }
     {
         self.seat.place() == pass.actor()
-            && self.seat.place() < 16
+            && usize::from(self.seat.place()) < MOST_ACTORS
             && self.seat.posted() <= pass.count()
     }
 }
@@ -81,7 +83,7 @@ impl<N: Naming> Desk<N> {
     /// Posts what the pass has counted.
     pub(crate) fn post(&self, placed: &mut Placed<N>, pass: &Pass<N>)
         requires place { pass.now.actor ≡ placed.old.seat.place }
-        requires within { placed.old.seat.place < 16 }
+        requires within { placed.old.seat.place < most_actors }
         requires rising { placed.old.seat.posted ≤ pass.now.count }
         ensures place { placed.new.seat.place ≡ placed.old.seat.place }
         ensures posted { placed.new.seat.posted ≡ pass.now.count }
@@ -100,7 +102,7 @@ impl<N: Naming> Desk<N> {
 
 /// The seats of a run, in a row that can be lent to threads one by one.
 pub(crate) fn place_all<N: Naming>(
-    seats: [Seat; 17],
+    seats: [Seat; BOARD_WORDS],
     alloc: Global,
 ) -> Result<Vec<Placed<N>>, AllocError>
     requires { All (λ seat. board_of seat ≡ N.board) seats }

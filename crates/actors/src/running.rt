@@ -1,5 +1,6 @@
 ghost use Rattle.std.specs.Prelude.{◌≡◌, ◌↔◌, ◌⊎◌, true, false, All, IsTrue, IfOk, IfErr, Err};
 ghost use Rattle.std.specs.Prelude.{length, sum};
+ghost use Rattle.numbers.specs.Sizes.{most_actors};
 ghost use Rattle.smt_model.specs.Setup.{is_accepted};
 ghost use Rattle.core_state.specs.Setup.{setup_of};
 ghost use Rattle.core_lock.specs.Seats.{board_of, name_of};
@@ -16,8 +17,9 @@ use crate::gate::Gate;
 use crate::refused::RunRefused;
 use crate::roles::has_every_role;
 use crate::start::start;
-use core_lock::{Board, LockedCore, Seat};
+use core_lock::{BOARD_WORDS, Board, LockedCore, Seat};
 use elf_image::Image;
+use numbers::sizes::MOST_ACTORS;
 use smt_core::{Config, Core, CoreRefused, Finished, Predict};
 use std::alloc::Global;
 use std::marker::Brand;
@@ -106,7 +108,7 @@ fn run_actors<G: Gate + Sync, P: Predict + Copy + Send, R: Threads + Wait + Sync
             return Err(RunRefused::Memory);
         }
     };
-    let blank = Blank::new(16);
+    let blank = Blank::new(MOST_ACTORS as u64);
     run_core::<Brand, G, P, R>(rt, core, blank, board, seats, plan, predict, alloc)
 }
 
@@ -155,13 +157,13 @@ fn run_core<
     core: Core,
     blank: Blank,
     board: Board,
-    seats: [Seat; 17],
+    seats: [Seat; BOARD_WORDS],
     plan: &Plan<'_, G>,
     predict: P,
     alloc: Global,
 ) -> Result<Finished, RunRefused>
     requires name { blank.name ≡ N.name }
-    requires parts { (blank.parts ≡ N.parts) × (N.parts ≡ 16) }
+    requires parts { (blank.parts ≡ N.parts) × (N.parts ≡ most_actors) }
     requires origin { (core.setup ≡ N.setup) × (core.limit ≡ N.limit) }
     requires board { name_of board ≡ N.board }
     requires seats { All (λ seat. board_of seat ≡ N.board) seats }

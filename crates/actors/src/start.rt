@@ -6,7 +6,7 @@ use crate::actor::{Shared, act};
 use crate::desk::{Naming, Placed, place_all};
 use crate::gate::Gate;
 use crate::refused::RunRefused;
-use core_lock::{Pass, Reason, Seat};
+use core_lock::{BOARD_WORDS, Pass, Reason, Seat};
 use smt_core::Predict;
 use std::alloc::Global;
 use std::sync::Wait;
@@ -27,7 +27,7 @@ pub(crate) fn start<
     shared: &'x Shared<'x, N, G>,
     predict: P,
     passes: &mut [Pass<N>],
-    seats: [Seat; 17],
+    seats: [Seat; BOARD_WORDS],
     alloc: Global,
 ) -> Result<(), RunRefused>
     requires { All (λ seat. board_of seat ≡ N.board) seats }

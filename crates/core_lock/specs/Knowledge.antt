@@ -1,7 +1,14 @@
--- What a seat knows of the words of a board. The words 0 to 15 are counts, word 16 is the stop
--- word.
+-- What a seat knows of the words of a board: a count for each actor, and behind them the stop word.
 use Rattle.std.specs.Prelude.{ℕ, ◌+◌, ◌<◌, ◌≤◌, max, replicate, slice_set}
+use Rattle.numbers.specs.Sizes.{most_actors}
 use Rattle.core_lock.specs.declared.board.knowledge.Knowledge.{Knowledge}
+
+-- The place of the stop word, and how many words there are.
+abbrev pub stop_word : ℕ
+stop_word = most_actors
+
+abbrev pub board_words : ℕ
+board_words = stop_word + 1
 
 -- The word is one of the seat's own.
 abbrev pub Owns : Knowledge → ℕ → Type 0
@@ -17,7 +24,7 @@ asks v reason = record v { asked = max v.asked reason }
 
 -- A seat that owns the words from one on, and has seen a 0 in each. The first seat owns all.
 abbrev pub from : ℕ → Knowledge
-from word = record { first = word; end = 17; asked = 0; seen = replicate 17 0 }
+from word = record { first = word; end = board_words; asked = 0; seen = replicate board_words 0 }
 
 -- A seat's knowledge without its first own word, and that of a new seat that owns this word.
 abbrev pub without_first : Knowledge → Knowledge

@@ -1,5 +1,6 @@
 -- What a pass counts of its actor, and when that is all that the history holds of it.
 use Rattle.std.specs.Prelude.{◌≡◌, ℕ, ◌+◌, List, Option, Some, None}
+use Rattle.numbers.specs.Sizes.{most_actors}
 use Rattle.events.specs.declared.event.Event.{Event}
 use Rattle.smt_model.specs.{Basics.below, Basics.how_many, Account.event_count}
 use Rattle.smt_model.specs.{Account.last_event_of, Memory.is_going}
@@ -27,6 +28,6 @@ IsDealt past k actor count last = (actor ≡ k) × IsTold past k count last
 abbrev pub going_in : CoreView → ℕ
 going_in core = how_many (is_going core.past) (below core.setup.harts)
 
--- The sixteen actors that there may be.
+-- The actors that there may be.
 abbrev pub places : List ℕ
-places = below 16
+places = below most_actors

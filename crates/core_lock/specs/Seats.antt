@@ -1,6 +1,7 @@
 -- What callers see of a seat: its board, what it has seen, and for what it has asked to stop.
 use Rattle.std.specs.Prelude.{◌≡◌, ℕ, ◌≤◌, max, List, slice_index, slice_set, replicate}
 use Rattle.atomic_table.specs.Seated.{TableId}
+use Rattle.core_lock.specs.Knowledge.{board_words, stop_word}
 use Rattle.core_lock.specs.declared.board.seat.Seat.{Seat}
 use Rattle.core_lock.specs.declared.board.Board.{Board}
 
@@ -26,7 +27,7 @@ pub record IsNew (board : TableId) (place : ℕ) (seat : Seat) : Type 0 where
   pub of : board_of seat ≡ board
   pub posted : seat.posted ≡ 0
   pub asked : asked_by seat ≡ 0
-  pub seen : seen_by seat ≡ replicate 17 0
+  pub seen : seen_by seat ≡ replicate board_words 0
 
 -- No word is seen below what was seen there before.
 abbrev pub NoneFalls : List ℕ → List ℕ → Type 0
@@ -36,5 +37,5 @@ NoneFalls before after = (word : ℕ) → slice_index before word ≤ slice_inde
 -- before.
 abbrev pub IsRaised : ℕ → List ℕ → List ℕ → Type 0
 IsRaised reason before after =
-    (found : ℕ) × (slice_index before 16 ≤ found) × (found ≤ 4)
-    × (after ≡ slice_set before 16 (max found reason))
+    (found : ℕ) × (slice_index before stop_word ≤ found) × (found ≤ 4)
+    × (after ≡ slice_set before stop_word (max found reason))

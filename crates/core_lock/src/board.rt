@@ -1,5 +1,5 @@
-//! A board of seventeen words, by which the threads of a run see how far the others are: a count
-//! for each of sixteen actors, and a word that says whether to stop and why.
+//! A board of words, by which the threads of a run see how far the others are: a count for each
+//! actor that there may be, and a word that says whether to stop and why.
 //!
 //! Each call is a few single atomic steps on the words, and returns whatever other threads do. None
 //! takes the handle `Wait`, so nothing here can wait for a lock: a board behind a mutex can't be
@@ -10,6 +10,7 @@
 //! (what a reader sees), `calls` (what can be done with a board).
 
 ghost use Rattle.std.specs.Prelude.{◌≡◌};
+ghost use Rattle.core_lock.specs.Knowledge.{board_words};
 
 mod calls;
 pub mod knowledge;
@@ -19,15 +20,19 @@ pub mod view;
 
 use atomic_table::Table;
 use knowledge::{BoardRule, Knowledge};
+use numbers::sizes::MOST_ACTORS;
 pub use reason::Reason;
 pub use seat::Seat;
 use std::alloc::Global;
 pub use view::BoardView;
 
-/// Seventeen words that many threads may write and read at once.
+/// How many words a board has: a count for each actor, and the stop word.
+pub const BOARD_WORDS: usize = MOST_ACTORS + 1;
+
+/// Words that many threads may write and read at once.
 #[derive(Drop)]
 pub struct Board {
     table: Table<u8, Knowledge, (), BoardRule, Global>,
-    ghost sized: { table.shared.table_id.words ≡ 17 },
+    ghost sized: { table.shared.table_id.words ≡ board_words },
     ghost no_slots: { table.shared.table_id.slots ≡ 0 },
 }

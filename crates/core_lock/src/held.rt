@@ -1,5 +1,6 @@
 ghost use Rattle.std.specs.Prelude.{◌≡◌, ◌≤◌, ◌↔◌, ℕ, Bool, true, Some, IsTrue, IfSome};
 ghost use Rattle.std.specs.Prelude.{length, map, sum, slice_get};
+ghost use Rattle.numbers.specs.Sizes.{most_actors, most_events};
 ghost use Rattle.core_state.specs.Setup.{setup_of};
 ghost use Rattle.smt_model.specs.Account.{event_count, last_event_of};
 ghost use Rattle.core_lock.specs.Asks.{Replied, IsPredictedBy, asked_of, event_in, grown_by};
@@ -21,6 +22,7 @@ use asking::ask_core;
 use dealing::{counts_of, deal_four, gather, tallies_in};
 use elf_image::Image;
 use events::Event;
+use numbers::sizes::MOST_ACTORS;
 use smt_core::{Config, Core, Finished, Predict, show};
 use std::marker::PhantomData;
 use std::sync::ledger::{Blank, Book, Ledger, Share};
@@ -62,11 +64,11 @@ pub struct Reply<L: Ledger> {
 }
 
 impl<L: Origin> Held<L> {
-    /// Puts a core behind the lock, and deals a pass to each of sixteen actors: pass k has the
-    /// number of actor k's events in the history so far, and the last of them.
-    pub fn new(core: Core, blank: Blank) -> (Held<L>, [Pass<L>; 16])
+    /// Puts a core behind the lock, and deals a pass to each actor that there may be: pass k has
+    /// the number of actor k's events in the history so far, and the last of them.
+    pub fn new(core: Core, blank: Blank) -> (Held<L>, [Pass<L>; MOST_ACTORS])
         requires name { blank.name ≡ L.name }
-        requires parts { (blank.parts ≡ L.parts) × (L.parts ≡ 16) }
+        requires parts { (blank.parts ≡ L.parts) × (L.parts ≡ most_actors) }
         requires origin { (core.setup ≡ L.setup) × (core.limit ≡ L.limit) }
         ensures core { result.0.core ≡ core }
         ensures actors { map (λ p. p.actor) result.1 ≡ places }
@@ -140,12 +142,12 @@ impl<L: Origin> Held<L> {
         reader.read(&self.core, told);
     }
 
-    /// Gives up the book, with all sixteen passes. `counts` are the passes' own and add up to the
+    /// Gives up the book, with all passes. `counts` are the passes' own and add up to the
     /// events of the history; `told` says that at each place k lies actor k's pass with that
     /// actor's count and last event; `own` says that the core is of this image and this
     /// configuration.
-    pub fn finish(self, passes: [Pass<L>; 16], image: &Image, config: &Config) -> Finished
-        requires { L.parts ≡ 16 }
+    pub fn finish(self, passes: [Pass<L>; MOST_ACTORS], image: &Image, config: &Config) -> Finished
+        requires { L.parts ≡ most_actors }
         ensures core { result.core ≡ self.core }
         ensures counts { result.counts ≡ map (λ p. p.count) passes }
         ensures sum { sum result.counts ≡ length result.core.past }
@@ -178,7 +180,7 @@ impl<L: Origin> Held<L> {
 
 /// Enters a step into the book and the pass, where one was made.
 fn note<L: Ledger>(book: &mut Book<L>, pass: &mut Pass<L>, event: Option<Event>)
-    requires { book.old.total ≤ 16777216 }
+    requires { book.old.total ≤ most_events }
     ensures total { book.new.total ≡ more book.old.total event }
     ensures actor { pass.new.actor ≡ pass.old.actor }
     ensures count { pass.new.count ≡ more pass.old.count event }

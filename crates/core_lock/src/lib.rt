@@ -16,7 +16,7 @@ pub mod reader;
 mod tally;
 
 pub use ask::{Ask, Asked, Said};
-pub use board::{Board, BoardView, Reason, Seat};
+pub use board::{BOARD_WORDS, Board, BoardView, Reason, Seat};
 pub use held::{Held, Pass, Reply};
 pub use locked::LockedCore;
 pub use origin::Origin;

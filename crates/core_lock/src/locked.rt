@@ -1,5 +1,6 @@
 ghost use Rattle.std.specs.Prelude.{◌≡◌, ◌↔◌, ℕ, Bool, true, Some, IsTrue, IfSome, length, map};
 ghost use Rattle.std.specs.Prelude.{sum, slice_get};
+ghost use Rattle.numbers.specs.Sizes.{most_actors};
 ghost use Rattle.core_state.specs.Setup.{setup_of};
 ghost use Rattle.core_state.specs.View.{CoreView};
 ghost use Rattle.smt_model.specs.Account.{event_count, last_event_of};
@@ -12,6 +13,7 @@ use crate::held::{Held, Pass, Reply};
 use crate::origin::Origin;
 use crate::reader::CoreReader;
 use elf_image::Image;
+use numbers::sizes::MOST_ACTORS;
 use smt_core::{Config, Core, Finished, Predict};
 use std::sync::ledger::Blank;
 use std::sync::{Mutex, Wait};
@@ -23,11 +25,11 @@ pub struct LockedCore<L: Origin> {
 }
 
 impl<L: Origin> LockedCore<L> {
-    /// Puts a core behind a lock, and deals a pass to each of sixteen actors: pass k has the number
-    /// of actor k's events in the history so far, and the last of them.
-    pub fn new(core: Core, blank: Blank) -> (LockedCore<L>, [Pass<L>; 16])
+    /// Puts a core behind a lock, and deals a pass to each actor that there may be: pass k has the
+    /// number of actor k's events in the history so far, and the last of them.
+    pub fn new(core: Core, blank: Blank) -> (LockedCore<L>, [Pass<L>; MOST_ACTORS])
         requires name { blank.name ≡ L.name }
-        requires parts { (blank.parts ≡ L.parts) × (L.parts ≡ 16) }
+        requires parts { (blank.parts ≡ L.parts) × (L.parts ≡ most_actors) }
         requires origin { (core.setup ≡ L.setup) × (core.limit ≡ L.limit) }
         ensures actors { map (λ p. p.actor) result.1 ≡ places }
         ensures counts { map (λ p. p.count) result.1 ≡ map (λ k. event_count k core.past) places }
@@ -72,12 +74,12 @@ impl<L: Origin> LockedCore<L> {
         self.lock.lock(rt).look(pass, reader);
     }
 
-    /// Gives up the lock, with all sixteen passes. `counts` are the passes' own and add up to the
+    /// Gives up the lock, with all passes. `counts` are the passes' own and add up to the
     /// events of the history; `told` says that at each place k lies actor k's pass with that
     /// actor's count and last event; `own` says that the core is of this image and this
     /// configuration.
-    pub fn finish(self, passes: [Pass<L>; 16], image: &Image, config: &Config) -> Finished
-        requires { L.parts ≡ 16 }
+    pub fn finish(self, passes: [Pass<L>; MOST_ACTORS], image: &Image, config: &Config) -> Finished
+        requires { L.parts ≡ most_actors }
         ensures counts { result.counts ≡ map (λ p. p.count) passes }
         ensures sum { sum result.counts ≡ length result.core.past }
         ensures told { IsTrue result.told

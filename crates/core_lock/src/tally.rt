@@ -1,5 +1,6 @@
 ghost use Rattle.std.specs.Prelude.{◌≡◌, ◌∷◌, [], ◌+◌, ◌<◌, ◌≤◌, ◌==◌, if◌then◌else◌, Some, length};
 ghost use Rattle.std.specs.Prelude.{reverse, ℕ, List};
+ghost use Rattle.numbers.specs.Sizes.{most_actors, most_events};
 ghost use Rattle.smt_model.specs.Account.{event_count, last_event_of};
 ghost use Rattle.events.specs.Event.{actor_of};
 ghost use Rattle.events.specs.declared.event.Event.{Event as AnyEvent};
@@ -7,6 +8,7 @@ ghost use Rattle.core_lock.specs.Passes.{IsTold};
 ghost use Rattle.core_lock.specs.Tallies.{AreTallies, AreBelow};
 
 use events::Event;
+use numbers::sizes::MOST_ACTORS;
 
 /// What a history holds of one actor: how many events it made, and the last of them.
 #[derive(Clone, Copy, Drop)]
@@ -17,7 +19,7 @@ pub struct Tally {
 
 /// What these events, the oldest first, hold of actor `actor`.
 pub fn tally_of(events: &[Event], actor: u8) -> Tally
-    requires { length events.now ≤ 16777216 }
+    requires { length events.now ≤ most_events }
     ensures count { result.count ≡ event_count actor (reverse events.now) }
     ensures last { result.last ≡ last_event_of actor (reverse events.now) }
     ensures within { result.count ≤ length events.now }
@@ -33,7 +35,7 @@ pub fn tally_of(events: &[Event], actor: u8) -> Tally
 }
 
 fn with_event(tally: Tally, event: &Event, actor: u8) -> Tally
-    requires { tally.count < 16777216 }
+    requires { tally.count < most_events }
     ensures count { result.count ≡ tally.count + event_count actor (event.now ∷ []) }
     ensures last { result.last
         ≡ (if actor_of event.now == actor then Some event.now else tally.last) }
@@ -47,15 +49,15 @@ fn with_event(tally: Tally, event: &Event, actor: u8) -> Tally
     }
 }
 
-/// What these events, the oldest first, hold of each actor 0 to 15, told in one pass over them.
-pub fn tallies_of(events: &[Event]) -> [Tally; 16]
-    requires { length events.now ≤ 16777216 }
+/// What these events, the oldest first, hold of each actor, told in one pass over them.
+pub fn tallies_of(events: &[Event]) -> [Tally; MOST_ACTORS]
+    requires { length events.now ≤ most_events }
     ensures { AreTallies (reverse events.now) result }
 {
     let mut tallies = [Tally {
         count: 0,
         last: None,
-    }; 16];
+    }; MOST_ACTORS];
     for event in events {
         enter(&mut tallies, event);
     }
@@ -63,22 +65,22 @@ pub fn tallies_of(events: &[Event]) -> [Tally; 16]
 }
 
 /// What stands at the place of actor `actor`.
-pub fn tally_at(tallies: &[Tally; 16], actor: u8) -> Tally
-    requires { actor < 16 }
+pub fn tally_at(tallies: &[Tally; MOST_ACTORS], actor: u8) -> Tally
+    requires { actor < most_actors }
     ensures { (past : List AnyEvent) → AreTallies past tallies.now
         → IsTold past actor result.count result.last }
 {
     tallies[usize::from(actor)]
 }
 
-/// Enters an event at its actor's place. There is no place for an actor above 15.
-fn enter(tallies: &mut [Tally; 16], event: &Event)
-    requires few { AreBelow 16777216 tallies.old }
+/// Enters an event at its actor's place. There is no place for one from `MOST_ACTORS` on.
+fn enter(tallies: &mut [Tally; MOST_ACTORS], event: &Event)
+    requires few { AreBelow most_events tallies.old }
     ensures { (past : List AnyEvent) → AreTallies past tallies.old
         → AreTallies (event.now ∷ past) tallies.new }
 {
     let actor = usize::from(event.actor());
-    if actor < 16 {
+    if actor < MOST_ACTORS {
         tallies[actor] = Tally {
             count: tallies[actor].count + 1,
             last: Some(*event),

@@ -1,12 +1,13 @@
 -- What a decode takes, and what it changes in its hart.
 use Rattle.std.specs.Prelude.{◌≡◌, ℕ, ◌<◌, [], ◌∷◌, ◌++◌, length, Some}
+use Rattle.numbers.specs.Sizes.{latch_room}
 use Rattle.smt_model.specs.{Basics.first, Picture.Picture, Steps.IsDecode}
 use Rattle.core_parts.specs.{declared.slot.Slot.Slot, declared.hart.HartState.HartState}
 
 -- Number s is the oldest in hart h's decode latch, and the rename latch has room for it.
 pub record CanDecode (p : Picture) (h s : ℕ) : Type 0 where
   pub oldest : first (p.in_decode h) ≡ Some s
-  pub room : length (p.in_rename h) < 8
+  pub room : length (p.in_rename h) < latch_room
 
 -- A decode of hart h that can be made.
 pub record Decodes (p q : Picture) (h : ℕ) : Type 0 where

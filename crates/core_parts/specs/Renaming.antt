@@ -51,7 +51,7 @@ pub record IsRenaming (p q : Picture) (size h : ℕ) (taken : Option ℕ) : Type
 
 -- ---- In the parts' words
 
--- Sixteen loads of a hart are in flight and another comes, or sixteen stores.
+-- As many loads of a hart are in flight as there may be and another comes, or as many stores.
 abbrev pub has_full_memory_queue : Op → List Active → Bool
 has_full_memory_queue op xs =
     (is_loading (kind_of op) && nat_le most_accesses (count_by (λ x. is_loading (kind_of x.op)) xs))

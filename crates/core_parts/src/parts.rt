@@ -122,8 +122,8 @@ pub fn value_of(values: &[Option<u32>; MOST_REGISTERS], register: Phys) -> Optio
     }
 }
 
-/// Puts a number into a physical register, or takes it away. There is no register from 512 on, and
-/// then nothing changes.
+/// Puts a number into a physical register, or takes it away. There is no register from
+/// `MOST_REGISTERS` on, and then nothing changes.
 fn set_value(values: &mut [Option<u32>; MOST_REGISTERS], register: Phys, value: Option<u32>)
     ensures { values.new ≡ slice_set values.old register value }
 {
@@ -133,7 +133,8 @@ fn set_value(values: &mut [Option<u32>; MOST_REGISTERS], register: Phys, value: 
     }
 }
 
-/// Gives an actor a job, or takes it away. There is no actor from 16 on, and then nothing changes.
+/// Gives an actor a job, or takes it away. There is no actor from `MOST_ACTORS` on, and then nothing
+/// changes.
 pub(crate) fn set_job(jobs: &mut [Option<OpenJob>; MOST_ACTORS], actor: usize, job: Option<OpenJob>)
     ensures { jobs.new ≡ slice_set jobs.old actor job }
 {

@@ -90,7 +90,7 @@ impl State {
     /// The core of an image and a configuration before its first event. All room for `limit` events
     /// is made here.
     ///
-    /// Refused are sizes that aren't a core's and a limit above 16,777,216, before any memory is
+    /// Refused are sizes that aren't a core's and a limit above `MOST_EVENTS`, before any memory is
     /// taken.
     pub fn new(
         image: &Image,

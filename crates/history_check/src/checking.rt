@@ -21,7 +21,7 @@ use std::marker::Model;
 /// Why a list of events isn't accepted.
 #[derive(Clone, Copy, PartialEq, Eq, Drop)]
 pub enum CheckRefused {
-    /// The configuration isn't one of a core, or there are more than 16,777,216 events.
+    /// The configuration isn't one of a core, or there are more than `MOST_EVENTS` events.
     BadConfig,
     /// There isn't enough memory.
     Memory,

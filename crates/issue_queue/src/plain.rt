@@ -15,8 +15,7 @@ use numbers::{Phys, Seq};
 use rv_instr::UnitKind;
 use std::marker::Model;
 
-/// The instructions of all harts that wait, by rising number, and how many there is room for: 4 to
-/// 64 in a core.
+/// The instructions of all harts that wait, by rising number, and how many there is room for.
 /// A clause sees both.
 #[derive(Drop)]
 pub struct PlainQueue {

@@ -16,9 +16,9 @@ use rv_instr::UnitKind;
 use std::alloc::{AllocError, Global};
 use std::marker::Model;
 
-/// The instructions of all harts that wait, and how many there is room for: 4 to 64 in a core. What
-/// waits costs nothing until it is woken: a wake follows the list of those that wait for its
-/// register, and the oldest ready one of a kind stands first in the order of its kind.
+/// The instructions of all harts that wait, and how many there is room for. What waits costs
+/// nothing until it is woken: a wake follows the list of those that wait for its register, and the
+/// oldest ready one of a kind stands first in the order of its kind.
 ///
 /// A clause sees the instructions by rising number, and the room.
 #[derive(Drop)]

@@ -3,6 +3,9 @@
 /// The most harts.
 pub const MOST_HARTS: u8 = 8;
 
+/// Room for something of each hart: `MOST_HARTS` as the length of an array.
+pub const HART_ROOM: usize = MOST_HARTS as usize;
+
 /// The most physical registers beyond those that the harts begin with.
 pub const MOST_EXTRA: u16 = 256;
 

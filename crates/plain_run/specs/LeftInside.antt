@@ -8,6 +8,6 @@ abbrev pub left_of : Inside → Left
 left_of a =
     record { records = a.records.items; statuses = a.statuses.items; machine = a.machine }
 
--- there are at most 8 harts
+-- there are no more harts than there may be
 pub record IsSound (a : Inside) : Type 0 where
   pub few : length a.statuses.items ≤ most_harts

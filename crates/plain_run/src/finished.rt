@@ -3,6 +3,7 @@ ghost use Rattle.numbers.specs.Sizes.{most_harts};
 
 use arrayvec::ArrayVec;
 use events::Record;
+use numbers::sizes::HART_ROOM;
 use sc_machine::Plain;
 use smt_model::Status;
 use std::marker::Model;
@@ -11,7 +12,7 @@ use std::marker::Model;
 #[derive(Drop)]
 pub struct PlainRun {
     pub(crate) records: Vec<Record>,
-    pub(crate) statuses: ArrayVec<Status, 8>,
+    pub(crate) statuses: ArrayVec<Status, HART_ROOM>,
     pub(crate) machine: Plain,
 }
 
@@ -43,7 +44,7 @@ impl PlainRun {
     }
 
     /// How each hart stands, hart 0 first.
-    pub fn statuses(&self) -> ArrayVec<Status, 8>
+    pub fn statuses(&self) -> ArrayVec<Status, HART_ROOM>
         ensures { result.items ≡ self.now.statuses }
     {
         copy_of(self.statuses.as_slice())
@@ -57,7 +58,7 @@ impl PlainRun {
     }
 }
 
-fn copy_of(statuses: &[Status]) -> ArrayVec<Status, 8>
+fn copy_of(statuses: &[Status]) -> ArrayVec<Status, HART_ROOM>
     requires { length statuses.now ≤ most_harts }
     ensures { result.items ≡ statuses.now }
 {

@@ -11,14 +11,15 @@ use crate::finished::PlainRun;
 use crate::stopped::OrderStopped;
 use arrayvec::ArrayVec;
 use elf_image::Image;
+use numbers::sizes::HART_ROOM;
 use sc_machine::{Plain, PlainRefused};
 use smt_model::Status;
 use std::alloc::Global;
 
 /// Makes the steps of an order of `harts` harts, its first word first, from the start of an image.
 ///
-/// Refused are another number of harts than 1 to 8, before any memory is taken, and an order with
-/// a step that the machine doesn't make. All room is taken before the first step: the output can
+/// Refused are no harts and more than `MOST_HARTS`, before any memory is taken, and an order with a
+/// step that the machine doesn't make. All room is taken before the first step: the output can
 /// have a byte for each step, and so is never full.
 pub fn run_order(
     image: &Image,
@@ -55,7 +56,7 @@ pub fn run_order(
 }
 
 /// How each hart stands, hart 0 first.
-fn statuses_of(machine: &Plain) -> ArrayVec<Status, 8>
+fn statuses_of(machine: &Plain) -> ArrayVec<Status, HART_ROOM>
     ensures { InEachState machine.now
         (λ setup s. result.items ≡ map s.statuses (below setup.harts)) }
 {

@@ -4,7 +4,7 @@ use thiserror::Error;
 /// Why the steps of an order weren't all made.
 #[derive(Clone, Copy, Debug, PartialEq, Eq, Drop, Error)]
 pub enum OrderStopped {
-    /// There are not 1 to 8 harts.
+    /// There are no harts, or more than `MOST_HARTS`.
     #[error("harts")]
     Harts,
     /// There isn't enough memory.

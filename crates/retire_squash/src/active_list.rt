@@ -10,7 +10,8 @@ use numbers::Seq;
 use numbers::sizes::MOST_IN_FLIGHT;
 use std::marker::Model;
 
-/// The instructions of a hart in flight, at most 64, oldest first. A clause sees it as their list.
+/// The instructions of a hart in flight, at most `MOST_IN_FLIGHT`, oldest first. A clause sees it as
+/// their list.
 ///
 /// One that leaves at the front stays where it is until its room is needed, so a retirement moves no
 /// other.

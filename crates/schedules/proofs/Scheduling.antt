@@ -4,6 +4,7 @@ use Rattle.std.specs.Prelude.{Some, None, All, length, map, reverse}
 use Rattle.std.specs.List.{AllByRecursion}
 use Rattle.std.proofs.Common.{refl, sym, ap, subst, ◌∙◌, arith}
 use Rattle.std.proofs.{lemmas.Bool.Decides.nat_tests, lemmas.List.length-map, lemmas.List.length-reverse}
+use Rattle.numbers.specs.Sizes.{most_actors, most_harts}
 use Rattle.rv_instr.specs.declared.op.UnitKind.{UnitKind}
 use Rattle.rv_instr.specs.declared.op.UnitKind.TheVariants.{Alu, Mul, Mem}
 use Rattle.events.specs.declared.effect.Record.{Record}
@@ -28,7 +29,7 @@ both : (xs ys : List ScriptWord) → AllByRecursion IsWord xs → AllByRecursion
 both [] ys all more = more
 both (x ∷ xs) ys all more = (all.0, both xs ys all.1 more)
 
-unit_is : (o : Option ℕ) → ((k : ℕ) → o ≡ Some k → k ≤ 15) → AllByRecursion IsWord (unit_words o)
+unit_is : (o : Option ℕ) → ((k : ℕ) → o ≡ Some k → k < most_actors) → AllByRecursion IsWord (unit_words o)
 unit_is None small = tt
 unit_is (Some k) small =
     (record { in_range = small k refl; once = omega arith; limit = omega arith }, tt)
@@ -36,8 +37,8 @@ unit_is (Some k) small =
 first_is : (harts : ℕ) → 1 ≤ harts → harts ≤ 8 → AllByRecursion IsWord (first_words harts)
 first_is harts one few = (record { in_range = omega arith; once = one; limit = omega arith }, tt)
 
-turn_is : (units : Units) → ((k : ℕ) → units.alu ≡ Some k → k ≤ 15) → ((k : ℕ) → units.mul ≡ Some k → k ≤ 15)
-    → ((k : ℕ) → units.mem ≡ Some k → k ≤ 15) → (h : ℕ) → h ≤ 7 → AllByRecursion IsWord (turn_words units h)
+turn_is : (units : Units) → ((k : ℕ) → units.alu ≡ Some k → k < most_actors) → ((k : ℕ) → units.mul ≡ Some k → k < most_actors)
+    → ((k : ℕ) → units.mem ≡ Some k → k < most_actors) → (h : ℕ) → h < most_harts → AllByRecursion IsWord (turn_words units h)
 turn_is units alu mul mem h small = (
   record { in_range = (omega arith, small); once = omega arith; limit = omega arith },
   (
@@ -51,28 +52,28 @@ turn_is units alu mul mem h small = (
   ),
 )
 
-turns_are : (units : Units) → ((h : ℕ) → h ≤ 7 → AllByRecursion IsWord (turn_words units h)) → (order : List ℕ)
-    → AllByRecursion (λ h. h ≤ 7) order → AllByRecursion (AllByRecursion IsWord) (turn_lines units order)
+turns_are : (units : Units) → ((h : ℕ) → h < most_harts → AllByRecursion IsWord (turn_words units h)) → (order : List ℕ)
+    → AllByRecursion (λ h. h < most_harts) order → AllByRecursion (AllByRecursion IsWord) (turn_lines units order)
 turns_are units turn [] small = tt
 turns_are units turn (h ∷ order) small = (turn h small.0, turns_are units turn order small.1)
 
 -- The harts of a run are there.
 are_there : (setup : Setup) → setup.harts ≤ 8 → (all : List Record) → IsExecution setup all
-    → AllByRecursion (λ h. h ≤ 7) (map (λ (r : Record). r.hart) all)
+    → AllByRecursion (λ h. h < most_harts) (map (λ (r : Record). r.hart) all)
 are_there setup few [] goes = tt
 are_there setup few (r ∷ all) goes =
     let there = goes.0.there in
     (omega arith, are_there setup few all goes.1)
 
 harts_are : (setup : Setup) (order : List ℕ) (ran : Run) → setup.harts ≤ 8 → RunsAreExecutions
-    → run setup (reverse order) ≡ Some ran → AllByRecursion (λ h. h ≤ 7) order
+    → run setup (reverse order) ≡ Some ran → AllByRecursion (λ h. h < most_harts) order
 harts_are setup order ran few law runs =
     let says = law setup (reverse order) ran runs in
-    unreversed (λ h. h ≤ 7) order
-    (subst (AllByRecursion (λ h. h ≤ 7)) says.1 (are_there setup few ran.records says.0))
+    unreversed (λ h. h < most_harts) order
+    (subst (AllByRecursion (λ h. h < most_harts)) says.1 (are_there setup few ran.records says.0))
 
 unit_small : (setup : Setup) → length setup.roles ≤ 16 → (kind : UnitKind) (o : Option ℕ)
-    → o ≡ unit_of_kind setup.roles kind → (k : ℕ) → o ≡ Some k → k ≤ 15
+    → o ≡ unit_of_kind setup.roles kind → (k : ℕ) → o ≡ Some k → k < most_actors
 unit_small setup few kind o is k found =
     let inside = found_inside kind setup.roles k (sym is ∙ found) in
     omega arith

@@ -6,6 +6,7 @@ use Rattle.std.proofs.Common.{◌∙◌, refl, sym, ap, subst, inl, inr, append_
 use Rattle.std.proofs.lemmas.Bool.{cases_lt}
 use Rattle.std.proofs.lemmas.List.{get_or-set_same, length-set}
 use Rattle.std.proofs.lemmas.List.Concat.{flat_map-append}
+use Rattle.numbers.specs.Sizes.{most_actors}
 use Rattle.events.specs.declared.event.Event.{Event}
 use Rattle.exec_units.specs.Job.{JobView, DoneView}
 use Rattle.smt_model.specs.{Jobs.job}
@@ -207,7 +208,7 @@ module _ (predict : Predictor) (k : ℕ) (core : CoreView) (done : DoneView) (le
 
 -- A job that came is handed back.
 came_acted : (predict : Predictor) (k : ℕ) (core mid now : CoreView) (held between after : Holding)
-    (job_came : JobView) (e : Event) (done : DoneView) (text : List ℕ) → k ≤ 15
+    (job_came : JobView) (e : Event) (done : DoneView) (text : List ℕ) → k < most_actors
     → IssueReplied k core (said.Job job_came e) mid → done.job ≡ job_came
     → between ≡ slice_set held k (Some done) → HandsBack k between after mid now text
     → IsEmptyHanded core held → HasActed predict (AskIssue k ∷ AskComplete k ∷ []) core now after
@@ -255,7 +256,7 @@ full_acted predict asks core now after full same = record {
 }
 
 unit_by : (predict : Predictor) (k : ℕ) (core mid now : CoreView) (held between after : Holding)
-    (s : Said) (text : List ℕ) → k ≤ 15 → IssueReplied k core s mid → Holds k (job_in s) held between
+    (s : Said) (text : List ℕ) → k < most_actors → IssueReplied k core s mid → Holds k (job_in s) held between
     → HandsBackWhere (job_in s) k between after mid now text → IsEmptyHanded core held
     → HasActed predict (AskIssue k ∷ AskComplete k ∷ []) core now after
 unit_by predict k core mid now held between after (said.Job j e) text inside replied holds back so =
@@ -270,7 +271,7 @@ unit_by predict k core mid now held between after said.Full text inside replied 
     full_acted predict (AskIssue k ∷ AskComplete k ∷ []) core now after (omega (arith, full))
     (back.1 ∙ replied.unchanged)
 
-unit_acted : (predict : Predictor) (k : ℕ) (core now : CoreView) (held after : Holding) (text : List ℕ) → k ≤ 15
+unit_acted : (predict : Predictor) (k : ℕ) (core now : CoreView) (held after : Holding) (text : List ℕ) → k < most_actors
     → IsUnit k held after core now text → IsEmptyHanded core held
     → HasActed predict (AskIssue k ∷ AskComplete k ∷ []) core now after
 unit_acted predict k core now held after text inside unit so =

@@ -8,6 +8,7 @@ use Rattle.std.proofs.{lemmas.Bool.Decides.nat_tests, lemmas.Fmt.digits_decimal,
 use Rattle.std.proofs.lemmas.List.{get_or_default, map-append}
 use Rattle.std.proofs.lemmas.List.Elements.{All-append, All-cons, All-weaker}
 use Rattle.std.proofs.lemmas.List.Splits.{slice_split_at}
+use Rattle.numbers.specs.Sizes.{most_actors, most_harts}
 use Rattle.scripts.specs.{declared.actions.Action.Action, declared.actions.ScriptWord.ScriptWord}
 use Rattle.scripts.specs.declared.actions.Action.TheVariants as action
 use Rattle.scripts.specs.Script.{action_text, is_separator, pieces, IsInRange, IsScript, SpellsWord}
@@ -27,10 +28,10 @@ high_decimal n small = λ k d inside.
     let range = digit_at (decimal n) k (digits_decimal own n small) inside in
     omega (arith, range.0, get_or_default (decimal n) k d 0 inside)
 
-high_one : (letter actor : ℕ) → 42 ≤ letter → actor ≤ 15 → All IsHigh (letter ∷ decimal actor)
+high_one : (letter actor : ℕ) → 42 ≤ letter → actor < most_actors → All IsHigh (letter ∷ decimal actor)
 high_one letter actor high small = All-cons IsHigh letter (decimal actor) high (high_decimal actor (omega arith))
 
-high_two : (letter actor hart : ℕ) → 42 ≤ letter → actor ≤ 15 → hart ≤ 7
+high_two : (letter actor hart : ℕ) → 42 ≤ letter → actor < most_actors → hart < most_harts
     → All IsHigh (letter ∷ (decimal actor ++ 46 ∷ decimal hart))
 high_two letter actor hart high small few =
     All-cons IsHigh letter (decimal actor ++ 46 ∷ decimal hart) high

@@ -2,24 +2,25 @@
 use Rattle.std.proofs.Common.{◌≡◌, ℕ, ◌≤◌, List, ◌∷◌, ◌++◌, arith, sym, ◌∙◌, ◌≢◌, inl, inr}
 use Rattle.std.specs.Fmt.{decimal}
 use Rattle.std.proofs.lemmas.List.Elements.{All-cons, All-append}
+use Rattle.numbers.specs.Sizes.{most_actors, most_harts}
 use Rattle.scripts.specs.{declared.actions.Action.Action, declared.actions.ScriptWord.ScriptWord}
 use Rattle.scripts.specs.declared.actions.Action.TheVariants as action
 use Rattle.scripts.specs.Script.{action_text, IsInRange, SpellsAction, SpellsWord}
 use Rattle.scripts.proofs.{Parts.Lacks, Parts.has_byte, Parts.same_parts, Decimals.lacks_decimal}
 
 -- the parts of an actor and a hart
-pub actor_and_hart : (text left right : List ℕ) (actor hart : ℕ) → actor ≤ 15 → text ≡ left ++ 46 ∷ right
+pub actor_and_hart : (text left right : List ℕ) (actor hart : ℕ) → actor < most_actors → text ≡ left ++ 46 ∷ right
     → Lacks 46 left →
     text ≡ decimal actor ++ 46 ∷ decimal hart → (left ≡ decimal actor) × (right ≡ decimal hart)
 actor_and_hart text left right actor hart small e lacks spelled =
     same_parts 46 left right (decimal actor) (decimal hart) (sym e ∙ spelled) lacks
     (lacks_decimal 46 actor (omega arith) (omega arith))
 
-lacks_one : (letter actor : ℕ) → 48 ≤ letter → actor ≤ 15 → Lacks 42 (letter ∷ decimal actor)
+lacks_one : (letter actor : ℕ) → 48 ≤ letter → actor < most_actors → Lacks 42 (letter ∷ decimal actor)
 lacks_one letter actor high small =
     All-cons (λ b. b ≢ 42) letter (decimal actor) (omega arith) (lacks_decimal 42 actor (omega arith) (omega arith))
 
-lacks_two : (letter actor hart : ℕ) → 48 ≤ letter → actor ≤ 15 → hart ≤ 7
+lacks_two : (letter actor hart : ℕ) → 48 ≤ letter → actor < most_actors → hart < most_harts
     → Lacks 42 (letter ∷ (decimal actor ++ 46 ∷ decimal hart))
 lacks_two letter actor hart high small few =
     All-cons (λ b. b ≢ 42) letter _ (omega arith)

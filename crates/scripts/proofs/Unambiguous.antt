@@ -3,6 +3,7 @@ use Rattle.std.specs.Prelude.{◌==◌, if◌then◌else◌, Option, Some, None}
 use Rattle.std.specs.{Fmt.decimal, List.AllZip}
 use Rattle.std.proofs.Common.{◌≡◌, ℕ, ◌≤◌, List, [], ◌∷◌, ◌++◌, arith, refl, sym, ap, subst, ◌∙◌, inl, inr}
 use Rattle.std.proofs.lemmas.Fmt.{decimal_injective}
+use Rattle.numbers.specs.Sizes.{most_actors, most_harts}
 use Rattle.scripts.specs.{declared.actions.Action.Action, declared.actions.ScriptWord.ScriptWord}
 use Rattle.scripts.specs.declared.actions.Action.TheVariants as action
 use Rattle.scripts.specs.Script.{action_text, IsInRange, SpellsWord, pieces}
@@ -18,15 +19,15 @@ numbers_text actor (Some hart) = decimal actor ++ 46 ∷ decimal hart
 
 abbrev IsFew : Option ℕ → Type 0
 IsFew None = Unit {0}
-IsFew (Some hart) = hart ≤ 7
+IsFew (Some hart) = hart < most_harts
 
 same_number : (m n : ℕ) → m ≤ 100000 → n ≤ 100000 → decimal m ≡ decimal n → m ≡ n
 same_number m n small few e = decimal_injective m n (omega arith) (omega arith) e
 
-no_point : (actor : ℕ) → actor ≤ 15 → Lacks 46 (decimal actor)
+no_point : (actor : ℕ) → actor < most_actors → Lacks 46 (decimal actor)
 no_point actor small = lacks_decimal 46 actor (omega arith) (omega arith)
 
-same_numbers : (k j : ℕ) (h g : Option ℕ) → k ≤ 15 → j ≤ 15 → IsFew h → IsFew g
+same_numbers : (k j : ℕ) (h g : Option ℕ) → k < most_actors → j < most_actors → IsFew h → IsFew g
     → numbers_text k h ≡ numbers_text j g → (k ≡ j) × (h ≡ g)
 same_numbers k j None None small few in_h in_g e = (same_number k j (omega arith) (omega arith) e, refl)
 same_numbers k j None (Some g) small few in_h in_g e =
@@ -83,7 +84,7 @@ action_by name actor (Some hart) =
 record IsTold (a : Action) : Type 0 where
   again : action_by (letter a) (actor_of a) (hart_of a) ≡ a
   text : action_text a ≡ letter a ∷ numbers_text (actor_of a) (hart_of a)
-  actor : IsInRange a → actor_of a ≤ 15
+  actor : IsInRange a → actor_of a < most_actors
   hart : IsInRange a → IsFew (hart_of a)
 
 told : (a : Action) → IsTold a

@@ -2,6 +2,7 @@
 use Rattle.std.specs.Prelude.{◌≡◌, ℕ, ◌+◌, ◌≤◌, ◌==◌, nat_lt, Bool, not, ◌||◌, ◌⊎◌, List, ◌∷◌, ◌++◌}
 use Rattle.std.specs.Prelude.{length, filter}
 use Rattle.std.specs.{List.slice_split, List.AllZip, Fmt.decimal}
+use Rattle.numbers.specs.Sizes.{most_actors, most_harts}
 use Rattle.scripts.specs.{declared.actions.Action.Action, declared.actions.ScriptWord.ScriptWord}
 use Rattle.scripts.specs.{declared.script.ScriptRefused.ScriptRefused}
 use Rattle.scripts.specs.declared.actions.Action.TheVariants as action
@@ -28,15 +29,15 @@ action_text (action.Issue actor) = 73 ∷ decimal actor
 action_text (action.Complete actor) = 67 ∷ decimal actor
 action_text (action.Unit actor) = 85 ∷ decimal actor
 
--- There are 16 actors and 8 harts.
+-- Its actor and its hart are those of some core.
 abbrev pub IsInRange : Action → Type 0
-IsInRange (action.Fetch actor) = actor ≤ 15
-IsInRange (action.Decode actor hart) = (actor ≤ 15) × (hart ≤ 7)
-IsInRange (action.Rename actor hart) = (actor ≤ 15) × (hart ≤ 7)
-IsInRange (action.Retire actor hart) = (actor ≤ 15) × (hart ≤ 7)
-IsInRange (action.Issue actor) = actor ≤ 15
-IsInRange (action.Complete actor) = actor ≤ 15
-IsInRange (action.Unit actor) = actor ≤ 15
+IsInRange (action.Fetch actor) = actor < most_actors
+IsInRange (action.Decode actor hart) = (actor < most_actors) × (hart < most_harts)
+IsInRange (action.Rename actor hart) = (actor < most_actors) × (hart < most_harts)
+IsInRange (action.Retire actor hart) = (actor < most_actors) × (hart < most_harts)
+IsInRange (action.Issue actor) = actor < most_actors
+IsInRange (action.Complete actor) = actor < most_actors
+IsInRange (action.Unit actor) = actor < most_actors
 
 -- The text spells the action.
 pub record SpellsAction (text : List ℕ) (action : Action) : Type 0 where

@@ -1,4 +1,4 @@
-/// What an actor, 0 to 15, is asked to do, some of it for one hart, 0 to 7.
+/// What an actor, below `MOST_ACTORS`, is asked to do, some of it for one hart, below `MOST_HARTS`.
 #[derive(Clone, Copy, Drop)]
 pub enum Action {
     Fetch { actor: u8 },

@@ -26,6 +26,7 @@ use elf_image::Image;
 use hands::Hands;
 pub use lines::Unwritten;
 use lines::{Lines, make_room, write_lines};
+use numbers::sizes::MOST_ACTORS;
 use smt_core::{Config, Core, Finished, Predict};
 use std::io::Write;
 use std::marker::Brand;
@@ -64,7 +65,15 @@ pub fn ask_core<P: Predict, W: Write>(
         (λ finished. HasGuessed P.predicts core.past finished.core.past
         predict.old predict.new) }
 {
-    ask_dealt::<Brand, P, W>(core, Blank::new(16), words, image, config, predict, out)
+    ask_dealt::<Brand, P, W>(
+        core,
+        Blank::new(MOST_ACTORS as u64),
+        words,
+        image,
+        config,
+        predict,
+        out,
+    )
 }
 
 /// Makes the asks with the passes of this blank ledger.
@@ -78,7 +87,7 @@ fn ask_dealt<L: Origin, P: Predict, W: Write>(
     out: &mut W,
 ) -> Result<Finished, Unwritten>
     requires name { blank.name ≡ L.name }
-    requires parts { (blank.parts ≡ L.parts) × (L.parts ≡ 16) }
+    requires parts { (blank.parts ≡ L.parts) × (L.parts ≡ most_actors) }
     requires origin { (core.setup ≡ L.setup) × (core.limit ≡ L.limit) }
     requires in_range { All (λ word. IsInRange word.action) words.now }
     ensures setup { IfOk result (λ finished. finished.core.setup ≡ core.setup) }

@@ -1,5 +1,6 @@
 ghost use Rattle.std.specs.Prelude.{◌≡◌, ◌≢◌, ◌≤◌, ◌∷◌, ◌++◌, Some, IfSome, IfNone};
 ghost use Rattle.std.specs.Fmt.{decimal};
+ghost use Rattle.numbers.specs.Sizes.{most_actors, most_harts};
 ghost use Rattle.scripts.specs.declared.actions.Action.{Action as AnyAction};
 ghost use Rattle.scripts.specs.declared.actions.ScriptWord.{ScriptWord as AnyWord};
 ghost use Rattle.scripts.specs.Script.{IsInRange, SpellsAction, SpellsWord, action_text};
@@ -47,7 +48,7 @@ fn read_action(text: &[u8]) -> Option<Action>
 fn action_for_hart(letter: u8, actor: u8, hart: u8) -> Option<Action>
     ensures found { IfSome result
         (λ action. action_text action ≡ letter ∷ (decimal actor ++ 46 ∷ decimal hart)) }
-    ensures in_range { actor ≤ 15 → hart ≤ 7 → IfSome result IsInRange }
+    ensures in_range { actor < most_actors → hart < most_harts → IfSome result IsInRange }
     ensures none { IfNone result ((letter ≢ 68) × (letter ≢ 82) × (letter ≢ 84)) }
 {
     match letter {
@@ -61,7 +62,7 @@ fn action_for_hart(letter: u8, actor: u8, hart: u8) -> Option<Action>
 /// The action of this letter that is made for none.
 fn action_of_actor(letter: u8, actor: u8) -> Option<Action>
     ensures found { IfSome result (λ action. action_text action ≡ letter ∷ decimal actor) }
-    ensures in_range { actor ≤ 15 → IfSome result IsInRange }
+    ensures in_range { actor < most_actors → IfSome result IsInRange }
     ensures none { IfNone result
         ((letter ≢ 70) × (letter ≢ 73) × (letter ≢ 67) × (letter ≢ 85)) }
 {

@@ -33,7 +33,8 @@ pub(crate) struct Subcommand {
     form: &'static str,
 }
 
-/// How a script is written, for the help of `step`.
+/// How a script is written, for the help of `step`. Here and below the names of limits stand in
+/// braces (`limits`).
 const SCRIPT_FORM: &str = "\
 A script has words apart by spaces or newlines, each an ask of an actor:
   F0    actor 0 fetches
@@ -43,7 +44,7 @@ A script has words apart by spaces or newlines, each an ask of an actor:
   I3    actor 3 issues
   C3    actor 3 completes what it has issued
   U3    both: actor 3 issues and completes
-Actors are 0 to 15, and harts 0 to 7. Where *n stands behind a word, n from 1
+Actors are 0 to {LAST_ACTOR}, and harts 0 to {LAST_HART}. Where *n stands behind a word, n from 1
 to 100000, the word is asked n times, as in F0*4.";
 
 /// How a trace is written, for the help of `check`.
@@ -70,13 +71,14 @@ An order has words apart by spaces or newlines. Each is the number of a hart,
 /// How a configuration is written, for the help of the program.
 const CONFIGURATION_FORM: &str = "\
 A configuration is a TOML file. Its keys, with what holds where one is absent:
-  harts = 1            # hardware threads, 1 to 8
-  extra = 64           # physical registers beside 31 of each hart, 1 to 256
-  queue = 16           # entries of the issue queue, 4 to 64
+  harts = 1            # hardware threads, 1 to {MOST_HARTS}
+  extra = 64           # physical registers beside {RENAMED_REGISTERS} of each hart, \
+1 to {MOST_EXTRA}
+  queue = 16           # entries of the issue queue, {FEWEST_QUEUED} to {MOST_QUEUED}
   ram = 65536          # bytes of memory, a multiple of 4096 up to 16777216
-  limit = 1000000      # the most events of a history, up to 16777216
+  limit = 1000000      # the most events of a history, up to {MOST_EVENTS}
   turns = 1000000000   # the most turns of an actor, up to 10^18
-  # the role of each actor, 1 to 16 of these names:
+  # the role of each actor, 1 to {MOST_ACTORS} of these names:
   actors = [\"fetch\", \"front\", \"retire\", \"alu\", \"mul\", \"mem\"]";
 
 const IMAGE: Argument = Argument {

@@ -2,13 +2,15 @@
 //! configuration, read by `toml`. No other crate sees `clap` or `toml`.
 //!
 //! Read in this order: `line` (what the words may ask for), `files` (the files that they name),
-//! `words` (how they are read), `description` (the command line as it is described to `clap`); then
+//! `words` (how they are read), `description` (the command line as it is described to `clap`),
+//! `limits` (what stands in its texts for the limits of a core); then
 //! `settings`, `configuration` (how they are read), `roles` and `ranges` (its parts).
 #![tactic(auto)]
 
 mod configuration;
 mod description;
 mod files;
+mod limits;
 mod line;
 mod ranges;
 mod roles;

@@ -27,7 +27,7 @@ pub fn every_role() -> ArrayVec<Role, MOST_ACTORS>
     roles
 }
 
-/// The roles that the texts of a list name, 1 to 16 of them.
+/// The roles that the texts of a list name, 1 to `MOST_ACTORS` of them.
 pub fn roles_of(names: &Array) -> Option<ArrayVec<Role, MOST_ACTORS>>
     ensures found { IfSome result
         (λ roles. array_view names.now ≡ items_of (map (λ r. string (role_name r)) roles.items)) }

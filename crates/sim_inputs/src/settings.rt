@@ -10,7 +10,7 @@ pub struct Settings {
     pub config: Config,
     /// The size of the memory.
     pub ram: RamSize,
-    /// The most events that the history may have; a core takes 0 to 16,777,216.
+    /// The most events that the history may have; a core takes 0 to `MOST_EVENTS`.
     pub limit: u32,
     /// The most turns that each actor makes; a configuration has 0 to 10^18.
     pub turns: u64,

@@ -5,13 +5,14 @@ ghost use Rattle.sim_inputs.specs.CommandLine.{IsStep, IsRun, IsCheck, IsPlain, 
 ghost use Rattle.sim_inputs.specs.CommandLine.{AreWordsRefusedFor, IsRefusalOf};
 
 use crate::description::describe;
+use crate::limits::with_limits;
 use crate::line::{
     CheckCommand, Command, Line, ListCommand, PlainCommand, RunCommand, ScheduleCommand,
     StepCommand, WordsRefused,
 };
 use clap::error::ErrorKind;
 use clap::{ArgMatches, Error};
-use std::alloc::Global;
+use std::alloc::{AllocError, Global};
 
 /// Reads the program's words, its own name first. `Help` is answered where `clap` answers with its
 /// help, `Refused` where the words ask for nothing, and `Memory` where there isn't enough of it.
@@ -138,10 +139,16 @@ fn refusal(error: Error, alloc: Global) -> WordsRefused
 {
     match error.kind() {
         ErrorKind::OutOfMemory => WordsRefused::Memory,
-        ErrorKind::DisplayHelp => match error.to_string(alloc) {
+        ErrorKind::DisplayHelp => match help_in(&error, alloc) {
             Ok(text) => WordsRefused::Help(text),
             Err(_) => WordsRefused::Memory,
         },
         _ => WordsRefused::Refused,
     }
+}
+
+/// The help that an error of `clap` has, with the limits.
+fn help_in(error: &Error, alloc: Global) -> Result<String, AllocError> {
+    let help = error.to_string(alloc)?;
+    with_limits(help, alloc)
 }

@@ -3,6 +3,7 @@ use Rattle.std.proofs.Common.{◌≡◌, ℕ, ◌+◌, ◌<◌, ◌≤◌, ◌==
 use Rattle.std.proofs.Common.{reverse, None, refl, ap, ◌∙◌, arith}
 use Rattle.std.specs.Prelude.{nat_le}
 use Rattle.std.proofs.{lemmas.Bool.Decides.nat_tests, lemmas.List.take_more, lemmas.List.reverse-append}
+use Rattle.numbers.specs.Sizes.{most_actors}
 use Rattle.events.specs.{declared.event.Event.Event, Event.actor_of}
 use Rattle.events.specs.declared.event.Event.TheVariants.{Fetch, Decode, Rename, Issue, Complete, Drop, Retire}
 use Rattle.smt_model.specs.{Account.event_count, Basics.how_many, Setup.Setup, Rules.is_legal, Rules.refused}
@@ -71,12 +72,12 @@ actor_in setup past (Complete actor seq outcome) ok = (allowed setup past (Compl
 actor_in setup past (Drop actor seq) ok = (allowed setup past (Drop actor seq) ok).0
 actor_in setup past (Retire actor seq effect) ok = (allowed setup past (Retire actor seq effect) ok).0
 
-pub none_from_16 : (setup : Setup) (past : List Event) → is_legal setup past → length setup.roles ≤ 16
-    → made_from 16 past ≡ 0
-none_from_16 setup [] legal few = refl
-none_from_16 setup (e ∷ past) legal few =
-    let here = count_cons (λ x. nat_le 16 (actor_of x)) e past in
-    let rest = none_from_16 setup past legal.1 few in
+pub none_from_most : (setup : Setup) (past : List Event) → is_legal setup past → length setup.roles ≤ most_actors
+    → made_from most_actors past ≡ 0
+none_from_most setup [] legal few = refl
+none_from_most setup (e ∷ past) legal few =
+    let here = count_cons (λ x. nat_le most_actors (actor_of x)) e past in
+    let rest = none_from_most setup past legal.1 few in
     let inside = actor_in setup past e legal.0 in
-    let counts : one (nat_le 16 (actor_of e)) ≡ 0 = grind (arith, nat_tests, inside, few) in
+    let counts : one (nat_le most_actors (actor_of e)) ≡ 0 = grind (arith, nat_tests, inside, few) in
     omega (arith, here, rest, counts)

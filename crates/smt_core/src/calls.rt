@@ -1,7 +1,7 @@
 ghost use Rattle.std.specs.Prelude.{◌≡◌, ◌∷◌, [], ◌<◌, ◌≤◌, ◌↔◌, ◌⊎◌, length, reverse, map, IsTrue};
 ghost use Rattle.std.specs.Prelude.{IfSome, IfOk, Err, None, Some, true, false, ℕ, ◌+◌, ◌==◌, ◌&&◌};
 ghost use Rattle.std.specs.Prelude.{nat_lt, if◌then◌else◌};
-ghost use Rattle.numbers.specs.Sizes.{most_actors, most_events};
+ghost use Rattle.numbers.specs.Sizes.{most_actors, most_events, most_harts};
 ghost use Rattle.core_parts.specs.Agree.{PartsAgree};
 ghost use Rattle.core_state.specs.Setup.{setup_of};
 ghost use Rattle.core_state.specs.View.{CoreView};
@@ -29,7 +29,7 @@ use elf_image::Image;
 use events::Event;
 use exec_units::Done;
 use numbers::Phys;
-use numbers::sizes::MOST_REGISTERS;
+use numbers::sizes::{HART_ROOM, MOST_REGISTERS};
 use shared_memory::Memory;
 use smt_laws::Account;
 use smt_laws::laws::refines_the_plain_machine;
@@ -226,11 +226,11 @@ impl Core {
         self.state.memory()
     }
 
-    /// How many harts there are, 1 to 8.
+    /// How many harts there are, 1 to `MOST_HARTS`.
     pub fn harts(&self) -> u8
         ensures harts { result ≡ self.now.setup.harts }
         ensures some { 0 < result }
-        ensures few { result ≤ 8 }
+        ensures few { result ≤ most_harts }
     {
         self.state.harts()
     }
@@ -285,7 +285,7 @@ impl Core {
     }
 
     /// How each hart stands.
-    fn statuses(&self) -> ArrayVec<Status, 8>
+    fn statuses(&self) -> ArrayVec<Status, HART_ROOM>
         ensures { result.items ≡ map (status self.now.past) (below self.now.setup.harts) }
     {
         let mut statuses = ArrayVec::new();

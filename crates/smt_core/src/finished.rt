@@ -1,13 +1,14 @@
 ghost use Rattle.std.specs.Prelude.{◌≡◌, length, sum};
 
 use crate::calls::Core;
+use numbers::sizes::MOST_ACTORS;
 
 /// What is left of a core when nobody asks it any more.
 #[derive(Drop)]
 pub struct Finished {
     pub core: Core,
     /// How many events each place's pass has counted.
-    pub counts: [u64; 16],
+    pub counts: [u64; MOST_ACTORS],
     /// Whether at each place lay the pass of its actor, with that actor's count and last event in
     /// the history.
     pub told: bool,

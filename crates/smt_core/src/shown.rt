@@ -1,4 +1,5 @@
 ghost use Rattle.std.specs.Prelude.{◌≤◌, length};
+ghost use Rattle.numbers.specs.Sizes.{most_events};
 ghost use Rattle.smt_core.specs.Shown.{Shown};
 
 use crate::calls::Core;
@@ -8,7 +9,7 @@ use smt_laws::laws::refines_the_plain_machine;
 /// it is there for its contract.
 pub fn show(core: &Core)
     ensures shown { Shown core.now }
-    ensures few { length core.now.past ≤ 16777216 }
+    ensures few { length core.now.past ≤ most_events }
 {
     refines_the_plain_machine();
     let (_parts, _registers) = core.parts();

@@ -1,5 +1,6 @@
 use arrayvec::ArrayVec;
 use events::Record;
+use numbers::sizes::HART_ROOM;
 use smt_model::Status;
 
 /// What a history comes to.
@@ -10,7 +11,7 @@ pub struct Account<'a> {
     /// The bytes that they put out, in order.
     pub output: &'a [u8],
     /// How each hart stands.
-    pub statuses: ArrayVec<Status, 8>,
+    pub statuses: ArrayVec<Status, HART_ROOM>,
     /// How many jobs are with units.
     pub lent: u32,
     /// How many events there are.

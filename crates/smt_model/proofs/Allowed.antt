@@ -2,6 +2,7 @@
 use Rattle.std.specs.Prelude.{◌≡◌, ℕ, Bool, true, not, ◌==◌, ◌&&◌, ◌||◌, nat_lt, List, [], ◌∷◌, length, Option, Some}
 use Rattle.std.specs.Prelude.{None, is_some, is_none}
 use Rattle.std.proofs.Common.{refl, arith}
+use Rattle.numbers.specs.Sizes.{latch_room, most_accesses, most_in_flight}
 use Rattle.elf_image.specs.Image.{code_word}
 use Rattle.events.specs.{declared.effect.Outcome.Outcome, declared.effect.Effect.Effect, declared.event.Event.Event}
 use Rattle.events.specs.declared.event.Event.TheVariants.{Fetch, Decode, Rename, Issue, Complete, Drop, Retire}
@@ -53,23 +54,25 @@ pub record DecodeAllowed (setup : Setup) (past : List Event) (actor seq : ℕ) :
   pub actor_is : is_actor setup actor ≡ true
   pub fated : is (fate past seq) InDecode ≡ true
   pub oldest : of_fetched past seq (λ f. is_first seq (in_decode past f.hart)) ≡ true
-  pub room : of_fetched past seq (λ f. nat_lt (length (in_rename past f.hart)) 8) ≡ true
+  pub room : of_fetched past seq (λ f. nat_lt (length (in_rename past f.hart)) latch_room) ≡ true
 
 pub record RenameAllowed (setup : Setup) (past : List Event) (actor seq : ℕ) (phys : Option ℕ) : Type 0 where
   pub actor_is : is_actor setup actor ≡ true
   pub fated : is (fate past seq) InRename ≡ true
   pub oldest : of_fetched past seq (λ f. is_first seq (in_rename past f.hart)) ≡ true
   pub queue_room : nat_lt (length (queue past)) setup.queue ≡ true
-  pub flight_room : of_fetched past seq (λ f. nat_lt (length (flight past f.hart)) 64) ≡ true
+  pub flight_room : of_fetched past seq (λ f. nat_lt (length (flight past f.hart)) most_in_flight) ≡ true
   pub load_room :
       (
       not (is_loading (kind_of (op_at past seq)))
-      || of_fetched past seq (λ f. nat_lt (how_many (λ s. is_loading (kind_of (op_at past s))) (flight past f.hart)) 16)
+      || of_fetched past seq (λ f. nat_lt (how_many (λ s. is_loading (kind_of (op_at past s))) (flight past f.hart))
+      most_accesses)
       ) ≡ true
   pub store_room :
       (
       not (is_storing (kind_of (op_at past seq)))
-      || of_fetched past seq (λ f. nat_lt (how_many (λ s. is_storing (kind_of (op_at past s))) (flight past f.hart)) 16)
+      || of_fetched past seq (λ f. nat_lt (how_many (λ s. is_storing (kind_of (op_at past s))) (flight past f.hart))
+      most_accesses)
       ) ≡ true
   pub named : same_truth (is_some phys) (writes_register (op_at past seq)) ≡ true
   pub unclaimed : (not (is_some phys)

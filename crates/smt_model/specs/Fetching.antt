@@ -1,6 +1,7 @@
 -- Where each hart fetches next, and which hart does. [ICOUNT fetch: Tullsen and others, ISCA 1996]
 use Rattle.std.specs.Prelude.{ℕ, Bool, true, not, ◌==◌, ◌&&◌, nat_lt, if◌then◌else◌, List, [], ◌∷◌}
 use Rattle.std.specs.Prelude.{◌++◌, filter, length, Option, Some, None}
+use Rattle.numbers.specs.Sizes.{latch_room}
 use Rattle.smt_model.specs.Words.{Event, Fetch, Complete, Retire}
 use Rattle.smt_model.specs.{Basics.below, Basics.first_least, Setup.Setup, Nexts.pc_after}
 use Rattle.smt_model.specs.{Fates.is_of, Fates.mispredicts, Fates.squashes_at_retirement}
@@ -40,7 +41,7 @@ turn harts last =
 
 -- The hart is going and has room in its decode latch.
 abbrev pub may_fetch : List Event → ℕ → Bool
-may_fetch past h = is_going past h && nat_lt (length (in_decode past h)) 8
+may_fetch past h = is_going past h && nat_lt (length (in_decode past h)) latch_room
 
 -- The hart to fetch: of those that may, the one with the fewest instructions in decode, rename and
 -- queue, and of equals the first in turn.

@@ -4,6 +4,7 @@
 use Rattle.std.specs.Prelude.{◌≡◌, ℕ, Bool, not, ◌==◌, ◌&&◌, ◌||◌, nat_lt, if◌then◌else◌, List, []}
 use Rattle.std.specs.Prelude.{◌∷◌, length, Option, Some, None, is_some, is_none}
 use Rattle.std.specs.List.{list_all}
+use Rattle.numbers.specs.Sizes.{latch_room, most_accesses, most_in_flight}
 use Rattle.rv_instr.specs.Registers.{op_unit}
 use Rattle.smt_model.specs.Words.{code_word, Outcome, Effect, Event, Fetch, Decode, Rename, Issue}
 use Rattle.smt_model.specs.Words.{Complete, Drop, Retire}
@@ -61,12 +62,13 @@ is_oldest_ready setup past actor s =
     list_all (λ t. not (nat_lt t s && (is_for setup past actor t && is_ready setup past t)))
     (queue past)
 
--- If the instruction is of this kind, its hart has fewer than 16 of it in flight.
+-- If the instruction is of this kind, its hart has room for one more of it in flight.
 abbrev pub has_room : (Kind → Bool) → List Event → ℕ → Bool
 has_room is_one past s =
     not (is_one (kind_of (op_at past s)))
     || of_fetched past s
-    (λ f. nat_lt (how_many (λ t. is_one (kind_of (op_at past t))) (flight past f.hart)) 16)
+    (λ f. nat_lt (how_many (λ t. is_one (kind_of (op_at past t))) (flight past f.hart))
+    most_accesses)
 
 abbrev pub rules : Setup → List Event → Event → List (ℕ × Bool)
 rules setup past (Fetch actor hart seq pc word predicted) =
@@ -79,13 +81,13 @@ rules setup past (Decode actor seq) =
     (1, is_actor setup actor)
     ∷ (2, is (fate past seq) InDecode)
     ∷ (3, of_fetched past seq (λ f. is_first seq (in_decode past f.hart)))
-    ∷ (4, of_fetched past seq (λ f. nat_lt (length (in_rename past f.hart)) 8)) ∷ []
+    ∷ (4, of_fetched past seq (λ f. nat_lt (length (in_rename past f.hart)) latch_room)) ∷ []
 rules setup past (Rename actor seq phys) =
     (1, is_actor setup actor)
     ∷ (2, is (fate past seq) InRename)
     ∷ (3, of_fetched past seq (λ f. is_first seq (in_rename past f.hart)))
     ∷ (4, nat_lt (length (queue past)) setup.queue)
-    ∷ (5, of_fetched past seq (λ f. nat_lt (length (flight past f.hart)) 64))
+    ∷ (5, of_fetched past seq (λ f. nat_lt (length (flight past f.hart)) most_in_flight))
     ∷ (6, has_room is_loading past seq)
     ∷ (7, has_room is_storing past seq)
     ∷ (8, same_truth (is_some phys) (writes_register (op_at past seq)))

@@ -23,14 +23,15 @@ pub record Setup : Type 0 where
 abbrev pub registers_of : Setup → ℕ
 registers_of setup = first_extra setup.harts + setup.extra
 
--- The sizes of a core: 1 to 8 harts, 1 to 256 extra registers, a queue of 4 to 64, 1 to 16 actors.
+-- The sizes of a core: at least one hart, one extra register and one actor, and no more of each than
+-- there may be.
 abbrev pub are_core_sizes : ℕ → ℕ → ℕ → ℕ → Bool
 are_core_sizes harts extra queue actors =
     (nat_le 1 harts && nat_le harts most_harts) && ((nat_le 1 extra && nat_le extra most_extra)
     && ((nat_le fewest_queued queue && nat_le queue most_queued)
     && (nat_le 1 actors && nat_le actors most_actors)))
 
--- A core is made of these sizes and this limit on its history: 16,777,216 events at most.
+-- A core is made of these sizes and this limit on its history.
 abbrev pub is_accepted : Setup → ℕ → Bool
 is_accepted setup limit =
     are_core_sizes setup.harts setup.extra setup.queue (length setup.roles)

@@ -4,6 +4,7 @@ use Rattle.std.specs.Prelude.{◌≡◌, ℕ, ◌+◌, ◌<◌, ◌≤◌, Bool,
 use Rattle.std.specs.Prelude.{nat_lt, nat_le, List, [], ◌∷◌, ◌++◌, filter, Option, Some, None}
 use Rattle.std.specs.Prelude.{is_some, if◌then◌else◌}
 use Rattle.std.specs.List.{list_any}
+use Rattle.numbers.specs.Sizes.{most_registers}
 use Rattle.rv_instr.specs.declared.op.Op.{Op}
 use Rattle.events.specs.{declared.effect.Outcome.Outcome, declared.effect.Effect.Effect}
 use Rattle.smt_model.specs.{Basics.holds_of, Basics.same_number, Basics.how_many, Kinds.destination}
@@ -174,7 +175,7 @@ abbrev pub has_register : Picture → ℕ → ℕ → Bool
 has_register p x s = same_number (p.phys s) (Some x)
 
 pub record IsOwn (p : Picture) (s : ℕ) (rest : List ℕ) (x : ℕ) : Type 0 where
-  pub in_range : x < 512
+  pub in_range : x < most_registers
   pub claimed : p.free x ≡ false
   pub alone : list_any (has_register p x) rest ≡ false
 
@@ -240,7 +241,7 @@ pub record IsRetire (p q : Picture) (h n : ℕ) (x : Effect) (goes_on : ℕ) : T
   -- the register that was committed before becomes free, where there is a new one
   pub replaced :
       is_some (p.phys n) ≡ true
-      → (register_before p h n < 512) × (p.free (register_before p h n) ≡ false)
+      → (register_before p h n < most_registers) × (p.free (register_before p h n) ≡ false)
   pub free :
       (y : ℕ) → q.free y ≡ (p.free y || (is_some (p.phys n) && (y == register_before p h n)))
   pub values : FillsValues p q (p.phys n) x.value

@@ -18,8 +18,9 @@ pub enum Role {
     Mem,
 }
 
-/// The sizes of a core: 1 to 8 harts, 1 to 256 extra physical registers beside the 31 of each hart,
-/// 4 to 64 entries in the issue queue, and the roles of its 1 to 16 actors.
+/// The sizes of a core: its harts, the physical registers beside those that the harts begin with,
+/// the entries in the issue queue, and the roles of its actors. There is at least one of each, and
+/// `numbers::sizes` says how many there may be.
 #[derive(Drop)]
 pub struct Config {
     pub harts: u8,

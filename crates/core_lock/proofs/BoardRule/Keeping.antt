@@ -5,6 +5,7 @@ use mathlib.Core.Option.{some}
 use lib.ListN.{get_elem?}
 use Rattle.atomic_table.proofs.Lists.{at_set}
 use Rattle.core_lock.specs.declared.board.knowledge.Knowledge.{Knowledge}
+use Rattle.core_lock.specs.Knowledge.{board_words, stop_word}
 use Rattle.core_lock.specs.{Knowledge.Owns, BoardRule.IsTrueOf, BoardRule.IsAskedFor, BoardRule.IsConsistent}
 use Rattle.core_lock.proofs.BoardRule.Places.{at_index, had}
 
@@ -13,8 +14,8 @@ abbrev pub moved : Knowledge → ℕ → ℕ → ℕ → Knowledge
 moved v word number asked = record { first = v.first; end = v.end; asked = asked; seen = set v.seen word number }
 
 -- It is true of the words after the step.
-own_true : (words : List ℕ) (v : Knowledge) (i new asked : ℕ) → length words ≡ 17 → i < 17 → IsTrueOf words v
-    → asked ≤ slice_index (set v.seen i new) 16 → asked ≤ 4 → IsTrueOf (set words i new) (moved v i new asked)
+own_true : (words : List ℕ) (v : Knowledge) (i new asked : ℕ) → length words ≡ board_words → i < board_words → IsTrueOf words v
+    → asked ≤ slice_index (set v.seen i new) stop_word → asked ≤ 4 → IsTrueOf (set words i new) (moved v i new asked)
 own_true words v i new asked sized inside was seen few = record {
   sized = length-set _ _ _ ∙ was.sized;
   below = λ k. ⊎_elim
@@ -31,8 +32,8 @@ own_true words v i new asked sized inside was seen few = record {
 }
 
 -- What another seat knows stays true, where the word rises and isn't a count of its own, or stays.
-other_true : (words : List ℕ) (u : Knowledge) (i new : ℕ) → length words ≡ 17 → i < 17 → IsTrueOf words u
-    → slice_index words i ≤ new → (Owns u i → i < 16 → new ≡ slice_index words i) → IsTrueOf (set words i new) u
+other_true : (words : List ℕ) (u : Knowledge) (i new : ℕ) → length words ≡ board_words → i < board_words → IsTrueOf words u
+    → slice_index words i ≤ new → (Owns u i → i < stop_word → new ≡ slice_index words i) → IsTrueOf (set words i new) u
 other_true words u i new sized inside was rises same = record {
   sized = was.sized;
   below = λ k. ⊎_elim
@@ -41,7 +42,7 @@ other_true words u i new sized inside was rises same = record {
       omega (arith, s.1, b, rises))
       (λ s. let b = was.below k in omega (arith, s.1, b)) (at_index words i k new (omega (arith, sized)));
   own = λ k owns low. ⊎_elim
-      (λ s. s.1 ∙ same (subst (λ (j : ℕ). Owns u j) s.0 owns) (subst (λ (j : ℕ). j < 16) s.0 low)
+      (λ s. s.1 ∙ same (subst (λ (j : ℕ). Owns u j) s.0 owns) (subst (λ (j : ℕ). j < stop_word) s.0 low)
       ∙ ap (λ (j : ℕ). slice_index words j) (sym s.0) ∙ was.own k owns low)
       (λ s. s.1 ∙ was.own k owns low) (at_index words i k new (omega (arith, sized)));
   asked = was.asked;
@@ -50,9 +51,9 @@ other_true words u i new sized inside was rises same = record {
 
 -- The rule is consistent by a step that raises a word of the seat's own or the stop word, or leaves the word as it is.
 pub keeps : (words : List ℕ) (views : List Knowledge) (id : ℕ) (v : Knowledge) (i new asked : ℕ) → IsConsistent words views
-    → get_elem? views id ≡ some v → i < 17 → slice_index words i ≤ new
-    → Owns v i ⊎ (i < 16 → new ≡ slice_index words i) → asked ≤ slice_index (set v.seen i new) 16 → asked ≤ 4
-    → IsAskedFor (set views id (moved v i new asked)) (slice_index (set words i new) 16)
+    → get_elem? views id ≡ some v → i < board_words → slice_index words i ≤ new
+    → Owns v i ⊎ (i < stop_word → new ≡ slice_index words i) → asked ≤ slice_index (set v.seen i new) stop_word → asked ≤ 4
+    → IsAskedFor (set views id (moved v i new asked)) (slice_index (set words i new) stop_word)
     → IsConsistent (set words i new) (set views id (moved v i new asked))
 keeps words views id v i new asked consistent here inside rises may seen few stop =
     let w : Knowledge = moved v i new asked in

@@ -1,40 +1,45 @@
 ghost use Rattle.std.specs.Prelude.{◌≡◌, ◌+◌, ◌<◌, ◌≤◌, ◌++◌, ◌∷◌, [], max, replicate, map};
 ghost use Rattle.std.specs.Prelude.{All, IfOk, slice_index, slice_set};
-ghost use Rattle.core_lock.specs.Knowledge.{from};
+ghost use Rattle.core_lock.specs.Knowledge.{board_words, from, stop_word};
 ghost use Rattle.core_lock.specs.Reasons.{number_of};
 ghost use Rattle.core_lock.specs.Seats.{IsNew, IsRaised, NoneFalls};
 ghost use Rattle.core_lock.specs.Seats.{asked_by, board_of, name_of, seen_by};
 ghost use Rattle.smt_model.specs.Basics.{below};
 
 use crate::board::knowledge::{Deal, Knowledge, Look, Post, Stop};
-use crate::board::{Board, BoardView, Reason, Seat};
+use crate::board::{BOARD_WORDS, Board, BoardView, Reason, Seat};
 use crate::held::Pass;
 use atomic_table::Table;
+use numbers::sizes::MOST_ACTORS;
 use std::alloc::{AllocError, Global};
 use std::sync::ledger::Ledger;
 
 type Token = atomic_table::Seat<u8, Knowledge>;
 
 /// Where the stop word stands. The words before it are the actors' counts.
-const STOP: usize = 16;
+const STOP: usize = MOST_ACTORS;
+
+// `Board::new` writes out the seats of so many actors, and the reader's.
+const _: () = prove!(MOST_ACTORS == 16);
 
 impl Board {
-    /// A board of zeros, and its seats: seat k is actor k's for k up to 15, seat 16 a reader's.
+    /// A board of zeros, and its seats: seat k is actor k's, and the last one a reader's.
     /// Errors: want of memory.
-    pub fn new(alloc: Global) -> Result<(Board, [Seat; 17]), AllocError>
-        ensures places { IfOk result (λ r. map (λ s. s.place) r.1 ≡ below 17) }
+    pub fn new(alloc: Global) -> Result<(Board, [Seat; BOARD_WORDS]), AllocError>
+        ensures places { IfOk result (λ r. map (λ s. s.place) r.1 ≡ below board_words) }
         ensures board { IfOk result (λ r. All (λ s. board_of s ≡ name_of r.0) r.1) }
-        ensures posted { IfOk result (λ r. map (λ s. s.posted) r.1 ≡ replicate 17 0) }
-        ensures asked { IfOk result (λ r. map asked_by r.1 ≡ replicate 17 0) }
-        ensures seen { IfOk result (λ r. map seen_by r.1 ≡ replicate 17 (replicate 17 0)) }
+        ensures posted { IfOk result (λ r. map (λ s. s.posted) r.1 ≡ replicate board_words 0) }
+        ensures asked { IfOk result (λ r. map asked_by r.1 ≡ replicate board_words 0) }
+        ensures seen { IfOk result
+            (λ r. map seen_by r.1 ≡ replicate board_words (replicate board_words 0)) }
     {
-        let (table, mut rest) = Table::of_words(alloc, &[0; 17], &())?;
+        let (table, mut rest) = Table::of_words(alloc, &[0; BOARD_WORDS], &())?;
         let board = Board { table };
         let (a, b, c, d) = board.deal_four(&mut rest, 0);
         let (e, f, g, h) = board.deal_four(&mut rest, 4);
         let (i, j, k, l) = board.deal_four(&mut rest, 8);
         let (m, n, o, p) = board.deal_four(&mut rest, 12);
-        let reader = board.deal(&mut rest, 16);
+        let reader = board.deal(&mut rest, STOP as u8);
         let seats = [a, b, c, d, e, f, g, h, i, j, k, l, m, n, o, p, reader];
         Ok((board, seats))
     }
@@ -43,7 +48,7 @@ impl Board {
     pub fn post<L: Ledger>(&self, seat: &mut Seat, pass: &Pass<L>)
         requires board { board_of seat.old ≡ name_of self.now }
         requires actor { seat.old.place ≡ pass.now.actor }
-        requires inside { seat.old.place < 16 }
+        requires inside { seat.old.place < stop_word }
         requires rises { seat.old.posted ≤ pass.now.count }
         ensures board { board_of seat.new ≡ board_of seat.old }
         ensures place { seat.new.place ≡ seat.old.place }
@@ -79,13 +84,13 @@ impl Board {
         ensures asked { asked_by seat.new ≡ asked_by seat.old }
         ensures seen { result.counts ++ result.stop ∷ [] ≡ seen_by seat.new }
         ensures rises { NoneFalls (seen_by seat.old) (seen_by seat.new) }
-        ensures own { seat.old.place < 16
+        ensures own { seat.old.place < stop_word
             → slice_index result.counts seat.old.place ≡ seat.old.posted }
         ensures stop { asked_by seat.old ≤ result.stop }
         ensures reason { result.stop ≤ 4 }
     {
-        let mut counts = [0; 16];
-        for place in 0..16 {
+        let mut counts = [0; MOST_ACTORS];
+        for place in 0..MOST_ACTORS {
             counts[place] = self.look(seat, place);
         }
         let stop = self.look(seat, STOP);
@@ -96,7 +101,7 @@ impl Board {
     /// the proof of a body grows with the square of its calls.
     fn deal_four(&self, rest: &mut Token, first: u8) -> (Seat, Seat, Seat, Seat)
         requires board { rest.old.table_id ≡ name_of self.now }
-        requires inside { first ≤ 13 }
+        requires inside { first + 4 ≤ board_words }
         requires left { rest.old.me.0 ≡ from first }
         ensures a { IsNew (name_of self.now) first result.0 }
         ensures b { IsNew (name_of self.now) (first + 1) result.1 }
@@ -115,7 +120,7 @@ impl Board {
     /// Cuts the seat of the next place off what is left.
     fn deal(&self, rest: &mut Token, place: u8) -> Seat
         requires board { rest.old.table_id ≡ name_of self.now }
-        requires inside { place < 17 }
+        requires inside { place < board_words }
         requires left { rest.old.me.0 ≡ from place }
         ensures new { IsNew (name_of self.now) place result }
         ensures board { rest.new.table_id ≡ rest.old.table_id }
@@ -132,14 +137,14 @@ impl Board {
     /// Loads one word.
     fn look(&self, seat: &mut Seat, word: usize) -> u64
         requires board { board_of seat.old ≡ name_of self.now }
-        requires inside { word < 17 }
+        requires inside { word < board_words }
         ensures board { board_of seat.new ≡ board_of seat.old }
         ensures place { seat.new.place ≡ seat.old.place }
         ensures posted { seat.new.posted ≡ seat.old.posted }
         ensures asked { asked_by seat.new ≡ asked_by seat.old }
         ensures seen { seen_by seat.new ≡ slice_set (seen_by seat.old) word result }
         ensures rises { slice_index (seen_by seat.old) word ≤ result }
-        ensures reason { word ≡ 16 → result ≤ 4 }
+        ensures reason { word ≡ stop_word → result ≤ 4 }
     {
         let Seat {
             place: _,
@@ -152,7 +157,7 @@ impl Board {
     /// Stores a count in the seat's own word.
     fn write(&self, seat: &mut Seat, count: u64)
         requires board { board_of seat.old ≡ name_of self.now }
-        requires inside { seat.old.place < 16 }
+        requires inside { seat.old.place < stop_word }
         requires rises { seat.old.posted ≤ count }
         ensures board { board_of seat.new ≡ board_of seat.old }
         ensures place { seat.new.place ≡ seat.old.place }

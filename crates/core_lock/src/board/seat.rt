@@ -1,4 +1,5 @@
 ghost use Rattle.std.specs.Prelude.{◌≡◌, ◌<◌, ◌≤◌, slice_index, length};
+ghost use Rattle.core_lock.specs.Knowledge.{board_words, stop_word};
 
 use crate::board::knowledge::Knowledge;
 
@@ -9,19 +10,19 @@ pub struct Seat {
     pub(crate) place: u8,
     pub(crate) posted: u64,
     pub(crate) token: atomic_table::Seat<u8, Knowledge>,
-    ghost inside: { place < 17 },
-    ghost sized: { length token.me.0.seen ≡ 17 },
+    ghost inside: { place < board_words },
+    ghost sized: { length token.me.0.seen ≡ board_words },
     ghost begins: { token.me.0.first ≡ place },
     ghost ends: { place < token.me.0.end },
-    ghost counted: { place < 16 → slice_index token.me.0.seen place ≡ posted },
-    ghost asked: { token.me.0.asked ≤ slice_index token.me.0.seen 16 },
+    ghost counted: { place < stop_word → slice_index token.me.0.seen place ≡ posted },
+    ghost asked: { token.me.0.asked ≤ slice_index token.me.0.seen stop_word },
 }
 
 impl Seat {
-    /// Its place, 0 to 16. The seats of actors have the places 0 to 15.
+    /// Its place, below `BOARD_WORDS`. The seats of actors have the places below `MOST_ACTORS`.
     pub fn place(&self) -> u8
         ensures place { result ≡ self.now.place }
-        ensures inside { result < 17 }
+        ensures inside { result < board_words }
     {
         self.place
     }

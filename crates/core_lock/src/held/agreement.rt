@@ -4,6 +4,7 @@ ghost use Rattle.smt_core.specs.Shown.{Shown};
 
 use crate::held::Pass;
 use crate::tally::{Tally, tallies_of, tally_of};
+use numbers::sizes::MOST_ACTORS;
 use smt_core::{Core, show};
 use std::sync::ledger::Ledger;
 
@@ -26,7 +27,7 @@ fn has_counted<L: Ledger>(pass: &Pass<L>, tally: Tally) -> bool
 
 /// Whether at each place lies the pass of its actor, and the history holds of that actor just what
 /// the pass has counted. It reads the history once.
-pub(super) fn are_told<L: Ledger>(core: &Core, passes: &[Pass<L>; 16]) -> bool
+pub(super) fn are_told<L: Ledger>(core: &Core, passes: &[Pass<L>; MOST_ACTORS]) -> bool
     ensures { IsTrue result
         ↔ ((k : ℕ) (p : _) → slice_get passes.now k ≡ Some p
         → (p.actor ≡ k) × IsTold core.now.past p.actor p.count p.last) }

@@ -1,37 +1,42 @@
 ghost use Rattle.std.specs.Prelude.{◌≡◌, ◌<◌, ◌≤◌, ◌+◌, map, sum};
+ghost use Rattle.numbers.specs.Sizes.{most_actors};
 ghost use Rattle.core_lock.specs.Passes.{IsDealt};
 ghost use Rattle.core_lock.specs.Tallies.{AreTallies};
 ghost use Rattle.smt_core.specs.Counts.{made_from};
 
 use crate::held::Pass;
 use crate::tally::{Tally, tallies_of, tally_at};
+use numbers::sizes::MOST_ACTORS;
 use smt_core::Core;
 use std::sync::ledger::{Ledger, Share};
 
 /// What the history holds of each actor. It reads the history once.
-pub(super) fn tallies_in(core: &Core) -> [Tally; 16]
+pub(super) fn tallies_in(core: &Core) -> [Tally; MOST_ACTORS]
     ensures { AreTallies core.now.past result }
 {
     tallies_of(core.history())
 }
 
+// `Held::new` writes out the passes of so many.
+const _: () = prove!(MOST_ACTORS == 16);
+
 /// The passes of four actors, from `first` on. Four by four, since the proof of a body grows with the
 /// square of its calls.
 pub(super) fn deal_four<L: Ledger>(
     core: &Core,
-    tallies: &[Tally; 16],
+    tallies: &[Tally; MOST_ACTORS],
     rest: &mut Share<L>,
     first: u8,
 ) -> (Pass<L>, Pass<L>, Pass<L>, Pass<L>)
     requires tallies { AreTallies core.now.past tallies.now }
-    requires parts { rest.old.parts + first ≡ 16 }
-    requires inside { first ≤ 12 }
+    requires parts { rest.old.parts + first ≡ most_actors }
+    requires inside { first + 4 ≤ most_actors }
     requires amount { rest.old.amount ≡ made_from first core.now.past }
     ensures a { IsDealt core.now.past first result.0.actor result.0.count result.0.last }
     ensures b { IsDealt core.now.past (first + 1) result.1.actor result.1.count result.1.last }
     ensures c { IsDealt core.now.past (first + 2) result.2.actor result.2.count result.2.last }
     ensures d { IsDealt core.now.past (first + 3) result.3.actor result.3.count result.3.last }
-    ensures parts { rest.new.parts + (first + 4) ≡ 16 }
+    ensures parts { rest.new.parts + (first + 4) ≡ most_actors }
     ensures amount { rest.new.amount ≡ made_from (first + 4) core.now.past }
 {
     let a = deal(core, tallies, rest, first);
@@ -42,16 +47,21 @@ pub(super) fn deal_four<L: Ledger>(
 }
 
 /// The pass of actor `actor`, taken from what is left for it and those of greater numbers.
-fn deal<L: Ledger>(core: &Core, tallies: &[Tally; 16], rest: &mut Share<L>, actor: u8) -> Pass<L>
+fn deal<L: Ledger>(
+    core: &Core,
+    tallies: &[Tally; MOST_ACTORS],
+    rest: &mut Share<L>,
+    actor: u8,
+) -> Pass<L>
     requires tallies { AreTallies core.now.past tallies.now }
-    requires parts { rest.old.parts + actor ≡ 16 }
-    requires inside { actor < 16 }
+    requires parts { rest.old.parts + actor ≡ most_actors }
+    requires inside { actor < most_actors }
     requires amount { rest.old.amount ≡ made_from actor core.now.past }
     ensures dealt { IsDealt core.now.past actor result.actor result.count result.last }
-    ensures parts { rest.new.parts + (actor + 1) ≡ 16 }
+    ensures parts { rest.new.parts + (actor + 1) ≡ most_actors }
     ensures amount { rest.new.amount ≡ made_from (actor + 1) core.now.past }
 {
-    // The history is legal and of at most sixteen actors: that is a clause of this call.
+    // The history is legal and of no more actors than there may be: that is a clause of this call.
     let _events = core.history();
     let Tally { count, last } = tally_at(tallies, actor);
     let part = rest.split_off(1, count);
@@ -64,10 +74,10 @@ fn deal<L: Ledger>(core: &Core, tallies: &[Tally; 16], rest: &mut Share<L>, acto
 }
 
 /// The counts of the passes, in their order.
-pub(super) fn counts_of<L: Ledger>(passes: &[Pass<L>; 16]) -> [u64; 16]
+pub(super) fn counts_of<L: Ledger>(passes: &[Pass<L>; MOST_ACTORS]) -> [u64; MOST_ACTORS]
     ensures { result ≡ map (λ p. p.count) passes.now }
 {
-    let mut counts = [0; 16];
+    let mut counts = [0; MOST_ACTORS];
     for (place, pass) in passes.iter().enumerate() {
         counts[place] = pass.count;
     }
@@ -75,10 +85,10 @@ pub(super) fn counts_of<L: Ledger>(passes: &[Pass<L>; 16]) -> [u64; 16]
 }
 
 /// Takes the passes' shares of the book together.
-pub(super) fn gather<L: Ledger>(rest: Share<L>, passes: [Pass<L>; 16]) -> Share<L>
+pub(super) fn gather<L: Ledger>(rest: Share<L>, passes: [Pass<L>; MOST_ACTORS]) -> Share<L>
     requires no_parts { rest.parts ≡ 0 }
     requires no_rest { rest.amount ≡ 0 }
-    ensures parts { result.parts ≡ 16 }
+    ensures parts { result.parts ≡ most_actors }
     ensures amount { result.amount ≡ sum (map (λ p. p.count) passes) }
 {
     let mut all = rest;

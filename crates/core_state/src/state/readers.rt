@@ -109,7 +109,7 @@ impl State {
         self.history.events()
     }
 
-    /// How many harts there are, 1 to 8.
+    /// How many harts there are, 1 to `MOST_HARTS`.
     pub fn harts(&self) -> u8
         ensures value { result ≡ self.now.setup.harts }
         ensures some { 0 < result }

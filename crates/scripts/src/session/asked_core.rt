@@ -10,6 +10,7 @@ ghost use Rattle.scripts.specs.Session.{HasGuessed};
 
 use core_lock::{Ask, Held, Origin, Pass, Said};
 use elf_image::Image;
+use numbers::sizes::MOST_ACTORS;
 use smt_core::{Config, Core, Finished, Predict};
 use std::marker::Model;
 use std::sync::ledger::Blank;
@@ -19,7 +20,7 @@ use std::sync::ledger::Blank;
 #[derive(Drop)]
 pub struct AskedCore<L: Origin> {
     held: Held<L>,
-    passes: [Pass<L>; 16],
+    passes: [Pass<L>; MOST_ACTORS],
 }
 
 impl<L: Origin> Model for AskedCore<L> {
@@ -39,7 +40,7 @@ impl<L: Origin> AskedCore<L> {
     /// Deals the passes of a core.
     pub fn new(core: Core, blank: Blank) -> AskedCore<L>
         requires name { blank.name ≡ L.name }
-        requires parts { (blank.parts ≡ L.parts) × (L.parts ≡ 16) }
+        requires parts { (blank.parts ≡ L.parts) × (L.parts ≡ most_actors) }
         requires origin { (core.setup ≡ L.setup) × (core.limit ≡ L.limit) }
         ensures { result ≡ core }
     {
@@ -61,7 +62,7 @@ impl<L: Origin> AskedCore<L> {
 
     /// What is left when all was asked. No pass has missed an event.
     pub fn finish(self, image: &Image, config: &Config) -> Finished
-        requires { L.parts ≡ 16 }
+        requires { L.parts ≡ most_actors }
         ensures core { result.core ≡ self }
         ensures counts { AreCounts result.core.past result.counts }
         ensures counted { sum result.counts ≡ length result.core.past }

@@ -1,23 +1,26 @@
 ghost use Rattle.std.specs.Prelude.{◌≡◌, Some, None, replicate, slice_index_or, slice_set};
+ghost use Rattle.numbers.specs.Sizes.{most_actors};
 
+use numbers::sizes::MOST_ACTORS;
 use smt_core::Done;
 use std::mem;
 
-/// What each actor, 0 to 15, holds: a job that it has worked and not handed back.
+/// What each actor holds: a job that it has worked and not handed back.
 pub struct Hands {
-    held: [Option<Done>; 16],
+    held: [Option<Done>; MOST_ACTORS],
 }
+
+// `Hands::abandon_all` names what each of so many actors holds: no loop by value goes over what
+// can't be let go.
+const _: () = prove!(MOST_ACTORS == 16);
 
 impl Hands {
     /// No actor holds anything.
     pub fn empty() -> Hands
-        ensures { result.held ≡ replicate 16 None }
+        ensures { result.held ≡ replicate most_actors None }
     {
         Hands {
-            held: [
-                None, None, None, None, None, None, None, None, None, None, None, None, None, None,
-                None, None,
-            ],
+            held: Default::default(),
         }
     }
 
@@ -26,7 +29,7 @@ impl Hands {
     pub fn put(&mut self, actor: u8, done: Done)
         ensures { self.new.held ≡ slice_set self.old.held actor (Some done) }
     {
-        if actor < 16 {
+        if usize::from(actor) < MOST_ACTORS {
             abandon(mem::replace(&mut self.held[usize::from(actor)], Some(done)));
         } else {
             done.abandon();
@@ -38,7 +41,7 @@ impl Hands {
         ensures taken { result ≡ slice_index_or self.old.held actor None }
         ensures left { self.new.held ≡ slice_set self.old.held actor None }
     {
-        if actor < 16 {
+        if usize::from(actor) < MOST_ACTORS {
             mem::replace(&mut self.held[usize::from(actor)], None)
         } else {
             None

@@ -19,6 +19,7 @@ use Rattle.smt_laws.proofs.Registers.Namings.{in_range}
 use Rattle.smt_laws.proofs.{Registers.Counts.flights-once, Registers.Counts.apart, Events.Squash.IsSquashing}
 use Rattle.smt_laws.proofs.Events.Squash.{squash_young, squash_other}
 use Rattle.std.specs.List.{list_any}
+use Rattle.numbers.specs.Sizes.{most_registers}
 
 -- ---- Lists
 
@@ -61,7 +62,7 @@ any-one test (x ∷ xs) some =
 -- ---- Each has a register of its own
 
 pub record OwnTheirs (p : Picture) (xs : List ℕ) : Type 0 where
-  pub range : (s x : ℕ) → member s xs ≡ true → p.phys s ≡ Some x → x < 512
+  pub range : (s x : ℕ) → member s xs ≡ true → p.phys s ≡ Some x → x < most_registers
   pub claimed : (s x : ℕ) → member s xs ≡ true → p.phys s ≡ Some x → p.free x ≡ false
   pub once : (s t x : ℕ) → member s xs ≡ true → member t xs ≡ true → p.phys s ≡ Some x → p.phys t ≡ Some x → s ≡ t
 
@@ -101,7 +102,8 @@ free_not true claimed = claimed
 free_not false claimed = refl
 
 -- The flight of a history does.
-pub flight-owns : (setup : Setup) (past : List Event) → is_legal setup past → registers_of setup ≤ 512 → (h : ℕ)
+pub flight-owns : (setup : Setup) (past : List Event) → is_legal setup past → registers_of setup ≤ most_registers
+    → (h : ℕ)
     → OwnTheirs (picture setup past) (flight past h)
 flight-owns setup past legal fits h = record {
   range = λ s x m at. let under = in_range setup past legal s x at in omega arith;

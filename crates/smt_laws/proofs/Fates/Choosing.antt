@@ -6,6 +6,7 @@ use Rattle.std.specs.List.{filter}
 use Rattle.std.proofs.Common.{◌∙◌, refl, subst, inl, inr, arith}
 use Rattle.std.proofs.{lemmas.Bool.cases_Bool, lemmas.Bool.cases_eq, lemmas.Bool.cases_lt}
 use Rattle.std.proofs.{lemmas.Bool.Decides.nat_tests}
+use Rattle.numbers.specs.Sizes.{latch_room}
 use Rattle.events.specs.{declared.effect.Next.Next, declared.effect.Next.TheVariants.Pc}
 use Rattle.events.specs.{declared.effect.Next.TheVariants.Ended, declared.effect.Next.TheVariants.Stopped}
 use Rattle.events.specs.{declared.effect.Effect.Effect, declared.event.Event.Event}
@@ -58,7 +59,7 @@ turn-there harts last h inside =
 pub record IsChosen (setup : Setup) (past : List Event) (h : ℕ) : Type 0 where
   pub there : h < setup.harts
   pub going : is_going past h ≡ true
-  pub room : length (in_decode past h) < 8
+  pub room : length (in_decode past h) < latch_room
 
 pub chosen : (setup : Setup) (past : List Event) (h : ℕ) → choice setup past ≡ Some h → IsChosen setup past h
 unfolding choice
@@ -66,7 +67,7 @@ chosen setup past h found =
     let harts = turn setup.harts (last_fetched past) in
     let inside = first_least-member (icount past) (filter (may_fetch past) harts) h found in
     let passes = member-filter (may_fetch past) h harts inside in
-    let may : (is_going past h && nat_lt (length (in_decode past h)) 8) ≡ true = passes.1 in
+    let may : (is_going past h && nat_lt (length (in_decode past h)) latch_room) ≡ true = passes.1 in
     record {
       there = turn-there setup.harts (last_fetched past) h passes.0;
       going = grind arith;

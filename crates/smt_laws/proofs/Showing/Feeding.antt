@@ -6,6 +6,7 @@ use Rattle.std.specs.List.{filter}
 use Rattle.std.proofs.Common.{◌∙◌, refl, sym, ap, subst, inl, inr, arith}
 use Rattle.std.proofs.{lemmas.Bool.cases_Bool, lemmas.Bool.cases_eq}
 use Rattle.std.proofs.{lemmas.Bool.Decides.nat_tests}
+use Rattle.numbers.specs.Sizes.{latch_room}
 use Rattle.elf_image.specs.Image.{code_word}
 use Rattle.events.specs.{declared.event.Event.Event, declared.event.Event.TheVariants.Fetch}
 use Rattle.smt_model.specs.Basics.{below, first_least, least_from, same_number}
@@ -74,7 +75,7 @@ turn-member harts last h under =
     ]
 
 choice-some : (setup : Setup) (past : List Event) (h : ℕ) → h < setup.harts → is_going past h ≡ true
-    → length (in_decode past h) < 8 → IsFirstLeast (icount past) (choice setup past) h
+    → length (in_decode past h) < latch_room → IsFirstLeast (icount past) (choice setup past) h
 unfolding choice
 choice-some setup past h under going room =
     first_least-some (icount past) (filter (may_fetch past) (turn setup.harts (last_fetched past))) h

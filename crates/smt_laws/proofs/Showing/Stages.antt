@@ -3,6 +3,7 @@ use Rattle.std.specs.Prelude.{◌≡◌, ◌≢◌, ℕ, ◌<◌, ◌≤◌, Boo
 use Rattle.std.specs.Prelude.{if◌then◌else◌, List, [], ◌∷◌, length, Option, Some, None, is_some}
 use Rattle.std.proofs.Common.{◌∙◌, refl, sym, ap, subst, inl, inr, arith}
 use Rattle.std.proofs.{lemmas.Bool.cases_Bool, lemmas.Bool.cases_eq, lemmas.Bool.Decides.nat_tests}
+use Rattle.numbers.specs.Sizes.{latch_room, most_accesses, most_in_flight}
 use Rattle.rv_instr.specs.{declared.op.Op.Op}
 use Rattle.events.specs.{declared.event.Event.Event}
 use Rattle.events.specs.declared.event.Event.TheVariants.{Decode, Rename}
@@ -55,7 +56,7 @@ decode-ok setup past legal rested actor h n is_one rest latch =
       actor_is = is_one;
       fated = it.waits;
       oldest = oldest_test past (in_decode past) h n rest it.of_hart latch;
-      room = room_test past (in_rename past) length 8 h n it.of_hart
+      room = room_test past (in_rename past) length latch_room h n it.of_hart
           (place-empty past (λ f. is f InRename) renames_not_aside rested (numbers past h)) refl;
     })
 
@@ -159,13 +160,13 @@ rename-ok setup past legal place actor h n is_one alone take =
           (place-one setup past legal (λ f. is f InRename) renames_not_aside h n 2 alone decoded);
       queue_room = ap (λ xs. nat_lt (length xs) setup.queue) no_queue ∙ (let room : nat_lt 0 setup.queue ≡ true = grind
           (arith, nat_tests) in room);
-      flight_room = room_test past (flight past) length 64 h n alone.of_hart empty refl;
+      flight_room = room_test past (flight past) length most_in_flight h n alone.of_hart empty refl;
       load_room = if_one (is_loading (kind_of (op_at past n))) _
-          (room_test past (flight past) (how_many (λ s. is_loading (kind_of (op_at past s)))) 16 h n alone.of_hart empty
-          refl);
+          (room_test past (flight past) (how_many (λ s. is_loading (kind_of (op_at past s)))) most_accesses h n
+          alone.of_hart empty refl);
       store_room = if_one (is_storing (kind_of (op_at past n))) _
-          (room_test past (flight past) (how_many (λ s. is_storing (kind_of (op_at past s)))) 16 h n alone.of_hart empty
-          refl);
+          (room_test past (flight past) (how_many (λ s. is_storing (kind_of (op_at past s)))) most_accesses h n
+          alone.of_hart empty refl);
       named = take.named;
       unclaimed = take.unclaimed;
     })

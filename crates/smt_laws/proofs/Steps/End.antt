@@ -5,6 +5,7 @@ use Rattle.std.specs.List.{filter, list_any}
 use Rattle.std.proofs.Common.{◌∙◌, refl, sym, ap, subst, inl, inr, arith}
 use Rattle.std.proofs.{lemmas.Bool.cases_Bool, lemmas.Bool.cases_eq, lemmas.Bool.false_from_ne_true}
 use Rattle.std.proofs.{lemmas.Bool.Decides.nat_tests}
+use Rattle.numbers.specs.Sizes.{most_registers}
 use Rattle.rv_instr.specs.declared.op.Op.{Op}
 use Rattle.events.specs.{declared.effect.Effect.Effect, declared.event.Event.Event}
 use Rattle.events.specs.{declared.event.Event.TheVariants.Retire, declared.effect.Next.Next}
@@ -231,7 +232,7 @@ counted_alone setup past legal actor n x ok h squashing of_n =
     (ap (λ f. is f Renamed) (at_own n Halted (fate past n)))
     (others_empty setup past legal actor n x ok h of_n))
 
-own_rest : (setup : Setup) (past : List Event) → is_legal setup past → registers_of setup ≤ 512
+own_rest : (setup : Setup) (past : List Event) → is_legal setup past → registers_of setup ≤ most_registers
     → (actor n : ℕ) (x : Effect)
     → (ok : refused setup past (Retire actor n x) ≡ None) → (h : ℕ) → is_of past h n ≡ true
     → AreOwn (end_middle setup past h n x (Retire actor n x ∷ past)) (filter (λ s. not (s == n)) (flight past h))
@@ -262,7 +263,7 @@ beyond_rest setup past legal actor n x ok h of_n =
     (first_of_hart past (flight past) h n of_n (retire_allowed setup past actor n x ok).oldest) in
     beyond_all n (filter (λ s. not (s == n)) (flight past h)) (subst Rises split (flight-rises setup past legal h))
 
-squash_rest : (setup : Setup) (past : List Event) → is_legal setup past → registers_of setup ≤ 512
+squash_rest : (setup : Setup) (past : List Event) → is_legal setup past → registers_of setup ≤ most_registers
     → (actor n : ℕ) (x : Effect)
     → (ok : refused setup past (Retire actor n x) ≡ None) → is_last x.next ≡ true → (h : ℕ) → is_of past h n ≡ true
     → IsSquash (end_middle setup past h n x (Retire actor n x ∷ past)) (picture setup (Retire actor n x ∷ past)) h n
@@ -339,7 +340,8 @@ squash_rest setup past legal fit actor n x ok last h of_n =
     }
 
 pub steps-End : (setup : Setup) (past : List Event) → is_legal setup past → (actor n : ℕ) (x : Effect)
-    → refused setup past (Retire actor n x) ≡ None → registers_of setup ≤ 512 → is_last x.next ≡ true → (h : ℕ)
+    → refused setup past (Retire actor n x) ≡ None → registers_of setup ≤ most_registers → is_last x.next ≡ true
+    → (h : ℕ)
     → is_of past h n ≡ true
     → IsEnd (picture setup past) (picture setup (Retire actor n x ∷ past)) h n x
 steps-End setup past legal actor n x ok fit last h of_n = record {

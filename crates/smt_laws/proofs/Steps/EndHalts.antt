@@ -6,6 +6,7 @@ use Rattle.std.specs.List.{filter}
 use Rattle.std.proofs.Common.{◌∙◌, refl, sym, ap, subst, inl, inr, arith}
 use Rattle.std.proofs.{lemmas.Bool.cases_eq, lemmas.Bool.cases_lt, lemmas.Bool.false_from_ne_true}
 use Rattle.std.proofs.{lemmas.Bool.Decides.nat_tests, lemmas.List.append-nil}
+use Rattle.numbers.specs.Sizes.{most_registers}
 use Rattle.rv_instr.specs.declared.op.Op.{Op}
 use Rattle.events.specs.{declared.effect.Effect.Effect, declared.event.Event.Event}
 use Rattle.events.specs.{declared.event.Event.TheVariants.Retire, Event.seq_of}
@@ -85,7 +86,7 @@ first_and_rest (x ∷ xs) n rises front =
     ∙ all_pass xs in
     rw (gone, rest) (ap (λ z. z ∷ xs) here)
 
-pub halts : (setup : Setup) (past : List Event) → is_legal setup past → registers_of setup ≤ 512
+pub halts : (setup : Setup) (past : List Event) → is_legal setup past → registers_of setup ≤ most_registers
     → (actor n : ℕ) (x : Effect)
     → refused setup past (Retire actor n x) ≡ None → (h : ℕ) → is_of past h n ≡ true
     → IsHalt (picture setup past) (end_middle setup past h n x (Retire actor n x ∷ past)) h n x

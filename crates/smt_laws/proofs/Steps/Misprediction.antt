@@ -4,6 +4,7 @@ use Rattle.std.specs.Prelude.{◌≡◌, ◌≢◌, ℕ, ◌≤◌, Bool, true, 
 use Rattle.std.specs.Prelude.{None}
 use Rattle.std.proofs.Common.{◌∙◌, refl, sym, ap, subst, inl, inr, arith}
 use Rattle.std.proofs.{lemmas.Bool.cases_eq, lemmas.Bool.Decides.nat_tests}
+use Rattle.numbers.specs.Sizes.{most_registers}
 use Rattle.rv_instr.specs.declared.op.Op.{Op}
 use Rattle.events.specs.{declared.effect.Outcome.Outcome, declared.event.Event.Event}
 use Rattle.events.specs.{declared.event.Event.TheVariants.Complete}
@@ -216,7 +217,7 @@ others_mispredict setup past legal actor n o ok h g goes_on squashing of_n other
 
 squashes_rest : (setup : Setup) (past : List Event) → is_legal setup past → (actor n : ℕ) (o : Outcome)
     → (ok : refused setup past (Complete actor n o) ≡ None)
-    → registers_of setup ≤ 512 → mispredicts past n o.next ≡ true → (h : ℕ) → is_of past h n ≡ true
+    → registers_of setup ≤ most_registers → mispredicts past n o.next ≡ true → (h : ℕ) → is_of past h n ≡ true
     → IsSquash (misprediction_middle setup past h n actor o (pc_after o.next (fetch_pc setup past h)))
     (picture setup (Complete actor n o ∷ past)) h n
 squashes_rest setup past legal actor n o ok fits mispredicted_next h of_n =
@@ -282,7 +283,7 @@ squashes_rest setup past legal actor n o ok fits mispredicted_next h of_n =
 
 pub steps-Misprediction : (setup : Setup) (past : List Event) → is_legal setup past → (actor n : ℕ) (o : Outcome)
     → refused setup past (Complete actor n o) ≡ None
-    → registers_of setup ≤ 512 → mispredicts past n o.next ≡ true → (h : ℕ) → is_of past h n ≡ true
+    → registers_of setup ≤ most_registers → mispredicts past n o.next ≡ true → (h : ℕ) → is_of past h n ≡ true
     → IsMisprediction (picture setup past) (picture setup (Complete actor n o ∷ past)) h n actor o
     (pc_after o.next (fetch_pc setup past h))
 steps-Misprediction setup past legal actor n o ok fits mispredicted_next h of_n = record {

@@ -5,6 +5,7 @@ use Rattle.std.specs.Prelude.{if◌then◌else◌, List, [], ◌∷◌, Some, No
 use Rattle.std.specs.List.{filter, list_any}
 use Rattle.std.proofs.Common.{◌∙◌, refl, sym, ap, subst, inl, inr, arith}
 use Rattle.std.proofs.{lemmas.Bool.cases_Bool, lemmas.Bool.false_from_ne_true, lemmas.Bool.Decides.nat_tests}
+use Rattle.numbers.specs.Sizes.{most_registers}
 use Rattle.events.specs.{declared.effect.Effect.Effect, declared.event.Event.Event}
 use Rattle.events.specs.{declared.event.Event.TheVariants.Retire}
 use Rattle.smt_model.specs.{Basics.how_many, Basics.same_number, Setup.Setup, Setup.registers_of, Kinds.destination}
@@ -79,7 +80,8 @@ up_to_first n rest none = let here : nat_le n n ≡ true = grind (arith, nat_tes
 
 -- ---- The squash
 
-pub squash_first : (setup : Setup) (past : List Event) → is_legal setup past → registers_of setup ≤ 512 → (h n : ℕ)
+pub squash_first : (setup : Setup) (past : List Event) → is_legal setup past → registers_of setup ≤ most_registers
+    → (h n : ℕ)
     → IsSquash (picture setup past) (replay_middle setup past h n) h n
 squash_first setup past legal fit h n = record {
   own =

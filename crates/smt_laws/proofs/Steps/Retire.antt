@@ -5,6 +5,7 @@ use Rattle.std.specs.Prelude.{None, is_some}
 use Rattle.std.specs.List.{filter}
 use Rattle.std.proofs.Common.{◌∙◌, refl, sym, ap, subst, inl, inr, arith}
 use Rattle.std.proofs.{lemmas.Bool.cases_Bool, lemmas.Bool.Decides.nat_tests, lemmas.List.append-nil}
+use Rattle.numbers.specs.Sizes.{most_registers}
 use Rattle.rv_instr.specs.declared.op.Op.{Op}
 use Rattle.events.specs.{declared.effect.Effect.Effect, declared.event.Event.Event}
 use Rattle.events.specs.{declared.event.Event.TheVariants.Retire}
@@ -145,10 +146,10 @@ others-Retire setup past legal actor n effect ok calm going h g of_n other stays
     (ap (λ b. b && not (is_last effect.next)) (writes_elsewhere past g r n far.not_of)))
     (pc-Retire setup past actor n effect g stays) (status-Retire past actor n effect going g)
 
-pub replaced : (setup : Setup) (past : List Event) → is_legal setup past → registers_of setup ≤ 512
+pub replaced : (setup : Setup) (past : List Event) → is_legal setup past → registers_of setup ≤ most_registers
     → (actor n : ℕ) (effect : Effect)
     → refused setup past (Retire actor n effect) ≡ None → (h : ℕ) → is_of past h n ≡ true → is_some (phys past n) ≡ true
-    → (committed past h (destination (op_at past n)) < 512)
+    → (committed past h (destination (op_at past n)) < most_registers)
     × (is_free setup past (committed past h (destination (op_at past n))) ≡ false)
 replaced setup past legal fit actor n effect ok h of_n some =
     let d = destination (op_at past n) in
@@ -167,7 +168,7 @@ pub records-Retire : (past : List Event) (actor n : ℕ) (effect : Effect) (f : 
 records-Retire past actor n effect f at = ap (λ o. record_of o effect ++ records past) at
 
 pub steps-Retire : (setup : Setup) (past : List Event) → is_legal setup past → (actor n : ℕ) (effect : Effect)
-    → refused setup past (Retire actor n effect) ≡ None → registers_of setup ≤ 512
+    → refused setup past (Retire actor n effect) ≡ None → registers_of setup ≤ most_registers
     → squashes_at_retirement past n effect ≡ false → (h : ℕ) → is_of past h n ≡ true
     → IsRetire (picture setup past) (picture setup (Retire actor n effect ∷ past)) h n effect (fetch_pc setup past h)
 steps-Retire setup past legal actor n effect ok fit straight h of_n =

@@ -1,5 +1,6 @@
 use Rattle.std.proofs.Common.{◌≡◌, ◌∷◌, ◌+◌, ◌∙◌, take, reverse, ap, sym, subst, arith}
 use Rattle.std.proofs.lemmas.List.{length-reverse, length-take-le}
+use Rattle.numbers.specs.Sizes.{most_events}
 use Rattle.core_lock.specs.Tallies.{AreTallies}
 use Rattle.smt_core.proofs.Counting.{newest}
 use Rattle.core_lock.proofs.Tallying.{few}
@@ -9,7 +10,7 @@ pub enter-requires : goal.enter-requires
 enter-requires c =
     let so_far = take c.loop-event.event-index c.args.events.now in
     record {
-      few = few (reverse so_far) c.loop-event.tallies 16777216
+      few = few (reverse so_far) c.loop-event.tallies most_events
           (omega (
             arith,
             length-reverse so_far,

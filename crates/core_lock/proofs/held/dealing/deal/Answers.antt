@@ -1,6 +1,7 @@
 use Rattle.std.proofs.Common.{◌≡◌, ◌+◌, ◌∙◌, refl, ap, arith}
+use Rattle.numbers.specs.Sizes.{most_actors}
 use Rattle.smt_core.specs.Counts.{made_from}
-use Rattle.smt_core.proofs.Counting.{own_and_greater, none_from_16}
+use Rattle.smt_core.proofs.Counting.{own_and_greater, none_from_most}
 use Rattle.core_lock.proofs.held.dealing.deal.Goals as goal
 
 pub split_off-part-requires-clause-has_amount : goal.split_off-part-requires-clause-has_amount
@@ -15,10 +16,10 @@ split_off-part-requires-clause-left_backed g c = λ last_one.
     let past = c.args.core.now.past in
     let k = c.args.actor in
     let count = (c.tally_at-count.ensures past c.requires.tallies).counts in
-    let fifteen : k + 1 ≡ 16 = omega (arith, last_one, c.requires.parts) in
+    let last : k + 1 ≡ most_actors = omega (arith, last_one, c.requires.parts) in
     let none_left : made_from (k + 1) past ≡ 0 =
-    ap (λ n. made_from n past) fifteen
-    ∙ none_from_16 c.args.core.now.setup past c.history-events.ensures.legal c.history-events.ensures.actors in
+    ap (λ n. made_from n past) last
+    ∙ none_from_most c.args.core.now.setup past c.history-events.ensures.legal c.history-events.ensures.actors in
     omega (arith, count, c.requires.amount, own_and_greater k past, none_left)
 
 pub returns-clause-amount : goal.returns-clause-amount
