@@ -65,13 +65,9 @@ pub fn inputs_of<'a>(
     }
 }
 
-/// The files of a line that has no script, order or trace.
-pub fn image_inputs_of<'a>(config: &'a [u8], image: &'a [u8]) -> Inputs<'a> {
-    Inputs {
-        config: Ok(config),
-        image: Ok(image),
-        second: Ok(b""),
-    }
+/// The files of a line, where all could be read.
+pub fn read_inputs_of<'a>(config: &'a [u8], image: &'a [u8], second: &'a [u8]) -> Inputs<'a> {
+    inputs_of(config, image, Ok(second))
 }
 
 /// All that a line comes to: its exit status, and what it wrote to standard output and to standard

@@ -2,7 +2,7 @@
 //! of an ELF file's layout.
 
 use crate::lines::LIST;
-use crate::performing::{Performed, image_inputs_of, perform_whole};
+use crate::performing::{Performed, read_inputs_of, perform_whole};
 use crate::rows::{ends, shows, text_of};
 use std::alloc::Global;
 use std::process::Abort;
@@ -21,7 +21,7 @@ fn lists<R: Threads + Wait + Abort + Sync>(
     let Ok(file) = file_of(words, zeros, alloc) else {
         return shows(rt, "a list", "no memory", false);
     };
-    let inputs = image_inputs_of(b"", &file);
+    let inputs = read_inputs_of(b"", &file, b"");
     let Performed { status, out, err } = perform_whole(rt, &LIST, &inputs, alloc);
     let is = status == 0 && err.is_empty() && text_of(&out) == lines;
     ends(rt, "a list", status, text_of(&out), is);

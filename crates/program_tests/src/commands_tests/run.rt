@@ -3,7 +3,7 @@
 
 use super::{ENDING, SINGLE, is_like};
 use crate::lines::run_line;
-use crate::performing::{Performed, image_inputs_of, perform_whole};
+use crate::performing::{Performed, read_inputs_of, perform_whole};
 use crate::rows::{ends, shows, text_of};
 use commands::{Inputs, Unread};
 use std::alloc::Global;
@@ -123,7 +123,7 @@ fn runs<R: Threads + Wait + Abort + Sync>(rt: &R, row: &Row, alloc: Global) {
     let Ok(file) = file_of(row.words, 0, alloc) else {
         return shows(rt, row.prints, "no memory", false);
     };
-    let inputs = image_inputs_of(row.config, &file);
+    let inputs = read_inputs_of(row.config, &file, b"");
     let line = run_line(row.records, None);
     let Performed { status, out, err } = perform_whole(rt, &line, &inputs, alloc);
     let is = status == row.status && is_like(&out, row.prints) && text_of(&err) == row.faults;

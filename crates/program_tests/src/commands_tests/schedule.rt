@@ -3,7 +3,7 @@
 
 use super::RESERVING;
 use crate::lines::SCHEDULE;
-use crate::performing::{inputs_of, perform_whole};
+use crate::performing::{Performed, perform_whole, read_inputs_of};
 use crate::rows::{ends, holds, shows, text_of};
 use commands::step_bytes;
 use elf_image::load;
@@ -54,27 +54,29 @@ D0.1 R0.1 U1 U0 T0.1 F0
     ]
 }
 
-/// Asserts that an order's line prints this script, or this on standard error, and ends so.
-fn schedules<'a, R: Threads + Wait + Abort + Sync>(
-    rt: &R,
-    config: &'a [u8],
-    order: &'a str,
-    script: &str,
-    fault: &str,
+/// What an order's line prints, or writes to standard error, and how it ends.
+#[derive(Clone, Copy, Drop)]
+struct Printing {
+    config: &'static [u8],
+    order: &'static str,
+    script: &'static str,
+    fault: &'static str,
     status: u8,
-    alloc: Global,
-) {
+}
+
+/// Asserts that an order's line prints just that, and ends so.
+fn schedules<R: Threads + Wait + Abort + Sync>(rt: &R, row: &Printing, alloc: Global) {
     let Ok(file) = file_of(RESERVING, 0, alloc) else {
-        return shows(rt, order, "no memory", false);
+        return shows(rt, row.order, "no memory", false);
     };
-    let inputs = inputs_of(config, &file, Ok(order.as_bytes()));
-    let came = perform_whole(rt, &SCHEDULE, &inputs, alloc);
-    let (out, err) = (text_of(&came.out), text_of(&came.err));
-    let is = came.status == status && out == script && err == fault;
+    let inputs = read_inputs_of(row.config, &file, row.order.as_bytes());
+    let Performed { status, out, err } = perform_whole(rt, &SCHEDULE, &inputs, alloc);
+    let (out, err) = (text_of(&out), text_of(&err));
+    let is = status == row.status && out == row.script && err == row.fault;
     ends(
         rt,
-        order,
-        came.status,
+        row.order,
+        status,
         if err.is_empty() { out } else { err },
         is,
     );
@@ -83,7 +85,14 @@ fn schedules<'a, R: Threads + Wait + Abort + Sync>(
 #[test]
 fn an_order_has_its_script(rt: HostRuntime) {
     for row in &rows() {
-        schedules(&rt, row.config, row.order, row.script, "", 0, rt.alloc());
+        let printing = Printing {
+            config: row.config,
+            order: row.order,
+            script: row.script,
+            fault: "",
+            status: 0,
+        };
+        schedules(&rt, &printing, rt.alloc());
     }
 }
 
@@ -155,6 +164,13 @@ static FAULTS: [Fault; 5] = [
 #[test]
 fn an_order_without_a_script_says_why(rt: HostRuntime) {
     for row in &FAULTS {
-        schedules(&rt, row.config, row.order, "", row.fault, 2, rt.alloc());
+        let printing = Printing {
+            config: row.config,
+            order: row.order,
+            script: "",
+            fault: row.fault,
+            status: 2,
+        };
+        schedules(&rt, &printing, rt.alloc());
     }
 }
