@@ -1,5 +1,5 @@
 -- Lemmas on spelled words.
-use Rattle.std.proofs.Common.{◌≡◌, ℕ, ◌≤◌, List, ◌∷◌, ◌++◌, arith, sym, ◌∙◌, ◌≢◌, inl, inr}
+use Rattle.std.proofs.Common.{◌≡◌, ℕ, ◌≤◌, ◌<◌, List, ◌∷◌, ◌++◌, arith, sym, ◌∙◌, ◌≢◌, inl, inr}
 use Rattle.std.specs.Fmt.{decimal}
 use Rattle.std.proofs.lemmas.List.Elements.{All-cons, All-append}
 use Rattle.numbers.specs.Sizes.{most_actors, most_harts}

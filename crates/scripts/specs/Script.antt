@@ -1,5 +1,5 @@
 -- How a script is written (this project's own choice).
-use Rattle.std.specs.Prelude.{◌≡◌, ℕ, ◌+◌, ◌≤◌, ◌==◌, nat_lt, Bool, not, ◌||◌, ◌⊎◌, List, ◌∷◌, ◌++◌}
+use Rattle.std.specs.Prelude.{◌≡◌, ℕ, ◌+◌, ◌≤◌, ◌<◌, ◌==◌, nat_lt, Bool, not, ◌||◌, ◌⊎◌, List, ◌∷◌, ◌++◌}
 use Rattle.std.specs.Prelude.{length, filter}
 use Rattle.std.specs.{List.slice_split, List.AllZip, Fmt.decimal}
 use Rattle.numbers.specs.Sizes.{most_actors, most_harts}
