@@ -1,8 +1,8 @@
 //! The plain machine, by programs worked by hand from the ISA's chapters "RV32I" and "A".
 
 use events::{Effect, Next, Record};
-use shared_memory::{AccessKind, Memory};
 use sc_machine::{Plain, PlainRefused, Stopped, StoppedAt};
+use shared_memory::{AccessKind, Memory};
 use smt_core::Status;
 use std::alloc::Global;
 use std::test::Fail;
