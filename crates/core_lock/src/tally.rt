@@ -6,7 +6,7 @@ ghost use Rattle.events.specs.declared.event.Event.{Event as AnyEvent};
 ghost use Rattle.core_lock.specs.Passes.{IsTold};
 ghost use Rattle.core_lock.specs.Tallies.{AreTallies, AreBelow};
 
-use events::Event;
+use events::{Event, History};
 
 /// What a history holds of one actor: how many events it made, and the last of them.
 #[derive(Clone, Copy, Drop)]
@@ -15,19 +15,18 @@ pub struct Tally {
     pub last: Option<Event>,
 }
 
-/// What these events, the oldest first, hold of actor `actor`.
-pub fn tally_of(events: &[Event], actor: u8) -> Tally
-    requires { length events.now ≤ 16777216 }
-    ensures count { result.count ≡ event_count actor (reverse events.now) }
-    ensures last { result.last ≡ last_event_of actor (reverse events.now) }
-    ensures within { result.count ≤ length events.now }
+/// What a history holds of actor `actor`.
+pub fn tally_of(history: &History, actor: u8) -> Tally
+    ensures count { result.count ≡ event_count actor (reverse history.now.items) }
+    ensures last { result.last ≡ last_event_of actor (reverse history.now.items) }
+    ensures within { result.count ≤ length history.now.items }
 {
     let mut tally = Tally {
         count: 0,
         last: None,
     };
-    for event in events {
-        tally = with_event(tally, event, actor);
+    for event in history.iter() {
+        tally = with_event(tally, &event, actor);
     }
     tally
 }
@@ -47,17 +46,16 @@ fn with_event(tally: Tally, event: &Event, actor: u8) -> Tally
     }
 }
 
-/// What these events, the oldest first, hold of each actor 0 to 15, told in one pass over them.
-pub fn tallies_of(events: &[Event]) -> [Tally; 16]
-    requires { length events.now ≤ 16777216 }
-    ensures { AreTallies (reverse events.now) result }
+/// What a history holds of each actor 0 to 15, told in one pass over it.
+pub fn tallies_of(history: &History) -> [Tally; 16]
+    ensures { AreTallies (reverse history.now.items) result }
 {
     let mut tallies = [Tally {
         count: 0,
         last: None,
     }; 16];
-    for event in events {
-        enter(&mut tallies, event);
+    for event in history.iter() {
+        enter(&mut tallies, &event);
     }
     tallies
 }
