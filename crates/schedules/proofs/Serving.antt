@@ -19,16 +19,14 @@ pub none_there : (o : Option ℕ) → is_some o ≡ false → o ≡ None
 none_there None absent = refl
 none_there (Some k) absent = absurd (cc)
 
-pub unserved : (roles : List Role) (all : List Record) (i : ℕ) (one : Record) (kind : UnitKind) → i < length all
-    → All (IsServed roles) (take i all) → one ≡ get_or all i one → kind ≡ unit_of_record one
+pub unserved : (roles : List Role) (all : List Record) (i : ℕ) (d : Record) (kind : UnitKind) → i < length all
+    → All (IsServed roles) (take i all) → kind ≡ unit_of_record (get_or all i d)
     → unit_of_kind roles kind ≡ None → IsFirstUnserved roles all kind
-unserved roles all i one kind inside served here is_for missing = record {
+unserved roles all i d kind inside served is_for missing = record {
   before = take i all;
-  one = one;
+  one = get_or all i d;
   after = drop (i + 1) all;
-  parts = sym (take-append-drop i all)
-      ∙ (ap (λ xs. take i all ++ xs) (drop_more all i one inside)
-      ∙ ap (λ r. take i all ++ r ∷ drop (i + 1) all) (sym here));
+  parts = sym (take-append-drop i all) ∙ ap (λ xs. take i all ++ xs) (drop_more all i d inside);
   served = served;
   missing = missing;
   is_for = is_for;

@@ -1,4 +1,5 @@
-use Rattle.std.proofs.Common.{◌≡◌, ◌∷◌, ◌+◌, ◌∙◌, take, reverse, ap, sym, subst, arith}
+use Rattle.std.proofs.Common.{ℕ, ◌<◌, ◌∷◌, ◌+◌, List, length, get_or, take, reverse, sym, subst, arith}
+use Rattle.events.specs.declared.event.Event.{Event}
 use Rattle.std.proofs.lemmas.List.{length-reverse, length-take-le}
 use Rattle.core_lock.specs.Tallies.{AreTallies}
 use Rattle.smt_core.proofs.Counting.{newest}
@@ -19,12 +20,13 @@ enter-requires c =
           )) c.loop-event.invariant;
     }
 
+-- what holds of the newest event on those before it holds of all so far
+with_newest : (P : List Event → Type 0) (events : List Event) (i : ℕ) (e : Event) → i < length events
+    → P (get_or events i e ∷ reverse (take i events)) → P (reverse (take (i + 1) events))
+with_newest P events i e inside had = subst P (sym (newest events i e inside)) had
+
 pub loop-event-preserved : goal.loop-event-preserved
 loop-event-preserved c =
-    let events = c.args.events.now in
-    let i = c.loop-event.event-index in
-    let is : reverse (take (i + 1) events) ≡ c.event-item.result ∷ reverse (take i events) =
-    newest events i c.event-item.result c.loop-event-test.true
-    ∙ ap (λ e. e ∷ reverse (take i events)) (sym c.event-item.is) in
-    subst (λ past. AreTallies past c.enter.new.tallies) (sym is)
-    (c.enter.ensures (reverse (take i events)) c.loop-event.invariant)
+    with_newest (λ past. AreTallies past c.enter.new.tallies) c.args.events.now c.loop-event.event-index _
+    c.loop-event-test.true
+    (c.enter.ensures (reverse (take c.loop-event.event-index c.args.events.now)) c.loop-event.invariant)

@@ -7,9 +7,8 @@ use Rattle.schedules.proofs.units.missing_unit.Goals as goal
 
 pub returns-then-is_none-clause-missing : goal.returns-then-is_none-clause-missing
 returns-then-is_none-clause-missing c =
-    unserved c.args.roles.now c.args.records.now c.loop-record.record-index c.record-item.result
-    c.unit_of_record-kind.result c.loop-record-test.true c.loop-record.invariant c.record-item.is
-    c.unit_of_record-kind.ensures
+    unserved c.args.roles.now c.args.records.now c.loop-record.record-index _
+    c.unit_of_record-kind.result c.loop-record-test.true c.loop-record.invariant c.unit_of_record-kind.ensures
     (sym c.first_unit.ensures ∙ none_there c.first_unit.result (c.is_none.ensures ∙ ap not c.if-is_none.true))
 
 pub returns-clause-served : goal.returns-clause-served
