@@ -1,10 +1,31 @@
 -- What the history holds of each actor, event by event.
-use Rattle.std.proofs.Common.{◌≡◌, ◌∙◌, ℕ, ◌<◌, List, length, get_or, reverse, Option, ap, sym, subst, arith}
+use Rattle.std.proofs.Common.{◌≡◌, ◌∙◌, ℕ, ◌<◌, List, [], ◌∷◌, ◌++◌, length, get_or, reverse, Option, ap, sym, subst, arith}
+use Rattle.std.proofs.Common.{append_assoc, append-nil, length-append}
 use Rattle.std.proofs.lemmas.Option.{slice_get-get_or}
 use Rattle.events.specs.declared.event.Event.{Event}
 use Rattle.smt_model.specs.Account.{event_count, last_event_of}
 use Rattle.core_lock.specs.{Passes.IsTold, Tallies.AreTallies, Tallies.AreBelow, declared.tally.Tally.Tally}
 use Rattle.smt_core.proofs.Counting.{made_within}
+
+-- ---- A walk through a history: the events so far, and those to come
+
+-- one event on
+pub walked_on : (so_far left rest all : List Event) (e : Event) → left ≡ e ∷ rest → so_far ++ left ≡ all
+    → (so_far ++ e ∷ []) ++ rest ≡ all
+walked_on so_far left rest all e steps whole =
+    append_assoc so_far (e ∷ []) rest ∙ ap (λ xs. so_far ++ xs) (sym steps) ∙ whole
+
+-- at its end
+pub walked_all : (so_far left all : List Event) → left ≡ [] → so_far ++ left ≡ all → so_far ≡ all
+walked_all so_far left all none whole = sym (append-nil so_far) ∙ ap (λ xs. so_far ++ xs) (sym none) ∙ whole
+
+-- before an event those so far are fewer than all
+pub walked_few : (so_far left rest all : List Event) (e : Event) → left ≡ e ∷ rest → so_far ++ left ≡ all
+    → length so_far < length all
+walked_few so_far left rest all e steps whole =
+    omega (arith, ap length whole, length-append so_far left, ap length steps)
+
+-- ---- What stands at the places
 
 pub few : (past : List Event) (tallies : List Tally) (n : ℕ) → length past < n → AreTallies past tallies
     → AreBelow n tallies

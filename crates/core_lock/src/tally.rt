@@ -7,7 +7,7 @@ ghost use Rattle.events.specs.declared.event.Event.{Event as AnyEvent};
 ghost use Rattle.core_lock.specs.Passes.{IsTold};
 ghost use Rattle.core_lock.specs.Tallies.{AreTallies, AreBelow};
 
-use events::Event;
+use events::{Event, History};
 use numbers::sizes::MOST_ACTORS;
 
 /// What a history holds of one actor: how many events it made, and the last of them.
@@ -17,19 +17,18 @@ pub struct Tally {
     pub last: Option<Event>,
 }
 
-/// What these events, the oldest first, hold of actor `actor`.
-pub fn tally_of(events: &[Event], actor: u8) -> Tally
-    requires { length events.now ≤ most_events }
-    ensures count { result.count ≡ event_count actor (reverse events.now) }
-    ensures last { result.last ≡ last_event_of actor (reverse events.now) }
-    ensures within { result.count ≤ length events.now }
+/// What a history holds of actor `actor`.
+pub fn tally_of(history: &History, actor: u8) -> Tally
+    ensures count { result.count ≡ event_count actor (reverse history.now.items) }
+    ensures last { result.last ≡ last_event_of actor (reverse history.now.items) }
+    ensures within { result.count ≤ length history.now.items }
 {
     let mut tally = Tally {
         count: 0,
         last: None,
     };
-    for event in events {
-        tally = with_event(tally, event, actor);
+    for event in history.iter() {
+        tally = with_event(tally, &event, actor);
     }
     tally
 }
@@ -49,17 +48,16 @@ fn with_event(tally: Tally, event: &Event, actor: u8) -> Tally
     }
 }
 
-/// What these events, the oldest first, hold of each actor, told in one pass over them.
-pub fn tallies_of(events: &[Event]) -> [Tally; MOST_ACTORS]
-    requires { length events.now ≤ most_events }
-    ensures { AreTallies (reverse events.now) result }
+/// What a history holds of each actor, told in one pass over it.
+pub fn tallies_of(history: &History) -> [Tally; MOST_ACTORS]
+    ensures { AreTallies (reverse history.now.items) result }
 {
     let mut tallies = [Tally {
         count: 0,
         last: None,
     }; MOST_ACTORS];
-    for event in events {
-        enter(&mut tallies, event);
+    for event in history.iter() {
+        enter(&mut tallies, &event);
     }
     tallies
 }

@@ -22,7 +22,7 @@ pub trace_text-nil : trace_text [] ≡ ended header
 unfolding trace_text event_lines
 trace_text-nil = append-nil (ended header)
 
-trace_text-push : (es : List Event) (e : Event) → trace_text (es ++ e ∷ []) ≡ trace_text es ++ ended (line_of e)
+pub trace_text-push : (es : List Event) (e : Event) → trace_text (es ++ e ∷ []) ≡ trace_text es ++ ended (line_of e)
 unfolding trace_text event_lines
 trace_text-push es e = sym (flat_map_more (λ event. ended (line_of event)) (ended header) es e)
 
@@ -33,7 +33,7 @@ event_lines-append (e ∷ es) fs =
     ap (λ bytes. ended (line_of e) ++ bytes) (event_lines-append es fs)
     ∙ sym (append_assoc (ended (line_of e)) (event_lines es) (event_lines fs))
 
-trace_text-append : (es fs : List Event) → trace_text (es ++ fs) ≡ trace_text es ++ event_lines fs
+pub trace_text-append : (es fs : List Event) → trace_text (es ++ fs) ≡ trace_text es ++ event_lines fs
 unfolding trace_text
 trace_text-append es fs =
     ap (λ bytes. ended header ++ bytes) (event_lines-append es fs)

@@ -45,7 +45,7 @@ pub enum Event {
     },
 }
 
-// A list of ten million events is to have room in half a gigabyte.
+// A list of ten million events is to have room in half a gigabyte; a history's is smaller.
 const _: () = prove!(size_of::<Event>() <= 44);
 
 impl Event {

@@ -1,11 +1,16 @@
-//! The history: every event so far, up to a limit that is set when it is made.
+//! The history: every event so far, up to a limit that is set when it is made. It keeps them packed,
+//! and gives each back as it was.
+
+mod packed;
 
 ghost use Rattle.std.specs.Prelude.{◌≡◌, ◌∷◌, ◌++◌, [], ◌<◌, ◌≤◌, ◌↔◌, length, IsTrue, IfOk, OnOk};
+ghost use Rattle.std.specs.Prelude.{slice_get};
 ghost use Rattle.std.specs.Prelude.{OnErr, IsOk};
 ghost use Rattle.std.specs.Bool.{OnFalse};
 
 use crate::event::Event;
 use numbers::sizes::MOST_EVENTS;
+use packed::{Packed, pack};
 use std::alloc::{AllocError, Global};
 use std::marker::Model;
 
@@ -14,7 +19,7 @@ use std::marker::Model;
 #[derive(Drop)]
 pub struct History {
     limit: u32,
-    events: Vec<Event>,
+    events: Vec<Packed>,
 }
 
 impl Model for History {
@@ -28,6 +33,39 @@ impl Model for History {
     ghost view = { event_list };
 
     ghost invariant = { IsRoomy };
+}
+
+/// The events of a history, one after another. A clause sees the list of those to come.
+#[derive(Drop)]
+pub struct Events<'a> {
+    rest: &'a [Packed],
+}
+
+impl<'a> Model for Events<'a> {
+    ghost use Rattle.std.specs.Prelude.{List};
+    ghost use Rattle.events.specs.declared.event.Event.{Event as AnyEvent};
+
+    ghost Value = { List AnyEvent };
+
+    ghost use Rattle.events.specs.HistoryInside.{events_left};
+
+    ghost view = { events_left };
+}
+
+impl<'a> Iterator for Events<'a> {
+    ghost use Rattle.std.specs.Iterator.{YieldsFirst, item_count};
+
+    type Item = Event;
+
+    ghost next_gives = { YieldsFirst (λ left. left) };
+
+    ghost remaining = { item_count (λ left. left) };
+
+    fn next(&mut self) -> Option<Event> {
+        let (first, rest) = self.rest.split_first()?;
+        self.rest = rest;
+        Some(first.event())
+    }
 }
 
 /// The history has as many events as its limit allows.
@@ -61,17 +99,26 @@ impl History {
         if self.is_full() {
             return Err(Full);
         }
-        self.events.push(event).unwrap();
+        self.events.push(pack(event)).unwrap();
         Ok(())
     }
 
+    /// The event at a place, the oldest at 0; none where there are no more than `index`.
+    pub fn get(&self, index: usize) -> Option<Event>
+        ensures { result ≡ slice_get self.now.items index }
+    {
+        Some(self.events.get(index)?.event())
+    }
+
     /// All events so far, the oldest first.
-    pub fn events(&self) -> &[Event]
-        ensures events { result.now ≡ self.now.items }
-        ensures within { length result.now ≤ self.now.limit }
+    pub fn iter(&self) -> Events<'_>
+        ensures events { result ≡ self.now.items }
+        ensures within { length result ≤ self.now.limit }
         ensures small { self.now.limit ≤ Self.MAX_LIMIT }
     {
-        self.events.as_slice()
+        Events {
+            rest: self.events.as_slice(),
+        }
     }
 
     /// How many events there are.

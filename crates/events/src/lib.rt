@@ -11,5 +11,5 @@ pub mod kind;
 
 pub use effect::{Cause, Effect, Next, Outcome, Record, Written};
 pub use event::{Event, Phys, Seq};
-pub use history::{Full, History};
+pub use history::{Events, Full, History};
 pub use kind::EventKind;

@@ -44,6 +44,26 @@ struct Filled {
     first_ones: bool,
 }
 
+/// Whether a history has the first issues, so many, and no more.
+fn are_first(history: &History, count: usize) -> bool {
+    for place in 0..4usize {
+        let issue = if place < count {
+            ISSUES.get(place).copied()
+        } else {
+            None
+        };
+        if history.get(place) != issue {
+            return false;
+        }
+    }
+    for (event, issue) in history.iter().zip(&ISSUES) {
+        if event != *issue {
+            return false;
+        }
+    }
+    history.iter().count() == count
+}
+
 fn fill(limit: u8, alloc: Global) -> Option<Filled> {
     let Ok(mut history) = History::with_limit(limit as u32, alloc) else {
         return None;
@@ -57,7 +77,7 @@ fn fill(limit: u8, alloc: Global) -> Option<Filled> {
         empty: history.is_empty(),
         full: history.is_full(),
         events: history.len(),
-        first_ones: ISSUES.get(..limit as usize) == Some(history.events()),
+        first_ones: are_first(&history, limit as usize),
     })
 }
 

@@ -26,7 +26,7 @@ use arrayvec::ArrayVec;
 use core_parts::Parts;
 use core_state::{CoreRefused, State};
 use elf_image::Image;
-use events::Event;
+use events::History;
 use exec_units::Done;
 use numbers::Phys;
 use numbers::sizes::{HART_ROOM, MOST_REGISTERS};
@@ -295,11 +295,11 @@ impl Core {
         statuses
     }
 
-    /// The events so far, the oldest first.
-    pub fn history(&self) -> &[Event]
-        ensures events { reverse result.now ≡ self.now.past }
+    /// The events so far.
+    pub fn history(&self) -> &History
+        ensures events { reverse result.now.items ≡ self.now.past }
         ensures legal { is_legal self.now.setup self.now.past }
-        ensures within { length result.now ≤ self.now.limit }
+        ensures within { length result.now.items ≤ self.now.limit }
         ensures small { self.now.limit ≤ most_events }
         ensures actors { length self.now.setup.roles ≤ most_actors }
     {

@@ -13,7 +13,7 @@ pub struct Miscount {
 /// How many events of its history are each actor's.
 fn events_by_actor(core: &Core) -> [u64; 16] {
     let mut events = [0u64; 16];
-    for event in core.history() {
+    for event in core.history().iter() {
         if let Some(count) = events.get_mut(event.actor() as usize) {
             *count = count.wrapping_add(1);
         }

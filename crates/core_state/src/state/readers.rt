@@ -21,7 +21,7 @@ use crate::sizes::is_same_config;
 use arrayvec::ArrayVec;
 use core_parts::{Parts, count_jobs, registers_in, value_of};
 use elf_image::Image;
-use events::{Event, Record};
+use events::{History, Record};
 use numbers::sizes::MOST_REGISTERS;
 use numbers::{Phys, Reg, first_extra};
 use shared_memory::Memory;
@@ -97,16 +97,17 @@ impl State {
         count_jobs(&self.parts.jobs) as u32
     }
 
-    /// The events so far, the oldest first.
-    pub fn history(&self) -> &[Event]
-        ensures events { reverse result.now ≡ self.now.past }
+    /// The events so far.
+    pub fn history(&self) -> &History
+        ensures events { reverse result.now.items ≡ self.now.past }
         ensures legal { is_legal self.now.setup self.now.past }
-        ensures within { length result.now ≤ self.now.limit }
+        ensures within { length result.now.items ≤ self.now.limit }
         ensures limit { self.now.limit ≤ most_events }
         ensures actors { length self.now.setup.roles ≤ most_actors }
     {
         let _actors = self.config.roles.len();
-        self.history.events()
+        let _events = self.history.len();
+        &self.history
     }
 
     /// How many harts there are, 1 to `MOST_HARTS`.

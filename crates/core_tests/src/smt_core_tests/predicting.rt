@@ -186,7 +186,7 @@ struct Late {
 
 fn late_and_dropped(core: &mut Core) -> Option<Late> {
     let late = late_product(core)?;
-    let twelfth = core.history().get(11).copied();
+    let twelfth = core.history().get(11);
     let other_before = first_other(core, &mut Behind, &SQUASHED);
     let answer = core.complete(4, late);
     let events = core.history().len();

@@ -9,7 +9,7 @@ ghost use Rattle.event_text.specs.Trace.{ended, trace_text};
 use crate::print::push_event;
 use crate::sink::{Broken, Sink};
 use arrayvec::ArrayString;
-use events::Event;
+use events::History;
 use text_fields::push_ascii;
 
 /// Whole lines that are held back, to go out together: a put may be a call of the system.
@@ -18,20 +18,20 @@ type Piece = ArrayString<4096>;
 /// The room that any line takes, with the newline that ends it.
 const LONGEST: usize = 65;
 
-/// Puts the text of these events into a sink that hasn't failed, in pieces. It ends at the first
-/// put that fails, and puts nothing after it.
-pub fn print_trace<S: Sink>(events: &[Event], sink: &mut S) -> Result<(), Broken>
+/// Puts the text of a history's events into a sink that hasn't failed, in pieces. It ends at the
+/// first put that fails, and puts nothing after it.
+pub fn print_trace<S: Sink>(history: &History, sink: &mut S) -> Result<(), Broken>
     requires { S.has_failed sink.old ≡ false }
     ensures printed { OnOk result
-        (HasPut S.written S.has_failed sink.old sink.new (trace_text events.now)) }
-    ensures broken { OnErr result
-        (HasBroken S.written S.has_failed S.puts sink.old sink.new (trace_text events.now)) }
+        (HasPut S.written S.has_failed sink.old sink.new (trace_text history.now.items)) }
+    ensures broken { OnErr result (HasBroken S.written S.has_failed S.puts sink.old sink.new
+        (trace_text history.now.items)) }
 {
     let mut piece = Piece::new();
     push_line(&mut piece, "smt-trace 1");
-    for event in events {
+    for event in history.iter() {
         make_room(&mut piece, sink)?;
-        push_event(&mut piece, event);
+        push_event(&mut piece, &event);
         push_ascii(&mut piece, b'\n');
     }
     put_all(piece.as_str().as_bytes(), sink)

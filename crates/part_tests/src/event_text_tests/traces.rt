@@ -3,7 +3,7 @@
 use super::{others, trace};
 use crate::rows::{holds, holds_at, says};
 use event_text::{Over, TraceRefused, print_trace, read_trace};
-use events::Event;
+use events::{Event, History};
 use std::alloc::{AllocError, Global};
 use std::io;
 use std::io::{ErrorKind, Write};
@@ -31,7 +31,7 @@ fn a_trace_is_read_and_printed_again(rt: HostRuntime) -> Result<(), Fail> {
     }
     assert!(rt; read.events().len() == 18);
     let mut sink = Over::new(Vec::new(rt.alloc()));
-    print_trace(read.events(), &mut sink)?;
+    print_trace(&history_of(read.events(), rt.alloc())?, &mut sink)?;
     assert!(rt; sink.into_inner().as_slice() == text.as_slice());
     Ok(())
 }
@@ -150,14 +150,14 @@ impl Write for Narrow {
 
 /// Whether a writer with so much room takes a beginning of the text, and fails once where that
 /// isn't all of it.
-fn begins(events: &[Event], text: &[u8], room: usize, alloc: Global) -> bool {
+fn begins(history: &History, text: &[u8], room: usize, alloc: Global) -> bool {
     let mut sink = Over::new(Narrow {
         taken: Vec::new(alloc),
         room,
         calls: 0,
         failures: 0,
     });
-    let whole = print_trace(events, &mut sink).is_ok();
+    let whole = print_trace(history, &mut sink).is_ok();
     let writer = sink.into_inner();
     whole == (room >= text.len())
         && text.get(..room.min(text.len())) == Some(writer.taken.as_slice())
@@ -168,23 +168,33 @@ fn begins(events: &[Event], text: &[u8], room: usize, alloc: Global) -> bool {
 fn printing_ends_where_the_sink_fails(rt: HostRuntime) -> Result<(), Fail> {
     let text = trace_text(1, rt.alloc())?;
     let read = read_trace(text.as_slice(), rt.alloc())?;
+    let history = history_of(read.events(), rt.alloc())?;
     assert!(rt; text.len() < 600);
     for room in 0..600u32 {
-        let is = begins(read.events(), text.as_slice(), room as usize, rt.alloc());
+        let is = begins(&history, text.as_slice(), room as usize, rt.alloc());
         holds_at(&rt, room, is);
     }
     Ok(())
 }
 
 /// The 18 events, so many times.
-fn repeated(times: u32, alloc: Global) -> Result<Vec<Event>, AllocError> {
+fn repeated(times: u32, alloc: Global) -> Result<History, AllocError> {
     let mut events = Vec::new(alloc);
     for _ in 0..times {
         for (event, _) in &trace() {
             events.push(*event)?;
         }
     }
-    Ok(events)
+    history_of(events.as_slice(), alloc)
+}
+
+/// A history of these events, of which there are at most 1000.
+fn history_of(events: &[Event], alloc: Global) -> Result<History, AllocError> {
+    let mut history = History::with_limit(1000, alloc)?;
+    for event in events {
+        let _ = history.push(*event);
+    }
+    Ok(history)
 }
 
 /// A writer that counts its calls, and the bytes of the least piece that isn't the last, and of the
@@ -217,7 +227,7 @@ impl Write for Counting {
 
 #[test]
 fn lines_go_out_in_large_pieces(rt: HostRuntime) -> Result<(), Fail> {
-    let events = repeated(50, rt.alloc())?;
+    let history = repeated(50, rt.alloc())?;
     let text = trace_text(50, rt.alloc())?;
     assert!(rt; text.len() > 16384);
     let mut sink = Over::new(Counting {
@@ -227,7 +237,7 @@ fn lines_go_out_in_large_pieces(rt: HostRuntime) -> Result<(), Fail> {
         least: usize::MAX,
         greatest: 0,
     });
-    print_trace(events.as_slice(), &mut sink)?;
+    print_trace(&history, &mut sink)?;
     let writer = sink.into_inner();
     assert!(rt; writer.taken.as_slice() == text.as_slice());
     assert!(rt; writer.greatest <= 4096);
@@ -238,7 +248,7 @@ fn lines_go_out_in_large_pieces(rt: HostRuntime) -> Result<(), Fail> {
 
 #[test]
 fn printing_ends_in_the_piece_where_the_sink_fails(rt: HostRuntime) -> Result<(), Fail> {
-    let events = repeated(50, rt.alloc())?;
+    let history = repeated(50, rt.alloc())?;
     let text = trace_text(50, rt.alloc())?;
     let long = text.len();
     for room in [
@@ -254,7 +264,7 @@ fn printing_ends_in_the_piece_where_the_sink_fails(rt: HostRuntime) -> Result<()
         long,
         long.saturating_add(1),
     ] {
-        let is = begins(events.as_slice(), text.as_slice(), room, rt.alloc());
+        let is = begins(&history, text.as_slice(), room, rt.alloc());
         holds_at(&rt, u32::try_from(room).unwrap_or(u32::MAX), is);
     }
     Ok(())

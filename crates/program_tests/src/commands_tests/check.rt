@@ -11,6 +11,7 @@ use crate::rows::{ends, holds, text_of};
 use actors::StaticPredictor;
 use commands::{Unread, step_bytes};
 use event_text::{Over, print_trace, read_trace};
+use events::History;
 use reports::{report, status_of};
 use sim_inputs::read_config;
 use std::alloc::Global;
@@ -194,8 +195,14 @@ fn is_read_back(text: &[u8], alloc: Global) -> bool {
     let Ok(trace) = read_trace(text, alloc) else {
         return false;
     };
+    let Ok(mut history) = History::with_limit(1000, alloc) else {
+        return false;
+    };
+    for event in trace.events() {
+        let _ = history.push(*event);
+    }
     let mut sink = Over::new(Vec::new(alloc));
-    print_trace(trace.events(), &mut sink).is_ok() && sink.into_inner().as_slice() == text
+    print_trace(&history, &mut sink).is_ok() && sink.into_inner().as_slice() == text
 }
 
 /// Asserts that a run's trace is that of its asks, is read back, and is accepted with its report.

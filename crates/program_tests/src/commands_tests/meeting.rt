@@ -77,7 +77,7 @@ struct Met {
 
 fn completions(finished: &Finished, unit: u8) -> u32 {
     let mut count = 0u32;
-    for event in finished.core.history() {
+    for event in finished.core.history().iter() {
         if matches!(event, Event::Complete { .. }) && event.actor() == unit {
             count = count.wrapping_add(1);
         }

@@ -1,33 +1,33 @@
-use Rattle.std.proofs.Common.{ℕ, ◌<◌, ◌∷◌, ◌+◌, List, length, get_or, take, reverse, sym, subst, arith}
-use Rattle.events.specs.declared.event.Event.{Event}
-use Rattle.std.proofs.lemmas.List.{length-reverse, length-take-le}
+use Rattle.std.proofs.Common.{[], ◌∷◌, ◌∙◌, reverse, sym, subst, arith}
+use Rattle.std.proofs.lemmas.List.{length-reverse, reverse-append}
 use Rattle.numbers.specs.Sizes.{most_events}
 use Rattle.core_lock.specs.Tallies.{AreTallies}
-use Rattle.smt_core.proofs.Counting.{newest}
-use Rattle.core_lock.proofs.Tallying.{few}
+use Rattle.core_lock.proofs.Tallying.{few, walked_all, walked_few, walked_on}
 use Rattle.core_lock.proofs.tally.tallies_of.Goals as goal
 
 pub enter-requires : goal.enter-requires
 enter-requires c =
-    let so_far = take c.loop-event.event-index c.args.events.now in
+    let so_far = c.loop-event.yielded in
+    let fewer = walked_few so_far c.loop-event.event-iterator c.next.new.self c.args.history.now.items c.in-Some.event
+    c.in-Some.ensures.steps c.loop-event.invariant.whole in
     record {
       few = few (reverse so_far) c.loop-event.tallies most_events
-          (omega (
-            arith,
-            length-reverse so_far,
-            length-take-le c.loop-event.event-index c.args.events.now (omega (arith, c.loop-event-test.true)),
-            c.loop-event-test.true,
-            c.requires,
-          )) c.loop-event.invariant;
+          (omega (arith, length-reverse so_far, fewer, c.iter-event-items.ensures.within, c.iter-event-items.ensures.small))
+          c.loop-event.invariant.tallies;
     }
-
--- what holds of the newest event on those before it holds of all so far
-with_newest : (P : List Event → Type 0) (events : List Event) (i : ℕ) (e : Event) → i < length events
-    → P (get_or events i e ∷ reverse (take i events)) → P (reverse (take (i + 1) events))
-with_newest P events i e inside had = subst P (sym (newest events i e inside)) had
 
 pub loop-event-preserved : goal.loop-event-preserved
 loop-event-preserved c =
-    with_newest (λ past. AreTallies past c.enter.new.tallies) c.args.events.now c.loop-event.event-index _
-    c.loop-event-test.true
-    (c.enter.ensures (reverse (take c.loop-event.event-index c.args.events.now)) c.loop-event.invariant)
+    let so_far = c.loop-event.yielded in
+    record {
+      whole = walked_on so_far c.loop-event.event-iterator c.next.new.self c.args.history.now.items c.in-Some.event
+          c.in-Some.ensures.steps c.loop-event.invariant.whole;
+      tallies = subst (λ past. AreTallies past c.enter.new.tallies) (sym (reverse-append so_far (c.in-Some.event ∷ [])))
+          (c.enter.ensures (reverse so_far) c.loop-event.invariant.tallies);
+    }
+
+pub returns : goal.returns
+returns c =
+    subst (λ events. AreTallies (reverse events) c.loop-event.tallies)
+    (walked_all c.loop-event.yielded c.loop-event.event-iterator c.args.history.now.items c.in-None.ensures.steps.0
+    c.loop-event.invariant.whole) c.loop-event.invariant.tallies

@@ -6,8 +6,8 @@ use Rattle.core_lock.proofs.held.Held.new.Goals as goal
 
 pub deal_four-a-requires-clause-amount : goal.deal_four-a-requires-clause-amount
 deal_four-a-requires-clause-amount g c =
-    let long : length c.history.result.now ≡ length c.args.core.past =
-    sym (length-reverse c.history.result.now) ∙ ap length c.history.ensures.events in
+    let long : length c.history.result.now.items ≡ length c.args.core.past =
+    sym (length-reverse c.history.result.now.items) ∙ ap length c.history.ensures.events in
     omega (arith, c.add.ensures.amount, c.open-book.ensures.amount, long, all_from_0 c.args.core.past)
 
 pub deal_four-e-requires-clause-parts : goal.deal_four-e-requires-clause-parts
