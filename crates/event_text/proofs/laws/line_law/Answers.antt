@@ -1,4 +1,4 @@
-use Rattle.event_text.proofs.{LineOnly.event_of_only, RangeLaws.HasShortWrite-in_range, ReadBack.event_of-line_of}
+use Rattle.event_text.proofs.{LineLaws.event_of_only, RangeLaws.HasShortWrite-in_range, LineLaws.event_of-line_of}
 use Rattle.event_text.proofs.laws.line_law.Goals as goal
 
 pub returns-clause-printed : goal.returns-clause-printed

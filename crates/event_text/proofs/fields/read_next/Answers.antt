@@ -1,6 +1,6 @@
 use Rattle.std.proofs.Common.{rules}
 use Rattle.event_text.specs.Reading.{next_field}
-use Rattle.event_text.proofs.read.read_next.Goals as goal
+use Rattle.event_text.proofs.fields.read_next.Goals as goal
 
 pub returns-in_default : goal.returns-in_default
 unfolding next_field

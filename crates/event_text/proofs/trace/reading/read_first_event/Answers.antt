@@ -1,7 +1,7 @@
 use Rattle.std.proofs.Common.{◌≡◌, Ok, sym}
 use Rattle.event_text.specs.Reading.{event_of}
-use Rattle.event_text.proofs.LineOnly.{event_of_only}
-use Rattle.event_text.proofs.trace.reading.read_any_line.Goals as goal
+use Rattle.event_text.proofs.LineLaws.{event_of_only}
+use Rattle.event_text.proofs.trace.reading.read_first_event.Goals as goal
 
 pub returns-in-Ok-clause-read : goal.returns-in-Ok-clause-read
 returns-in-Ok-clause-read c =
