@@ -1,8 +1,9 @@
 pub mod FieldLaws
-pub mod LineFields
+pub mod FirstNext
 pub mod Joining
 pub mod Lengths
 pub mod LineEnds
+pub mod LineFields
 pub mod LineLaws
 pub mod RangeLaws
 pub mod Readings

@@ -114,8 +114,37 @@ record Reads (k : EventKind) (e : Event) (fields : List ℕ) : Type 0 where
   its_kind : event_kind e ≡ k
 
 reads : (k : EventKind) (e : Event) (text : List ℕ) → EventParts trace_ranges k e text → Reads k e text
-reads kind.Fetch e text (actor, a, t1, is1, (hart, h, t2, is2, (seq, s, t3, is3, (pc, p, t4, is4, (word, w, t5, is5,
-    (predicted, (n, is6), makes)))))) =
+reads kind.Fetch e text (
+  actor,
+  a,
+  t1,
+  is1,
+  (
+    hart,
+    h,
+    t2,
+    is2,
+    (
+      seq,
+      s,
+      t3,
+      is3,
+      (
+        pc,
+        p,
+        t4,
+        is4,
+        (
+          word,
+          w,
+          t5,
+          is5,
+          (predicted, (n, is6), makes),
+        ),
+      ),
+    ),
+  ),
+) =
     let same : Fetch actor hart seq pc word predicted ≡ e = cc makes in
     rw (← same) (record {
       within = ((actor_in actor a, seq_in seq s), hart_in hart h, p, w, n);
@@ -154,14 +183,51 @@ reads kind.Retire e text (actor, a, t1, is1, (seq, s, t2, is2, (effect, (o, is3)
     })
 
 spells : (e : Event) → IsEventInRange e → EventParts trace_ranges (event_kind e) e (joined (fields_of e))
-spells (Fetch actor hart seq pc word predicted) within =
-    (actor, in_actor actor within.0.0, _, refl, (hart, in_hart hart within.1, _, refl,
-    (seq, in_seq seq within.0.1, _, refl, (pc, within.2, _, refl, (word, within.3, _, refl,
-    (predicted, (within.4, refl), refl))))))
+spells (Fetch actor hart seq pc word predicted) within = (
+  actor,
+  in_actor actor within.0.0,
+  _,
+  refl,
+  (
+    hart,
+    in_hart hart within.1,
+    _,
+    refl,
+    (
+      seq,
+      in_seq seq within.0.1,
+      _,
+      refl,
+      (
+        pc,
+        within.2,
+        _,
+        refl,
+        (
+          word,
+          within.3,
+          _,
+          refl,
+          (predicted, (within.4, refl), refl),
+        ),
+      ),
+    ),
+  ),
+)
 spells (Decode actor seq) within = (actor, in_actor actor within.0, _, refl, (seq, (in_seq seq within.1, refl), refl))
-spells (Rename actor seq phys) within =
-    (actor, in_actor actor within.0.0, _, refl, (seq, in_seq seq within.0.1, _, refl,
-    (phys, (in_phys phys within.1, refl), refl)))
+spells (Rename actor seq phys) within = (
+  actor,
+  in_actor actor within.0.0,
+  _,
+  refl,
+  (
+    seq,
+    in_seq seq within.0.1,
+    _,
+    refl,
+    (phys, (in_phys phys within.1, refl), refl),
+  ),
+)
 spells (Issue actor seq) within = (actor, in_actor actor within.0, _, refl, (seq, (in_seq seq within.1, refl), refl))
 spells (Complete actor seq outcome) within =
     (actor, in_actor actor within.0.0, _, refl, (seq, in_seq seq within.0.1, _, refl, (outcome, (within.1, refl), refl)))

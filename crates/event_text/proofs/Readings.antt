@@ -42,9 +42,25 @@ outcome_to o text (value, v, t1, is1, (next, n, t2, is2, (addr, a, t3, is3, (dat
     )
 
 outcome_from : (o : Outcome) (text : List ℕ) → SpellsOutcome o text → OutcomeParts o text
-outcome_from o text (within, is) =
-    (o.value, within.value, _, is, (o.next, within.next, _, refl, (o.addr, within.addr, _, refl,
-    (o.datum, within.datum, _, refl, (o.out, (within.out, refl), refl)))))
+outcome_from o text (within, is) = (
+  o.value,
+  within.value,
+  _,
+  is,
+  (
+    o.next,
+    within.next,
+    _,
+    refl,
+    (
+      o.addr,
+      within.addr,
+      _,
+      refl,
+      (o.datum, within.datum, _, refl, (o.out, (within.out, refl), refl)),
+    ),
+  ),
+)
 
 outcome_reading : {Small : Type 0} → IsReading Small 5 outcome_of SpellsOutcome
 unfolding outcome_of
@@ -74,7 +90,13 @@ record Split (w : Option Written) : Type 0 where
 
 split : (w : Option Written) → IfSome w IsWritten → Split w
 split None within = record {
-  addr = None; number = None; addr_in = tt; number_in = tt; address = refl; datum = refl; back = refl;
+  addr = None;
+  number = None;
+  addr_in = tt;
+  number_in = tt;
+  address = refl;
+  datum = refl;
+  back = refl;
 }
 split (Some w) within = record {
   addr = Some w.addr;
@@ -98,8 +120,31 @@ abbrev pub SpellsEffect : Effect → List ℕ → Type 0
 SpellsEffect e text = IsEffect e × (text ≡ joined (effect_fields e))
 
 effect_to : (e : Effect) (text : List ℕ) → EffectParts e text → SpellsEffect e text
-effect_to e text (value, v, t1, is1, (next, n, t2, is2, (addr, a, t3, is3, (number, d, t4, is4,
-    (write, joins, (out, (b, is5), makes)))))) =
+effect_to e text (
+  value,
+  v,
+  t1,
+  is1,
+  (
+    next,
+    n,
+    t2,
+    is2,
+    (
+      addr,
+      a,
+      t3,
+      is3,
+      (
+        number,
+        d,
+        t4,
+        is4,
+        (write, joins, (out, (b, is5), makes)),
+      ),
+    ),
+  ),
+) =
     let same : ◌≡◌ {A = Effect} (record { value = value; next = next; write = write; out = out }) e = cc makes in
     let both = written_only addr number write a d joins in
     rw (← same) (
@@ -111,10 +156,31 @@ effect_from : (e : Effect) (text : List ℕ) → SpellsEffect e text → EffectP
 effect_from e text (within, is) =
     let parts = split e.write within.write in
     let out = optional (hex 2) e.out in
-    let behind = datum_text e.write ++ 32 ∷ out in
-    (e.value, within.value, _, is, (e.next, within.next, _, refl, (parts.addr, parts.addr_in, behind,
-    ap (λ f. f ++ 32 ∷ behind) parts.address, (parts.number, parts.number_in, out,
-    ap (λ f. f ++ 32 ∷ out) parts.datum, (e.write, parts.back, (e.out, (within.out, refl), refl))))))
+    let behind = datum_text e.write ++ 32 ∷ out in (
+      e.value,
+      within.value,
+      _,
+      is,
+      (
+        e.next,
+        within.next,
+        _,
+        refl,
+        (
+          parts.addr,
+          parts.addr_in,
+          behind,
+          ap (λ f. f ++ 32 ∷ behind) parts.address,
+          (
+            parts.number,
+            parts.number_in,
+            out,
+            ap (λ f. f ++ 32 ∷ out) parts.datum,
+            (e.write, parts.back, (e.out, (within.out, refl), refl)),
+          ),
+        ),
+      ),
+    )
 
 effect_reading : {Small : Type 0} → IsReading Small 5 effect_of SpellsEffect
 unfolding effect_of

@@ -1,7 +1,7 @@
 //! The fields of a line: one is read, the last of a text, or the first, with the text of those
 //! behind it.
 
-ghost use Rattle.std.specs.Prelude.{◌≡◌, ◌≤◌, IfOk, IfErr, IfSome, Ok, Err};
+ghost use Rattle.std.specs.Prelude.{◌≡◌, IfOk, IfErr, IfSome, Ok, Err};
 ghost use Rattle.text_fields.specs.Reading.{decimal_field, hex_field, optional_field};
 ghost use Rattle.text_fields.specs.Splitting.{field, rest};
 ghost use Rattle.events.specs.Width.{HasWidth, IsWidth};
@@ -10,44 +10,9 @@ ghost use Rattle.event_text.specs.Reading.{sized_field, written_of};
 
 use events::{Next, Phys, Written};
 use text_fields::{
-    FieldError, read_decimal, read_hex, read_optional_decimal, read_optional_hex, split_field,
+    FieldError, first_decimal, first_hex, read_hex, read_optional_decimal, read_optional_hex,
+    split_field,
 };
-
-/// A decimal number of at most `max`, and the fields behind it.
-#[inline]
-pub(crate) fn first_number(fields: &[u8], max: u32) -> Result<(u32, &[u8]), FieldError>
-    ensures read { IfOk result (λ p. decimal_field max (field 32 fields.now) ≡ Ok p.0) }
-    ensures within { IfOk result (λ p. p.0 ≤ max) }
-    ensures behind { IfOk result (λ p. p.1.now ≡ rest 32 fields.now) }
-    ensures refused { IfErr result (λ error. decimal_field max (field 32 fields.now) ≡ Err error) }
-{
-    let (first, behind) = split_field(fields, b' ');
-    Ok((read_decimal(first, max)?, behind))
-}
-
-/// A word, and the fields behind it.
-#[inline]
-pub(crate) fn first_word(fields: &[u8]) -> Result<(u32, &[u8]), FieldError>
-    ensures read { IfOk result (λ p. hex_field 8 (field 32 fields.now) ≡ Ok p.0) }
-    ensures behind { IfOk result (λ p. p.1.now ≡ rest 32 fields.now) }
-    ensures refused { IfErr result (λ error. hex_field 8 (field 32 fields.now) ≡ Err error) }
-{
-    let (first, behind) = split_field(fields, b' ');
-    Ok((read_hex(first, 8)?, behind))
-}
-
-/// A word or none, and the fields behind it.
-#[inline]
-pub(crate) fn first_optional_word(fields: &[u8]) -> Result<(Option<u32>, &[u8]), FieldError>
-    ensures read { IfOk result
-        (λ p. optional_field (hex_field 8) (field 32 fields.now) ≡ Ok p.0) }
-    ensures behind { IfOk result (λ p. p.1.now ≡ rest 32 fields.now) }
-    ensures refused { IfErr result
-        (λ error. optional_field (hex_field 8) (field 32 fields.now) ≡ Err error) }
-{
-    let (first, behind) = split_field(fields, b' ');
-    Ok((read_optional_hex(first, 8)?, behind))
-}
 
 /// What comes next, and the fields behind it.
 #[inline]
@@ -56,15 +21,57 @@ pub(crate) fn first_next(fields: &[u8]) -> Result<(Next, &[u8]), FieldError>
     ensures behind { IfOk result (λ p. p.1.now ≡ rest 32 fields.now) }
     ensures refused { IfErr result (λ error. next_field (field 32 fields.now) ≡ Err error) }
 {
-    let (first, behind) = split_field(fields, b' ');
-    Ok((read_next(first)?, behind))
+    if fields.is_empty() {
+        return Err(FieldError::Misspelled);
+    }
+    if fields[0] == b'p' {
+        return first_pc(&fields[1..]);
+    }
+    if fields[0] == b'e' {
+        return first_ended(&fields[1..]);
+    }
+    if fields[0] == b's' {
+        return first_stopped(&fields[1..]);
+    }
+    Err(FieldError::Misspelled)
+}
+
+#[tactic(auto, unfolding(crate::specs::Reading::pc_field))]
+#[inline]
+fn first_pc(digits: &[u8]) -> Result<(Next, &[u8]), FieldError>
+    ensures read { IfOk result (λ p. pc_field (field 32 digits.now) ≡ Ok p.0) }
+    ensures behind { IfOk result (λ p. p.1.now ≡ rest 32 digits.now) }
+    ensures refused { IfErr result (λ error. pc_field (field 32 digits.now) ≡ Err error) }
+{
+    let (pc, behind) = first_hex(digits, 8, b' ')?;
+    Ok((Next::Pc(pc), behind))
+}
+
+#[tactic(auto, unfolding(crate::specs::Reading::ended_of))]
+fn first_ended(digits: &[u8]) -> Result<(Next, &[u8]), FieldError>
+    ensures read { IfOk result (λ p. ended_of (field 32 digits.now) ≡ Ok p.0) }
+    ensures behind { IfOk result (λ p. p.1.now ≡ rest 32 digits.now) }
+    ensures refused { IfErr result (λ error. ended_of (field 32 digits.now) ≡ Err error) }
+{
+    let (status, behind) = first_hex(digits, 8, b' ')?;
+    Ok((Next::Ended(status), behind))
+}
+
+#[tactic(auto, unfolding(crate::specs::Reading::stopped_of))]
+fn first_stopped(digits: &[u8]) -> Result<(Next, &[u8]), FieldError>
+    ensures read { IfOk result (λ p. stopped_of (field 32 digits.now) ≡ Ok p.0) }
+    ensures behind { IfOk result (λ p. p.1.now ≡ rest 32 digits.now) }
+    ensures refused { IfErr result (λ error. stopped_of (field 32 digits.now) ≡ Err error) }
+{
+    match first_decimal(digits, 8, b' ') {
+        Ok((cause, behind)) => Ok((Next::Stopped(cause as u8), behind)),
+        Err(_) => Err(FieldError::Misspelled),
+    }
 }
 
 /// How many bytes a write is of, and their number, or none, and the fields behind it.
 #[inline]
-pub(crate) fn first_optional_sized(
-    fields: &[u8],
-) -> Result<(Option<(u8, u32)>, &[u8]), FieldError>
+pub(crate) fn first_optional_sized(fields: &[u8]) -> Result<(Option<(u8, u32)>, &[u8]), FieldError>
     ensures read { IfOk result (λ p. optional_field sized_field (field 32 fields.now) ≡ Ok p.0) }
     ensures sized { IfOk result (λ p. IfSome p.0 (λ some. IsWidth some.0)) }
     ensures behind { IfOk result (λ p. p.1.now ≡ rest 32 fields.now) }
@@ -107,42 +114,6 @@ pub(crate) fn written(
     match (addr, number) {
         (None, None) => Ok(None),
         (Some(addr), Some((n, datum))) => Ok(Some(Written { addr, n, datum })),
-        _ => Err(FieldError::Misspelled),
-    }
-}
-
-#[tactic(auto, unfolding(crate::specs::Reading::pc_field))]
-fn read_pc(digits: &[u8]) -> Result<Next, FieldError>
-    ensures { result ≡ pc_field digits.now }
-{
-    Ok(Next::Pc(read_hex(digits, 8)?))
-}
-
-#[tactic(auto, unfolding(crate::specs::Reading::ended_of))]
-fn read_ended(digits: &[u8]) -> Result<Next, FieldError>
-    ensures { result ≡ ended_of digits.now }
-{
-    Ok(Next::Ended(read_hex(digits, 8)?))
-}
-
-#[tactic(auto, unfolding(crate::specs::Reading::stopped_of))]
-fn read_stopped(digits: &[u8]) -> Result<Next, FieldError>
-    ensures { result ≡ stopped_of digits.now }
-{
-    match read_decimal(digits, 8) {
-        Ok(cause) => Ok(Next::Stopped(cause as u8)),
-        Err(_) => Err(FieldError::Misspelled),
-    }
-}
-
-#[tactic(auto, unfolding(crate::specs::Reading::next_field))]
-fn read_next(text: &[u8]) -> Result<Next, FieldError>
-    ensures { result ≡ next_field text.now }
-{
-    match text.first() {
-        Some(b'p') => read_pc(&text[1..]),
-        Some(b'e') => read_ended(&text[1..]),
-        Some(b's') => read_stopped(&text[1..]),
         _ => Err(FieldError::Misspelled),
     }
 }

@@ -9,14 +9,14 @@ ghost use Rattle.event_text.specs.Reading.{rename_of, complete_of, retire_of, de
 ghost use Rattle.event_text.specs.Reading.{drop_of, behind_actor, event_fields, kind_named};
 ghost use Rattle.event_text.specs.Reading.{event_of, event_within, of_fields};
 
-use crate::fields::{
-    first_next, first_number, first_optional_sized, first_optional_word, first_word,
-    read_optional_byte, read_phys, written,
-};
+use crate::fields::{first_next, first_optional_sized, read_optional_byte, read_phys, written};
 use crate::ranges::{RANGES, Ranges};
 use events::{Effect, EffectFields, Event, EventKind, Outcome, OutcomeFields};
 use std::fmt;
-use text_fields::{FieldError, field_count, read_decimal, read_hex, split_field};
+use text_fields::{
+    FieldError, field_count, first_decimal, first_hex, first_optional_hex, read_decimal, read_hex,
+    split_field,
+};
 use thiserror::Error;
 
 /// The first rule that a line of a trace breaks.
@@ -57,10 +57,10 @@ impl fmt::Display for Rule {
 fn read_outcome(fields: &[u8]) -> Result<Outcome, FieldError>
     ensures { result ≡ outcome_of fields.now }
 {
-    let (value, fields) = first_optional_word(fields)?;
+    let (value, fields) = first_optional_hex(fields, 8, b' ')?;
     let (next, fields) = first_next(fields)?;
-    let (addr, fields) = first_optional_word(fields)?;
-    let (datum, fields) = first_optional_word(fields)?;
+    let (addr, fields) = first_optional_hex(fields, 8, b' ')?;
+    let (datum, fields) = first_optional_hex(fields, 8, b' ')?;
     let out = read_optional_byte(fields)?;
     Ok(Outcome::new(OutcomeFields {
         value,
@@ -75,9 +75,9 @@ fn read_outcome(fields: &[u8]) -> Result<Outcome, FieldError>
 fn read_effect(fields: &[u8]) -> Result<Effect, FieldError>
     ensures { result ≡ effect_of fields.now }
 {
-    let (value, fields) = first_optional_word(fields)?;
+    let (value, fields) = first_optional_hex(fields, 8, b' ')?;
     let (next, fields) = first_next(fields)?;
-    let (addr, fields) = first_optional_word(fields)?;
+    let (addr, fields) = first_optional_hex(fields, 8, b' ')?;
     let (number, fields) = first_optional_sized(fields)?;
     let write = written(addr, number)?;
     let out = read_optional_byte(fields)?;
@@ -93,10 +93,10 @@ fn read_effect(fields: &[u8]) -> Result<Effect, FieldError>
 fn read_fetch(actor: u8, fields: &[u8], ranges: Ranges) -> Result<Event, FieldError>
     ensures { result ≡ fetch_of ranges actor fields.now }
 {
-    let (hart, fields) = first_number(fields, u32::from(ranges.hart))?;
-    let (seq, fields) = first_number(fields, ranges.seq)?;
-    let (pc, fields) = first_word(fields)?;
-    let (word, fields) = first_optional_word(fields)?;
+    let (hart, fields) = first_decimal(fields, u32::from(ranges.hart), b' ')?;
+    let (seq, fields) = first_decimal(fields, ranges.seq, b' ')?;
+    let (pc, fields) = first_hex(fields, 8, b' ')?;
+    let (word, fields) = first_optional_hex(fields, 8, b' ')?;
     Ok(Event::Fetch {
         actor,
         hart: hart as u8,
@@ -119,7 +119,7 @@ fn read_decode(actor: u8, fields: &[u8], ranges: Ranges) -> Result<Event, FieldE
 fn read_rename(actor: u8, fields: &[u8], ranges: Ranges) -> Result<Event, FieldError>
     ensures { result ≡ rename_of ranges actor fields.now }
 {
-    let (seq, fields) = first_number(fields, ranges.seq)?;
+    let (seq, fields) = first_decimal(fields, ranges.seq, b' ')?;
     let phys = read_phys(fields, ranges.phys)?;
     Ok(Event::Rename { actor, seq, phys })
 }
@@ -136,7 +136,7 @@ fn read_issue(actor: u8, fields: &[u8], ranges: Ranges) -> Result<Event, FieldEr
 fn read_complete(actor: u8, fields: &[u8], ranges: Ranges) -> Result<Event, FieldError>
     ensures { result ≡ complete_of ranges actor fields.now }
 {
-    let (seq, fields) = first_number(fields, ranges.seq)?;
+    let (seq, fields) = first_decimal(fields, ranges.seq, b' ')?;
     let outcome = read_outcome(fields)?;
     Ok(Event::Complete {
         actor,
@@ -157,7 +157,7 @@ fn read_drop(actor: u8, fields: &[u8], ranges: Ranges) -> Result<Event, FieldErr
 fn read_retire(actor: u8, fields: &[u8], ranges: Ranges) -> Result<Event, FieldError>
     ensures { result ≡ retire_of ranges actor fields.now }
 {
-    let (seq, fields) = first_number(fields, ranges.seq)?;
+    let (seq, fields) = first_decimal(fields, ranges.seq, b' ')?;
     let effect = read_effect(fields)?;
     Ok(Event::Retire { actor, seq, effect })
 }
@@ -186,7 +186,7 @@ fn read_behind_actor(
 fn read_fields(kind: EventKind, fields: &[u8], ranges: Ranges) -> Result<Event, FieldError>
     ensures { result ≡ event_fields ranges kind fields.now }
 {
-    let (actor, fields) = first_number(fields, u32::from(ranges.actor))?;
+    let (actor, fields) = first_decimal(fields, u32::from(ranges.actor), b' ')?;
     read_behind_actor(kind, actor as u8, fields, ranges)
 }
 

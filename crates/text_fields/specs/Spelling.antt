@@ -23,8 +23,3 @@ dash = 45 ∷ []
 abbrev pub optional : {A : Type 0} → (A → List ℕ) → Option A → List ℕ
 optional spelling None = dash
 optional spelling (Some value) = spelling value
-
--- the four decimal digits of a number below 10,000
-abbrev pub four : ℕ → List ℕ
-four n =
-    (48 + n / 100 / 10) ∷ (48 + n / 100 % 10) ∷ (48 + n % 100 / 10) ∷ (48 + n % 100 % 10) ∷ []
