@@ -1,7 +1,7 @@
 -- Each field of an event: what is read of it is in range and is spelled so, and it is read back.
 
-use Rattle.std.proofs.Common.{◌≡◌, ℕ, suc, ◌*◌, ◌/◌, ◌||◌, ◌^◌, ◌<◌, ◌≤◌, ◌⊎◌, inl, inr, Bool, true, false, ◌==◌, cond}
-use Rattle.std.proofs.Common.{List, [], ◌∷◌, ◌++◌, length, Option, None, Some, Result, Ok, Err, refl, ap, arith, lit<}
+use Rattle.std.proofs.Common.{◌≡◌, ℕ, ◌*◌, ◌/◌, ◌||◌, ◌^◌, ◌<◌, ◌≤◌, ◌⊎◌, inl, inr, Bool, true, false, ◌==◌, cond}
+use Rattle.std.proofs.Common.{List, [], ◌∷◌, length, Option, None, Some, Result, Ok, Err, refl, ap, arith, lit<}
 use Rattle.std.proofs.lemmas.Bool.Decides.{nat_tests}
 use Rattle.std.specs.{Char.is_ascii_digit, Fmt.decimal, List.list_all, Prelude.IfSome}
 use Rattle.text_fields.specs.{declared.read.FieldError.FieldError, declared.read.FieldError.TheVariants.Misspelled}
@@ -10,7 +10,7 @@ use Rattle.text_fields.specs.{Reading.optional_field}
 use Rattle.text_fields.specs.{Spelling.hex, Spelling.optional, Splitting.Lacks}
 use Rattle.text_fields.proofs.{DecimalLaws.decimal_field-decimal, DecimalLaws.decimal_field_only, HexLaws.hex_field-hex}
 use Rattle.text_fields.proofs.{HexLaws.hex_field_only, LacksLaws.Lacks-from_all, LacksLaws.Lacks-hex}
-use Rattle.text_fields.proofs.OptionalLaws.{decimal_no_dash, hex_no_dash, optional_field-optional, optional_field_only}
+use Rattle.text_fields.proofs.OptionalLaws.{hex_no_dash, optional_field-optional, optional_field_only}
 use Rattle.text_fields.proofs.OptionalLaws.{optional_decimal-back, optional_decimal-only, optional_hex-back}
 use Rattle.text_fields.proofs.OptionalLaws.{optional_hex-only}
 use Rattle.events.specs.{declared.effect.Next.Next, declared.effect.Next.TheVariants.Pc, Width.IsWidth}
@@ -73,7 +73,8 @@ word = record {
   some = λ n is. cc is;
 }
 
-pub optional_word : {Small : Type 0} → IsField Small (optional_field (hex_field 8)) (optional (hex 8)) (λ o. IfSome o IsWord)
+pub optional_word : {Small : Type 0}
+    → IsField Small (optional_field (hex_field 8)) (optional (hex 8)) (λ o. IfSome o IsWord)
 unfolding hex_field optional_field
 optional_word = record {
   only = λ small o text is. optional_hex-only 8 o text is;

@@ -1,8 +1,8 @@
 -- What comes next stands behind a letter, which belongs to its field.
 
-use Rattle.std.proofs.Common.{◌≡◌, ◌≢◌, ℕ, ◌-◌, ◌<◌, Bool, true, false, ◌==◌, List, [], ◌∷◌, length, take, drop, take_all}
+use Rattle.std.proofs.Common.{◌≡◌, ◌≢◌, ℕ, ◌-◌, ◌<◌, Bool, true, false, ◌==◌, List, [], ◌∷◌, length, take, drop}
+use Rattle.std.proofs.Common.{take_all}
 use Rattle.std.proofs.Common.{get_or, Err, refl, sym, ◌∙◌, ap, arith}
-use Rattle.std.proofs.lemmas.Bool.Decides.{nat_tests}
 use Rattle.text_fields.specs.{declared.read.FieldError.TheVariants.Misspelled, Splitting.field, Splitting.rest}
 use Rattle.text_fields.proofs.FirstLemmas.{not_same}
 use Rattle.text_fields.proofs.SplittingLaws.{field-empty, field-other, field-separator, rest-other}

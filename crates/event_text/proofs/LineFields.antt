@@ -1,6 +1,7 @@
 -- The fields of an event's line: it is they, joined by spaces, and none has a space or a newline.
 
-use Rattle.std.proofs.Common.{◌≡◌, ℕ, ◌*◌, ◌^◌, ◌<◌, false, List, [], ◌∷◌, ◌++◌, Option, None, Some, refl, ◌∙◌, ap, arith}
+use Rattle.std.proofs.Common.{◌≡◌, ℕ, ◌*◌, ◌^◌, ◌<◌, false, List, [], ◌∷◌, ◌++◌, Option, None, Some, refl, ◌∙◌, ap}
+use Rattle.std.proofs.Common.{arith}
 use Rattle.std.proofs.Common.{append_assoc}
 use Rattle.std.specs.{Char.is_ascii_digit, Fmt.decimal, Prelude.IfSome}
 use Rattle.text_fields.specs.{Reading.is_hex_digit, Spelling.dash, Spelling.hex, Spelling.optional, Splitting.Lacks}
@@ -24,7 +25,8 @@ outcome_fields o =
 
 abbrev pub effect_fields : Effect → List (List ℕ)
 effect_fields e =
-    optional (hex 8) e.value ∷ next_text e.next ∷ address_text e.write ∷ datum_text e.write ∷ optional (hex 2) e.out ∷ []
+    optional (hex 8) e.value ∷ next_text e.next ∷ address_text e.write ∷ datum_text e.write
+    ∷ optional (hex 2) e.out ∷ []
 
 -- the fields after the letter
 abbrev pub fields_of : Event → List (List ℕ)

@@ -1,9 +1,10 @@
 -- A line is read as the event whose line it is, and as no other; an event in range is read back from its line.
 
-use Rattle.std.proofs.Common.{◌≡◌, ℕ, suc, ◌^◌, ◌<◌, ◌≤◌, Bool, true, false, ◌==◌, cond, List, [], ◌∷◌, ◌++◌, length, Option}
+use Rattle.std.proofs.Common.{◌≡◌, ℕ, suc, ◌^◌, ◌<◌, ◌≤◌, Bool, true, false, ◌==◌, cond, List, [], ◌∷◌, ◌++◌, length}
+use Rattle.std.proofs.Common.{Option}
 use Rattle.std.proofs.Common.{None, Some, Result, Ok, Err, refl, sym, ◌∙◌, ap, arith, lit<}
 use Rattle.std.proofs.lemmas.Bool.Decides.{nat_tests}
-use Rattle.std.specs.{Fmt.decimal, Prelude.IfSome}
+use Rattle.std.specs.{Prelude.IfSome}
 use Rattle.text_fields.specs.{declared.read.FieldError.FieldError, Splitting.field_count, Splitting.Lacks}
 use Rattle.text_fields.proofs.SplittingLaws.{field-cut, rest-cut}
 use Rattle.events.specs.{declared.event.Event.Event, declared.kind.EventKind.EventKind, Range.IsEventInRange}

@@ -1,10 +1,10 @@
 -- The readings of the definitions, as fields in turn: of an outcome, an effect, and the event of each kind.
 
-use Rattle.std.proofs.Common.{◌≡◌, ℕ, ◌^◌, ◌<◌, ◌≤◌, List, ◌∷◌, ◌++◌, Option, None, Some, Result, Ok, refl, ◌∙◌, ap}
+use Rattle.std.proofs.Common.{◌≡◌, ℕ, ◌^◌, ◌<◌, ◌≤◌, List, ◌∷◌, ◌++◌, Option, None, Some, Ok, refl, ◌∙◌, ap}
 use Rattle.std.specs.{Fmt.decimal, Prelude.IfSome}
-use Rattle.text_fields.specs.{declared.read.FieldError.FieldError, Reading.decimal_field, Spelling.hex}
+use Rattle.text_fields.specs.{Reading.decimal_field, Spelling.hex}
 use Rattle.text_fields.specs.{Spelling.optional}
-use Rattle.events.specs.{declared.effect.Effect.Effect, declared.effect.Next.Next, declared.effect.Outcome.Outcome}
+use Rattle.events.specs.{declared.effect.Effect.Effect, declared.effect.Outcome.Outcome}
 use Rattle.events.specs.{declared.effect.Written.Written, declared.event.Event.Event, Kind.fields_after}
 use Rattle.events.specs.declared.event.Event.TheVariants.{Fetch, Decode, Rename, Issue, Complete, Drop, Retire}
 use Rattle.events.specs.declared.kind.EventKind.{EventKind}
@@ -16,7 +16,8 @@ use Rattle.event_text.specs.Reading.{outcome_of, rename_of, retire_of, written_o
 use Rattle.event_text.proofs.{LineFields.effect_fields, LineFields.outcome_fields, Joining.joined}
 use Rattle.event_text.proofs.FieldLaws.{IsSized, next, number, optional_byte, optional_number, optional_sized}
 use Rattle.event_text.proofs.FieldLaws.{optional_word, sized_text, word}
-use Rattle.event_text.proofs.Sequences.{After, after, Alone, alone, Before, before, IsField, IsReading, Made, made, said}
+use Rattle.event_text.proofs.Sequences.{After, after, Alone, alone, Before, before, IsField, IsReading, Made, made}
+use Rattle.event_text.proofs.Sequences.{said}
 
 abbrev IsByte : ℕ → Type 0
 IsByte byte = byte < 256
@@ -33,7 +34,25 @@ abbrev pub SpellsOutcome : Outcome → List ℕ → Type 0
 SpellsOutcome o text = IsOutcome o × (text ≡ joined (outcome_fields o))
 
 outcome_to : (o : Outcome) (text : List ℕ) → OutcomeParts o text → SpellsOutcome o text
-outcome_to o text (value, v, t1, is1, (next, n, t2, is2, (addr, a, t3, is3, (datum, d, t4, is4, (out, (b, is5), makes))))) =
+outcome_to o text (
+  value,
+  v,
+  t1,
+  is1,
+  (
+    next,
+    n,
+    t2,
+    is2,
+    (
+      addr,
+      a,
+      t3,
+      is3,
+      (datum, d, t4, is4, (out, (b, is5), makes)),
+    ),
+  ),
+) =
     let same : ◌≡◌ {A = Outcome} (record { value = value; next = next; addr = addr; datum = datum; out = out }) o =
     cc makes in
     rw (← same) (

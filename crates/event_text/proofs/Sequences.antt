@@ -1,6 +1,6 @@
 -- Fields that are read in turn: what is read of them is what they spell, and what is spelled so is read.
 
-use Rattle.std.proofs.Common.{◌≡◌, ◌≢◌, ℕ, suc, ◌≤◌, ◌⊎◌, inl, inr, List, [], ◌∷◌, ◌++◌, Result, Ok, Err, refl, sym, ◌∙◌}
+use Rattle.std.proofs.Common.{◌≡◌, ℕ, suc, ◌≤◌, ◌⊎◌, inl, inr, List, [], ◌∷◌, ◌++◌, Result, Ok, Err, refl, sym, ◌∙◌}
 use Rattle.std.proofs.Common.{ap, arith}
 use Rattle.text_fields.specs.{declared.read.FieldError.FieldError, Splitting.field_count, Splitting.Lacks}
 use Rattle.text_fields.proofs.SplittingLaws.{count-alone, field-cut, field-empty, parts_of, rest-alone, rest-cut}
@@ -72,7 +72,8 @@ module _ {A B Small : Type 0} {read : List ℕ → Result A FieldError} {spellin
       let step = bind_only (read (first_field text)) (λ a. next a (others text)) b is in
       let one = first.only small step.0 (first_field text) step.1 in
       let whole = (cut text (some_behind step.0 b text step.2)).0 in
-      (step.0, one.0, others text, whole ∙ ap (λ f. f ++ 32 ∷ others text) one.1, (behind step.0).only small b (others text) step.2)
+      let later = (behind step.0).only small b (others text) step.2 in
+      (step.0, one.0, others text, whole ∙ ap (λ f. f ++ 32 ∷ others text) one.1, later)
 
   turn_back : Small → (b : B) (text : List ℕ) → Before spelling In Behind b text → in_turn text ≡ Ok b
   unfolding in_turn

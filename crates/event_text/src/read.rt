@@ -1,6 +1,6 @@
 //! Reading: the event of a line, its fields from left to right.
 
-ghost use Rattle.std.specs.Prelude.{◌≡◌, ◌==◌, ◌≤◌, Err, if◌then◌else◌};
+ghost use Rattle.std.specs.Prelude.{◌≡◌, ◌==◌, Err, if◌then◌else◌};
 ghost use Rattle.text_fields.specs.Splitting.{field_count};
 ghost use Rattle.events.specs.Kind.{fields_after};
 ghost use Rattle.event_text.specs.declared.read.Rule.TheVariants.{FieldCount};

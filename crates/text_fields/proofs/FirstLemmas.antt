@@ -1,14 +1,17 @@
 -- Where the first field of a text ends.
 
-use Rattle.std.proofs.Common.{◌≡◌, ◌≢◌, ℕ, zero, suc, ◌+◌, ◌-◌, ◌*◌, ◌<◌, ◌≤◌, Bool, true, false, ◌==◌, ◌&&◌, List, [], ◌∷◌, ◌++◌, ◌⊎◌, inl, inr}
-use Rattle.std.proofs.Common.{length, get_or, take, drop, drop-cons, Ok, Err, Result, cond, refl, sym, subst, ◌∙◌, ap, arith}
+use Rattle.std.proofs.Common.{◌≡◌, ◌≢◌, ℕ, zero, suc, ◌+◌, ◌-◌, ◌*◌, ◌<◌, ◌≤◌, Bool, true, false, ◌==◌, ◌&&◌, List, []}
+use Rattle.std.proofs.Common.{◌∷◌, ◌++◌, ◌⊎◌, inl, inr}
+use Rattle.std.proofs.Common.{length, get_or, take, drop, drop-cons, Ok, Err, Result, cond, refl, sym, subst, ◌∙◌, ap}
+use Rattle.std.proofs.Common.{arith}
 use Rattle.std.proofs.lemmas.Bool.Decides.{nat_tests}
 use Rattle.std.proofs.lemmas.List.{length-take-le, take_all, take-append-drop, take_rest}
 use Rattle.std.proofs.lemmas.List.Folds.{list_all-append}
 use Rattle.std.specs.{Char.is_ascii_digit, List.list_all}
 use Rattle.text_fields.specs.{Counting.Counts, declared.read.FieldError.FieldError}
 use Rattle.text_fields.specs.declared.read.FieldError.TheVariants.{Misspelled}
-use Rattle.text_fields.specs.Reading.{decimal_after, decimal_field, hex_after, hex_field, is_dash, is_hex_digit, is_number}
+use Rattle.text_fields.specs.Reading.{decimal_after, decimal_field, hex_after, hex_field, is_dash, is_hex_digit}
+use Rattle.text_fields.specs.Reading.{is_number}
 use Rattle.text_fields.specs.Splitting.{field, Lacks, rest}
 use Rattle.text_fields.proofs.SplittingLaws.{field-alone, field-cut, field-empty, field-other, field-separator}
 use Rattle.text_fields.proofs.SplittingLaws.{rest-alone, rest-cut}
@@ -132,7 +135,8 @@ no_hex s count text other =
     by_length (length f == count && list_all is_hex_digit f) count f refl other
 
 pub shorter : (s count : ℕ) (text : List ℕ) → length text < count → hex_field count (field s text) ≡ Err Misspelled
-shorter s count text short = no_hex s count text (λ long digits. absurd (omega (arith, long, field_inside s text, short)))
+shorter s count text short =
+    no_hex s count text (λ long digits. absurd (omega (arith, long, field_inside s text, short)))
 
 pub other_digits : (s count : ℕ) (text : List ℕ) → list_all is_hex_digit (take count text) ≡ false
     → hex_field count (field s text) ≡ Err Misspelled

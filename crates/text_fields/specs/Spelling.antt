@@ -1,7 +1,7 @@
 -- How the fields of a text are spelled: each function gives the bytes of one. A decimal number is
 -- spelled `decimal n` and a signed one `signed_decimal z`, as the standard library prints them.
 
-use Rattle.std.specs.Prelude.{ℕ, ◌+◌, ◌/◌, ◌%◌, ◌^◌, zero, suc, false, List, [], ◌∷◌}
+use Rattle.std.specs.Prelude.{ℕ, ◌/◌, ◌%◌, ◌^◌, zero, suc, false, List, [], ◌∷◌}
 use Rattle.std.specs.Prelude.{Option, None, Some}
 use Rattle.std.specs.Fmt.{digit_glyph}
 

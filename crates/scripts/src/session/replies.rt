@@ -1,6 +1,6 @@
 //! The line of a reply, appended to the lines that are held back.
 
-ghost use Rattle.std.specs.Prelude.{◌≡◌, ◌+◌, ◌≤◌, ◌++◌, codes, IfSome};
+ghost use Rattle.std.specs.Prelude.{◌≡◌, ◌+◌, ◌≤◌, ◌++◌, IfSome};
 ghost use Rattle.arrayvec.specs.ArrayString.{array_string_len};
 ghost use Rattle.events.specs.Range.{HasShortWrite};
 ghost use Rattle.core_lock.specs.Asks.{event_in};
