@@ -1,10 +1,8 @@
--- Fields joined by single spaces are told apart again.
+-- Fields joined by single spaces.
 
-use Rattle.std.proofs.Common.{◌≡◌, ℕ, suc, List, [], ◌∷◌, ◌++◌, length, refl, ◌∙◌, ap}
-use Rattle.text_fields.specs.Splitting.{field_count, Lacks}
+use Rattle.std.proofs.Common.{ℕ, List, [], ◌∷◌, ◌++◌, refl}
+use Rattle.text_fields.specs.Splitting.{Lacks}
 use Rattle.text_fields.proofs.LacksLaws.{Lacks-append}
-use Rattle.text_fields.proofs.SplittingLaws.{count-alone, count-cut, field-cut, rest-cut}
-use Rattle.event_text.specs.Reading.{first_field, others}
 
 -- fields, apart by one space
 abbrev pub joined : List (List ℕ) → List ℕ
@@ -16,17 +14,6 @@ joined (f ∷ g ∷ fs) = f ++ 32 ∷ joined (g ∷ fs)
 abbrev pub AllLack : ℕ → List (List ℕ) → Type 0
 AllLack byte [] = Unit {0}
 AllLack byte (f ∷ fs) = Lacks byte f × AllLack byte fs
-
-pub first-joined : (f g : List ℕ) (fs : List (List ℕ)) → Lacks 32 f → first_field (joined (f ∷ g ∷ fs)) ≡ f
-first-joined f g fs lacks = field-cut 32 f (joined (g ∷ fs)) lacks
-
-pub others-joined : (f g : List ℕ) (fs : List (List ℕ)) → Lacks 32 f → others (joined (f ∷ g ∷ fs)) ≡ joined (g ∷ fs)
-others-joined f g fs lacks = rest-cut 32 f (joined (g ∷ fs)) lacks
-
-pub count-joined : (f : List ℕ) (fs : List (List ℕ)) → AllLack 32 (f ∷ fs)
-    → field_count 32 (joined (f ∷ fs)) ≡ suc (length fs)
-count-joined f [] lack = count-alone 32 f lack.0
-count-joined f (g ∷ fs) lack = count-cut 32 f (joined (g ∷ fs)) lack.0 ∙ ap suc (count-joined g fs lack.1)
 
 -- nor have they then when they are joined, but for the space
 pub Lacks-joined : (byte : ℕ) (fs : List (List ℕ)) → Lacks byte (32 ∷ []) → AllLack byte fs → Lacks byte (joined fs)

@@ -14,8 +14,8 @@ use Rattle.event_text.specs.Trace.{Breaks, BreaksEvent, BreaksHeader, ended, eve
 use Rattle.event_text.specs.{declared.trace.reading.TraceRefused.TraceRefused, Refusals.IsRefusedFor}
 use Rattle.event_text.specs.declared.trace.reading.TraceRefused.TheVariants.{Line, Memory}
 use Rattle.event_text.specs.Trace.{IsRefusedBehind, trace_text}
-use Rattle.event_text.proofs.{Fields.line_lacks, LineEnds.first_found, LineEnds.more_found, LineEnds.not_one}
-use Rattle.event_text.proofs.{LineEnds.rest_found, ReadBack.event_of-line_of}
+use Rattle.event_text.proofs.{LineFields.line_lacks, LineEnds.first_found, LineEnds.more_found, LineEnds.not_one}
+use Rattle.event_text.proofs.{LineEnds.rest_found, LineLaws.event_of-line_of}
 
 -- no event yet, and one more
 pub trace_text-nil : trace_text [] ≡ ended header

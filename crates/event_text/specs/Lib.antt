@@ -1,6 +1,5 @@
 pub mod Line
-pub mod Noting
-pub mod Quick
+pub mod Ranges
 pub mod Reading
 pub mod Refusals
 pub mod Sinking

@@ -14,6 +14,7 @@ use Rattle.events.specs.{declared.effect.Next.TheVariants.Ended}
 use Rattle.events.specs.{declared.effect.Next.TheVariants.Stopped, declared.effect.Outcome.Outcome}
 use Rattle.events.specs.{declared.effect.Written.Written, declared.event.Event.Event}
 use Rattle.events.specs.{Kind.fields_after, Kind.kind_of_letter, declared.kind.EventKind.EventKind}
+use Rattle.event_text.specs.{declared.ranges.Ranges.Ranges, Ranges.trace_ranges}
 use Rattle.event_text.specs.{declared.read.Rule.Rule, declared.read.Rule.TheVariants.UnknownLetter}
 use Rattle.event_text.specs.{declared.read.Rule.TheVariants.FieldCount}
 use Rattle.event_text.specs.{declared.read.Rule.TheVariants.Field}
@@ -85,13 +86,6 @@ written_of (Some addr) (Some number) =
 written_of None (Some number) = Err Misspelled
 written_of (Some addr) None = Err Misspelled
 
--- the fields of a write
-unfoldable pub write_fields : List ℕ → List ℕ → Result (Option Written) FieldError
-write_fields address datum = do
-  addr ← optional_field (hex_field 8) address
-  number ← optional_field sized_field datum
-  written_of addr number
-
 -- value next addr data out
 unfoldable pub outcome_of : List ℕ → Result Outcome FieldError
 outcome_of fields = do
@@ -107,70 +101,69 @@ unfoldable pub effect_of : List ℕ → Result Effect FieldError
 effect_of fields = do
   value ← optional_field (hex_field 8) (first_field fields)
   next ← next_field (first_field (others fields))
-  write ← write_fields (first_field (others (others fields)))
-      (first_field (others (others (others fields))))
+  addr ← optional_field (hex_field 8) (first_field (others (others fields)))
+  number ← optional_field sized_field (first_field (others (others (others fields))))
+  write ← written_of addr number
   out ← optional_field (hex_field 2) (others (others (others (others fields))))
   Ok (record { value = value; next = next; write = write; out = out })
 
--- an event of each kind, from the fields after its letter
-unfoldable pub fetch_of : List ℕ → Result Event FieldError
-fetch_of fields = do
-  actor ← decimal_field 15 (first_field fields)
-  hart ← decimal_field 7 (first_field (others fields))
-  seq ← decimal_field 16777215 (first_field (others (others fields)))
-  pc ← hex_field 8 (first_field (others (others (others fields))))
-  word ← optional_field (hex_field 8) (first_field (others (others (others (others fields)))))
-  predicted ← hex_field 8 (others (others (others (others (others fields)))))
+-- an event of each kind, from the fields behind its actor
+unfoldable pub fetch_of : Ranges → ℕ → List ℕ → Result Event FieldError
+fetch_of ranges actor fields = do
+  hart ← decimal_field ranges.hart (first_field fields)
+  seq ← decimal_field ranges.seq (first_field (others fields))
+  pc ← hex_field 8 (first_field (others (others fields)))
+  word ← optional_field (hex_field 8) (first_field (others (others (others fields))))
+  predicted ← hex_field 8 (others (others (others (others fields))))
   Ok (Fetch actor hart seq pc word predicted)
 
-unfoldable pub decode_of : List ℕ → Result Event FieldError
-decode_of fields = do
-  actor ← decimal_field 15 (first_field fields)
-  seq ← decimal_field 16777215 (others fields)
+unfoldable pub decode_of : Ranges → ℕ → List ℕ → Result Event FieldError
+decode_of ranges actor fields = do
+  seq ← decimal_field ranges.seq fields
   Ok (Decode actor seq)
 
-unfoldable pub rename_of : List ℕ → Result Event FieldError
-rename_of fields = do
-  actor ← decimal_field 15 (first_field fields)
-  seq ← decimal_field 16777215 (first_field (others fields))
-  phys ← optional_field (decimal_field 503) (others (others fields))
+unfoldable pub rename_of : Ranges → ℕ → List ℕ → Result Event FieldError
+rename_of ranges actor fields = do
+  seq ← decimal_field ranges.seq (first_field fields)
+  phys ← optional_field (decimal_field ranges.phys) (others fields)
   Ok (Rename actor seq phys)
 
-unfoldable pub issue_of : List ℕ → Result Event FieldError
-issue_of fields = do
-  actor ← decimal_field 15 (first_field fields)
-  seq ← decimal_field 16777215 (others fields)
+unfoldable pub issue_of : Ranges → ℕ → List ℕ → Result Event FieldError
+issue_of ranges actor fields = do
+  seq ← decimal_field ranges.seq fields
   Ok (Issue actor seq)
 
-unfoldable pub complete_of : List ℕ → Result Event FieldError
-complete_of fields = do
-  actor ← decimal_field 15 (first_field fields)
-  seq ← decimal_field 16777215 (first_field (others fields))
-  outcome ← outcome_of (others (others fields))
+unfoldable pub complete_of : Ranges → ℕ → List ℕ → Result Event FieldError
+complete_of ranges actor fields = do
+  seq ← decimal_field ranges.seq (first_field fields)
+  outcome ← outcome_of (others fields)
   Ok (Complete actor seq outcome)
 
-unfoldable pub drop_of : List ℕ → Result Event FieldError
-drop_of fields = do
-  actor ← decimal_field 15 (first_field fields)
-  seq ← decimal_field 16777215 (others fields)
+unfoldable pub drop_of : Ranges → ℕ → List ℕ → Result Event FieldError
+drop_of ranges actor fields = do
+  seq ← decimal_field ranges.seq fields
   Ok (Drop actor seq)
 
-unfoldable pub retire_of : List ℕ → Result Event FieldError
-retire_of fields = do
-  actor ← decimal_field 15 (first_field fields)
-  seq ← decimal_field 16777215 (first_field (others fields))
-  effect ← effect_of (others (others fields))
+unfoldable pub retire_of : Ranges → ℕ → List ℕ → Result Event FieldError
+retire_of ranges actor fields = do
+  seq ← decimal_field ranges.seq (first_field fields)
+  effect ← effect_of (others fields)
   Ok (Retire actor seq effect)
 
+abbrev pub behind_actor : Ranges → EventKind → ℕ → List ℕ → Result Event FieldError
+behind_actor ranges kind.Fetch actor fields = fetch_of ranges actor fields
+behind_actor ranges kind.Decode actor fields = decode_of ranges actor fields
+behind_actor ranges kind.Rename actor fields = rename_of ranges actor fields
+behind_actor ranges kind.Issue actor fields = issue_of ranges actor fields
+behind_actor ranges kind.Complete actor fields = complete_of ranges actor fields
+behind_actor ranges kind.Drop actor fields = drop_of ranges actor fields
+behind_actor ranges kind.Retire actor fields = retire_of ranges actor fields
+
 -- the fields after the letter of a kind
-abbrev pub event_fields : EventKind → List ℕ → Result Event FieldError
-event_fields kind.Fetch fields = fetch_of fields
-event_fields kind.Decode fields = decode_of fields
-event_fields kind.Rename fields = rename_of fields
-event_fields kind.Issue fields = issue_of fields
-event_fields kind.Complete fields = complete_of fields
-event_fields kind.Drop fields = drop_of fields
-event_fields kind.Retire fields = retire_of fields
+unfoldable pub event_fields : Ranges → EventKind → List ℕ → Result Event FieldError
+event_fields ranges kind fields = do
+  actor ← decimal_field ranges.actor (first_field fields)
+  behind_actor ranges kind actor (others fields)
 
 -- the kind that a field names: a letter alone
 abbrev pub kind_named : List ℕ → Option EventKind
@@ -182,12 +175,16 @@ of_fields (Ok event) = Ok event
 of_fields (Err error) = Err (Field error)
 
 -- the event of a kind, where there are as many fields as it has
-abbrev pub event_as : Option EventKind → List ℕ → Result Event Rule
-event_as None fields = Err UnknownLetter
-event_as (Some kind) fields =
-    if field_count 32 fields == fields_after kind then of_fields (event_fields kind fields)
+abbrev pub event_as : Ranges → Option EventKind → List ℕ → Result Event Rule
+event_as ranges None fields = Err UnknownLetter
+event_as ranges (Some kind) fields =
+    if field_count 32 fields == fields_after kind then of_fields (event_fields ranges kind fields)
     else Err FieldCount
 
--- the event of a line without its newline
-unfoldable pub event_of : List ℕ → Result Event Rule
-event_of line = event_as (kind_named (first_field line)) (others line)
+-- the event of a line without its newline, of a version of the format that has these ranges
+unfoldable pub event_within : Ranges → List ℕ → Result Event Rule
+event_within ranges line = event_as ranges (kind_named (first_field line)) (others line)
+
+-- the same of this version
+abbrev pub event_of : List ℕ → Result Event Rule
+event_of line = event_within trace_ranges line

@@ -3,19 +3,52 @@
 ghost use Rattle.std.specs.Prelude.{◌≡◌, ◌+◌, ◌*◌, ◌<◌, ◌≤◌, ◌∷◌, ◌++◌, []};
 ghost use Rattle.std.specs.Fmt.{decimal};
 ghost use Rattle.arrayvec.specs.ArrayString.{array_string_len};
-ghost use Rattle.text_fields.specs.Spelling.{hex, optional};
+ghost use Rattle.text_fields.specs.Spelling.{dash, hex, optional};
 ghost use Rattle.event_text.specs.Line.{after_space, next_text, address_text, datum_text, outcome_text};
 ghost use Rattle.event_text.specs.Line.{effect_text, step_text, line_of, record_text_of};
 
 use arrayvec::ArrayString;
 use events::{Cause, Effect, Event, Next, Outcome, Phys, Record, Seq, Written};
-use text_fields::{
-    push_ascii, push_hex, push_small_number, push_spaced_dash, push_spaced_decimal,
-    push_spaced_number, push_word_after,
-};
+use text_fields::{push_ascii, push_decimal, push_hex, push_small_number};
 
 /// Room for any line that is printed here, without its newline.
 pub type Line = ArrayString<64>;
+
+fn push_number_field<const N: usize>(line: &mut ArrayString<N>, value: u32)
+    requires { array_string_len line.old + 11 ≤ N }
+    ensures spelled { line.new.bytes ≡ line.old.bytes ++ after_space (decimal value) }
+    ensures length { array_string_len line.new ≤ array_string_len line.old + 11 }
+{
+    push_ascii(line, b' ');
+    push_decimal(line, value);
+}
+
+fn push_small_number_field<const N: usize>(line: &mut ArrayString<N>, value: u8)
+    requires { array_string_len line.old + 4 ≤ N }
+    ensures spelled { line.new.bytes ≡ line.old.bytes ++ after_space (decimal value) }
+    ensures length { array_string_len line.new ≤ array_string_len line.old + 4 }
+{
+    push_ascii(line, b' ');
+    push_small_number(line, value);
+}
+
+fn push_word_field<const N: usize>(line: &mut ArrayString<N>, value: u32)
+    requires { array_string_len line.old + 9 ≤ N }
+    ensures spelled { line.new.bytes ≡ line.old.bytes ++ after_space (hex 8 value) }
+    ensures length { array_string_len line.new ≤ array_string_len line.old + 9 }
+{
+    push_ascii(line, b' ');
+    push_hex(line, value, 8);
+}
+
+fn push_dash_field<const N: usize>(line: &mut ArrayString<N>)
+    requires { array_string_len line.old + 2 ≤ N }
+    ensures spelled { line.new.bytes ≡ line.old.bytes ++ after_space dash }
+    ensures length { array_string_len line.new ≤ array_string_len line.old + 2 }
+{
+    push_ascii(line, b' ');
+    push_ascii(line, b'-');
+}
 
 fn push_optional_number_field<const N: usize>(line: &mut ArrayString<N>, value: Option<Phys>)
     requires { array_string_len line.old + 11 ≤ N }
@@ -23,8 +56,8 @@ fn push_optional_number_field<const N: usize>(line: &mut ArrayString<N>, value: 
     ensures length { array_string_len line.new ≤ array_string_len line.old + 11 }
 {
     match value {
-        None => push_spaced_dash(line),
-        Some(number) => push_spaced_decimal(line, u32::from(number)),
+        None => push_dash_field(line),
+        Some(number) => push_number_field(line, u32::from(number)),
     }
 }
 
@@ -34,8 +67,8 @@ fn push_optional_word_field<const N: usize>(line: &mut ArrayString<N>, value: Op
     ensures length { array_string_len line.new ≤ array_string_len line.old + 9 }
 {
     match value {
-        None => push_spaced_dash(line),
-        Some(number) => push_word_after(line, b' ', number),
+        None => push_dash_field(line),
+        Some(number) => push_word_field(line, number),
     }
 }
 
@@ -45,7 +78,7 @@ fn push_optional_byte_field<const N: usize>(line: &mut ArrayString<N>, value: Op
     ensures length { array_string_len line.new ≤ array_string_len line.old + 3 }
 {
     match value {
-        None => push_spaced_dash(line),
+        None => push_dash_field(line),
         Some(byte) => {
             push_ascii(line, b' ');
             push_hex(line, u32::from(byte), 2);
@@ -53,35 +86,18 @@ fn push_optional_byte_field<const N: usize>(line: &mut ArrayString<N>, value: Op
     }
 }
 
-#[inline(always)]
-fn push_next_field<const N: usize>(line: &mut ArrayString<N>, next: Next)
-    requires { array_string_len line.old + 10 ≤ N }
-    ensures spelled { line.new.bytes ≡ line.old.bytes ++ after_space (next_text next) }
-    ensures length { array_string_len line.new ≤ array_string_len line.old + 10 }
-{
-    match next {
-        Next::Pc(pc) => {
-            push_ascii(line, b' ');
-            push_word_after(line, b'p', pc);
-        }
-        Next::Ended(status) => push_ended(line, status),
-        Next::Stopped(cause) => push_stopped(line, cause),
-    }
-}
-
-#[cold]
-#[inline(never)]
-fn push_ended<const N: usize>(line: &mut ArrayString<N>, status: u32)
-    requires { array_string_len line.old + 10 ≤ N }
-    ensures spelled { line.new.bytes ≡ line.old.bytes ++ after_space (next_text (Next.Ended status)) }
+// A letter, and a number behind it.
+fn push_lettered_word<const N: usize>(line: &mut ArrayString<N>, letter: u8, value: u32)
+    requires ascii { letter < 128 }
+    requires room { array_string_len line.old + 10 ≤ N }
+    ensures spelled { line.new.bytes ≡ line.old.bytes ++ after_space (letter ∷ hex 8 value) }
     ensures length { array_string_len line.new ≤ array_string_len line.old + 10 }
 {
     push_ascii(line, b' ');
-    push_word_after(line, b'e', status);
+    push_ascii(line, letter);
+    push_hex(line, value, 8);
 }
 
-#[cold]
-#[inline(never)]
 fn push_stopped<const N: usize>(line: &mut ArrayString<N>, cause: Cause)
     requires { array_string_len line.old + 10 ≤ N }
     ensures spelled { line.new.bytes ≡ line.old.bytes ++ after_space (next_text (Next.Stopped cause)) }
@@ -92,6 +108,18 @@ fn push_stopped<const N: usize>(line: &mut ArrayString<N>, cause: Cause)
     push_small_number(line, cause);
 }
 
+fn push_next_field<const N: usize>(line: &mut ArrayString<N>, next: Next)
+    requires { array_string_len line.old + 10 ≤ N }
+    ensures spelled { line.new.bytes ≡ line.old.bytes ++ after_space (next_text next) }
+    ensures length { array_string_len line.new ≤ array_string_len line.old + 10 }
+{
+    match next {
+        Next::Pc(pc) => push_lettered_word(line, b'p', pc),
+        Next::Ended(status) => push_lettered_word(line, b'e', status),
+        Next::Stopped(cause) => push_stopped(line, cause),
+    }
+}
+
 fn push_write_fields<const N: usize>(line: &mut ArrayString<N>, write: Option<Written>)
     requires { array_string_len line.old + 18 ≤ N }
     ensures spelled { line.new.bytes ≡ line.old.bytes ++ after_space (address_text write)
@@ -100,11 +128,11 @@ fn push_write_fields<const N: usize>(line: &mut ArrayString<N>, write: Option<Wr
 {
     match write {
         None => {
-            push_spaced_dash(line);
-            push_spaced_dash(line);
+            push_dash_field(line);
+            push_dash_field(line);
         }
         Some(written) => {
-            push_word_after(line, b' ', written.addr);
+            push_word_field(line, written.addr);
             push_ascii(line, b' ');
             push_hex(line, written.datum, 2 * usize::from(written.n).min(4));
         }
@@ -142,8 +170,8 @@ fn push_step<const N: usize>(line: &mut ArrayString<N>, letter: u8, actor: u8, s
     ensures length { array_string_len line.new ≤ array_string_len line.old + 16 }
 {
     push_ascii(line, letter);
-    push_spaced_number(line, actor);
-    push_spaced_decimal(line, seq);
+    push_small_number_field(line, actor);
+    push_number_field(line, seq);
 }
 
 fn push_fetch<const N: usize>(
@@ -161,12 +189,12 @@ fn push_fetch<const N: usize>(
     ensures length { array_string_len line.new ≤ array_string_len line.old + 64 }
 {
     push_ascii(line, b'F');
-    push_spaced_number(line, actor);
-    push_spaced_number(line, hart);
-    push_spaced_decimal(line, seq);
-    push_word_after(line, b' ', pc);
+    push_small_number_field(line, actor);
+    push_small_number_field(line, hart);
+    push_number_field(line, seq);
+    push_word_field(line, pc);
     push_optional_word_field(line, word);
-    push_word_after(line, b' ', predicted);
+    push_word_field(line, predicted);
 }
 
 fn push_rename<const N: usize>(line: &mut ArrayString<N>, actor: u8, seq: Seq, phys: Option<Phys>)
@@ -242,7 +270,7 @@ pub fn push_record<const N: usize>(line: &mut ArrayString<N>, record: &Record)
     ensures length { array_string_len line.new ≤ array_string_len line.old + 64 }
 {
     push_small_number(line, record.hart);
-    push_word_after(line, b' ', record.pc);
+    push_word_field(line, record.pc);
     push_optional_word_field(line, record.word);
     push_effect(line, &record.effect);
 }

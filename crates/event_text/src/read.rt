@@ -1,37 +1,23 @@
-//! Reading: the event of a line.
+//! Reading: the event of a line, its fields from left to right.
 
-ghost use Rattle.std.specs.Prelude.{◌≡◌, ◌==◌, IfOk, IfSome, Err, if◌then◌else◌};
+ghost use Rattle.std.specs.Prelude.{◌≡◌, ◌==◌, Err, if◌then◌else◌};
 ghost use Rattle.text_fields.specs.Splitting.{field_count};
 ghost use Rattle.events.specs.Kind.{fields_after};
 ghost use Rattle.event_text.specs.declared.read.Rule.TheVariants.{FieldCount};
-ghost use Rattle.text_fields.specs.Reading.{decimal_field, hex_field, optional_field};
-ghost use Rattle.events.specs.Width.{HasWidth, IsWidth};
-ghost use Rattle.event_text.specs.Noting.{Notes};
-ghost use Rattle.event_text.specs.Reading.{rule_number, next_field, pc_field, ended_of, stopped_of};
-ghost use Rattle.event_text.specs.Reading.{sized_field, written_of, write_fields, outcome_of, effect_of};
-ghost use Rattle.event_text.specs.Reading.{fetch_of, decode_of, rename_of, issue_of, complete_of, drop_of};
-ghost use Rattle.event_text.specs.Reading.{retire_of, event_fields, kind_named, event_of};
-ghost use Rattle.event_text.specs.Reading.{of_fields};
+ghost use Rattle.event_text.specs.Reading.{rule_number, outcome_of, effect_of, fetch_of};
+ghost use Rattle.event_text.specs.Reading.{rename_of, complete_of, retire_of, decode_of, issue_of};
+ghost use Rattle.event_text.specs.Reading.{drop_of, behind_actor, event_fields, kind_named};
+ghost use Rattle.event_text.specs.Reading.{event_of, event_within, of_fields};
 
-use crate::noting::{
-    first_next, first_number, first_optional_word, first_word, first_write, noted, number,
-};
-use events::{Effect, Event, EventKind, Next, Outcome, Phys, Written};
+use crate::fields::{first_next, first_optional_sized, read_optional_byte, read_phys, written};
+use crate::ranges::{RANGES, Ranges};
+use events::{Effect, Event, EventKind, Outcome};
 use std::fmt;
 use text_fields::{
-    FieldError, field_count, read_decimal, read_hex, read_optional_decimal, read_optional_hex,
+    FieldError, field_count, first_decimal, first_hex, first_optional_hex, read_decimal, read_hex,
     split_field,
 };
 use thiserror::Error;
-
-/// The greatest number of an actor, of a hart, of an instruction and of a register in a trace.
-pub(crate) const LAST_ACTOR: u32 = 15;
-
-pub(crate) const LAST_HART: u32 = 7;
-
-pub(crate) const LAST_SEQ: u32 = 16_777_215;
-
-pub(crate) const LAST_PHYS: u32 = 503;
 
 /// The first rule that a line of a trace breaks.
 #[derive(Clone, Copy, Debug, PartialEq, Eq, Drop, Error)]
@@ -67,243 +53,141 @@ impl fmt::Display for Rule {
     }
 }
 
-fn read_phys(text: &[u8]) -> Result<Option<Phys>, FieldError>
-    ensures { result ≡ optional_field (decimal_field 503) text.now }
+#[tactic(auto, unfolding(crate::specs::Reading::outcome_of))]
+fn read_outcome(fields: &[u8]) -> Result<Outcome, FieldError>
+    ensures { result ≡ outcome_of fields.now }
 {
-    Ok(match read_optional_decimal(text, LAST_PHYS)? {
-        None => None,
-        Some(number) => Some(number as Phys),
-    })
-}
-
-fn read_optional_byte(text: &[u8]) -> Result<Option<u8>, FieldError>
-    ensures { result ≡ optional_field (hex_field 2) text.now }
-{
-    Ok(match read_optional_hex(text, 2)? {
-        None => None,
-        Some(number) => Some(number as u8),
-    })
-}
-
-fn read_decode(fields: &[u8], refused: &mut Option<FieldError>) -> Event
-    ensures { Notes (decode_of fields.now) result refused.old refused.new }
-{
-    let (actor, seq) = first_number(fields, LAST_ACTOR, refused);
-    Event::Decode {
-        actor: actor as u8,
-        seq: number(seq, LAST_SEQ, refused),
-    }
-}
-
-fn read_rename(fields: &[u8], refused: &mut Option<FieldError>) -> Event
-    ensures { Notes (rename_of fields.now) result refused.old refused.new }
-{
-    let (actor, fields) = first_number(fields, LAST_ACTOR, refused);
-    let (seq, phys) = first_number(fields, LAST_SEQ, refused);
-    Event::Rename {
-        actor: actor as u8,
-        seq,
-        phys: noted(read_phys(phys), None, refused),
-    }
-}
-
-fn read_issue(fields: &[u8], refused: &mut Option<FieldError>) -> Event
-    ensures { Notes (issue_of fields.now) result refused.old refused.new }
-{
-    let (actor, seq) = first_number(fields, LAST_ACTOR, refused);
-    Event::Issue {
-        actor: actor as u8,
-        seq: number(seq, LAST_SEQ, refused),
-    }
-}
-
-fn read_drop(fields: &[u8], refused: &mut Option<FieldError>) -> Event
-    ensures { Notes (drop_of fields.now) result refused.old refused.new }
-{
-    let (actor, seq) = first_number(fields, LAST_ACTOR, refused);
-    Event::Drop {
-        actor: actor as u8,
-        seq: number(seq, LAST_SEQ, refused),
-    }
-}
-
-fn read_fetch(fields: &[u8], refused: &mut Option<FieldError>) -> Event
-    ensures { Notes (fetch_of fields.now) result refused.old refused.new }
-{
-    let (actor, fields) = first_number(fields, LAST_ACTOR, refused);
-    let (hart, fields) = first_number(fields, LAST_HART, refused);
-    let (seq, fields) = first_number(fields, LAST_SEQ, refused);
-    let (pc, fields) = first_word(fields, refused);
-    let (word, predicted) = first_optional_word(fields, refused);
-    Event::Fetch {
-        actor: actor as u8,
-        hart: hart as u8,
-        seq,
-        pc,
-        word,
-        predicted: noted(read_hex(predicted, 8), 0, refused),
-    }
-}
-
-#[tactic(auto, unfolding(crate::specs::Reading::pc_field))]
-fn read_pc(digits: &[u8]) -> Result<Next, FieldError>
-    ensures { result ≡ pc_field digits.now }
-{
-    Ok(Next::Pc(read_hex(digits, 8)?))
-}
-
-#[tactic(auto, unfolding(crate::specs::Reading::ended_of))]
-fn read_ended(digits: &[u8]) -> Result<Next, FieldError>
-    ensures { result ≡ ended_of digits.now }
-{
-    Ok(Next::Ended(read_hex(digits, 8)?))
-}
-
-#[tactic(auto, unfolding(crate::specs::Reading::stopped_of))]
-fn read_stopped(digits: &[u8]) -> Result<Next, FieldError>
-    ensures { result ≡ stopped_of digits.now }
-{
-    match read_decimal(digits, 8) {
-        Ok(cause) => Ok(Next::Stopped(cause as u8)),
-        Err(_) => Err(FieldError::Misspelled),
-    }
-}
-
-#[tactic(auto, unfolding(crate::specs::Reading::next_field))]
-pub(crate) fn read_next(text: &[u8]) -> Result<Next, FieldError>
-    ensures { result ≡ next_field text.now }
-{
-    match text.first() {
-        Some(b'p') => read_pc(&text[1..]),
-        Some(b'e') => read_ended(&text[1..]),
-        Some(b's') => read_stopped(&text[1..]),
-        _ => Err(FieldError::Misspelled),
-    }
-}
-
-// The number of a write, and of how many bytes it is.
-#[tactic(auto, unfolding(crate::specs::Reading::sized_field))]
-fn read_sized(text: &[u8]) -> Result<(u8, u32), FieldError>
-    ensures value { result ≡ sized_field text.now }
-    ensures sized { IfOk result (λ number. IsWidth number.0) }
-{
-    if text.len() != 2 && text.len() != 4 && text.len() != 8 {
-        return Err(FieldError::Misspelled);
-    }
-    let datum = read_hex(text, text.len())?;
-    Ok(((text.len() / 2) as u8, datum))
-}
-
-#[tactic(auto, unfolding(text_fields::specs::Reading::optional_field))]
-fn read_optional_sized(text: &[u8]) -> Result<Option<(u8, u32)>, FieldError>
-    ensures value { result ≡ optional_field sized_field text.now }
-    ensures sized { IfOk result (λ number. IfSome number (λ some. IsWidth some.0)) }
-{
-    if text.len() == 1 && text[0] == b'-' {
-        return Ok(None);
-    }
-    Ok(Some(read_sized(text)?))
-}
-
-fn written(addr: Option<u32>, number: Option<(u8, u32)>) -> Result<Option<Written>, FieldError>
-    requires { IfSome number (λ some. IsWidth some.0) }
-    ensures value { result ≡ written_of addr number }
-    ensures sized { IfOk result (λ write. IfSome write HasWidth) }
-{
-    match (addr, number) {
-        (None, None) => Ok(None),
-        (Some(addr), Some((n, datum))) => Ok(Some(Written { addr, n, datum })),
-        _ => Err(FieldError::Misspelled),
-    }
-}
-
-// The two fields of a write, or of none.
-#[tactic(auto, unfolding(crate::specs::Reading::write_fields))]
-pub(crate) fn read_write(address: &[u8], datum: &[u8]) -> Result<Option<Written>, FieldError>
-    ensures value { result ≡ write_fields address.now datum.now }
-    ensures sized { IfOk result (λ write. IfSome write HasWidth) }
-{
-    let addr = read_optional_hex(address, 8)?;
-    written(addr, read_optional_sized(datum)?)
-}
-
-fn read_outcome(fields: &[u8], refused: &mut Option<FieldError>) -> Outcome
-    ensures { Notes (outcome_of fields.now) result refused.old refused.new }
-{
-    let (value, fields) = first_optional_word(fields, refused);
-    let (next, fields) = first_next(fields, refused);
-    let (addr, fields) = first_optional_word(fields, refused);
-    let (datum, out) = first_optional_word(fields, refused);
-    Outcome {
+    let (value, fields) = first_optional_hex(fields, 8, b' ')?;
+    let (next, fields) = first_next(fields)?;
+    let (addr, fields) = first_optional_hex(fields, 8, b' ')?;
+    let (datum, fields) = first_optional_hex(fields, 8, b' ')?;
+    let out = read_optional_byte(fields)?;
+    Ok(Outcome {
         value,
         next,
         addr,
         datum,
-        out: noted(read_optional_byte(out), None, refused),
-    }
+        out,
+    })
 }
 
-fn read_effect(fields: &[u8], refused: &mut Option<FieldError>) -> Effect
-    ensures { Notes (effect_of fields.now) result refused.old refused.new }
+#[tactic(auto, unfolding(crate::specs::Reading::effect_of))]
+fn read_effect(fields: &[u8]) -> Result<Effect, FieldError>
+    ensures { result ≡ effect_of fields.now }
 {
-    let (value, fields) = first_optional_word(fields, refused);
-    let (next, fields) = first_next(fields, refused);
-    let (write, out) = first_write(fields, refused);
-    Effect {
+    let (value, fields) = first_optional_hex(fields, 8, b' ')?;
+    let (next, fields) = first_next(fields)?;
+    let (addr, fields) = first_optional_hex(fields, 8, b' ')?;
+    let (number, fields) = first_optional_sized(fields)?;
+    let write = written(addr, number)?;
+    let out = read_optional_byte(fields)?;
+    Ok(Effect {
         value,
         next,
         write,
-        out: noted(read_optional_byte(out), None, refused),
-    }
+        out,
+    })
 }
 
-fn read_complete(fields: &[u8], refused: &mut Option<FieldError>) -> Event
-    ensures { Notes (complete_of fields.now) result refused.old refused.new }
+#[tactic(auto, unfolding(crate::specs::Reading::fetch_of))]
+fn read_fetch(actor: u8, fields: &[u8], ranges: Ranges) -> Result<Event, FieldError>
+    ensures { result ≡ fetch_of ranges actor fields.now }
 {
-    let (actor, fields) = first_number(fields, LAST_ACTOR, refused);
-    let (seq, outcome) = first_number(fields, LAST_SEQ, refused);
-    Event::Complete {
-        actor: actor as u8,
+    let (hart, fields) = first_decimal(fields, u32::from(ranges.hart), b' ')?;
+    let (seq, fields) = first_decimal(fields, ranges.seq, b' ')?;
+    let (pc, fields) = first_hex(fields, 8, b' ')?;
+    let (word, fields) = first_optional_hex(fields, 8, b' ')?;
+    Ok(Event::Fetch {
+        actor,
+        hart: hart as u8,
         seq,
-        outcome: read_outcome(outcome, refused),
-    }
+        pc,
+        word,
+        predicted: read_hex(fields, 8)?,
+    })
 }
 
-fn read_retire(fields: &[u8], refused: &mut Option<FieldError>) -> Event
-    ensures { Notes (retire_of fields.now) result refused.old refused.new }
+#[tactic(auto, unfolding(crate::specs::Reading::decode_of))]
+fn read_decode(actor: u8, fields: &[u8], ranges: Ranges) -> Result<Event, FieldError>
+    ensures { result ≡ decode_of ranges actor fields.now }
 {
-    let (actor, fields) = first_number(fields, LAST_ACTOR, refused);
-    let (seq, effect) = first_number(fields, LAST_SEQ, refused);
-    Event::Retire {
-        actor: actor as u8,
-        seq,
-        effect: read_effect(effect, refused),
-    }
+    let seq = read_decimal(fields, ranges.seq)?;
+    Ok(Event::Decode { actor, seq })
 }
 
-fn read_kind(kind: EventKind, fields: &[u8], refused: &mut Option<FieldError>) -> Event
-    ensures { Notes (event_fields kind fields.now) result refused.old refused.new }
+#[tactic(auto, unfolding(crate::specs::Reading::rename_of))]
+fn read_rename(actor: u8, fields: &[u8], ranges: Ranges) -> Result<Event, FieldError>
+    ensures { result ≡ rename_of ranges actor fields.now }
+{
+    let (seq, fields) = first_decimal(fields, ranges.seq, b' ')?;
+    let phys = read_phys(fields, ranges.phys)?;
+    Ok(Event::Rename { actor, seq, phys })
+}
+
+#[tactic(auto, unfolding(crate::specs::Reading::issue_of))]
+fn read_issue(actor: u8, fields: &[u8], ranges: Ranges) -> Result<Event, FieldError>
+    ensures { result ≡ issue_of ranges actor fields.now }
+{
+    let seq = read_decimal(fields, ranges.seq)?;
+    Ok(Event::Issue { actor, seq })
+}
+
+#[tactic(auto, unfolding(crate::specs::Reading::complete_of))]
+fn read_complete(actor: u8, fields: &[u8], ranges: Ranges) -> Result<Event, FieldError>
+    ensures { result ≡ complete_of ranges actor fields.now }
+{
+    let (seq, fields) = first_decimal(fields, ranges.seq, b' ')?;
+    let outcome = read_outcome(fields)?;
+    Ok(Event::Complete {
+        actor,
+        seq,
+        outcome,
+    })
+}
+
+#[tactic(auto, unfolding(crate::specs::Reading::drop_of))]
+fn read_drop(actor: u8, fields: &[u8], ranges: Ranges) -> Result<Event, FieldError>
+    ensures { result ≡ drop_of ranges actor fields.now }
+{
+    let seq = read_decimal(fields, ranges.seq)?;
+    Ok(Event::Drop { actor, seq })
+}
+
+#[tactic(auto, unfolding(crate::specs::Reading::retire_of))]
+fn read_retire(actor: u8, fields: &[u8], ranges: Ranges) -> Result<Event, FieldError>
+    ensures { result ≡ retire_of ranges actor fields.now }
+{
+    let (seq, fields) = first_decimal(fields, ranges.seq, b' ')?;
+    let effect = read_effect(fields)?;
+    Ok(Event::Retire { actor, seq, effect })
+}
+
+// The event of a kind and an actor.
+fn read_behind_actor(
+    kind: EventKind,
+    actor: u8,
+    fields: &[u8],
+    ranges: Ranges,
+) -> Result<Event, FieldError>
+    ensures { result ≡ behind_actor ranges kind actor fields.now }
 {
     match kind {
-        EventKind::Fetch => read_fetch(fields, refused),
-        EventKind::Decode => read_decode(fields, refused),
-        EventKind::Rename => read_rename(fields, refused),
-        EventKind::Issue => read_issue(fields, refused),
-        EventKind::Complete => read_complete(fields, refused),
-        EventKind::Drop => read_drop(fields, refused),
-        EventKind::Retire => read_retire(fields, refused),
+        EventKind::Fetch => read_fetch(actor, fields, ranges),
+        EventKind::Decode => read_decode(actor, fields, ranges),
+        EventKind::Rename => read_rename(actor, fields, ranges),
+        EventKind::Issue => read_issue(actor, fields, ranges),
+        EventKind::Complete => read_complete(actor, fields, ranges),
+        EventKind::Drop => read_drop(actor, fields, ranges),
+        EventKind::Retire => read_retire(actor, fields, ranges),
     }
 }
 
-fn read_fields(kind: EventKind, fields: &[u8]) -> Result<Event, FieldError>
-    ensures { result ≡ event_fields kind fields.now }
+#[tactic(auto, unfolding(crate::specs::Reading::event_fields))]
+fn read_fields(kind: EventKind, fields: &[u8], ranges: Ranges) -> Result<Event, FieldError>
+    ensures { result ≡ event_fields ranges kind fields.now }
 {
-    let mut refused = None;
-    let event = read_kind(kind, fields, &mut refused);
-    match refused {
-        None => Ok(event),
-        Some(error) => Err(error),
-    }
+    let (actor, fields) = first_decimal(fields, u32::from(ranges.actor), b' ')?;
+    read_behind_actor(kind, actor as u8, fields, ranges)
 }
 
 fn kind_named(text: &[u8]) -> Option<EventKind>
@@ -317,15 +201,22 @@ fn kind_named(text: &[u8]) -> Option<EventKind>
 
 /// The event of a line without its newline, or the first rule that the line breaks, its fields from
 /// left to right.
-#[tactic(auto, unfolding(crate::specs::Reading::event_of))]
 pub fn read_event_line(line: &[u8]) -> Result<Event, Rule>
     ensures { result ≡ event_of line.now }
+{
+    read_event_within(line, RANGES)
+}
+
+/// `read_event_line` of a version of the trace format that has these ranges.
+#[tactic(auto, unfolding(crate::specs::Reading::event_within))]
+pub fn read_event_within(line: &[u8], ranges: Ranges) -> Result<Event, Rule>
+    ensures { result ≡ event_within ranges line.now }
 {
     let (letter, fields) = split_field(line, b' ');
     let Some(kind) = kind_named(letter) else {
         return Err(Rule::UnknownLetter);
     };
-    match read_fields(kind, fields) {
+    match read_fields(kind, fields, ranges) {
         Ok(event) => Ok(event),
         Err(error) => Err(broken_rule(kind, fields, error)),
     }

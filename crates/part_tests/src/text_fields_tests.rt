@@ -1,11 +1,10 @@
-//! Fields of a line: printed, read, taken from the front of a text.
+//! Fields of a line: printed, read, and read as the first of a text.
 
 use crate::rows::holds;
 use arrayvec::ArrayString;
 use text_fields::{
-    FieldError, field_count, front_dash, front_decimal, front_hex, front_optional_hex, front_small,
-    push_ascii, push_decimal, push_hex, push_small_number, push_spaced_dash, push_spaced_decimal,
-    push_spaced_number, push_word_after, read_decimal, read_hex, read_optional_decimal,
+    FieldError, field_count, first_decimal, first_hex, first_optional_hex, push_ascii,
+    push_decimal, push_hex, push_small_number, read_decimal, read_hex, read_optional_decimal,
     read_optional_hex, read_signed_decimal, split_field,
 };
 
@@ -59,7 +58,8 @@ fn prints_numbers_of_every_length(rt: HostRuntime) {
 fn prints_a_space_and_numbers_of_every_length(rt: HostRuntime) {
     for (number, want) in &NUMBERS {
         let mut text = ArrayString::<11>::new();
-        push_spaced_decimal(&mut text, *number);
+        push_ascii(&mut text, b' ');
+        push_decimal(&mut text, *number);
         let (before, digits) = split_field(text.as_bytes(), b' ');
         holds(&rt, want, before.is_empty() && digits == want.as_bytes());
     }
@@ -73,18 +73,6 @@ fn prints_numbers_of_one_byte(rt: HostRuntime) {
     push_small_number(&mut text, 100);
     push_small_number(&mut text, 255);
     assert!(rt; text.as_str() == "715100255");
-}
-
-#[test]
-fn prints_fields_with_what_stands_before_them(rt: HostRuntime) {
-    let mut text = ArrayString::<32>::new();
-    push_spaced_number(&mut text, 7);
-    push_spaced_number(&mut text, 15);
-    push_spaced_number(&mut text, 255);
-    push_word_after(&mut text, b' ', 0x8000_0018);
-    push_word_after(&mut text, b'p', 0xab);
-    push_spaced_dash(&mut text);
-    assert!(rt; text.as_str() == " 7 15 255 80000018p000000ab -");
 }
 
 const MISSPELLED: Result<u32, FieldError> = Err(FieldError::Misspelled);
@@ -207,81 +195,86 @@ fn cuts_a_text_at_its_first_separator(rt: HostRuntime) {
     }
 }
 
-/// A text, and the number that it begins with and the text behind what ends that number, where it is
-/// read at once.
-type Front<N> = (&'static str, Option<(N, &'static [u8])>);
+/// A text, and its first field with the text of the others.
+type First<N> = (&'static str, Result<(N, &'static [u8]), FieldError>);
 
 /// Numbers of 24 bits before a newline.
-static FRONT_DECIMAL: [Front<u32>; 8] = [
-    ("7\nD 1 8\n", Some((7, b"D 1 8\n"))),
-    ("1234567\nD 1 8\n", Some((1_234_567, b"D 1 8\n"))),
-    ("0\nD 1 8\n", Some((0, b"D 1 8\n"))),
-    ("07\nD 1 8\n", None),
-    ("12 34567\n", None),
-    ("\n1234567\n", None),
-    ("12345678\n", None),
-    ("7\n", None),
+static FIRST_DECIMAL: [First<u32>; 12] = [
+    ("7\nD 1 8\n", Ok((7, b"D 1 8\n"))),
+    ("1234567\nD 1 8\n", Ok((1_234_567, b"D 1 8\n"))),
+    ("0\nD 1 8\n", Ok((0, b"D 1 8\n"))),
+    ("07\nD 1 8\n", Err(FieldError::Misspelled)),
+    ("12 34567\n", Err(FieldError::Misspelled)),
+    ("\n1234567\n", Err(FieldError::Misspelled)),
+    ("12345678\n", Ok((12_345_678, b""))),
+    ("7", Ok((7, b""))),
+    ("16777215\n\n", Ok((16_777_215, b"\n"))),
+    ("16777216\n7", Err(FieldError::OutOfRange)),
+    ("99999999999999999999999\n7", Err(FieldError::OutOfRange)),
+    ("99999999999999999999999x\n7", Err(FieldError::Misspelled)),
 ];
 
 #[test]
 fn reads_a_decimal_number_that_a_newline_ends(rt: HostRuntime) {
-    for (text, want) in &FRONT_DECIMAL {
+    for (text, want) in &FIRST_DECIMAL {
         holds(
             &rt,
             text,
-            front_decimal(text.as_bytes(), 16_777_215, b'\n') == *want,
+            first_decimal(text.as_bytes(), 16_777_215, b'\n') == *want,
         );
     }
 }
 
 /// Numbers up to 15 before a space.
-static FRONT_SMALL: [Front<u32>; 5] = [
-    ("9 1", Some((9, b"1"))),
-    ("15 1 2 3", Some((15, b"1 2 3"))),
-    ("16 1 2 3", None),
-    ("9\n", None),
-    ("a 1", None),
+static FIRST_SMALL: [First<u32>; 5] = [
+    ("9 1", Ok((9, b"1"))),
+    ("15 1 2 3", Ok((15, b"1 2 3"))),
+    ("16 1 2 3", Err(FieldError::OutOfRange)),
+    ("9\n", Err(FieldError::Misspelled)),
+    ("a 1", Err(FieldError::Misspelled)),
 ];
 
 #[test]
 fn reads_a_small_number_that_a_space_ends(rt: HostRuntime) {
-    for (text, want) in &FRONT_SMALL {
-        holds(&rt, text, front_small(text.as_bytes(), 15, b' ') == *want);
+    for (text, want) in &FIRST_SMALL {
+        holds(&rt, text, first_decimal(text.as_bytes(), 15, b' ') == *want);
     }
 }
 
 /// Numbers of eight digits before a space.
-static FRONT_HEX: [Front<u32>; 4] = [
-    ("8000000c 1", Some((0x8000_000c, b"1"))),
-    ("8000000c\n", None),
-    ("8000000C 1", None),
-    ("800000c 1", None),
+static FIRST_HEX: [First<u32>; 6] = [
+    ("8000000c 1", Ok((0x8000_000c, b"1"))),
+    ("8000000c", Ok((0x8000_000c, b""))),
+    ("8000000c\n", Err(FieldError::Misspelled)),
+    ("8000000C 1", Err(FieldError::Misspelled)),
+    ("800000c 1", Err(FieldError::Misspelled)),
+    ("8000000cc 1", Err(FieldError::Misspelled)),
 ];
 
 #[test]
 fn reads_a_hexadecimal_number_that_a_space_ends(rt: HostRuntime) {
-    for (text, want) in &FRONT_HEX {
-        holds(&rt, text, front_hex(text.as_bytes(), 8, b' ') == *want);
+    for (text, want) in &FIRST_HEX {
+        holds(&rt, text, first_hex(text.as_bytes(), 8, b' ') == *want);
     }
 }
 
 /// Numbers of two digits, or none, before a newline.
-static FRONT_OPTIONAL: [Front<Option<u32>>; 4] = [
-    ("-\nI", Some((None, b"I"))),
-    ("0a\nI", Some((Some(10), b"I"))),
-    ("- I", None),
-    ("0\nI", None),
+static FIRST_OPTIONAL: [First<Option<u32>>; 6] = [
+    ("-\nI", Ok((None, b"I"))),
+    ("-", Ok((None, b""))),
+    ("0a\nI", Ok((Some(10), b"I"))),
+    ("- I", Err(FieldError::Misspelled)),
+    ("-I", Err(FieldError::Misspelled)),
+    ("0\nI", Err(FieldError::Misspelled)),
 ];
 
 #[test]
 fn reads_a_dash_that_a_newline_ends_as_no_number(rt: HostRuntime) {
-    for (text, want) in &FRONT_OPTIONAL {
+    for (text, want) in &FIRST_OPTIONAL {
         holds(
             &rt,
             text,
-            front_optional_hex(text.as_bytes(), 2, b'\n') == *want,
+            first_optional_hex(text.as_bytes(), 2, b'\n') == *want,
         );
     }
-    holds(&rt, "-\nI", front_dash(b"-\nI", b'\n') == Some(b"I"));
-    holds(&rt, "-I", front_dash(b"-I", b'\n').is_none());
 }

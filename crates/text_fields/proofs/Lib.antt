@@ -1,12 +1,9 @@
 pub mod DecimalLaws
-pub mod DecimalLemmas
-pub mod DigitLemmas
 pub mod DigitTable
-pub mod FrontLemmas
+pub mod FirstLemmas
 pub mod HexLaws
 pub mod HexLemmas
 pub mod LacksLaws
 pub mod OptionalLaws
-pub mod PairLemmas
 pub mod SignedLaws
 pub mod SplittingLaws

@@ -1,5 +1,5 @@
+pub mod Counting
 pub mod Printing
 pub mod Reading
 pub mod Spelling
 pub mod Splitting
-pub mod Taking

@@ -6,7 +6,6 @@ ghost use Rattle.std.specs.Fmt.{decimal, digit_glyph};
 ghost use Rattle.arrayvec.specs.ArrayString.{array_string_len};
 ghost use Rattle.text_fields.specs.Spelling.{hex, hex_digit};
 
-use crate::pairs::{high_digit, low_digit, ones, tens, word_digits};
 use arrayvec::ArrayString;
 use itoa::{Buffer, Integer};
 use std::str::from_utf8_unchecked;
@@ -29,18 +28,16 @@ pub fn push_small_number<const N: usize>(text: &mut ArrayString<N>, value: u8)
     ensures length { array_string_len text.new ≤ array_string_len text.old + 3 }
 {
     if value < 10 {
-        push_bytes(text, &[b'0' + value]);
-    } else if value < 100 {
-        push_bytes(text, &[tens(value), ones(value)]);
+        push_ascii(text, b'0' + value);
     } else {
-        let back = value % 100;
-        push_bytes(text, &[b'0' + value / 100, tens(back), ones(back)]);
+        push_decimal(text, value);
     }
 }
 
-// Appends ASCII characters.
+// Appends ASCII characters. One by one, as `char`s, they cost 1,700 of the processor's instructions
+// more for an event's line, where a whole event of `step` costs 2,100 (in the checked program).
 #[inline(always)]
-pub(crate) fn push_bytes<const N: usize>(text: &mut ArrayString<N>, bytes: &[u8])
+fn push_bytes<const N: usize>(text: &mut ArrayString<N>, bytes: &[u8])
     requires ascii { IsAscii bytes.now }
     requires room { array_string_len text.old + length bytes.now ≤ N }
     ensures spelled { text.new.bytes ≡ text.old.bytes ++ bytes.now }
@@ -86,30 +83,30 @@ pub fn push_hex<const N: usize>(text: &mut ArrayString<N>, value: u32, count: us
     ensures spelled { text.new.bytes ≡ text.old.bytes ++ hex count value }
     ensures length { array_string_len text.new ≡ array_string_len text.old + count }
 {
-    match count {
-        8 => push_word(text, value),
-        2 => push_byte(text, value),
-        _ => push_digits(text, value, count),
+    if count == 8 {
+        push_word(text, value);
+    } else {
+        push_digits(text, value, count);
     }
 }
 
-// Appends the eight digits of a number.
+// Appends the eight digits of a number in one go.
 fn push_word<const N: usize>(text: &mut ArrayString<N>, value: u32)
     requires { array_string_len text.old + 8 ≤ N }
     ensures spelled { text.new.bytes ≡ text.old.bytes ++ hex 8 value }
     ensures length { array_string_len text.new ≡ array_string_len text.old + 8 }
 {
-    push_bytes(text, &word_digits(value));
-}
-
-// Appends the two lowest digits of a number.
-fn push_byte<const N: usize>(text: &mut ArrayString<N>, value: u32)
-    requires { array_string_len text.old + 2 ≤ N }
-    ensures spelled { text.new.bytes ≡ text.old.bytes ++ hex 2 value }
-    ensures length { array_string_len text.new ≡ array_string_len text.old + 2 }
-{
-    let last = (value % 256) as u8;
-    push_bytes(text, &[high_digit(last), low_digit(last)]);
+    let digits = [
+        hex_digit(value, 7),
+        hex_digit(value, 6),
+        hex_digit(value, 5),
+        hex_digit(value, 4),
+        hex_digit(value, 3),
+        hex_digit(value, 2),
+        hex_digit(value, 1),
+        hex_digit(value, 0),
+    ];
+    push_bytes(text, &digits);
 }
 
 // Appends the digits one by one.

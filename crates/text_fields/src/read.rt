@@ -1,10 +1,11 @@
 //! Reading: each function takes one whole field of a text.
 
-ghost use Rattle.std.specs.Prelude.{◌≡◌, ◌^◌, ◌≤◌, ◌<◌, ◌==◌, ◌&&◌, ◌||◌, not, nat_lt, length};
+ghost use Rattle.std.specs.Prelude.{◌≡◌, ◌+◌, ◌-◌, ◌*◌, ◌^◌, ◌≤◌, ◌<◌, ◌==◌, ◌&&◌, ◌||◌, not, nat_lt, length};
 ghost use Rattle.std.specs.Prelude.{true, false, slice_index, Ok, IfOk, IfSome, IfNone, if◌then◌else◌};
 ghost use Rattle.std.specs.List.{list_all};
 ghost use Rattle.std.specs.Char.{is_ascii_digit};
 ghost use Rattle.text_fields.specs.declared.read.FieldError.TheVariants.{Misspelled, OutOfRange};
+ghost use Rattle.text_fields.specs.Counting.{Counts};
 ghost use Rattle.text_fields.specs.Reading.{is_dash, is_hex_digit, hex_digit_value};
 ghost use Rattle.text_fields.specs.Reading.{hex_after, decimal_field, signed_field};
 ghost use Rattle.text_fields.specs.Reading.{hex_field, optional_field};
@@ -28,12 +29,6 @@ impl fmt::Display for FieldError {
     }
 }
 
-fn are_digits(text: &[u8]) -> bool
-    ensures { result ≡ list_all is_ascii_digit text.now }
-{
-    text.iter().all(|byte| byte.is_ascii_digit())
-}
-
 // Whether the text has a first byte that can begin a number: no zero before others.
 #[inline]
 fn begins_well(text: &[u8]) -> bool
@@ -43,76 +38,52 @@ fn begins_well(text: &[u8]) -> bool
     !text.is_empty() && (text.len() == 1 || text[0] != b'0')
 }
 
-// Why a text that begins well is refused whose first digits write a number above the limit.
-#[cold]
-fn refusal_above(text: &[u8]) -> FieldError
-    ensures { result ≡ (if list_all is_ascii_digit text.now then OutOfRange else Misspelled) }
-{
-    if are_digits(text) {
-        return FieldError::OutOfRange;
-    }
-    FieldError::Misspelled
-}
-
 /// A decimal number of at most `max`.
 ///
 /// It is misspelled if it isn't digits alone or has leading zeros, and out of range if it is above
 /// `max`.
-#[inline]
 pub fn read_decimal(text: &[u8], max: u32) -> Result<u32, FieldError>
     ensures field { result ≡ decimal_field max text.now }
     ensures within { IfOk result (λ value. value ≤ max) }
 {
-    match few_digits(text, max) {
-        Some(value) => Ok(value),
-        None => any_number(text, max),
-    }
-}
-
-// The number that up to eight digits write, with no fault. The loop's turns are so few that it can
-// be written out.
-#[tactic(auto, unfolding(crate::specs::Reading::decimal_field))]
-#[inline(always)]
-fn few_digits(text: &[u8], max: u32) -> Option<u32>
-    ensures field { IfSome result (λ value. decimal_field max text.now ≡ Ok value) }
-    ensures within { IfSome result (λ value. value ≤ max) }
-{
-    if text.is_empty() || text.len() > 8 || (text[0] == b'0' && text.len() > 1) {
-        return None;
-    }
-    let mut value = 0u64;
-    for digit in text {
-        if !digit.is_ascii_digit() {
-            return None;
-        }
-        value = value * 10 + u64::from(digit - b'0');
-        if value > u64::from(max) {
-            return None;
-        }
-    }
-    Some(value as u32)
-}
-
-// `read_decimal` of any text, in more steps.
-#[tactic(auto, unfolding(crate::specs::Reading::decimal_field))]
-#[cold]
-#[inline(never)]
-fn any_number(text: &[u8], max: u32) -> Result<u32, FieldError>
-    ensures field { result ≡ decimal_field max text.now }
-    ensures within { IfOk result (λ value. value ≤ max) }
-{
-    if !begins_well(text) {
-        return Err(FieldError::Misspelled);
-    }
     let mut value = 0u64;
     for digit in text {
         if !digit.is_ascii_digit() {
             return Err(FieldError::Misspelled);
         }
-        value = value * 10 + u64::from(digit - b'0');
-        if value > u64::from(max) {
-            return Err(refusal_above(text));
-        }
+        value = with_digit(value, *digit, max);
+    }
+    counted(text, value, max)
+}
+
+// The number with one more digit. One that is above the limit stays so.
+#[inline(always)]
+pub(crate) fn with_digit(value: u64, digit: u8, max: u32) -> u64
+    requires digit { is_ascii_digit digit ≡ true }
+    requires small { value ≤ max * 10 + 9 }
+    ensures below { value ≤ max → result ≡ value * 10 + (digit - 48) }
+    ensures above { max < value → result ≡ value }
+    ensures small { result ≤ max * 10 + 9 }
+{
+    if value > u64::from(max) {
+        return value;
+    }
+    value * 10 + u64::from(digit - b'0')
+}
+
+// The number that digits write, from what was counted of them.
+#[tactic(auto, unfolding(crate::specs::Reading::decimal_field))]
+#[inline(always)]
+pub(crate) fn counted(digits: &[u8], value: u64, max: u32) -> Result<u32, FieldError>
+    requires { Counts max value digits.now }
+    ensures field { result ≡ decimal_field max digits.now }
+    ensures within { IfOk result (λ number. number ≤ max) }
+{
+    if !begins_well(digits) {
+        return Err(FieldError::Misspelled);
+    }
+    if value > u64::from(max) {
+        return Err(FieldError::OutOfRange);
     }
     Ok(value as u32)
 }

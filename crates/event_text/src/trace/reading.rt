@@ -9,7 +9,6 @@ ghost use Rattle.events.specs.Range.{IsEventInRange};
 ghost use Rattle.event_text.specs.Refusals.{IsRefusedFor, Gives};
 ghost use Rattle.event_text.specs.Trace.{ended, header, trace_text, Breaks, BreaksHeader, BreaksEvent};
 
-use crate::quick::quick_event;
 use crate::read::read_event_line;
 use crate::trace::Trace;
 use events::Event;
@@ -98,23 +97,8 @@ fn read_header(text: &[u8]) -> Result<&[u8], u8>
 }
 
 // The event of the first line and the text behind it, or the rule that this line breaks.
-#[inline(always)]
-fn read_first_event(text: &[u8]) -> Result<(Event, &[u8]), u8>
-    ensures read { IfOk result (λ p. text.now ≡ ended (line_of p.0) ++ p.1.now) }
-    ensures in_range { IfOk result (λ p. IsEventInRange p.0) }
-    ensures broken { IfErr result (Breaks BreaksEvent text.now) }
-{
-    match quick_event(text) {
-        Some(found) => Ok(found),
-        None => read_any_line(text),
-    }
-}
-
-// `read_first_event` of any text, in more steps.
 #[tactic(auto, unfolding(crate::specs::Trace::Breaks))]
-#[cold]
-#[inline(never)]
-fn read_any_line(text: &[u8]) -> Result<(Event, &[u8]), u8>
+fn read_first_event(text: &[u8]) -> Result<(Event, &[u8]), u8>
     ensures read { IfOk result (λ p. text.now ≡ ended (line_of p.0) ++ p.1.now) }
     ensures in_range { IfOk result (λ p. IsEventInRange p.0) }
     ensures broken { IfErr result (Breaks BreaksEvent text.now) }

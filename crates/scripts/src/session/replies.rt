@@ -1,6 +1,6 @@
 //! The line of a reply, appended to the lines that are held back.
 
-ghost use Rattle.std.specs.Prelude.{◌≡◌, ◌+◌, ◌≤◌, ◌++◌, codes, IfSome};
+ghost use Rattle.std.specs.Prelude.{◌≡◌, ◌+◌, ◌≤◌, ◌++◌, IfSome};
 ghost use Rattle.arrayvec.specs.ArrayString.{array_string_len};
 ghost use Rattle.core_lock.specs.Asks.{event_in};
 ghost use Rattle.scripts.specs.Session.{done_line, reply_line, job_in};
@@ -50,22 +50,7 @@ fn push_done(lines: &mut Lines, event: &Event)
     ensures line { lines.new.bytes ≡ lines.old.bytes ++ done_line event.now }
     ensures length { array_string_len lines.new ≤ array_string_len lines.old + 70 }
 {
-    push_word(lines);
+    lines.push_str("done ");
     push_event(lines, event);
     push_ascii(lines, b'\n');
-}
-
-// Appends the word that an event's line begins with, byte by byte: LLVM makes two stores of that,
-// where a text would first be tested for overlap.
-#[inline(always)]
-fn push_word(lines: &mut Lines)
-    requires { array_string_len lines.old + 5 ≤ 3072 }
-    ensures line { lines.new.bytes ≡ lines.old.bytes ++ codes "done " }
-    ensures length { array_string_len lines.new ≡ array_string_len lines.old + 5 }
-{
-    push_ascii(lines, b'd');
-    push_ascii(lines, b'o');
-    push_ascii(lines, b'n');
-    push_ascii(lines, b'e');
-    push_ascii(lines, b' ');
 }

@@ -1,4 +1,4 @@
-use Rattle.event_text.proofs.{LineOnly.event_of_only, ReadBack.event_of-line_of}
+use Rattle.event_text.proofs.LineLaws.{event_of-line_of, event_of_only}
 use Rattle.event_text.proofs.laws.line_law.Goals as goal
 
 pub returns-clause-back : goal.returns-clause-back

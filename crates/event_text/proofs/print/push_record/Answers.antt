@@ -9,7 +9,7 @@ returns-clause-spelled g c =
     rw (
       c.push_effect.ensures.spelled,
       c.push_optional_word_field.ensures.spelled,
-      c.push_word_after.ensures.spelled,
+      c.push_word_field.ensures.spelled,
       c.push_small_number.ensures.spelled,
     )
     (simp append_assoc)
