@@ -88,6 +88,13 @@ impl Checkpoints {
         keep_in(&mut self.places, seq, map)
     }
 
+    /// Whether a map is kept under this number.
+    pub(crate) fn holds(&self, seq: Seq) -> bool
+        ensures { result ≡ is_some (kept_under seq self.now) }
+    {
+        is_kept_in(&self.places, seq)
+    }
+
     /// Writes the map that is kept under this number into `map`, where there is one. Answers
     /// whether there is.
     pub(crate) fn copy(&self, seq: Seq, map: &mut Map) -> bool
@@ -126,6 +133,17 @@ fn keep_in(places: &mut [Place], seq: Seq, map: &Map) -> bool
         if place.number.is_none() {
             place.number = Some(seq);
             place.map = *map;
+            return true;
+        }
+    }
+    false
+}
+
+fn is_kept_in(places: &[Place], seq: Seq) -> bool
+    ensures { result ≡ is_some (kept_under seq (kept_in places.now)) }
+{
+    for place in places {
+        if place.number == Some(seq) {
             return true;
         }
     }

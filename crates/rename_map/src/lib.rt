@@ -143,6 +143,13 @@ impl HartMaps {
         self.kept.keep(seq, &self.speculative)
     }
 
+    /// Whether a map is kept under this number.
+    pub fn is_kept(&self, seq: Seq) -> bool
+        ensures { result ≡ is_some (kept_under seq self.now.kept) }
+    {
+        self.kept.holds(seq)
+    }
+
     /// The speculative map becomes the one that is kept under this number, and this and all greater
     /// numbers are released. Answers whether one is kept under it; nothing changes where none is.
     pub fn restore(&mut self, seq: Seq) -> bool
