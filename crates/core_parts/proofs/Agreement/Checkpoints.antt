@@ -1,12 +1,12 @@
 -- The checkpoints of a hart, after each change of its active list and its maps.
-use Rattle.std.specs.Prelude.{◌≡◌, ◌≢◌, ℕ, ◌<◌, ◌≤◌, ◌==◌, ◌&&◌, not, Bool, true, false, nat_lt, nat_le, List, [], ◌∷◌, ◌++◌}
-use Rattle.std.specs.Prelude.{map, filter, length, Option, Some, None, slice_index_or, slice_set}
+use Rattle.std.specs.Prelude.{◌≡◌, ℕ, ◌<◌, ◌≤◌, ◌==◌, ◌&&◌, not, Bool, true, false, nat_le, List, [], ◌∷◌, ◌++◌}
+use Rattle.std.specs.Prelude.{map, filter, length, Some, None, slice_index_or, slice_set}
 use Rattle.std.specs.List.{AllByRecursion, list_any}
 use Rattle.std.proofs.Common.{◌∙◌, refl, sym, ap, subst, inl, inr, arith}
 use Rattle.std.proofs.{lemmas.Bool.cases_Bool, lemmas.Bool.cases_eq, lemmas.Bool.Decides.nat_tests}
 use Rattle.std.proofs.{lemmas.List.length-set, lemmas.List.get_or-set_same, lemmas.List.get_or-set_other}
 use Rattle.std.proofs.lemmas.Option.{none-some, same_Some}
-use Rattle.rename_map.specs.Maps.{Maps, Checkpoint, KeepsToo, kept_of, kept_under, lookup, committed_of, released}
+use Rattle.rename_map.specs.Maps.{Maps, Checkpoint, kept_under, lookup, committed_of, released}
 use Rattle.rename_map.specs.Maps.{released_after}
 use Rattle.retire_squash.specs.{Active.with_stage, Active.staged, declared.active.Active.Active}
 use Rattle.retire_squash.specs.declared.active.Stage.{Stage}
@@ -113,12 +113,12 @@ older_staged : (n : ℕ) (at : Stage) (r s : ℕ) (xs : List Active) (before : �
 older_staged n at r s [] before = refl
 older_staged n at r s (x ∷ xs) before = elim (cases_Bool (x.seq == n)) [
   | inl own ↦ elim (cases_Bool (nat_le x.seq s)) [
-    | inl t ↦ rw (own, t) (rw t (older_staged n at r s xs (renamed_map x.rd x.phys r before)))
-    | inr f ↦ rw (own, f) (rw f (older_staged n at r s xs before))
+    | inl t ↦ rw (own, t) (older_staged n at r s xs (renamed_map x.rd x.phys r before))
+    | inr f ↦ rw (own, f) (older_staged n at r s xs before)
   ]
   | inr other ↦ elim (cases_Bool (nat_le x.seq s)) [
-    | inl t ↦ rw (other, t) (rw t (older_staged n at r s xs (renamed_map x.rd x.phys r before)))
-    | inr f ↦ rw (other, f) (rw f (older_staged n at r s xs before))
+    | inl t ↦ rw (other, t) (older_staged n at r s xs (renamed_map x.rd x.phys r before))
+    | inr f ↦ rw (other, f) (older_staged n at r s xs before)
   ]
 ]
 
@@ -128,7 +128,7 @@ still_open : (n : ℕ) (at : Stage) (s : ℕ) → ((s == n) ≡ true → is_comp
 still_open n at s opens x is = elim (cases_Bool (x.seq == n)) [
   | inl own ↦
       let same : (s == n) ≡ true = grind (arith, nat_tests) in
-      let open = opens same in
+      let not_yet = opens same in
       rw own (grind (arith, nat_tests))
   | inr other ↦ rw other is
 ]
@@ -143,9 +143,9 @@ staged_one n at xs m k opens is = record {
 -- It is issued.
 pub checkpoints_issued : (n : ℕ) (at : Stage) (xs : List Active) (m : Maps) → is_completed at ≡ false
     → AreCheckpoints xs m → AreCheckpoints (with_stage n at xs) m
-checkpoints_issued n at xs m open all =
+checkpoints_issued n at xs m waits all =
     all_to (IsCheckpoint xs m) (IsCheckpoint (with_stage n at xs) m)
-    (λ k is. staged_one n at xs m k (λ own. open) is) m.kept all
+    (λ k is. staged_one n at xs m k (λ own. waits) is) m.kept all
 
 -- A map with other kept ones and another speculative one.
 with_kept : (xs : List Active) (m o : Maps) (k : Checkpoint) → o.committed ≡ m.committed → IsCheckpoint xs m k

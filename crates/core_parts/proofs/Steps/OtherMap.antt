@@ -1,7 +1,7 @@
 -- A picture with another map of one hart: what steps lead from it and to it, and what parts agree with it. So stands a
 -- hart whose map was restored or is to be made anew, until its younger instructions are squashed.
 use Rattle.std.specs.Prelude.{◌≡◌, ◌≢◌, ℕ, ◌<◌, ◌==◌, Bool, true, false, List, [], ◌∷◌, length, slice_index_or}
-use Rattle.std.specs.Prelude.{slice_set, if◌then◌else◌}
+use Rattle.std.specs.Vec.{with_item}
 use Rattle.std.proofs.Common.{◌∙◌, refl, sym, ap, arith}
 use Rattle.std.proofs.lemmas.Bool.Decides.{nat_tests}
 use Rattle.events.specs.declared.effect.Outcome.{Outcome}
@@ -242,7 +242,7 @@ other_with row p h g other x is =
 
 pub parts_with : (row : ℕ → ℕ) (p : Picture) (h : ℕ) (x : HartState) (m : Maps) (old new : Parts)
     → h < length old.harts.items → x ≡ slice_index_or old.harts.items h x
-    → new ≡ record old { harts = record { items = slice_set old.harts.items h (record x { maps = m }) } }
+    → new ≡ record old { harts = with_item old.harts h (record x { maps = m }) }
     → m.committed ≡ x.maps.committed → ((r : ℕ) → 0 < r → r < 32 → lookup m r ≡ row r)
     → HasCheckpoints (record x { maps = m }) → PartsAgree p old → PartsAgree (with_map row p h) new
 parts_with row p h x m old new inside at is same is_row kept agrees =

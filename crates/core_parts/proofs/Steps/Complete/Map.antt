@@ -1,16 +1,18 @@
 -- A mispredicted instruction whose map was kept: that is what the squash makes.
-use Rattle.std.specs.Prelude.{◌≡◌, ◌≢◌, ℕ, ◌<◌, ◌==◌, true, List, [], ◌∷◌, length, map, Option, Some, None, is_some}
+use Rattle.std.specs.Prelude.{◌≡◌, ℕ, ◌<◌, List, [], ◌∷◌, length, map, Option, Some, None, is_some}
 use Rattle.std.specs.Prelude.{slice_index_or, slice_set}
 use Rattle.std.specs.List.{AllByRecursion}
 use Rattle.std.proofs.Common.{◌∙◌, refl, sym, ap, subst, inl, inr, arith}
+use Rattle.std.specs.Vec.{with_item}
 use Rattle.std.proofs.{lemmas.Bool.cases_eq, lemmas.List.set-get_or}
 use Rattle.events.specs.declared.effect.Outcome.{Outcome}
-use Rattle.rename_map.specs.Maps.{Maps, Checkpoint, kept_under, restored, restored_to, released, released_after}
+use Rattle.rename_map.specs.Maps.{Checkpoint, kept_under, restored, restored_to, released_after}
 use Rattle.retire_squash.specs.declared.active.Active.{Active}
 use Rattle.smt_model.specs.{Fates.op_of_fetched, Kinds.destination, Picture.Picture}
 use Rattle.smt_model.specs.Steps.{IsComplete, IsMisprediction, op_in, renamed_map, up_to, youngest}
-use Rattle.core_parts.specs.Agree.{IsActive, HartAgrees, PartsAgree}
-use Rattle.core_parts.specs.Checkpoints.{HasCheckpoints, map_behind, with_map_if}
+use Rattle.core_parts.specs.{Accesses.AccessesAgree, Agree.EachAgrees, Agree.IsActive, Agree.HartAgrees}
+use Rattle.core_parts.specs.{Agree.PartsAgree}
+use Rattle.core_parts.specs.Checkpoints.{CheckpointsAgree, HasCheckpoints, map_behind, with_map_if}
 use Rattle.core_parts.specs.Squash.{older, mapped_by}
 use Rattle.core_parts.specs.{declared.hart.HartState.HartState, declared.parts.Parts.Parts}
 use Rattle.core_parts.proofs.Agreement.Checkpoints.{checkpoint_found, checkpoints_here, checkpoints_released}
@@ -70,9 +72,7 @@ squash_finds p q h n k o pc old inside agrees s r low high =
 
 module _ (p : Picture) (h n : ℕ) (x : HartState) (old new : Parts) (inside : h < length old.harts.items)
     (at : x ≡ slice_index_or old.harts.items h x) (agrees : PartsAgree p old)
-    (is : new ≡ record old {
-      harts = record { items = slice_set old.harts.items h (record x { maps = restored n x.maps }) };
-    }) where
+    (is : new ≡ record old { harts = with_item old.harts h (record x { maps = restored n x.maps }) }) where
   here : HartAgrees p h x
   here = subst (HartAgrees p h) (sym at) (agrees.harts h x inside)
 
@@ -91,14 +91,23 @@ module _ (p : Picture) (h n : ℕ) (x : HartState) (old new : Parts) (inside : h
       ∙ ap (λ xs. youngest p r xs (p.committed h r)) (numbers_older n x.active ∙ ap (up_to n) here.active)
 
   restored_by : (o : Option Checkpoint) → kept_under n x.maps.kept ≡ o
-      → new ≡ record old {
-        harts = record { items = slice_set old.harts.items h (record x { maps = restored_to o n x.maps }) };
-      }
+      → new ≡ record old { harts = with_item old.harts h (record x { maps = restored_to o n x.maps }) }
       → PartsAgree (with_map_if (is_some o) (map_behind p h n) p h) new
   restored_by None found now =
       let same : slice_set old.harts.items h x ≡ old.harts.items =
       ap (slice_set old.harts.items h) at ∙ set-get_or old.harts.items h x in
-      subst (PartsAgree p) (sym (now ∙ ap (λ xs. record old { harts = record { items = xs } }) same)) agrees
+      rw now (record {
+        harts = subst (EachAgrees p) (sym same) agrees.harts;
+        checkpoints = subst CheckpointsAgree (sym same) agrees.checkpoints;
+        queue = agrees.queue;
+        free = agrees.free;
+        registers = agrees.registers;
+        values = agrees.values;
+        actors = agrees.actors;
+        jobs = agrees.jobs;
+        accesses = subst (λ xs. AccessesAgree xs old.accesses) (sym same) agrees.accesses;
+        memory = agrees.memory;
+      })
   restored_by (Some k) found now =
       let m = restored_to (Some k) n x.maps in
       parts_with (map_behind p h n) p h x m old new inside at now refl (kept_map k found)

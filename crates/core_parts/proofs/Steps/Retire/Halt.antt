@@ -1,14 +1,12 @@
 -- A retirement that ends or stops its hart, in two steps: between them stands the history's own picture, but for the
 -- hart's map, which still has the register of the one that has left. The squash makes the map anew, so it takes any.
-use Rattle.std.specs.Prelude.{◌≡◌, ◌≢◌, ℕ, ◌<◌, ◌==◌, true, false, List, [], ◌∷◌, length, slice_index_or}
-use Rattle.std.specs.Prelude.{if◌then◌else◌}
-use Rattle.std.proofs.Common.{◌∙◌, refl, sym, ap, subst, arith}
-use Rattle.std.proofs.lemmas.Bool.Decides.{nat_tests}
+use Rattle.std.specs.Prelude.{◌≡◌, ◌≢◌, ℕ, ◌<◌, true, false, length, slice_index_or}
+use Rattle.std.proofs.Common.{◌∙◌, sym, ap, subst}
 use Rattle.events.specs.declared.effect.Effect.{Effect}
 use Rattle.events.specs.declared.effect.Next.TheVariants as next
 use Rattle.retire_squash.specs.declared.active.Active.{Active}
 use Rattle.smt_model.specs.{declared.config.Status.Status, declared.config.Status.TheVariants.Ended}
-use Rattle.smt_model.specs.{declared.config.Status.TheVariants.Stopped, Nexts.is_last, Kinds.destination}
+use Rattle.smt_model.specs.{declared.config.Status.TheVariants.Stopped, Nexts.is_last}
 use Rattle.smt_model.specs.{Picture.Picture, Plain.status_after}
 use Rattle.smt_model.specs.Steps.{IsRetire, IsHalt, IsSameHart, IsSameInstruction, KeepsReadings}
 use Rattle.core_parts.specs.Checkpoints.{with_map}

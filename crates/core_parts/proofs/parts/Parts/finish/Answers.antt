@@ -1,6 +1,6 @@
-use Rattle.std.specs.Prelude.{◌<◌, slice_index_or}
+use Rattle.std.specs.Prelude.{◌<◌}
 use Rattle.std.proofs.Common.{◌∙◌, sym, subst}
-use Rattle.core_parts.specs.{Agree.From, Checkpoints.map_behind, Checkpoints.with_map_if, Squash.Squashes}
+use Rattle.core_parts.specs.{Checkpoints.map_behind, Checkpoints.with_map_if}
 use Rattle.core_parts.proofs.Agreement.Queues.{has_place}
 use Rattle.core_parts.proofs.Steps.OtherMap.{completes_if, op_if, phys_if, squashes_if}
 use Rattle.core_parts.proofs.Steps.Complete.Map.{squash_finds}
@@ -15,7 +15,7 @@ pub write_outcome-requires-2 : goal.write_outcome-requires-2
 write_outcome-requires-2 c =
     let from = c.requires.step in
     record {
-      inside = subst (λ n. c.args.hart < n) (sym c.restore.ensures.sizes.harts) from.inside;
+      inside = subst (λ n. c.args.hart < n) (sym c.restore-restored.ensures.sizes.harts) from.inside;
       place = has_place c.args.self.now.harts.items c.args.self.now.accesses c.args.hart from.agrees.accesses
           from.inside;
     }
@@ -25,18 +25,18 @@ squash-requires c =
     let from = c.requires.step in
     let h = c.args.hart in
     let n = c.args.active.now.seq in
-    let b = c.restore.result in
+    let b = c.restore-restored.result in
     let mispredicted = from.step.mispredicts c.in-Some.pc (sym c.redirect_pc.ensures ∙ c.in-Some.is) in
     let map = map_behind from.before h n in
     record {
       step = record {
         before = with_map_if b map mispredicted.middle h;
         after = from.after;
-        inside = subst (λ i. h < i) (sym (c.write_outcome-2.ensures.sizes.harts ∙ c.restore.ensures.sizes.harts))
+        inside = subst (λ i. h < i) (sym (c.write_outcome-2.ensures.sizes.harts ∙ c.restore-restored.ensures.sizes.harts))
             from.inside;
         agrees =
             c.write_outcome-2.ensures.agrees (with_map_if b map from.before h) (with_map_if b map mispredicted.middle h)
-            (c.restore.ensures.agrees from.before from.agrees)
+            (c.restore-restored.ensures.agrees from.before from.agrees)
             (completes_if b map from.before mispredicted.middle h n c.args.actor c.args.outcome.now c.in-Some.pc
             mispredicted.complete)
             (from.step.phys ∙ phys_if b map from.before h n) (from.step.op ∙ op_if b map from.before h n);
@@ -51,12 +51,12 @@ pub returns-clause-agrees : goal.returns-clause-agrees
 returns-clause-agrees c = λ p q agrees step.
     let h = c.args.hart in
     let n = c.args.active.now.seq in
-    let b = c.restore.result in
+    let b = c.restore-restored.result in
     let mispredicted = step.mispredicts c.in-Some.pc (sym c.redirect_pc.ensures ∙ c.in-Some.is) in
     let map = map_behind p h n in
     c.squash.ensures.agrees (with_map_if b map mispredicted.middle h) q
     (c.write_outcome-2.ensures.agrees (with_map_if b map p h) (with_map_if b map mispredicted.middle h)
-    (c.restore.ensures.agrees p agrees)
+    (c.restore-restored.ensures.agrees p agrees)
     (completes_if b map p mispredicted.middle h n c.args.actor c.args.outcome.now c.in-Some.pc mispredicted.complete)
     (step.phys ∙ phys_if b map p h n) (step.op ∙ op_if b map p h n))
     (squashes_if b map mispredicted.middle q h n
