@@ -5,5 +5,6 @@ pub mod Shared
 pub mod Filled
 pub mod Fill
 pub mod Accesses
+pub mod Checkpoints
 pub mod Queues
 pub mod Beginning

@@ -5,5 +5,6 @@ pub mod Decode
 pub mod Rename
 pub mod Issue
 pub mod Complete
+pub mod OtherMap
 pub mod Retire
 pub mod Squash

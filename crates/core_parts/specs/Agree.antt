@@ -16,6 +16,7 @@ use Rattle.smt_model.specs.{Kinds.destination, Kinds.first_source, Kinds.second_
 use Rattle.smt_model.specs.{Picture.Picture, Steps.filled_value}
 use Rattle.smt_model.specs.Fates.{Fetched, Renamed, Issued, Completed}
 use Rattle.core_parts.specs.{Accesses.AccessesAgree, Accesses.MemoryAgrees}
+use Rattle.core_parts.specs.Checkpoints.{CheckpointsAgree}
 use Rattle.core_parts.specs.{declared.slot.Slot.Slot, declared.slot.OpenJob.OpenJob}
 use Rattle.core_parts.specs.{declared.hart.HartState.HartState, declared.parts.Parts.Parts}
 
@@ -113,6 +114,7 @@ JobsAgree p jobs =
 
 pub record PartsAgree (p : Picture) (x : Parts) : Type 0 where
   pub harts : EachAgrees p x.harts.items
+  pub checkpoints : CheckpointsAgree x.harts.items
   pub queue : QueueAgrees p x.queue
   pub free : FreeAgrees p x.free
   pub registers : length x.values ≡ most_registers

@@ -18,6 +18,7 @@ pub record IsNew (h entry : ℕ) (x : HartState) : Type 0 where
   pub icount : x.icount ≡ 0
   pub speculative : (r : ℕ) → 0 < r → r < 32 → lookup x.maps r ≡ first_register h r
   pub committed : (r : ℕ) → 0 < r → r < 32 → committed_of x.maps r ≡ first_register h r
+  pub kept : x.maps.kept ≡ []
   pub fetch_pc : x.fetch_pc ≡ entry
   pub status : x.status ≡ Going
 

@@ -1,5 +1,6 @@
 pub mod Accesses
 pub mod Agree
+pub mod Checkpoints
 pub mod Complete
 pub mod Decode
 pub mod Fetch

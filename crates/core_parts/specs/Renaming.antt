@@ -10,9 +10,10 @@ use Rattle.rename_map.specs.Maps.{Maps, lookup}
 use Rattle.retire_squash.specs.declared.active.Active.{Active}
 use Rattle.retire_squash.specs.declared.active.Stage.TheVariants as stage
 use Rattle.smt_model.specs.{Basics.first, Basics.how_many, Picture.Picture, Steps.IsRename}
-use Rattle.smt_model.specs.{Steps.op_in, Steps.renamed_map}
+use Rattle.smt_model.specs.{Frames.SameMap, Steps.op_in, Steps.renamed_map, Steps.youngest}
 use Rattle.smt_model.specs.Kinds.{kind_of, is_loading, is_storing, destination}
 use Rattle.core_parts.specs.{Agree.source_of, declared.slot.Slot.Slot}
+use Rattle.core_parts.specs.Checkpoints.{KeepsWhere, is_kept}
 use Rattle.core_parts.specs.{declared.hart.HartState.HartState}
 
 -- ---- In the history's words
@@ -40,13 +41,14 @@ pub record IsClaimed (p : Picture) (x : ℕ) : Type 0 where
   pub claimed : p.free x ≡ false
 
 -- A rename of hart h's oldest decoded instruction, which is younger than all of the hart's in
--- flight.
+-- flight; the hart's map is what the committed one and these make it.
 pub record IsRenaming (p q : Picture) (size h : ℕ) (taken : Option ℕ) : Type 0 where
   pub number : ℕ
   pub can : CanRename p size h number taken
   pub step : IsRename p q h number taken
   pub younger : AllByRecursion (λ s. s < number) (p.flight h)
   pub mapped : (r : ℕ) → 0 < r → r < 32 → IsClaimed p (p.mapped h r)
+  pub map : SameMap (p.mapped h) (λ r. youngest p r (p.flight h) (p.committed h r))
   pub in_range : (x : ℕ) → taken ≡ Some x → x < most_registers
 
 -- ---- In the parts' words
@@ -96,6 +98,8 @@ pub record HasRenamed (slot : Slot) (taken : Option ℕ) (old new : HartState) :
   pub speculative : (r : ℕ) → 0 < r → r < 32
       → lookup new.maps r ≡ renamed_map (destination slot.op) taken r (lookup old.maps r)
   pub committed : new.maps.committed ≡ old.maps.committed
+  pub kept : KeepsWhere (is_kept slot.op old.maps.kept)
+      (record { seq = slot.seq; map = new.maps.speculative }) old.maps.kept new.maps.kept
   pub icount : new.icount ≡ old.icount
   pub fetch_pc : new.fetch_pc ≡ old.fetch_pc
   pub status : new.status ≡ old.status

@@ -3,7 +3,7 @@
 use Rattle.std.specs.Prelude.{◌≡◌, ℕ, ◌<◌, Bool, true, false, not, ◌&&◌, drop, Option, Some, None}
 use Rattle.std.specs.List.{AllByRecursion}
 use Rattle.events.specs.{declared.effect.Outcome.Outcome, declared.effect.Effect.Effect}
-use Rattle.rename_map.specs.Maps.{committed_of}
+use Rattle.rename_map.specs.Maps.{committed_of, released_after}
 use Rattle.retire_squash.specs.{declared.active.Active.Active, declared.active.Stage.Stage}
 use Rattle.retire_squash.specs.declared.active.Stage.TheVariants as stage
 use Rattle.smt_model.specs.{declared.config.Status.Status, Basics.first, Basics.same_number}
@@ -95,12 +95,19 @@ pub record HasCommitted (old new : HartState) (rd : ℕ) (phys : Option ℕ) (pc
   pub committed : (r : ℕ)
       → committed_of new.maps r ≡ renamed_map rd phys r (committed_of old.maps r)
   pub speculative : new.maps.speculative ≡ old.maps.speculative
+  pub kept : new.maps.kept ≡ old.maps.kept
   pub decode_latch : new.decode_latch ≡ old.decode_latch
   pub rename_latch : new.rename_latch ≡ old.rename_latch
   pub icount : new.icount ≡ old.icount
   pub fetch_pc : new.fetch_pc ≡ pc
   pub status : new.status ≡ old.status
 
--- A hart has lost its oldest instruction, and stands like this.
-abbrev pub HasLeft : HartState → HartState → Status → Type 0
-HasLeft old new status = new ≡ record old { active = drop 1 old.active; status = status }
+-- A hart has lost its oldest instruction, number n, and stands like this. No map of a younger one
+-- is kept: all of them go with it.
+abbrev pub HasLeft : HartState → HartState → ℕ → Status → Type 0
+HasLeft old new n status = new
+    ≡ record old {
+      active = drop 1 old.active;
+      maps = record old.maps { kept = released_after n old.maps.kept };
+      status = status;
+    }

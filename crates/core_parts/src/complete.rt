@@ -4,6 +4,7 @@ ghost use Rattle.std.specs.List.{list_any};
 ghost use Rattle.numbers.specs.Sizes.{most_harts};
 ghost use Rattle.load_store.specs.Looks.{seen};
 ghost use Rattle.load_store.specs.Queues.{queues_of};
+ghost use Rattle.rename_map.specs.Maps.{released};
 ghost use Rattle.retire_squash.specs.Active.{with_stage};
 ghost use Rattle.smt_model.specs.Bytes.{read};
 ghost use Rattle.smt_model.specs.Exec.{Computed};
@@ -58,15 +59,18 @@ impl OpenJob {
 }
 
 impl HartState {
-    /// The instruction of this number has its outcome, and the hart is fetched from `goes_on`.
+    /// The instruction of this number has its outcome, its map is no longer kept, and the hart is
+    /// fetched from `goes_on`.
     fn complete(&mut self, seq: Seq, outcome: Outcome, goes_on: u32)
         ensures { self.new
             ≡ record self.old {
               active = with_stage seq (Stage.Completed outcome) self.old.active;
+              maps = record self.old.maps { kept = released seq self.old.maps.kept };
               fetch_pc = goes_on;
             } }
     {
         self.active.complete(seq, outcome);
+        self.maps.release(seq);
         self.fetch_pc = goes_on;
     }
 }
@@ -120,7 +124,8 @@ impl Parts {
 
     /// Hart `hart`'s instruction `active`, which is actor `actor`'s job, has its outcome. Where it
     /// goes elsewhere than was predicted, all younger ones of its hart are squashed, and the hart
-    /// is fetched from there.
+    /// is fetched from there; its map is restored from the instruction's checkpoint, where one is
+    /// kept.
     #[inline(always)]
     pub fn finish(&mut self, actor: u8, hart: u8, active: &Active, outcome: &Outcome)
         requires step { From self.old hart (λ p q. IsFinish p q hart actor active.now outcome.now) }
@@ -133,8 +138,9 @@ impl Parts {
             self.write_outcome(actor, hart, active, outcome, pc);
             return;
         };
+        let restored = self.restore(hart, active.seq);
         self.write_outcome(actor, hart, active, outcome, pc);
-        self.squash(hart, active.seq);
+        self.squash(hart, active.seq, restored);
     }
 
     /// The outcome is written, its number handed on, a store told what it will write, the actor rid

@@ -5,10 +5,12 @@
 //! wait), `hart` (what each hart has of its own), `parts` (what all harts share), then the steps in
 //! the order of the pipeline: `fetch` with `point` (where the next fetch is), `decode`, `rename`,
 //! `issue`, `complete`, `retire`, and `squash`, which the last two share; `accesses` (what these do
-//! with the loads and stores in flight); and `place` (where an instruction is).
+//! with the loads and stores in flight); `checkpoints` (the maps that are kept of branches, JAL and
+//! JALR); and `place` (where an instruction is).
 #![tactic(auto)]
 
 mod accesses;
+mod checkpoints;
 mod complete;
 mod decode;
 mod fetch;

@@ -1,9 +1,9 @@
-ghost use Rattle.std.specs.Prelude.{◌≡◌, ℕ, ◌<◌, ◌&&◌, Option, not, count_by, length, IfSome};
-ghost use Rattle.std.specs.Prelude.{IfNone};
+ghost use Rattle.std.specs.Prelude.{◌≡◌, ℕ, ◌<◌, ◌&&◌, Option, None, not, count_by, length};
+ghost use Rattle.std.specs.Prelude.{IfSome, IfNone};
 ghost use Rattle.numbers.specs.Sizes.{most_in_flight, most_registers};
 ghost use Rattle.free_list.specs.Flags.{holds};
 ghost use Rattle.issue_queue.specs.declared.entry.Source.{Source};
-ghost use Rattle.rename_map.specs.Maps.{lookup, IsWritable};
+ghost use Rattle.rename_map.specs.Maps.{lookup, kept_under, IsWritable};
 ghost use Rattle.retire_squash.specs.Active.{Above};
 ghost use Rattle.rv_instr.specs.Table.{OpInRange};
 ghost use Rattle.smt_model.specs.Basics.{first, or_zero};
@@ -15,6 +15,7 @@ ghost use Rattle.core_parts.specs.Renaming.{CanRename, IsLeastIn, IsRenaming, Ca
 ghost use Rattle.core_parts.specs.Renaming.{has_full_memory_queue, source_in, emptied};
 
 use crate::accesses::add_access;
+use crate::checkpoints::keep_map;
 use crate::hart::HartState;
 use crate::latch::drop_oldest;
 use crate::parts::Parts;
@@ -128,13 +129,14 @@ impl HartState {
     }
 
     /// Moves `slot`, the oldest decoded instruction, into the active list, and its register into
-    /// the map.
+    /// the map. The map with it is kept where it is a branch, JAL or JALR and there is room.
     fn rename(&mut self, slot: Slot, phys: Option<Phys>)
         requires oldest { first self.old.rename_latch.items ≡ Some slot }
         requires room { length self.old.active < most_in_flight }
         requires younger { Above slot.seq self.old.active }
         requires in_range { OpInRange slot.op }
         requires writes { IfSome phys (λ x. 0 < destination slot.op) }
+        requires not_kept { kept_under slot.seq self.old.maps.kept ≡ None }
         ensures { HasRenamed slot phys self.old self.new }
     {
         drop_oldest(&mut self.rename_latch);
@@ -150,6 +152,7 @@ impl HartState {
             stage: Stage::Renamed,
         });
         enter(&mut self.maps, rd, phys);
+        keep_map(&mut self.maps, slot.op, slot.seq);
     }
 }
 
@@ -159,6 +162,7 @@ fn enter(maps: &mut HartMaps, rd: Reg, phys: Option<Phys>)
     ensures speculative { (r : ℕ) → 0 < r → r < 32
         → lookup maps.new r ≡ renamed_map rd phys r (lookup maps.old r) }
     ensures committed { maps.new.committed ≡ maps.old.committed }
+    ensures kept { maps.new.kept ≡ maps.old.kept }
 {
     if let Some(phys) = phys {
         maps.rename(rd, phys);

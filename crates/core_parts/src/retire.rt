@@ -12,7 +12,7 @@ use crate::accesses::remove_access;
 use crate::hart::HartState;
 use crate::parts::{Parts, give_back};
 use events::{Effect, Next, Outcome};
-use numbers::{Phys, Reg};
+use numbers::{Phys, Reg, Seq};
 use retire_squash::{Active, Stage};
 use shared_memory::commit_access;
 use smt_model::Status;
@@ -95,7 +95,7 @@ impl Parts {
             → Replays p q hart active.now effect pc → PartsAgree q self.new }
         ensures sizes { KeepsSizes self.old self.new }
     {
-        self.squash(hart, active.seq);
+        self.squash(hart, active.seq, false);
         self.commit(hart, active, effect, pc);
     }
 
@@ -127,7 +127,7 @@ impl Parts {
         ensures sizes { KeepsSizes self.old self.new }
     {
         self.leave(hart, active, status);
-        self.squash(hart, active.seq);
+        self.squash(hart, active.seq, false);
     }
 
     /// Hart `hart` loses its oldest instruction, whose register becomes free, and stands like this
@@ -138,7 +138,7 @@ impl Parts {
             → PartsAgree q self.new }
         ensures sizes { KeepsSizes self.old self.new }
     {
-        self.harts[usize::from(hart)].leave(status);
+        self.harts[usize::from(hart)].leave(active.seq, status);
         give_back(&mut self.free, active.phys);
         remove_access(&mut self.accesses, hart, active.op);
     }
@@ -158,12 +158,14 @@ impl HartState {
         Some(self.maps.commit(rd, phys))
     }
 
-    /// Its oldest instruction leaves, and it stands like this from now on.
-    fn leave(&mut self, status: Status)
+    /// Its oldest instruction, of number `seq`, leaves, and it stands like this from now on. No map
+    /// of a younger one is kept, since all of them are squashed next.
+    fn leave(&mut self, seq: Seq, status: Status)
         requires { 0 < length self.old.active }
-        ensures { HasLeft self.old self.new status }
+        ensures { HasLeft self.old self.new seq status }
     {
         self.active.pop();
+        self.maps.release_after(seq);
         self.status = status;
     }
 }

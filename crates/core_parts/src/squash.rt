@@ -4,10 +4,10 @@ ghost use Rattle.std.specs.List.{list_any};
 ghost use Rattle.free_list.specs.Flags.{holds};
 ghost use Rattle.rename_map.specs.Maps.{lookup, committed_of, renamed_by, IsWritable};
 ghost use Rattle.smt_model.specs.Picture.{Picture};
-ghost use Rattle.smt_model.specs.Steps.{IsSquash, renamed_map};
+ghost use Rattle.smt_model.specs.Steps.{renamed_map};
 ghost use Rattle.core_parts.specs.Agree.{PartsAgree, KeepsSizes, From};
 ghost use Rattle.core_parts.specs.Squash.{older, younger, has_phys, is_waiting, HaveOwn, mapped_by};
-ghost use Rattle.core_parts.specs.Squash.{IsSquashedBehind};
+ghost use Rattle.core_parts.specs.Squash.{IsSquashedBehind, Squashes};
 
 use crate::hart::HartState;
 use crate::parts::{Parts, give_back};
@@ -20,26 +20,27 @@ use retire_squash::{Active, ActiveList, Stage};
 
 impl Parts {
     /// Throws away hart `hart`'s instructions younger than number `after`: its latches are emptied,
-    /// its registers are given back, its loads and stores leave their queues, and its map and
-    /// counter are what the older ones make them.
+    /// its registers are given back, its loads and stores leave their queues, their maps are no
+    /// longer kept, and its map and counter are what the older ones make them. The map is made
+    /// again, but where it was restored.
     #[inline(never)]
-    pub(crate) fn squash(&mut self, hart: u8, after: Seq)
-        requires step { From self.old hart (λ p q. IsSquash p q hart after) }
-        ensures agrees { (p q : Picture) → PartsAgree p self.old → IsSquash p q hart after
-            → PartsAgree q self.new }
+    pub(crate) fn squash(&mut self, hart: u8, after: Seq, restored: bool)
+        requires step { From self.old hart (λ p q. Squashes p q hart after restored) }
+        ensures agrees { (p q : Picture) → PartsAgree p self.old
+            → Squashes p q hart after restored → PartsAgree q self.new }
         ensures sizes { KeepsSizes self.old self.new }
     {
         self.queue.squash(hart, after);
-        self.harts[usize::from(hart)].squash(after, &mut self.free);
+        self.harts[usize::from(hart)].squash(after, restored, &mut self.free);
         self.accesses.squash(hart, after);
     }
 }
 
 impl HartState {
     /// The part of a squash that is the hart's own.
-    fn squash(&mut self, after: Seq, free: &mut FreeList)
+    fn squash(&mut self, after: Seq, restored: bool, free: &mut FreeList)
         requires own { HaveOwn free.old self.old.active }
-        ensures squash_behind { IsSquashedBehind after self.old self.new }
+        ensures squash_behind { IsSquashedBehind after restored self.old self.new }
         ensures free { (x : ℕ)
             → holds free.new x
             ≡ (holds free.old x || list_any (has_phys x) (younger after self.old.active)) }
@@ -48,6 +49,10 @@ impl HartState {
         self.rename_latch.clear();
         squash_behind(&mut self.active, after, free);
         self.icount = waiting(self.active.items());
+        self.maps.release_after(after);
+        if restored {
+            return;
+        }
         map_again(&mut self.maps, self.active.items());
     }
 }
@@ -58,6 +63,7 @@ fn map_again(maps: &mut HartMaps, active: &[Active])
     ensures speculative { (r : ℕ) → 0 < r → r < 32
         → lookup maps.new r ≡ mapped_by r active.now (committed_of maps.old r) }
     ensures committed { maps.new.committed ≡ maps.old.committed }
+    ensures kept { maps.new.kept ≡ maps.old.kept }
 {
     let renamings = renamings_of(active);
     maps.rebuild(renamings.as_slice());

@@ -16,6 +16,7 @@ use Rattle.elf_image.specs.Image.{ProgramImage, byte_in}
 use Rattle.shared_memory.specs.Contents.{IsStart}
 use Rattle.load_store.specs.Queues.{queues_of, empty}
 use Rattle.core_parts.specs.Accesses.{accesses_of}
+use Rattle.core_parts.specs.Checkpoints.{IsCheckpoint, HasCheckpoints}
 use Rattle.core_parts.specs.Agree.{IsSlot, IsActive, IsEntry, HartAgrees, QueueAgrees}
 use Rattle.core_parts.specs.First.{IsNew, first_values_below, first_values, BeginsAs}
 use Rattle.core_parts.specs.{declared.hart.HartState.HartState, declared.parts.Parts.Parts}
@@ -140,6 +141,10 @@ hart_begins setup h x is = record {
   status = is.status;
 }
 
+-- No map is kept.
+none_kept : (x : HartState) → x.maps.kept ≡ [] → HasCheckpoints x
+none_kept x none = subst (AllByRecursion (IsCheckpoint x.active x.maps)) (sym none) tt
+
 queue_begins : (setup : Setup) (queue : Queue) → queue.entries ≡ [] → QueueAgrees (picture setup []) queue
 queue_begins setup queue none = record {
   numbers = ap (map (λ e. e.seq)) none;
@@ -194,6 +199,7 @@ begins harts extra image x count new queue free registers values actors jobs few
     (new h d inside) in
     record {
       harts = λ h d inside. hart_begins setup h (slice_index_or x.harts.items h d) (hart_new h d inside);
+      checkpoints = λ h d inside. none_kept (slice_index_or x.harts.items h d) (new h d inside).kept;
       queue = queue_begins setup x.queue queue;
       free = λ q. subst (λ n. holds x.free q ≡ (nat_le (31 * n) q && nat_lt q (31 * n + setup.extra))) (sym same_harts)
           (subst (λ n. holds x.free q ≡ (nat_le (31 * harts) q && nat_lt q (31 * harts + n))) (sym same_extra) (free q))

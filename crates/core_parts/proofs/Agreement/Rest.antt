@@ -4,6 +4,7 @@ use Rattle.std.specs.Prelude.{◌≡◌, [], ◌∷◌, length}
 use Rattle.std.proofs.Common.{◌∙◌, subst, sym, ap}
 use Rattle.smt_model.specs.{Picture.Picture, Frames.Fetches, Frames.KeepsAllFlights, Frames.KeepsShared}
 use Rattle.core_parts.specs.Accesses.{AccessesAgree, MemoryAgrees}
+use Rattle.core_parts.specs.Checkpoints.{CheckpointsAgree}
 use Rattle.core_parts.specs.Agree.{QueueAgrees, FreeAgrees, ValuesAgree, JobsAgree, EachAgrees, PartsAgree}
 use Rattle.core_parts.specs.declared.parts.Parts.{Parts}
 use Rattle.core_parts.proofs.{Agreement.Queues.memory_kept, Agreement.Shared.queue_kept, Agreement.Shared.values_kept}
@@ -37,9 +38,10 @@ all_kept p q flights shared = record {
 pub rest_kept : (p q : Picture) (x y : Parts) → KeepsRest p q → PartsAgree p x → EachAgrees q y.harts.items
     → y.queue ≡ x.queue
     → y.free ≡ x.free → y.values ≡ x.values → y.jobs ≡ x.jobs → AccessesAgree y.harts.items y.accesses
-    → y.memory ≡ x.memory → PartsAgree q y
-rest_kept p q x y keeps agrees harts queue free values jobs accesses memory = record {
+    → y.memory ≡ x.memory → CheckpointsAgree y.harts.items → PartsAgree q y
+rest_kept p q x y keeps agrees harts queue free values jobs accesses memory checkpoints = record {
   harts = harts;
+  checkpoints = checkpoints;
   queue = subst (QueueAgrees q) (sym queue)
       (queue_kept p q x.queue keeps.shared.kept keeps.flights keeps.shared.readings keeps.shared.queue agrees.queue);
   free = subst (FreeAgrees q) (sym free) (λ r. agrees.free r ∙ sym (keeps.shared.free r));

@@ -3,3 +3,4 @@ pub mod Memory
 pub mod Parts
 pub mod Replay
 pub mod Halt
+pub mod Checkpoints

@@ -6,6 +6,7 @@ use Rattle.std.proofs.Common.{◌∙◌, refl, sym, ap, subst, inl, inr, arith}
 use Rattle.std.proofs.{lemmas.Bool.cases_Bool, lemmas.Bool.cases_eq, lemmas.Bool.Decides.nat_tests}
 use Rattle.std.proofs.{lemmas.List.length-set}
 use Rattle.events.specs.declared.effect.Outcome.{Outcome}
+use Rattle.rename_map.specs.Maps.{released}
 use Rattle.retire_squash.specs.{Active.with_stage, Active.staged, declared.active.Active.Active}
 use Rattle.retire_squash.specs.{declared.active.Stage.Stage}
 use Rattle.retire_squash.specs.declared.active.Stage.TheVariants as stage
@@ -21,6 +22,7 @@ use Rattle.core_parts.specs.{declared.hart.HartState.HartState, declared.parts.P
 use Rattle.core_parts.specs.{declared.slot.OpenJob.OpenJob}
 use Rattle.core_parts.proofs.Agreement.Harts.{slots_kept, active_kept, stage_flies, hart_kept, others_kept, each_set}
 use Rattle.core_parts.proofs.Agreement.Harts.{each_kept}
+use Rattle.core_parts.proofs.Agreement.Checkpoints.{checkpoints_completed, checkpoints_here, checkpoints_set}
 use Rattle.core_parts.proofs.{Agreement.Accesses.accesses_completed, Agreement.Queues.accesses_set}
 use Rattle.core_parts.proofs.{Agreement.Queues.opens, Agreement.Queues.memory_kept}
 use Rattle.core_parts.proofs.{Agreement.Shared.queue_kept, Agreement.Shared.lent_kept, Agreement.Shared.values_kept}
@@ -57,6 +59,15 @@ issued_completed same = omega (arith, ap stage_number same)
 renamed_issued : Renamed ≡ Issued → ⊥
 renamed_issued same = omega (arith, ap stage_number same)
 
+-- The hart with its outcome, without its map, and fetched from this pc.
+abbrev pub completed_hart : ℕ → Outcome → ℕ → HartState → HartState
+completed_hart n o pc x =
+    record x {
+      active = with_stage n (stage.Completed o) x.active;
+      maps = record x.maps { kept = released n x.maps.kept };
+      fetch_pc = pc;
+    }
+
 module _ (p q : Picture) (h n k : ℕ) (o : Outcome) (pc : ℕ) (s : IsComplete p q h n k o pc) where
   active_completed : (x : Active) → IsActive p h x → x.seq ≡ n → IsActive q h (record x { stage = stage.Completed o })
   active_completed x was own = record {
@@ -82,8 +93,7 @@ module _ (p q : Picture) (h n k : ℕ) (o : Outcome) (pc : ℕ) (s : IsComplete 
   actives_staged [] all = tt
   actives_staged (x ∷ xs) all = (active_staged x all.0, actives_staged xs all.1)
 
-  hart_completed : (x : HartState) → HartAgrees p h x
-      → HartAgrees q h (record x { active = with_stage n (stage.Completed o) x.active; fetch_pc = pc })
+  hart_completed : (x : HartState) → HartAgrees p h x → HartAgrees q h (completed_hart n o pc x)
   hart_completed x was = record {
     decode_latch = was.decode_latch ∙ sym s.stays.hart.in_decode;
     decode_slots = slots_kept p q h x.decode_latch.items s.stays.shared.kept was.decode_slots;
@@ -119,8 +129,7 @@ pub record IsCompleted (h n k : ℕ) (op : Op) (o : Outcome) (pc : ℕ) (phys : 
   pub was : HartState
   pub at : was ≡ slice_index_or old.harts.items h was
   pub filled : IsFilled phys o.value old between
-  pub harts : new.harts.items ≡ slice_set old.harts.items h
-      (record was { active = with_stage n (stage.Completed o) was.active; fetch_pc = pc })
+  pub harts : new.harts.items ≡ slice_set old.harts.items h (completed_hart n o pc was)
   pub queue : new.queue ≡ between.queue
   pub free : new.free ≡ between.free
   pub values : new.values ≡ between.values
@@ -141,10 +150,13 @@ parts_completed p q h n k op o pc phys old between new inside agrees s is_phys i
     record {
       harts =
           rw is.harts
-          (each_set p q old.harts.items h is.was
-          (record is.was { active = with_stage n (stage.Completed o) is.was.active; fetch_pc = pc })
-          inside is.at (hart_completed p q h n k o pc s is.was) (others_kept p q h n s.stays s.of_hart s.flights)
+          (each_set p q old.harts.items h is.was (completed_hart n o pc is.was) inside is.at (hart_completed p q h n k o pc s is.was) (others_kept p q h n s.stays s.of_hart s.flights)
           agrees.harts);
+      checkpoints =
+          rw is.harts
+          (checkpoints_set old.harts.items h (completed_hart n o pc is.was) inside
+          (checkpoints_completed n (stage.Completed o) is.was.active is.was.maps
+          (checkpoints_here old.harts.items h is.was inside is.at agrees.checkpoints)) agrees.checkpoints);
       queue =
           rw is.queue
           (queue_filled p q phys o.value kept (still_waits p q h n k o pc s) readings old.queue between.queue
@@ -162,7 +174,7 @@ parts_completed p q h n k op o pc phys old between new inside agrees s is_phys i
       accesses =
           rw is.harts
           (accesses_set (with_write n (stored_by op o)) old.harts.items h is.was
-          (record is.was { active = with_stage n (stage.Completed o) is.was.active; fetch_pc = pc }) old.accesses
+          (completed_hart n o pc is.was) old.accesses
           new.accesses inside is.at is.accesses (accesses_completed n op o is.was.active unresolved) agrees.accesses);
       memory = rw is.memory (memory_kept p q old.memory s.stays.shared.memory agrees.memory);
     }
@@ -177,6 +189,7 @@ parts_dropped p q n k old jobs agrees s is =
     record {
       harts = each_kept p q old.harts.items
           (λ g z. hart_kept p q g z (s.harts g) kept (λ t flies of_g. s.flights t flies)) agrees.harts;
+      checkpoints = agrees.checkpoints;
       queue = queue_kept p q old.queue kept s.flights s.shared.readings s.shared.queue agrees.queue;
       free = λ x. agrees.free x ∙ sym (s.shared.free x);
       registers = agrees.registers;

@@ -14,12 +14,14 @@ use Rattle.retire_squash.specs.declared.active.Stage.TheVariants as stage
 use Rattle.smt_model.specs.{Kinds.first_source, Kinds.second_source, Fates.is, Fates.is_in_flight, Picture.Picture}
 use Rattle.smt_model.specs.{Fates.Renamed, Fates.Completed, Fates.stage as stage_number, Steps.IsIssue, Steps.op_in}
 use Rattle.core_parts.specs.Accesses.{AccessesAgree, MemoryAgrees, accesses_of}
+use Rattle.core_parts.specs.Checkpoints.{AreCheckpoints, HasCheckpoints, CheckpointsAgree}
 use Rattle.core_parts.specs.Agree.{PartsAgree, source_of, source_at, IsActive, HartAgrees, EachAgrees, IsEntry}
 use Rattle.core_parts.specs.Agree.{QueueAgrees, FreeAgrees, ValuesAgree, IsOpenJob, JobsAgree}
 use Rattle.core_parts.specs.Issuing.{IsIssuing, source_number, first_source_number, second_number, open_job_of}
 use Rattle.core_parts.specs.{declared.slot.OpenJob.OpenJob, declared.hart.HartState.HartState}
 use Rattle.core_parts.specs.{declared.parts.Parts.Parts}
 use Rattle.core_parts.proofs.Agreement.Harts.{slots_kept, active_kept, stage_flies, others_kept, each_set}
+use Rattle.core_parts.proofs.Agreement.Checkpoints.{checkpoints_here, checkpoints_issued, checkpoints_set}
 use Rattle.core_parts.proofs.{Agreement.Accesses.accesses_issued, Agreement.Queues.accesses_still}
 use Rattle.core_parts.proofs.{Agreement.Queues.opens, Agreement.Queues.memory_kept}
 use Rattle.core_parts.proofs.Agreement.Shared.{waiting_kept, lent_kept, values_kept}
@@ -190,6 +192,7 @@ pub parts_issued : (p q : Picture) (x : Parts) (k : ℕ) (e : Entry) (state new 
     × (length (slice_set x.jobs k (Some (open_job_of e))) ≡ 16)
     × JobsAgree q (slice_set x.jobs k (Some (open_job_of e)))
     × AccessesAgree (slice_set x.harts.items e.hart new) x.accesses × MemoryAgrees q x.memory
+    × CheckpointsAgree (slice_set x.harts.items e.hart new)
 parts_issued p q x k e state new queue issuing ready actor agrees inside at active count rest queued =
     let step = issuing.step in
     let hart : HartAgrees p e.hart state = subst (HartAgrees p e.hart) (sym at) (agrees.harts e.hart state inside) in
@@ -209,4 +212,10 @@ parts_issued p q x k e state new queue issuing ready actor agrees inside at acti
       accesses_still x.harts.items e.hart state new x.accesses inside at
           (ap accesses_of active ∙ accesses_issued e.seq (op_in p e.seq) state.active unresolved) agrees.accesses,
       memory_kept p q x.memory step.stays.shared.memory agrees.memory,
+      checkpoints_set x.harts.items e.hart new inside
+          (subst HasCheckpoints (sym rest)
+          (subst (λ xs. AreCheckpoints xs state.maps) (sym active)
+          (checkpoints_issued e.seq stage.Issued state.active state.maps refl
+          (checkpoints_here x.harts.items e.hart state inside at agrees.checkpoints))))
+          agrees.checkpoints,
     )

@@ -5,27 +5,32 @@ use Rattle.std.specs.Prelude.{map, length, Option, Some, None, is_some, IfSome, 
 use Rattle.std.specs.Prelude.{if◌then◌else◌}
 use Rattle.std.specs.List.{AllByRecursion}
 use Rattle.std.proofs.Common.{◌∙◌, refl, sym, ap, subst, inl, inr, arith}
-use Rattle.std.proofs.{lemmas.Bool.cases_Bool, lemmas.Bool.cases_eq, lemmas.Bool.Decides.nat_tests}
+use Rattle.std.proofs.{lemmas.Bool.and_parts, lemmas.Bool.cases_Bool, lemmas.Bool.cases_eq}
+use Rattle.std.proofs.{lemmas.Bool.Decides.nat_tests}
 use Rattle.std.proofs.lemmas.List.{get_or_default, map_push, length-set, get_or-set_same, get_or-set_other}
 use Rattle.rv_instr.specs.{Registers.op_rs1, Registers.op_rs2, Table.OpInRange, declared.op.Op.Op}
 use Rattle.rv_instr.proofs.DecodedLemmas.{op_of_word_in_range, op_rs1_below, op_rs2_below}
 use Rattle.free_list.specs.Flags.{holds}
 use Rattle.issue_queue.specs.{Queue.Queue, Queue.has_number, declared.entry.Entry.Entry, declared.entry.Source.Source}
 use Rattle.issue_queue.specs.Queue as entries
-use Rattle.rename_map.specs.Maps.{Maps}
+use Rattle.rename_map.specs.Maps.{Maps, lookup, committed_of, kept_under, most_checkpoints}
 use Rattle.retire_squash.specs.{Active.Above, declared.active.Active.Active}
 use Rattle.smt_model.specs.{Basics.first, Basics.or_zero, Kinds.destination, Kinds.first_source, Kinds.second_source}
 use Rattle.smt_model.specs.{Picture.Picture}
 use Rattle.smt_model.specs.Fates.{is, is_in_flight, Renamed, op_of_fetched}
-use Rattle.smt_model.specs.Steps.{IsRename, IsSameInstruction, renamed_map, is_register_taken, op_in}
+use Rattle.smt_model.specs.Steps.{IsRename, IsSameInstruction, renamed_map, is_register_taken, op_in, youngest}
 use Rattle.smt_model.specs.Steps as numbers
 use Rattle.load_store.specs.Queues.{Queues, Changes}
 use Rattle.core_parts.specs.Accesses.{AccessesAgree, MemoryAgrees, accesses_of, with_access}
+use Rattle.core_parts.specs.Checkpoints.{is_control_transfer, is_kept, AreCheckpoints, HasCheckpoints, CheckpointsAgree}
+use Rattle.core_parts.specs.Squash.{mapped_by}
 use Rattle.core_parts.specs.Agree.{PartsAgree, From, fetched_as, source_at, IsSlot, IsActive, HartAgrees, EachAgrees}
 use Rattle.core_parts.specs.Agree.{IsEntry, QueueAgrees, FreeAgrees, ValuesAgree, JobsAgree}
 use Rattle.core_parts.specs.Renaming.{IsRenaming, IsClaimed, HasRenamed, active_of, source_in, emptied}
 use Rattle.core_parts.specs.{declared.slot.Slot.Slot, declared.hart.HartState.HartState, declared.parts.Parts.Parts}
 use Rattle.core_parts.proofs.Agreement.Harts.{slots_kept, actives_kept, others_kept, each_set}
+use Rattle.core_parts.proofs.Agreement.Checkpoints.{checkpoints_here, checkpoints_pushed, checkpoints_set, none_kept}
+use Rattle.core_parts.proofs.Steps.Squash.Parts.{maps_same}
 use Rattle.core_parts.proofs.{Agreement.Accesses.accesses_pushed, Agreement.Queues.accesses_set}
 use Rattle.core_parts.proofs.{Agreement.Queues.memory_kept}
 use Rattle.core_parts.proofs.Agreement.Shared.{entry_kept, jobs_kept}
@@ -291,6 +296,7 @@ pub record IsReady (x : Parts) (taken : Option ℕ) (state : HartState) (slot : 
   pub absent : has_number slot.seq x.queue.entries ≡ false
   pub younger : Above slot.seq state.active
   pub writes : IfSome taken (λ y. 0 < destination slot.op)
+  pub not_kept : kept_under slot.seq state.maps.kept ≡ None
 
 writes_one : (op : Op) (taken : Option ℕ) → is_some taken ≡ not (destination op == 0)
     → IfSome taken (λ y. 0 < destination op)
@@ -317,6 +323,9 @@ ready_to_rename p q x size h taken state d renaming agrees inside at =
           (renaming.step.fits
           ∙ ap (λ o. not (destination o == 0))
           (slot_op p h renaming.number (slice_index_or state.rename_latch.items 0 d) next.number next.is));
+      not_kept = subst (λ s. kept_under s state.maps.kept ≡ None) (sym next.number)
+          (none_kept renaming.number state.active state.maps younger
+          (checkpoints_here x.harts.items h state inside at agrees.checkpoints));
     }
 
 -- The slot is ready too as the code reads it, from a list of slots at a place.
@@ -401,6 +410,38 @@ same_entry h xs ys d values maps one two r1 r2 same names_one names_two reads_on
     (ap (λ s. entry_of h slot s two) first
     ∙ ap (λ s. entry_of h slot (source_in values maps (or_zero (op_rs1 slot.op))) s) second)
 
+-- ---- The kept maps
+
+-- The map before it is what the committed one and the active list make.
+whole_map : (p q : Picture) (size h : ℕ) (taken : Option ℕ) (state : HartState) → IsRenaming p q size h taken
+    → HartAgrees p h state → (r : ℕ) → 0 < r → r < 32
+    → lookup state.maps r ≡ mapped_by r state.active (committed_of state.maps r)
+whole_map p q size h taken state renaming hart r low high =
+    hart.speculative r low high ∙ renaming.map r low high
+    ∙ sym (ap (λ ns. youngest p r ns (p.committed h r)) hart.active)
+    ∙ sym (maps_same p h r (p.committed h r) state.active hart.actives)
+    ∙ ap (mapped_by r state.active) (sym (hart.committed r low high))
+
+checkpoints_renamed : (p q : Picture) (size h : ℕ) (taken : Option ℕ) (slot : Slot) (state new : HartState)
+    → (renaming : IsRenaming p q size h taken) → HartAgrees p h state → slot.seq ≡ renaming.number
+    → HasRenamed slot taken state new → HasCheckpoints state → HasCheckpoints new
+checkpoints_renamed p q size h taken slot state new renaming hart number made kept =
+    let above : Above slot.seq state.active =
+    subst (λ s. Above s state.active) (sym number)
+    (above_all renaming.number state.active
+    (subst (AllByRecursion (λ s. s < renaming.number)) (sym hart.active) renaming.younger)) in
+    subst (λ xs. AreCheckpoints xs new.maps) (sym made.active)
+    (checkpoints_pushed (is_kept slot.op state.maps.kept) state.active (active_of slot taken) state.maps new.maps
+    made.committed above
+    (λ r low high.
+    made.speculative r low high
+    ∙ ap (renamed_map (destination slot.op) taken r)
+    (whole_map p q size h taken state renaming hart r low high
+    ∙ ap (λ (c : List ℕ). mapped_by r state.active (slice_index_or c r 0)) (sym made.committed)))
+    (λ is. let transfers =
+    (and_parts (is_control_transfer slot.op) (nat_lt (length state.maps.kept) most_checkpoints) is).0 in
+    rw transfers refl) made.kept kept)
+
 -- ---- The whole step
 
 -- What the code has made of the parts: the hart's own, the queue, the free registers and their numbers.
@@ -424,7 +465,7 @@ pub parts_renamed : (p q : Picture) (x : Parts) (size h : ℕ) (taken : Option �
     → HasMade x h taken (slice_index_or state.rename_latch.items 0 d) state new queue free values accesses
     → EachAgrees q (slice_set x.harts.items h new) × QueueAgrees q queue × FreeAgrees q free × (length values ≡ 512)
     × ValuesAgree q values × JobsAgree q x.jobs × AccessesAgree (slice_set x.harts.items h new) accesses
-    × MemoryAgrees q x.memory
+    × MemoryAgrees q x.memory × CheckpointsAgree (slice_set x.harts.items h new)
 parts_renamed p q x size h taken d state new queue free values accesses renaming agrees inside at made =
     let n = renaming.number in
     let step = renaming.step in
@@ -453,4 +494,8 @@ parts_renamed p q x size h taken d state new queue free values accesses renaming
       accesses_set (with_access slot.op slot.seq) x.harts.items h state new x.accesses accesses inside at made.added
           (ap accesses_of made.own.active ∙ accesses_pushed state.active (active_of slot taken) refl) agrees.accesses,
       memory_kept p q x.memory step.stays.shared.memory agrees.memory,
+      checkpoints_set x.harts.items h new inside
+          (checkpoints_renamed p q size h taken slot state new renaming hart next.number made.own
+          (checkpoints_here x.harts.items h state inside at agrees.checkpoints))
+          agrees.checkpoints,
     )

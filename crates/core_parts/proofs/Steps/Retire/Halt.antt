@@ -1,55 +1,43 @@
 -- A retirement that ends or stops its hart, in two steps: between them stands the history's own picture, but for the
 -- hart's map, which still has the register of the one that has left. The squash makes the map anew, so it takes any.
-use Rattle.std.specs.Prelude.{◌≡◌, ◌≢◌, ℕ, ◌<◌, ◌==◌, true, false, List, [], ◌∷◌, length, slice_index_or}
-use Rattle.std.specs.Prelude.{if◌then◌else◌}
-use Rattle.std.proofs.Common.{◌∙◌, refl, sym, ap, subst, arith}
-use Rattle.std.proofs.lemmas.Bool.Decides.{nat_tests}
+use Rattle.std.specs.Prelude.{◌≡◌, ◌≢◌, ℕ, ◌<◌, true, false, length, slice_index_or}
+use Rattle.std.proofs.Common.{◌∙◌, sym, ap, subst}
 use Rattle.events.specs.declared.effect.Effect.{Effect}
 use Rattle.events.specs.declared.effect.Next.TheVariants as next
 use Rattle.retire_squash.specs.declared.active.Active.{Active}
 use Rattle.smt_model.specs.{declared.config.Status.Status, declared.config.Status.TheVariants.Ended}
-use Rattle.smt_model.specs.{declared.config.Status.TheVariants.Stopped, Nexts.is_last, Kinds.destination}
+use Rattle.smt_model.specs.{declared.config.Status.TheVariants.Stopped, Nexts.is_last}
 use Rattle.smt_model.specs.{Picture.Picture, Plain.status_after}
-use Rattle.smt_model.specs.Steps.{IsRetire, IsHalt, IsSquash, IsSameHart, IsSameInstruction, KeepsReadings, AreOwn}
-use Rattle.smt_model.specs.Steps.{youngest}
-use Rattle.smt_model.specs.Steps.{up_to, renamed_map, op_in}
+use Rattle.smt_model.specs.Steps.{IsRetire, IsHalt, IsSameHart, IsSameInstruction, KeepsReadings}
+use Rattle.core_parts.specs.Checkpoints.{with_map}
 use Rattle.core_parts.specs.{Agree.HartAgrees, Agree.PartsAgree, declared.hart.HartState.HartState}
 use Rattle.core_parts.specs.declared.parts.Parts.{Parts}
+use Rattle.core_parts.proofs.Steps.OtherMap.{own_map, other_map}
 use Rattle.core_parts.specs.Retirement.{Commits, Replays, Ends, Leaves, Retires, is_replay}
-
--- Picture m, with hart h's map as p has it.
-abbrev pub with_map : Picture → Picture → ℕ → Picture
-with_map p m h = record m { mapped = λ g r. if g == h then p.mapped h r else m.mapped g r }
-
-own_map : (p m : Picture) (h r : ℕ) → (with_map p m h).mapped h r ≡ p.mapped h r
-own_map p m h r = let here : (h == h) ≡ true = grind (arith, nat_tests) in rw here refl
-
-other_map : (p m : Picture) (h g r : ℕ) → g ≢ h → (with_map p m h).mapped g r ≡ m.mapped g r
-other_map p m h g r other = let apart : (g == h) ≡ false = grind (arith, nat_tests) in rw apart refl
 
 -- ---- The first step
 
-same_after : (p m : Picture) (h g : ℕ) → g ≢ h → IsSameHart p m g → IsSameHart p (with_map p m h) g
+same_after : (p m : Picture) (h g : ℕ) → g ≢ h → IsSameHart p m g → IsSameHart p (with_map (p.mapped h) m h) g
 same_after p m h g other same = record {
   in_decode = same.in_decode;
   in_rename = same.in_rename;
   flight = same.flight;
   icount = same.icount;
-  mapped = λ r above under. other_map p m h g r other ∙ same.mapped r above under;
+  mapped = λ r above under. other_map (p.mapped h) m h g r other ∙ same.mapped r above under;
   committed = same.committed;
   fetch_pc = same.fetch_pc;
   status = same.status;
 }
 
-instruction_after : (p m : Picture) (h t : ℕ) → IsSameInstruction p m t → IsSameInstruction p (with_map p m h) t
+instruction_after : (p m : Picture) (h t : ℕ) → IsSameInstruction p m t → IsSameInstruction p (with_map (p.mapped h) m h) t
 instruction_after p m h t same = record { fate = same.fate; phys = same.phys; completion = same.completion }
 
-reads_after : (p m : Picture) (h : ℕ) → KeepsReadings p m → KeepsReadings p (with_map p m h)
+reads_after : (p m : Picture) (h : ℕ) → KeepsReadings p m → KeepsReadings p (with_map (p.mapped h) m h)
 reads_after p m h readings = λ s waits still.
     let both = readings s waits still in
     (record { seen = both.0.seen; reads = both.0.reads }, record { seen = both.1.seen; reads = both.1.reads })
 
-halts_with : (p m : Picture) (h n : ℕ) (x : Effect) → IsHalt p m h n x → IsHalt p (with_map p m h) h n x
+halts_with : (p m : Picture) (h n : ℕ) (x : Effect) → IsHalt p m h n x → IsHalt p (with_map (p.mapped h) m h) h n x
 halts_with p m h n x halt =
     let own = halt.stays.hart in
     let shared = halt.stays.shared in
@@ -94,94 +82,14 @@ halts_with p m h n x halt =
     }
 
 pub leaves_with : (p q : Picture) (h : ℕ) (x : Active) (status : Status) → (ends : Ends p q h x status)
-    → Leaves p (with_map p ends.step.middle h) h x status
+    → Leaves p (with_map (p.mapped h) ends.step.middle h) h x status
 leaves_with p q h x status ends = record {
   is_oldest = ends.is_oldest;
   effect = ends.effect;
   stands = ends.stands;
   step = halts_with p ends.step.middle h x.seq ends.effect ends.step.halt;
-  mapped = λ r above under. own_map p ends.step.middle h r;
+  mapped = λ r above under. own_map (p.mapped h) ends.step.middle h r;
 }
-
--- ---- The squash
-
-own_with : (p m : Picture) (h : ℕ) (xs : List ℕ) → AreOwn m xs → AreOwn (with_map p m h) xs
-own_with p m h [] own = tt
-own_with p m h (s ∷ rest) own = (
-  λ x named. let is = own.0 x named in record { in_range = is.in_range; claimed = is.claimed; alone = is.alone },
-  own_with p m h rest own.1,
-)
-
-youngest_with : (p m : Picture) (h r : ℕ) (xs : List ℕ) (otherwise : ℕ)
-    → youngest (with_map p m h) r xs otherwise ≡ youngest m r xs otherwise
-youngest_with p m h r [] otherwise = refl
-youngest_with p m h r (s ∷ rest) otherwise =
-    youngest_with p m h r rest (renamed_map (destination (op_in m s)) (m.phys s) r otherwise)
-
-same_before : (p m q : Picture) (h g : ℕ) → g ≢ h → IsSameHart m q g → IsSameHart (with_map p m h) q g
-same_before p m q h g other same = record {
-  in_decode = same.in_decode;
-  in_rename = same.in_rename;
-  flight = same.flight;
-  icount = same.icount;
-  mapped = λ r above under. same.mapped r above under ∙ sym (other_map p m h g r other);
-  committed = same.committed;
-  fetch_pc = same.fetch_pc;
-  status = same.status;
-}
-
-reads_before : (p m q : Picture) (h : ℕ) → KeepsReadings m q → KeepsReadings (with_map p m h) q
-reads_before p m q h readings = λ s waits still.
-    let both = readings s waits still in
-    (record { seen = both.0.seen; reads = both.0.reads }, record { seen = both.1.seen; reads = both.1.reads })
-
-pub squash_with : (p m q : Picture) (h n : ℕ) → IsSquash m q h n → IsSquash (with_map p m h) q h n
-squash_with p m q h n squash =
-    let own = squash.stays.hart in
-    let shared = squash.stays.shared in
-    record {
-      own = own_with p m h (m.flight h) squash.own;
-      in_decode = squash.in_decode;
-      in_rename = squash.in_rename;
-      flight = squash.flight;
-      icount = squash.icount;
-      mapped = λ r above under.
-          squash.mapped r above under ∙ sym (youngest_with p m h r (up_to n (m.flight h)) (m.committed h r));
-      queue = squash.queue;
-      free = squash.free;
-      flights = λ t flies upto. let same =
-          squash.flights t flies upto in record { fate = same.fate; phys = same.phys; completion = same.completion };
-      stays = record {
-        hart = record {
-          in_decode = tt;
-          in_rename = tt;
-          flight = tt;
-          icount = tt;
-          mapped = tt;
-          committed = own.committed;
-          fetch_pc = own.fetch_pc;
-          status = own.status;
-        };
-        others = λ g other. same_before p m q h g other (squash.stays.others g other);
-        shared = record {
-          kept = shared.kept;
-          operands = shared.operands;
-          queue = tt;
-          free = tt;
-          values = shared.values;
-          readings = reads_before p m q h shared.readings;
-          job = shared.job;
-          fetches = record {
-            fetched = shared.fetches.fetched;
-            fetches = shared.fetches.fetches;
-            last_fetched = shared.fetches.last_fetched;
-          };
-          records = shared.records;
-          output = shared.output;
-          memory = record { byte = shared.memory.byte; reserved = shared.memory.reserved };
-        };
-      };
-    }
 
 -- ---- Which of the three it is
 

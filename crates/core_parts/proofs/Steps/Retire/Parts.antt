@@ -9,7 +9,7 @@ use Rattle.smt_model.specs.{Fates.Renamed, Fates.Completed, Picture.Picture}
 use Rattle.std.proofs.lemmas.Bool.Decides.{nat_tests}
 use Rattle.events.specs.declared.effect.Effect.{Effect}
 use Rattle.free_list.specs.Flags.{holds}
-use Rattle.rename_map.specs.Maps.{committed_of}
+use Rattle.rename_map.specs.Maps.{committed_of, released_after}
 use Rattle.retire_squash.specs.declared.active.Active.{Active}
 use Rattle.smt_model.specs.Steps.{KeepsFetched, KeepsFlights, KeepsReadings, filled_value, renamed_map, op_in, AreOwn}
 use Rattle.shared_memory.specs.Contents.{Contents}
@@ -17,12 +17,15 @@ use Rattle.load_store.specs.Queues.{Queues, Changes}
 use Rattle.core_parts.specs.Accesses.{MemoryAgrees, accesses_of, without_access}
 use Rattle.core_parts.specs.Agree.{IsActive, HartAgrees, EachAgrees, IsSlot, FreeAgrees, ValuesAgree, JobsAgree}
 use Rattle.core_parts.specs.Agree.{PartsAgree, IsFilled}
+use Rattle.core_parts.specs.Checkpoints.{AreCheckpoints, HasCheckpoints, CheckpointsAgree}
 use Rattle.core_parts.specs.Retirement.{Commits, Leaves, HasCommitted, HasLeft, replaced_by}
 use Rattle.core_parts.specs.{declared.hart.HartState.HartState, declared.slot.Slot.Slot, declared.parts.Parts.Parts}
 use Rattle.smt_model.proofs.Fates.Moves.{stage_of, fate_at}
 use Rattle.core_parts.proofs.{Agreement.Filled.WakesBoth, Agreement.Filled.queue_filled, Agreement.Filled.filled_none}
 use Rattle.core_parts.proofs.{Agreement.Shared.jobs_kept, Agreement.Queues.accesses_set, Agreement.Queues.active_op}
 use Rattle.core_parts.proofs.{Agreement.Queues.memory_kept}
+use Rattle.core_parts.proofs.Agreement.Checkpoints.{checkpoints_here, checkpoints_set}
+use Rattle.core_parts.proofs.Steps.Retire.Checkpoints.{popped, left}
 use Rattle.core_parts.proofs.Steps.Retire.Memory.{IsCommitted, accesses_dropped, memory_committed}
 use Rattle.core_parts.proofs.Agreement.Harts.{slots_kept, stage_flies, active_kept, others_kept, each_set}
 
@@ -190,7 +193,7 @@ pub parts_committed : (p q : Picture) (h : ℕ) (x : Active) (effect : Effect) (
     → IsFilled x.phys effect.value
     (record old { harts = with_item old.harts h y; free = free; accesses = accesses; memory = memory }) new
     → PartsAgree p old → Commits p q h x effect pc → PartsAgree q new
-parts_committed p q h x effect pc old new a y replaced free accesses memory inside at has left made gives filled agrees
+parts_committed p q h x effect pc old new a y replaced free accesses memory inside at has gone made gives filled agrees
     commits =
     let step = commits.step in
     let oldest = commits.is_oldest in
@@ -206,6 +209,13 @@ parts_committed p q h x effect pc old new a y replaced free accesses memory insi
           subst (λ v. EachAgrees q v.items) (sym filled.harts)
           (each_set p q old.harts.items h a y inside at (hart_committed p q h x effect pc a y replaced commits has)
           (others_kept p q h x.seq step.stays step.of_hart step.flights) agrees.harts);
+      checkpoints =
+          subst (λ v. CheckpointsAgree v.items) (sym filled.harts)
+          (checkpoints_set old.harts.items h y inside
+          (subst (λ xs. AreCheckpoints xs y.maps) (sym has.active)
+          (popped p h x oldest.is_active oldest.completed a.active (q.flight h) a.maps y.maps (here.active ∙ step.flight)
+          here.actives (subst (λ xs. AllByRecursion (λ s. x.seq < s) (drop 1 xs)) step.flight oldest.younger) has.kept
+          has.committed (checkpoints_here old.harts.items h a inside at agrees.checkpoints))) agrees.checkpoints);
       queue =
           queue_filled p q x.phys effect.value step.stays.shared.kept
           (waits_on p q x.seq oldest.completed step.flights) wakes old.queue new.queue
@@ -221,7 +231,7 @@ parts_committed p q h x effect pc old new a y replaced free accesses memory insi
           (jobs_kept p q old.jobs step.stays.shared.kept step.stays.shared.job step.stays.shared.operands agrees.jobs);
       accesses =
           rw (filled.accesses, filled.harts)
-          (accesses_set (without_access x.op) old.harts.items h a y old.accesses accesses inside at left
+          (accesses_set (without_access x.op) old.harts.items h a y old.accesses accesses inside at gone
           (ap accesses_of has.active
           ∙ accesses_dropped p h x.seq x.op a.active (q.flight h) (here.active ∙ step.flight) here.actives
           (active_op p h x oldest.is_active)) agrees.accesses);
@@ -232,9 +242,18 @@ parts_committed p q h x effect pc old new a y replaced free accesses memory insi
 
 -- ---- A halt
 
+-- The hart without it.
+abbrev pub left_hart : Active → Status → HartState → HartState
+left_hart x status a =
+    record a {
+      active = drop 1 a.active;
+      maps = record a.maps { kept = released_after x.seq a.maps.kept };
+      status = status;
+    }
+
 hart_left : (p q : Picture) (h : ℕ) (x : Active) (status : Status) (a : HartState) → Leaves p q h x status
     → HartAgrees p h a
-    → HartAgrees q h (record a { active = drop 1 a.active; status = status })
+    → HartAgrees q h (left_hart x status a)
 hart_left p q h x status a leaves is =
     let step = leaves.step in
     let kept : KeepsFetched p q = step.stays.shared.kept in
@@ -254,12 +273,12 @@ hart_left p q h x status a leaves is =
 
 pub parts_left : (p q : Picture) (h : ℕ) (x : Active) (status : Status) (old : Parts) (a y : HartState)
     (free : List Bool) (accesses : List Queues)
-    → h < length old.harts.items → a ≡ slice_index_or old.harts.items h a → HasLeft a y status
+    → h < length old.harts.items → a ≡ slice_index_or old.harts.items h a → HasLeft a y x.seq status
     → Changes (without_access x.op) h old.accesses accesses
     → ((r : ℕ) → holds free r ≡ (holds old.free r || same_number x.phys (Some r))) → PartsAgree p old
     → Leaves p q h x status
     → PartsAgree q (record old { harts = with_item old.harts h y; free = free; accesses = accesses })
-parts_left p q h x status old a y free accesses inside at has left gives agrees leaves =
+parts_left p q h x status old a y free accesses inside at has gone gives agrees leaves =
     let step = leaves.step in
     let oldest = leaves.is_oldest in
     let here : HartAgrees p h a = subst (HartAgrees p h) (sym at) (agrees.harts h a inside) in
@@ -270,6 +289,12 @@ parts_left p q h x status old a y free accesses inside at has left gives agrees 
           each_set p q old.harts.items h a y inside
           at (λ is. subst (HartAgrees q h) (sym has) (hart_left p q h x status a leaves is))
           (others_kept p q h x.seq step.stays step.of_hart step.flights) agrees.harts;
+      checkpoints =
+          checkpoints_set old.harts.items h y inside
+          (subst HasCheckpoints (sym has)
+          (left p h x oldest.is_active oldest.completed a.active (q.flight h) a.maps (here.active ∙ step.flight)
+          here.actives (subst (λ xs. AllByRecursion (λ s. x.seq < s) (drop 1 xs)) step.flight oldest.younger)
+          (checkpoints_here old.harts.items h a inside at agrees.checkpoints))) agrees.checkpoints;
       queue =
           queue_filled p q None None step.stays.shared.kept (waits_on p q x.seq oldest.completed step.flights)
           (reads_on p q x.seq oldest.completed step.flights step.stays.shared.readings) old.queue old.queue agrees.queue
@@ -284,7 +309,7 @@ parts_left p q h x status old a y free accesses inside at has left gives agrees 
       actors = agrees.actors;
       jobs = jobs_kept p q old.jobs step.stays.shared.kept step.stays.shared.job step.stays.shared.operands agrees.jobs;
       accesses =
-          accesses_set (without_access x.op) old.harts.items h a y old.accesses accesses inside at left
+          accesses_set (without_access x.op) old.harts.items h a y old.accesses accesses inside at gone
           (ap (λ (z : HartState). accesses_of z.active) has
           ∙ accesses_dropped p h x.seq x.op a.active (q.flight h) (here.active ∙ step.flight) here.actives
           (active_op p h x oldest.is_active)) agrees.accesses;

@@ -4,7 +4,7 @@ use Rattle.std.specs.List.{AllByRecursion, list_any}
 use Rattle.std.proofs.Common.{◌∙◌, refl, sym, ap, subst, inl, inr, arith}
 use Rattle.std.proofs.{lemmas.Bool.cases_Bool, lemmas.Bool.Decides.nat_tests, lemmas.List.Sums.length-filter}
 use Rattle.free_list.specs.Flags.{holds}
-use Rattle.rename_map.specs.Maps.{lookup}
+use Rattle.rename_map.specs.Maps.{lookup, committed_of}
 use Rattle.retire_squash.specs.{declared.active.Active.Active, declared.active.Stage.Stage}
 use Rattle.retire_squash.specs.declared.active.Stage.TheVariants as stage
 use Rattle.smt_model.specs.{Basics.how_many, Kinds.destination, Picture.Picture}
@@ -12,13 +12,15 @@ use Rattle.smt_model.specs.Fates.{is, is_in_flight, op_of_fetched, Renamed}
 use Rattle.smt_model.specs.Steps.{IsSquash, AreOwn, has_register, youngest, up_to, beyond, renamed_map, op_in}
 use Rattle.smt_model.specs.Steps.{KeepsFetched, IsSameInstruction}
 use Rattle.core_parts.specs.Agree.{IsActive, IsStage, HartAgrees, FreeAgrees}
-use Rattle.core_parts.specs.Squash.{older, younger, has_phys, is_waiting, HaveOwn, mapped_by, IsSquashedBehind}
+use Rattle.core_parts.specs.Squash.{older, younger, has_phys, is_waiting, HaveOwn, mapped_by, IsSquashedBehind, Squashes}
+use Rattle.core_parts.specs.Checkpoints.{AreCheckpoints, HasCheckpoints}
 use Rattle.core_parts.specs.declared.hart.HartState.{HartState}
-use Rattle.core_parts.proofs.Agreement.Harts.{active_kept, stage_flies}
+use Rattle.core_parts.proofs.{Agreement.Checkpoints.checkpoints_squashed, Agreement.Harts.active_kept}
+use Rattle.core_parts.proofs.{Agreement.Harts.stage_flies}
 
 -- ---- The members of the active list, and their numbers
 
-numbers_older : (n : ℕ) (xs : List Active) → map (λ a. a.seq) (older n xs) ≡ up_to n (map (λ a. a.seq) xs)
+pub numbers_older : (n : ℕ) (xs : List Active) → map (λ a. a.seq) (older n xs) ≡ up_to n (map (λ a. a.seq) xs)
 numbers_older n [] = refl
 numbers_older n (x ∷ xs) = elim (cases_Bool (nat_le x.seq n)) [
   | inl t ↦ rw (t, numbers_older n xs) refl
@@ -32,7 +34,7 @@ numbers_younger n (x ∷ xs) = elim (cases_Bool (nat_lt n x.seq)) [
   | inr f ↦ rw (f, numbers_younger n xs) refl
 ]
 
-all_older : (P : Active → Type 0) (n : ℕ) (xs : List Active) → AllByRecursion P xs → AllByRecursion P (older n xs)
+pub all_older : (P : Active → Type 0) (n : ℕ) (xs : List Active) → AllByRecursion P xs → AllByRecursion P (older n xs)
 all_older P n [] all = tt
 all_older P n (x ∷ xs) all = elim (cases_Bool (nat_le x.seq n)) [
   | inl t ↦ rw t (all.0, all_older P n xs all.1)
@@ -106,7 +108,7 @@ counts_same : (p : Picture) (h : ℕ) (xs : List Active) → AllByRecursion (IsA
     → count_by (λ a. is_waiting a.stage) xs ≡ how_many (λ s. is (p.fate s) Renamed) (map (λ a. a.seq) xs)
 counts_same p h xs all = sym (length-filter (λ a. is_waiting a.stage) xs) ∙ how_many_same p h xs all
 
-maps_same : (p : Picture) (h r before : ℕ) (xs : List Active) → AllByRecursion (IsActive p h) xs
+pub maps_same : (p : Picture) (h r before : ℕ) (xs : List Active) → AllByRecursion (IsActive p h) xs
     → mapped_by r xs before ≡ youngest p r (map (λ a. a.seq) xs) before
 maps_same p h r before [] all = refl
 maps_same p h r before (a ∷ xs) all =
@@ -131,8 +133,11 @@ older_actives p q h n (x ∷ xs) kept same all = elim (cases_Bool (nat_le x.seq 
   | inr f ↦ rw f (older_actives p q h n xs kept same all.1)
 ]
 
-module _ (p q : Picture) (h n : ℕ) (x y : HartState) (hart : HartAgrees p h x) (s : IsSquash p q h n)
-    (left : IsSquashedBehind n x y) where
+module _ (p q : Picture) (h n : ℕ) (restored : Bool) (x y : HartState) (hart : HartAgrees p h x)
+    (squashes : Squashes p q h n restored) (left : IsSquashedBehind n restored x y) where
+  s : IsSquash p q h n
+  s = squashes.step
+
   olders : AllByRecursion (IsActive p h) (older n x.active)
   olders = all_older (IsActive p h) n x.active hart.actives
 
@@ -148,12 +153,24 @@ module _ (p q : Picture) (h n : ℕ) (x y : HartState) (hart : HartAgrees p h x)
   icount = left.icount ∙ counts_same p h (older n x.active) olders ∙ ap (how_many (λ t. is (p.fate t) Renamed)) numbers
       ∙ sym s.icount
 
-  speculative : (r : ℕ) → 0 < r → r < 32 → lookup y.maps r ≡ q.mapped h r
-  speculative r above under =
-      left.speculative r above under ∙ ap (mapped_by r (older n x.active)) (hart.committed r above under)
+  made_anew : (r : ℕ) → 0 < r → r < 32
+      → mapped_by r (older n x.active) (committed_of x.maps r) ≡ q.mapped h r
+  made_anew r above under =
+      ap (mapped_by r (older n x.active)) (hart.committed r above under)
       ∙ maps_same p h r (p.committed h r) (older n x.active) olders
       ∙ ap (λ xs. youngest p r xs (p.committed h r)) numbers
       ∙ sym (s.mapped r above under)
+
+  speculative : (r : ℕ) → 0 < r → r < 32 → lookup y.maps r ≡ q.mapped h r
+  speculative r above under = left.speculative r above under ∙ elim (cases_Bool restored) [
+    | inl t ↦ rw t (hart.speculative r above under ∙ sym (squashes.map t r above under))
+    | inr f ↦ rw f (made_anew r above under)
+  ]
+
+  pub checkpoints_left : HasCheckpoints x → HasCheckpoints y
+  checkpoints_left kept =
+      subst (λ xs. AreCheckpoints xs y.maps) (sym left.active)
+      (checkpoints_squashed n x.active x.maps y.maps left.committed left.kept kept)
 
   pub hart_squashed : HartAgrees q h y
   hart_squashed = record {

@@ -1,5 +1,5 @@
 -- The parts that all harts share, after a squash of one of them.
-use Rattle.std.specs.Prelude.{◌≡◌, ◌≢◌, ℕ, ◌<◌, ◌≤◌, true, false, not, ◌==◌, ◌&&◌, ◌||◌, nat_lt, List, [], ◌∷◌, filter}
+use Rattle.std.specs.Prelude.{◌≡◌, ◌≢◌, ℕ, ◌<◌, ◌≤◌, true, false, not, ◌==◌, ◌&&◌, ◌||◌, nat_lt, Bool, List, [], ◌∷◌, filter}
 use Rattle.std.specs.Prelude.{map, length, Option, slice_index_or, slice_set}
 use Rattle.std.specs.List.{AllByRecursion, list_any}
 use Rattle.std.proofs.Common.{◌∙◌, refl, sym, ap, subst, inl, inr, arith}
@@ -10,13 +10,15 @@ use Rattle.smt_model.specs.{Basics.holds_of, Fates.is, Picture.Picture, Steps.Is
 use Rattle.load_store.specs.Queues.{Changes, squashed}
 use Rattle.core_parts.specs.Accesses.{accesses_of}
 use Rattle.core_parts.specs.Agree.{IsEntry, QueueAgrees, HartAgrees, PartsAgree, ValuesAgree}
-use Rattle.core_parts.specs.Squash.{younger, has_phys, IsSquashedBehind, HaveOwn}
+use Rattle.core_parts.specs.Squash.{younger, has_phys, IsSquashedBehind, HaveOwn, Squashes}
 use Rattle.core_parts.specs.{declared.hart.HartState.HartState, declared.parts.Parts.Parts}
 use Rattle.core_parts.proofs.{Agreement.Harts.hart_kept, Agreement.Harts.hart_alone, Agreement.Harts.each_set}
 use Rattle.core_parts.proofs.{Agreement.Shared.waiting_kept, Agreement.Shared.jobs_kept}
 use Rattle.core_parts.proofs.{Agreement.Accesses.accesses_squashed, Agreement.Queues.accesses_set}
 use Rattle.core_parts.proofs.{Agreement.Queues.memory_kept}
+use Rattle.core_parts.proofs.Agreement.Checkpoints.{checkpoints_here, checkpoints_set}
 use Rattle.core_parts.proofs.{Steps.Squash.Parts.hart_squashed, Steps.Squash.Parts.owns}
+use Rattle.core_parts.proofs.{Steps.Squash.Parts.checkpoints_left}
 use Rattle.core_parts.proofs.{Steps.Squash.Parts.free_squashed}
 
 -- ---- The queue
@@ -75,11 +77,11 @@ module _ (p q : Picture) (h n : ℕ) (s : IsSquash p q h n) where
       λ x d under claimed. agrees x d under (still_claimed x claimed) ∙ sym (s.stays.shared.values x claimed)
 
 -- What the code has made of the parts, in one place.
-pub record IsSquashed (h n : ℕ) (old new : Parts) : Type 0 where
+pub record IsSquashed (h n : ℕ) (restored : Bool) (old new : Parts) : Type 0 where
   pub was : HartState
   pub left : HartState
   pub at : was ≡ slice_index_or old.harts.items h was
-  pub squash_behind : IsSquashedBehind n was left
+  pub squash_behind : IsSquashedBehind n restored was left
   pub harts : new.harts.items ≡ slice_set old.harts.items h left
   pub queue : new.queue ≡ record old.queue { entries = filter (stays h n) old.queue.entries }
   pub free : (r : ℕ) → holds new.free r ≡ (holds old.free r || list_any (has_phys r) (younger n was.active))
@@ -88,14 +90,18 @@ pub record IsSquashed (h n : ℕ) (old new : Parts) : Type 0 where
   pub accesses : Changes (squashed n) h old.accesses new.accesses
   pub memory : new.memory ≡ old.memory
 
-pub parts_squashed : (p q : Picture) (h n : ℕ) (old new : Parts) → h < length old.harts.items → PartsAgree p old
-    → IsSquash p q h n → IsSquashed h n old new → PartsAgree q new
-parts_squashed p q h n old new inside agrees s is =
+pub parts_squashed : (p q : Picture) (h n : ℕ) (restored : Bool) (old new : Parts) → h < length old.harts.items
+    → PartsAgree p old → Squashes p q h n restored → IsSquashed h n restored old new → PartsAgree q new
+parts_squashed p q h n restored old new inside agrees squashes is =
+    let s : IsSquash p q h n = squashes.step in
     let hart : HartAgrees p h is.was = subst (HartAgrees p h) (sym is.at) (agrees.harts h is.was inside) in
     record {
       harts = rw is.harts (each_set p q old.harts.items h is.was is.left inside is.at
-          (λ x. hart_squashed p q h n is.was is.left x s is.squash_behind)
+          (λ x. hart_squashed p q h n restored is.was is.left x squashes is.squash_behind)
           (λ g other z. other_squashed p q h n s g other z) agrees.harts);
+      checkpoints = rw is.harts (checkpoints_set old.harts.items h is.left inside
+          (checkpoints_left p q h n restored is.was is.left hart squashes is.squash_behind
+          (checkpoints_here old.harts.items h is.was inside is.at agrees.checkpoints)) agrees.checkpoints);
       queue = queue_squashed p q h n s old.queue new.queue agrees.queue is.queue;
       free = free_squashed p q h n old.free new.free is.was agrees.free hart s is.free;
       registers = rw is.values agrees.registers;

@@ -16,7 +16,7 @@ use Rattle.smt_model.proofs.Lists.{member-filter, first-member, Each, Each-all}
 use Rattle.smt_model.proofs.{Allowed.rename_allowed, Allowed.rename_allows, Fates.Moves.rename_was}
 use Rattle.smt_model.proofs.{Fates.Moves.same_number-self, Fates.Numbers.at_hart, Fates.Numbers.first_of_hart}
 use Rattle.smt_model.proofs.Fates.Numbers.{numbers-of}
-use Rattle.smt_laws.proofs.{Fates.Order.in_order, Registers.Namings.same_truth-is}
+use Rattle.smt_laws.proofs.{Events.Mapping.mapped-is, Fates.Order.in_order, Registers.Namings.same_truth-is}
 use Rattle.smt_laws.proofs.{Registers.Namings.in_range, Registers.Namings.taken, Fates.Choosing.hart_there}
 use Rattle.smt_laws.proofs.{Steps.RenameMap.mapped_claimed, Steps.Rename.steps-Rename}
 use Rattle.core_parts.specs.Renaming.{CanRename, IsRenaming}
@@ -203,5 +203,6 @@ renaming setup past legal fit actor h n register ok of_n =
         in_range = (let within = mapped-range setup past legal h r there above under (writer past h r) in omega arith);
         claimed = claimed_one setup past (mapped past h r) (mapped_claimed setup past legal h r there above under);
       };
+      map = λ r above under. mapped-is setup past legal h r (omega arith);
       in_range = taken_range setup past actor n register ok fit;
     }

@@ -2,6 +2,7 @@
 use Rattle.std.proofs.Common.{◌<◌, length, refl, ap, subst, sym}
 use Rattle.smt_model.specs.Steps.{IsDecode}
 use Rattle.core_parts.specs.Accesses.{accesses_of}
+use Rattle.core_parts.proofs.Agreement.Checkpoints.{checkpoints_here, checkpoints_same, checkpoints_set}
 use Rattle.core_parts.proofs.{Agreement.Harts.each_set, Agreement.Queues.accesses_still, Agreement.Rest.rest_kept}
 use Rattle.core_parts.proofs.{Steps.Decode.Parts.keeps_rest}
 use Rattle.core_parts.proofs.{Steps.Decode.Parts.own_decode, Steps.Decode.Parts.other_decode}
@@ -22,3 +23,7 @@ returns-clause-agrees c = λ p q agrees n step.
     (accesses_still c.args.self.now.harts.items h x y c.args.self.now.accesses inside c.index_mut.ensures.value
     (ap accesses_of c.decode.ensures.active) agrees.accesses)
     refl
+    (checkpoints_set c.args.self.now.harts.items h y inside
+    (checkpoints_same x y c.decode.ensures.active c.decode.ensures.maps
+    (checkpoints_here c.args.self.now.harts.items h x inside c.index_mut.ensures.value agrees.checkpoints))
+    agrees.checkpoints)

@@ -1,6 +1,7 @@
 -- The hart that fetches agrees with the picture after it, and so does all that it leaves.
 use Rattle.std.proofs.Common.{refl, ap}
 use Rattle.core_parts.specs.Accesses.{accesses_of}
+use Rattle.core_parts.proofs.Agreement.Checkpoints.{checkpoints_here, checkpoints_same, checkpoints_set}
 use Rattle.core_parts.proofs.{Agreement.Harts.each_set, Agreement.Queues.accesses_still, Agreement.Rest.rest_kept}
 use Rattle.core_parts.proofs.{Steps.Fetch.Parts.keeps_rest}
 use Rattle.core_parts.proofs.{Steps.Fetch.Parts.own_fetch, Steps.Fetch.Parts.other_fetch}
@@ -20,3 +21,7 @@ returns-clause-agrees c = λ p q agrees step.
     (accesses_still c.args.self.now.harts.items h x y c.args.self.now.accesses c.requires.step.inside
     c.index_mut.ensures.value (ap accesses_of c.fetch.ensures.active) agrees.accesses)
     refl
+    (checkpoints_set c.args.self.now.harts.items h y c.requires.step.inside
+    (checkpoints_same x y c.fetch.ensures.active c.fetch.ensures.maps
+    (checkpoints_here c.args.self.now.harts.items h x c.requires.step.inside c.index_mut.ensures.value agrees.checkpoints))
+    agrees.checkpoints)

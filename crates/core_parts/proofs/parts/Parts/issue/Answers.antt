@@ -27,6 +27,7 @@ returns-clause-agrees c = λ p q agrees issuing.
     ≡ slice_set c.args.self.now.jobs c.args.actor (Some (open_job_of e)) = rw (same, c.from-2.ensures) refl in
     record {
       harts = rw c.from.ensures all.0;
+      checkpoints = rw c.from.ensures all.8;
       queue = all.1;
       free = all.2;
       registers = agrees.registers;

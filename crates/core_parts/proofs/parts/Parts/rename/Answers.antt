@@ -64,6 +64,18 @@ rename-requires-clause-younger c =
     (ready_at c.args.self.now c.args.hart c.args.phys c.from.result c.index-state.result.now c.deref.result.now _
     c.requires.step c.from.ensures c.index-state.ensures c.deref.ensures.0).younger
 
+pub rename-requires-clause-not_kept : goal.rename-requires-clause-not_kept
+rename-requires-clause-not_kept c =
+    let again =
+    subst (λ i. c.index_mut.result.now ≡ slice_index_or c.args.self.now.harts.items i c.index_mut.result.now)
+    (c.from-2.ensures ∙ sym c.from.ensures) c.index_mut.ensures.value in
+    let inside = subst (λ i. i < length c.args.self.now.harts.items) (sym c.from.ensures) c.requires.step.inside in
+    let same = same_hart c.args.self.now.harts.items c.from.result c.index-state.result.now c.index_mut.result.now
+    inside c.index-state.ensures again in
+    rw (sym same)
+    (ready_at c.args.self.now c.args.hart c.args.phys c.from.result c.index-state.result.now c.deref.result.now _
+    c.requires.step c.from.ensures c.index-state.ensures c.deref.ensures.0).not_kept
+
 pub rename-requires-clause-in_range : goal.rename-requires-clause-in_range
 rename-requires-clause-in_range c =
     (ready_at c.args.self.now c.args.hart c.args.phys c.from.result c.index-state.result.now c.deref.result.now _
@@ -110,6 +122,7 @@ returns-clause-agrees c = λ p q agrees renaming.
     }) in
     record {
       harts = rw c.from-2.ensures all.0;
+      checkpoints = rw c.from-2.ensures all.8;
       queue = all.1;
       free = all.2;
       registers = all.3;

@@ -2,7 +2,7 @@ use Rattle.std.specs.Prelude.{◌<◌, IfSome}
 use Rattle.std.proofs.Common.{sym, subst}
 use Rattle.elf_image.specs.Image.{ProgramImage}
 use Rattle.shared_memory.specs.Contents.{CanWrite}
-use Rattle.core_parts.proofs.Steps.Retire.Replay.{commits_then}
+use Rattle.core_parts.proofs.Steps.{OtherMap.squashes_anew, Retire.Replay.commits_then}
 use Rattle.core_parts.proofs.parts.Parts.replay.Goals as goal
 
 pub squash-requires : goal.squash-requires
@@ -14,7 +14,8 @@ squash-requires c =
         after = from.step.step.middle;
         inside = from.inside;
         agrees = from.agrees;
-        step = from.step.step.squash;
+        step = squashes_anew from.before from.step.step.middle c.args.hart c.args.active.now.seq
+            from.step.step.squash;
       };
     }
 
@@ -25,7 +26,8 @@ commit-requires-clause-step c =
       before = from.step.step.middle;
       after = from.after;
       inside = subst (λ n. c.args.hart < n) (sym c.squash.ensures.sizes.harts) from.inside;
-      agrees = c.squash.ensures.agrees from.before from.step.step.middle from.agrees from.step.step.squash;
+      agrees = c.squash.ensures.agrees from.before from.step.step.middle from.agrees
+          (squashes_anew from.before from.step.step.middle c.args.hart c.args.active.now.seq from.step.step.squash);
       step = commits_then from.before from.after c.args.hart c.args.active.now c.args.effect c.args.pc from.step;
     }
 
@@ -38,5 +40,6 @@ pub returns-clause-agrees : goal.returns-clause-agrees
 returns-clause-agrees c p q agrees replays =
     let middle = replays.step.middle in
     c.commit.ensures.agrees middle q
-    (c.squash.ensures.agrees p middle agrees replays.step.squash)
+    (c.squash.ensures.agrees p middle agrees
+    (squashes_anew p middle c.args.hart c.args.active.now.seq replays.step.squash))
     (commits_then p q c.args.hart c.args.active.now c.args.effect c.args.pc replays)

@@ -9,7 +9,7 @@ squash-requires-2 c =
     let x = c.index_mut.result.now in
     record {
       own = own_registers step.before c.args.hart c.args.after step.after c.args.self.now x step.inside
-          step.agrees step.step
+          step.agrees step.step.step
           (subst (λ i. x ≡ get_or c.args.self.now.harts.items i x) c.from.ensures c.index_mut.ensures.value);
     }
 
@@ -21,7 +21,7 @@ squash-requires-3 c =
 pub returns-clause-agrees : goal.returns-clause-agrees
 returns-clause-agrees c = λ p q agrees step.
     let x = c.index_mut.result.now in
-    parts_squashed p q c.args.hart c.args.after c.args.self.now _ c.requires.step.inside agrees step (record {
+    parts_squashed p q c.args.hart c.args.after c.args.restored c.args.self.now _ c.requires.step.inside agrees step (record {
       was = x;
       left = c.squash-2.new.self;
       at = subst (λ i. x ≡ get_or c.args.self.now.harts.items i x) c.from.ensures c.index_mut.ensures.value;
