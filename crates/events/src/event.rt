@@ -67,7 +67,7 @@ impl Event {
         }
     }
 
-    /// The actor that made it, 0 to 15.
+    /// The actor that made it, below `MOST_ACTORS`.
     pub fn actor(&self) -> u8
         ensures { result ≡ actor_of self.now }
     {

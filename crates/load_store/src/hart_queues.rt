@@ -1,4 +1,5 @@
 ghost use Rattle.std.specs.Prelude.{◌≡◌, ◌<◌, ◌==◌, List, length, map, IfSome};
+ghost use Rattle.numbers.specs.Sizes.{most_accesses};
 ghost use Rattle.rv_execute.specs.Access.{IsSize};
 ghost use Rattle.load_store.specs.Queues.{empty, Above, numbers, oldest_write, resolved, with_load};
 ghost use Rattle.load_store.specs.Queues.{with_store, with_resolved, without_load, without_store};
@@ -7,13 +8,14 @@ ghost use Rattle.load_store.specs.Queues.{squashed};
 use crate::store::Store;
 use arrayvec::ArrayVec;
 use events::{Seq, Written};
+use numbers::sizes::MOST_ACCESSES;
 use std::marker::Model;
 
-/// The loads and the stores of one hart in flight, at most 16 of each, oldest first.
+/// The loads and the stores of one hart in flight, at most `MOST_ACCESSES` of each, oldest first.
 #[derive(Drop)]
 pub struct HartQueues {
-    loads: ArrayVec<Seq, 16>,
-    stores: ArrayVec<Store, 16>,
+    loads: ArrayVec<Seq, MOST_ACCESSES>,
+    stores: ArrayVec<Store, MOST_ACCESSES>,
 }
 
 impl Model for HartQueues {
@@ -44,14 +46,14 @@ impl HartQueues {
 
     /// Whether there is no room for another load.
     pub fn loads_full(&self) -> bool
-        ensures { result ≡ (length self.now.loads == 16) }
+        ensures { result ≡ (length self.now.loads == most_accesses) }
     {
         self.loads.is_full()
     }
 
     /// Whether there is no room for another store.
     pub fn stores_full(&self) -> bool
-        ensures { result ≡ (length self.now.stores == 16) }
+        ensures { result ≡ (length self.now.stores == most_accesses) }
     {
         self.stores.is_full()
     }
@@ -74,7 +76,7 @@ impl HartQueues {
 
     /// Adds a load, younger than those that are there.
     pub fn add_load(&mut self, seq: Seq)
-        requires room { length self.old.loads < 16 }
+        requires room { length self.old.loads < most_accesses }
         requires above { Above seq self.old.loads }
         ensures { self.new ≡ with_load seq self.old }
     {
@@ -83,7 +85,7 @@ impl HartQueues {
 
     /// Adds a store, younger than those that are there. It isn't resolved yet.
     pub fn add_store(&mut self, seq: Seq)
-        requires room { length self.old.stores < 16 }
+        requires room { length self.old.stores < most_accesses }
         requires above { Above seq (numbers self.old.stores) }
         ensures { self.new ≡ with_store seq self.old }
     {

@@ -1,5 +1,6 @@
 ghost use Rattle.std.specs.Prelude.{◌≡◌, ℕ, ◌<◌, ◌==◌, None, Some, length};
 ghost use Rattle.std.specs.Option.{IsSomeAnd};
+ghost use Rattle.numbers.specs.Sizes.{most_accesses, most_harts};
 ghost use Rattle.smt_model.specs.Bytes.{number_at, write_of};
 ghost use Rattle.smt_model.specs.Faults.{read_fault, write_fault};
 ghost use Rattle.rv_execute.specs.Access.{IsSize};
@@ -12,14 +13,15 @@ ghost use Rattle.load_store.specs.Looks.{seen};
 use crate::hart_queues::HartQueues;
 use crate::look::look;
 use events::{Seq, Written};
+use numbers::sizes::{HART_ROOM, MOST_HARTS};
 use shared_memory::Memory;
 use std::marker::Model;
 
-/// The loads and the stores in flight of up to 8 harts, each hart's in program order: at most 16
-/// loads and 16 stores a hart. A clause sees each hart's queues.
+/// The loads and the stores in flight of up to `MOST_HARTS` harts, each hart's in program order: at
+/// most `MOST_ACCESSES` loads and as many stores a hart. A clause sees each hart's queues.
 #[derive(Drop)]
 pub struct LoadStore {
-    harts: [HartQueues; 8],
+    harts: [HartQueues; HART_ROOM],
 }
 
 impl Model for LoadStore {
@@ -30,8 +32,11 @@ impl Model for LoadStore {
 
     ghost view = { λ a. a.harts };
 
-    ghost invariant = { λ a. length a.harts ≡ 8 };
+    ghost invariant = { λ a. length a.harts ≡ most_harts };
 }
+
+// `LoadStore::new` writes out the queues of so many.
+const _: () = prove!(MOST_HARTS == 8);
 
 impl LoadStore {
     /// No loads and no stores.
@@ -52,26 +57,26 @@ impl LoadStore {
         }
     }
 
-    /// Whether the hart has 16 loads in flight.
+    /// Whether the hart has `MOST_ACCESSES` loads in flight.
     pub fn loads_full(&self, hart: u8) -> bool
-        requires { hart < 8 }
-        ensures { result ≡ (length (queues_of self.now hart).loads == 16) }
+        requires { hart < most_harts }
+        ensures { result ≡ (length (queues_of self.now hart).loads == most_accesses) }
     {
         self.harts[usize::from(hart)].loads_full()
     }
 
-    /// Whether the hart has 16 stores in flight.
+    /// Whether the hart has `MOST_ACCESSES` stores in flight.
     pub fn stores_full(&self, hart: u8) -> bool
-        requires { hart < 8 }
-        ensures { result ≡ (length (queues_of self.now hart).stores == 16) }
+        requires { hart < most_harts }
+        ensures { result ≡ (length (queues_of self.now hart).stores == most_accesses) }
     {
         self.harts[usize::from(hart)].stores_full()
     }
 
     /// Adds a load, younger than those of its hart that are there.
     pub fn add_load(&mut self, hart: u8, seq: Seq)
-        requires hart { hart < 8 }
-        requires room { length (queues_of self.old hart).loads < 16 }
+        requires hart { hart < most_harts }
+        requires room { length (queues_of self.old hart).loads < most_accesses }
         requires above { Above seq (queues_of self.old hart).loads }
         ensures { Changes (with_load seq) hart self.old self.new }
     {
@@ -80,8 +85,8 @@ impl LoadStore {
 
     /// Adds a store, younger than those of its hart that are there. It isn't resolved yet.
     pub fn add_store(&mut self, hart: u8, seq: Seq)
-        requires hart { hart < 8 }
-        requires room { length (queues_of self.old hart).stores < 16 }
+        requires hart { hart < most_harts }
+        requires room { length (queues_of self.old hart).stores < most_accesses }
         requires above { Above seq (numbers (queues_of self.old hart).stores) }
         ensures { Changes (with_store seq) hart self.old self.new }
     {
@@ -91,7 +96,7 @@ impl LoadStore {
     /// The hart's store of this number will write the lowest 1, 2 or 4 bytes of a number at an
     /// address, if it is there.
     pub fn resolve_store(&mut self, hart: u8, seq: Seq, addr: u32, n: u8, datum: u32)
-        requires hart { hart < 8 }
+        requires hart { hart < most_harts }
         requires size { IsSize n }
         ensures { Changes (with_resolved seq (write_of addr n datum)) hart self.old self.new }
     {
@@ -101,7 +106,7 @@ impl LoadStore {
     /// What load `seq` of the hart reads as it completes: memory as it is now, overlaid byte by
     /// byte in order with the older stores of the hart that are resolved.
     pub fn first_look(&self, memory: &Memory, hart: u8, seq: Seq, addr: u32, n: u8) -> u32
-        requires hart { hart < 8 }
+        requires hart { hart < most_harts }
         requires size { IsSize n }
         requires no_fault { read_fault memory.now.image addr n ≡ None }
         ensures { result ≡ number_at (seen seq (queues_of self.now hart).stores memory.now) addr n }
@@ -120,7 +125,7 @@ impl LoadStore {
 
     /// The hart's oldest load retires.
     pub fn retire_load(&mut self, hart: u8)
-        requires hart { hart < 8 }
+        requires hart { hart < most_harts }
         requires some { 0 < length (queues_of self.old hart).loads }
         ensures { Changes without_load hart self.old self.new }
     {
@@ -130,7 +135,7 @@ impl LoadStore {
     /// The hart's oldest store, which is resolved, writes memory and retires. Answers what it
     /// wrote.
     pub fn retire_store(&mut self, memory: &mut Memory, hart: u8) -> Written
-        requires hart { hart < 8 }
+        requires hart { hart < most_harts }
         requires resolved { IsSomeAnd (oldest_write (queues_of self.old hart).stores)
             (λ w. write_fault memory.old.image w.addr w.n ≡ None) }
         ensures value { oldest_write (queues_of self.old hart).stores ≡ Some result }
@@ -146,7 +151,7 @@ impl LoadStore {
 
     /// The hart's oldest store goes without writing.
     pub fn drop_store(&mut self, hart: u8)
-        requires hart { hart < 8 }
+        requires hart { hart < most_harts }
         requires some { 0 < length (queues_of self.old hart).stores }
         ensures { Changes without_store hart self.old self.new }
     {
@@ -155,7 +160,7 @@ impl LoadStore {
 
     /// Removes the hart's loads and stores that are younger than this number.
     pub fn squash(&mut self, hart: u8, after: Seq)
-        requires { hart < 8 }
+        requires { hart < most_harts }
         ensures { Changes (squashed after) hart self.old self.new }
     {
         self.harts[usize::from(hart)].squash(after);

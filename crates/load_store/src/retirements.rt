@@ -1,6 +1,7 @@
 //! What the core says of a retirement.
 
 ghost use Rattle.std.specs.Prelude.{◌≡◌, ℕ, ◌<◌, Option};
+ghost use Rattle.numbers.specs.Sizes.{most_harts};
 ghost use Rattle.smt_model.specs.Bytes.{read};
 ghost use Rattle.smt_model.specs.Effects.{effect_of};
 ghost use Rattle.smt_model.specs.Exec.{Computed as ComputedView, just_next};
@@ -18,7 +19,7 @@ use shared_memory::{Memory, fault, read};
 /// they are now; for a load this is its second look.
 #[inline(always)]
 pub fn effect(memory: &Memory, hart: u8, op: Op, outcome: Outcome) -> Effect
-    requires { hart < 8 }
+    requires { hart < most_harts }
     ensures { (c : ComputedView) (look : Option ℕ)
         → outcome ≡ outcome_of op (checked memory.now.image op c) look
         → result ≡ effect_of op (checked memory.now.image op c)

@@ -15,7 +15,8 @@ machine_of a = record {
   room = a.room;
 }
 
--- there are 1 to 8 harts, the code is that of the image, and the room for the output has been made
+-- there is a hart, and no more than there may be; the code is that of the image, and the room for
+-- the output has been made
 pub record IsSound (a : Inside) : Type 0 where
   pub some : 0 < length a.harts.items
   pub few : length a.harts.items ≤ most_harts

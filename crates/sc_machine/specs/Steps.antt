@@ -8,7 +8,7 @@ use Rattle.sc_machine.specs.{Machine.Machine, Machine.Agrees, Refusals.refusal}
 
 -- ---- A new machine
 
--- There may be 1 to 8 harts.
+-- There may be 1 to `most_harts` harts.
 abbrev pub are_harts : ℕ → Bool
 are_harts harts = nat_le 1 harts && nat_le harts most_harts
 

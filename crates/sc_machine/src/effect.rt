@@ -1,6 +1,7 @@
 //! What an instruction does to the machine as it stands.
 
 ghost use Rattle.std.specs.Prelude.{◌≡◌, ◌<◌, IfSome};
+ghost use Rattle.numbers.specs.Sizes.{most_harts};
 ghost use Rattle.smt_model.specs.Bytes.{read};
 ghost use Rattle.smt_model.specs.Effects.{effect_of};
 ghost use Rattle.smt_model.specs.Faults.{checked};
@@ -35,7 +36,7 @@ pub fn stop_at_fault(memory: &Memory, op: Op, computed: Computed) -> Computed
 /// The effect of an instruction of a hart on memory and reservations as they stand. One that ends
 /// or stops its hart does nothing else.
 pub fn effect_here(memory: &Memory, hart: u8, op: Op, computed: Computed) -> Effect
-    requires hart { hart < 8 }
+    requires hart { hart < most_harts }
     requires no_fault { HasNoFault memory.now.image op computed }
     ensures value { result ≡ effect_of op computed (read op (byte_of memory.now) computed.addr)
         (holds_word (reserved_of memory.now hart) computed.addr) }

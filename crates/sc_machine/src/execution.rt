@@ -1,6 +1,7 @@
 //! What a hart does next, on memory as it stands.
 
 ghost use Rattle.std.specs.Prelude.{◌≡◌, ◌<◌};
+ghost use Rattle.numbers.specs.Sizes.{most_harts};
 ghost use Rattle.elf_image.specs.Image.{ProgramImage, code_word};
 ghost use Rattle.rv_instr.specs.Decode.{op_of_word};
 ghost use Rattle.rv_instr.specs.Kinds.{first_source, second_source};
@@ -27,7 +28,7 @@ pub struct Execution {
 
 /// What hart `hart`, with `state` of its own, does next. The code is that of the memory's image.
 pub fn next_execution(memory: &Memory, code: &Code, hart: u8, state: &Hart) -> Execution
-    requires hart { hart < 8 }
+    requires hart { hart < most_harts }
     requires code { IsCodeOf memory.now.image code.now }
     ensures is { IsNext memory.now hart state.now result }
     ensures allowed { IsAllowed memory.now result }

@@ -18,7 +18,7 @@ use smt_model::Status;
 use std::alloc::{AllocError, Global};
 use std::marker::Model;
 
-/// The plain machine: 1 to 8 harts on one memory, each of which executes one whole instruction at a
+/// The plain machine: 1 to `MOST_HARTS` harts on one memory, each of which executes one whole instruction at a
 /// time, and the bytes that they have put out. All its room is taken when it is made.
 pub struct Plain {
     pub(crate) harts: Vec<Hart>,
@@ -56,7 +56,7 @@ impl Drop for Plain {
 }
 
 impl Plain {
-    /// The machine of `harts` harts, 1 to 8, at the start of an image, with room for `room` bytes
+    /// The machine of `harts` harts, 1 to `MOST_HARTS`, at the start of an image, with room for `room` bytes
     /// of output.
     pub fn new(image: &Image, harts: u8, room: usize, alloc: Global) -> Result<Plain, PlainRefused>
         ensures ok { IfOk result (IsNew image.now harts room) }
@@ -86,7 +86,7 @@ impl Plain {
         })
     }
 
-    /// How many harts there are, 1 to 8.
+    /// How many harts there are, 1 to `MOST_HARTS`.
     pub fn harts(&self) -> u8
         ensures value { result ≡ length self.now.harts }
         ensures some { 0 < result }

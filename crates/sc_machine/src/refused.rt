@@ -4,7 +4,7 @@ ghost use Rattle.sc_machine.specs.Refusals.{number_of};
 /// Why there is no machine.
 #[derive(Clone, Copy, PartialEq, Eq, Drop)]
 pub enum PlainRefused {
-    /// There are not 1 to 8 harts.
+    /// There are not 1 to `MOST_HARTS` harts.
     Harts,
     /// There isn't enough memory.
     Memory,

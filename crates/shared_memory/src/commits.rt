@@ -1,6 +1,7 @@
 //! What a retirement does with memory.
 
 ghost use Rattle.std.specs.Prelude.{◌≡◌, ℕ, ◌<◌, ◌==◌, if◌then◌else◌, IfSome};
+ghost use Rattle.numbers.specs.Sizes.{most_harts};
 ghost use Rattle.smt_model.specs.Bytes.{byte_after};
 ghost use Rattle.smt_model.specs.Kinds.{kind_of};
 ghost use Rattle.smt_model.specs.Reservations.{own_reservation, reservation_after_write};
@@ -13,7 +14,7 @@ use rv_instr::{Kind, Op};
 /// What an instruction of a hart that goes on does with memory as it retires: LR reserves the word at
 /// `addr`, SC ends its hart's reservation, and then what is to be written is written.
 pub fn commit_access(memory: &mut Memory, hart: u8, op: Op, addr: u32, write: Option<Written>)
-    requires hart { hart < 8 }
+    requires hart { hart < most_harts }
     requires write { IfSome write (CanWrite memory.old.image) }
     ensures image { memory.new.image ≡ memory.old.image }
     ensures bytes { (a : ℕ) → byte_of memory.new a ≡ byte_after write a (byte_of memory.old a) }
@@ -28,7 +29,7 @@ pub fn commit_access(memory: &mut Memory, hart: u8, op: Op, addr: u32, write: Op
 
 /// LR reserves the word at `addr`, and SC ends its hart's reservation.
 fn change_reservation(memory: &mut Memory, hart: u8, kind: Kind, addr: u32)
-    requires { hart < 8 }
+    requires { hart < most_harts }
     ensures image { memory.new.image ≡ memory.old.image }
     ensures bytes { memory.new.bytes ≡ memory.old.bytes }
     ensures reserved { (h : ℕ) → reserved_of memory.new h

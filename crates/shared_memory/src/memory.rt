@@ -1,5 +1,6 @@
 ghost use Rattle.std.specs.Prelude.{◌≡◌, ℕ, ◌+◌, ◌-◌, ◌<◌, ◌≤◌, ◌==◌, if◌then◌else◌, Some, None};
 ghost use Rattle.std.specs.Prelude.{IfOk, length, slice_index};
+ghost use Rattle.numbers.specs.Sizes.{most_harts};
 ghost use Rattle.elf_image.specs.Image.{IsWellFormed, ram_start, byte_in, in_ram, touches_code};
 ghost use Rattle.smt_model.specs.Bytes.{number_at, write_of};
 ghost use Rattle.smt_model.specs.Faults.{read_fault, write_fault};
@@ -13,10 +14,11 @@ use crate::bytes::{number_in, put_number};
 use crate::reservations::{Reservations, end_on_word, held_by, is_on_word};
 use elf_image::{Image, RAM_START};
 use events::Cause;
+use numbers::sizes::HART_ROOM;
 use std::alloc::{AllocError, Global};
 use std::marker::Model;
 
-/// The memory of up to 8 harts. A clause sees the image that it started from, its bytes and its
+/// The memory of up to `MOST_HARTS` harts. A clause sees the image that it started from, its bytes and its
 /// reservations.
 #[derive(Drop)]
 pub struct Memory {
@@ -46,7 +48,7 @@ impl Memory {
         Ok(Memory {
             image: image.try_clone()?,
             bytes: first_bytes(image, alloc)?,
-            reserved: [None; 8],
+            reserved: [None; HART_ROOM],
         })
     }
 
@@ -99,7 +101,7 @@ impl Memory {
 
     /// The word that a hart has reserved.
     pub fn reservation(&self, hart: u8) -> Option<u32>
-        requires { hart < 8 }
+        requires { hart < most_harts }
         ensures { result ≡ reserved_of self.now hart }
     {
         held_by(&self.reserved, hart)
@@ -107,7 +109,7 @@ impl Memory {
 
     /// Whether a hart's reservation is on the word at an address.
     pub fn holds_word(&self, hart: u8, addr: u32) -> bool
-        requires { hart < 8 }
+        requires { hart < most_harts }
         ensures { result ≡ holds_word (reserved_of self.now hart) addr }
     {
         is_on_word(self.reservation(hart), addr)
@@ -115,7 +117,7 @@ impl Memory {
 
     /// A hart reserves the word at an address, and gives up the one that it had.
     pub fn reserve(&mut self, hart: u8, addr: u32)
-        requires { hart < 8 }
+        requires { hart < most_harts }
         ensures reserved { (h : ℕ) → reserved_of self.new h
             ≡ (if h == hart then Some addr else reserved_of self.old h) }
         ensures image { self.new.image ≡ self.old.image }
@@ -126,7 +128,7 @@ impl Memory {
 
     /// Ends a hart's reservation, and tells whether it was on the word at an address.
     pub fn take_reservation(&mut self, hart: u8, addr: u32) -> bool
-        requires { hart < 8 }
+        requires { hart < most_harts }
         ensures held { result ≡ holds_word (reserved_of self.old hart) addr }
         ensures reserved { (h : ℕ) → reserved_of self.new h
             ≡ (if h == hart then None else reserved_of self.old h) }

@@ -1,15 +1,18 @@
 //! One reservation a hart: the address of an aligned word.
 
 ghost use Rattle.std.specs.Prelude.{◌≡◌, ℕ, ◌<◌, slice_index_or, Some, None};
+ghost use Rattle.numbers.specs.Sizes.{most_harts};
 ghost use Rattle.smt_model.specs.Reservations.{reservation_after_write, holds_word};
 ghost use Rattle.events.specs.declared.effect.Written.{Written};
 
+use numbers::sizes::HART_ROOM;
+
 /// The reservation that each hart has, where it has one.
-pub type Reservations = [Option<u32>; 8];
+pub type Reservations = [Option<u32>; HART_ROOM];
 
 /// The reservation of a hart.
 pub fn held_by(reserved: &Reservations, hart: u8) -> Option<u32>
-    requires { hart < 8 }
+    requires { hart < most_harts }
     ensures { result ≡ slice_index_or reserved.now hart None }
 {
     reserved[usize::from(hart)]
@@ -31,7 +34,7 @@ pub fn end_on_word(reserved: &mut Reservations, addr: u32)
     ensures { (w : Written) (h : ℕ) → w.addr ≡ addr → slice_index_or reserved.new h None
         ≡ reservation_after_write (Some w) (slice_index_or reserved.old h None) }
 {
-    for hart in 0..8 {
+    for hart in 0..HART_ROOM {
         reserved[hart] = left_after_write(reserved[hart], addr);
     }
 }
