@@ -23,15 +23,15 @@ returns-in_default-clause-allowed c =
     (core_drops c.self.inside c.self.invariant v c.self.view_is c.args.actor c.in_ok-job.job c.in_ok-job.ensures.some
     c.in_default.ensures.none)
 
-pub completion_of-requires : goal.completion_of-requires
-completion_of-requires c =
+pub completion_of-outcome-requires : goal.completion_of-outcome-requires
+completion_of-outcome-requires c =
     core_job_place c.self.inside c.self.invariant c.args.actor c.in_ok-job.job c.in_ok-job.ensures.some
 
 pub finish-requires-clause-allowed : goal.finish-requires-clause-allowed
 finish-requires-clause-allowed c =
     core_completes c.self.inside c.self.invariant c.args.self.now c.self.view_is c.args.actor c.in_ok-job.job
-    c.args.done.now.job c.in-Some.active c.completion_of.result c.completion_of.result c.in_ok-job.ensures.some c.in_ok-job.ensures.same
-    (c.outcome.ensures.value ∙ c.outcome.ensures.computed) c.completion_of.ensures c.in-Some.ensures.some
+    c.args.done.now.job c.in-Some.active c.outcome.result c.completion_of-outcome.result c.in_ok-job.ensures.some c.in_ok-job.ensures.same
+    (c.outcome.ensures.value ∙ c.outcome.ensures.computed) c.completion_of-outcome.ensures c.in-Some.ensures.some
 
 pub finish-requires-clause-active : goal.finish-requires-clause-active
 finish-requires-clause-active c =
@@ -43,8 +43,8 @@ returns-clause-allowed c =
     let v = c.args.self.now in
     subst (λ e. refused v.setup v.past e ≡ None) (sym c.finish.ensures.event)
     (core_completes c.self.inside c.self.invariant v c.self.view_is c.args.actor c.in_ok-job.job c.args.done.now.job
-    c.in-Some.active c.completion_of.result c.completion_of.result c.in_ok-job.ensures.some c.in_ok-job.ensures.same
-    (c.outcome.ensures.value ∙ c.outcome.ensures.computed) c.completion_of.ensures c.in-Some.ensures.some)
+    c.in-Some.active c.outcome.result c.completion_of-outcome.result c.in_ok-job.ensures.some c.in_ok-job.ensures.same
+    (c.outcome.ensures.value ∙ c.outcome.ensures.computed) c.completion_of-outcome.ensures c.in-Some.ensures.some)
 
 pub returns-clause-job : goal.returns-clause-job
 returns-clause-job c =
