@@ -5,7 +5,7 @@ use Rattle.std.specs.List.{AllByRecursion, list_any}
 use Rattle.rv_instr.specs.{declared.op.Op.Op, declared.op.Op.TheVariants.Known}
 use Rattle.rv_instr.specs.declared.instr.Instr.TheVariants.{Jal, Jalr, Branch}
 use Rattle.rename_map.specs.Maps.{Maps, Checkpoint, KeepsToo, kept_of, committed_of}
-use Rattle.rename_map.specs.Maps.{most_checkpoints}
+use Rattle.rename_map.specs.Maps.{most_checkpoints, released}
 use Rattle.retire_squash.specs.{declared.active.Active.Active, declared.active.Stage.Stage}
 use Rattle.retire_squash.specs.declared.active.Stage.TheVariants as stage
 use Rattle.smt_model.specs.{Picture.Picture, Steps.youngest, Steps.up_to}
@@ -57,6 +57,10 @@ KeepsWhere false k old new = new ≡ old
 -- A renamed instruction's map is kept where it is a branch, JAL or JALR and fewer than 8 are kept.
 abbrev pub is_kept : Op → List Checkpoint → Bool
 is_kept op kept = is_control_transfer op && nat_lt (length kept) most_checkpoints
+
+-- A completed instruction's map is released; none but a branch, JAL or JALR has one.
+abbrev pub released_by : Op → ℕ → List Checkpoint → List Checkpoint
+released_by op seq kept = if is_control_transfer op then released seq kept else kept
 
 -- ---- A hart's map that is restored before its younger instructions are squashed
 

@@ -4,7 +4,7 @@ ghost use Rattle.std.specs.Prelude.{◌≡◌, ◌<◌, None, length};
 ghost use Rattle.rename_map.specs.Maps.{kept_under};
 ghost use Rattle.smt_model.specs.Picture.{Picture};
 ghost use Rattle.core_parts.specs.Agree.{PartsAgree, KeepsSizes};
-ghost use Rattle.core_parts.specs.Checkpoints.{is_control_transfer, is_kept, KeepsWhere};
+ghost use Rattle.core_parts.specs.Checkpoints.{is_control_transfer, is_kept, released_by, KeepsWhere};
 ghost use Rattle.core_parts.specs.Checkpoints.{with_map_if, map_behind};
 
 use crate::parts::Parts;
@@ -33,6 +33,16 @@ pub(crate) fn keep_map(maps: &mut HartMaps, op: Op, seq: Seq)
 {
     if is_control_transfer(op) {
         maps.checkpoint(seq);
+    }
+}
+
+/// A completed instruction's map is no longer kept. None but a branch, JAL or JALR has one, so for
+/// others nothing is sought.
+pub(crate) fn release_map(maps: &mut HartMaps, op: Op, seq: Seq)
+    ensures { maps.new ≡ record maps.old { kept = released_by op seq maps.old.kept } }
+{
+    if is_control_transfer(op) {
+        maps.release(seq);
     }
 }
 

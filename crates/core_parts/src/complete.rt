@@ -4,7 +4,6 @@ ghost use Rattle.std.specs.List.{list_any};
 ghost use Rattle.numbers.specs.Sizes.{most_harts};
 ghost use Rattle.load_store.specs.Looks.{seen};
 ghost use Rattle.load_store.specs.Queues.{queues_of};
-ghost use Rattle.rename_map.specs.Maps.{released};
 ghost use Rattle.retire_squash.specs.Active.{with_stage};
 ghost use Rattle.smt_model.specs.Bytes.{read};
 ghost use Rattle.smt_model.specs.Exec.{Computed};
@@ -13,11 +12,13 @@ ghost use Rattle.smt_model.specs.Outcomes.{outcome_of};
 ghost use Rattle.smt_model.specs.Picture.{Picture};
 ghost use Rattle.smt_model.specs.Steps.{IsComplete, IsDrop, op_in};
 ghost use Rattle.core_parts.specs.Agree.{IsActive, PartsAgree, KeepsSizes, From};
+ghost use Rattle.core_parts.specs.Checkpoints.{released_by};
 ghost use Rattle.core_parts.specs.Complete.{IsSameJob, IsFinish};
 ghost use Rattle.smt_model.specs.Nexts.{redirect_pc};
 ghost use Rattle.core_parts.specs.declared.slot.OpenJob.{OpenJob as Open};
 
 use crate::accesses::resolve_access;
+use crate::checkpoints::release_map;
 use crate::hart::HartState;
 use crate::parts::{Parts, set_job};
 use crate::slot::OpenJob;
@@ -26,6 +27,7 @@ use exec_units::{Done, Job};
 use load_store::completion;
 use numbers::Seq;
 use retire_squash::{Active, Stage};
+use rv_instr::Op;
 
 impl OpenJob {
     /// Whether it is the job that was worked.
@@ -61,16 +63,16 @@ impl OpenJob {
 impl HartState {
     /// The instruction of this number has its outcome, its map is no longer kept, and the hart is
     /// fetched from `goes_on`.
-    fn complete(&mut self, seq: Seq, outcome: Outcome, goes_on: u32)
+    fn complete(&mut self, op: Op, seq: Seq, outcome: Outcome, goes_on: u32)
         ensures { self.new
             ≡ record self.old {
               active = with_stage seq (Stage.Completed outcome) self.old.active;
-              maps = record self.old.maps { kept = released seq self.old.maps.kept };
+              maps = record self.old.maps { kept = released_by op seq self.old.maps.kept };
               fetch_pc = goes_on;
             } }
     {
         self.active.complete(seq, outcome);
-        self.maps.release(seq);
+        release_map(&mut self.maps, op, seq);
         self.fetch_pc = goes_on;
     }
 }
@@ -165,7 +167,7 @@ impl Parts {
         self.fill(active.phys, outcome.value);
         set_job(&mut self.jobs, usize::from(actor), None);
         resolve_access(&mut self.accesses, hart, active.op, active.seq, *outcome);
-        self.harts[usize::from(hart)].complete(active.seq, *outcome, goes_on);
+        self.harts[usize::from(hart)].complete(active.op, active.seq, *outcome, goes_on);
     }
 
     /// Actor `actor` is rid of its job, whose instruction was squashed.

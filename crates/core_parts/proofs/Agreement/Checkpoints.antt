@@ -13,7 +13,10 @@ use Rattle.retire_squash.specs.declared.active.Stage.{Stage}
 use Rattle.smt_model.specs.Steps.{renamed_map}
 use Rattle.core_parts.specs.Checkpoints.{is_control_transfer, is_completed, is_open_transfer, IsCheckpoint}
 use Rattle.core_parts.specs.Checkpoints.{AreCheckpoints, HasCheckpoints, CheckpointsAgree, KeepsWhere}
+use Rattle.core_parts.specs.Checkpoints.{released_by}
 use Rattle.core_parts.specs.Squash.{older, mapped_by}
+use Rattle.rv_instr.specs.declared.op.Op.{Op}
+use Rattle.core_parts.proofs.Agreement.Accesses.{IsOpen}
 use Rattle.core_parts.specs.declared.hart.HartState.{HartState}
 
 -- ---- Lists
@@ -156,14 +159,34 @@ with_kept xs m o k same is = record {
   which = is.which;
 }
 
--- It completes, and its own is released.
-pub checkpoints_completed : (n : ℕ) (at : Stage) (xs : List Active) (m : Maps) → AreCheckpoints xs m
+checkpoints_done : (n : ℕ) (at : Stage) (xs : List Active) (m : Maps) → AreCheckpoints xs m
     → AreCheckpoints (with_stage n at xs) (record m { kept = released n m.kept })
-checkpoints_completed n at xs m all =
+checkpoints_done n at xs m all =
     all_passed (IsCheckpoint xs m) (IsCheckpoint (with_stage n at xs) (record m { kept = released n m.kept }))
     (λ k. not (k.seq == n))
     (λ k passes is. with_kept (with_stage n at xs) m (record m { kept = released n m.kept }) k refl
     (staged_one n at xs m k (λ own. absurd (grind arith)) is)) m.kept all
+
+-- One that is no branch, JAL or JALR has none.
+never_kept : (n : ℕ) (op : Op) (xs : List Active) (m : Maps) (k : Checkpoint) → is_control_transfer op ≡ false
+    → AllByRecursion (IsOpen n op) xs → IsCheckpoint xs m k → (k.seq == n) ≡ true → ⊥
+never_kept n op xs m k none all is own =
+    any_holds (IsOpen n op) ⊥ (is_open_transfer k.seq)
+    (λ x same there.
+    let at : (x.seq == n) ≡ true = grind (arith, nat_tests) in
+    let kind = ap is_control_transfer (same at).0 in
+    absurd (grind arith)) xs all is.which
+
+-- It completes, and its own is released.
+pub checkpoints_completed : (n : ℕ) (op : Op) (at : Stage) (xs : List Active) (m : Maps)
+    → AllByRecursion (IsOpen n op) xs → AreCheckpoints xs m
+    → AreCheckpoints (with_stage n at xs) (record m { kept = released_by op n m.kept })
+checkpoints_completed n op at xs m same all = elim (cases_Bool (is_control_transfer op)) [
+  | inl t ↦ rw t (checkpoints_done n at xs m all)
+  | inr f ↦ rw f
+      (all_to (IsCheckpoint xs m) (IsCheckpoint (with_stage n at xs) m)
+      (λ k is. staged_one n at xs m k (λ own. absurd (never_kept n op xs m k f same is own)) is) m.kept all)
+]
 
 -- ---- Maps are restored
 

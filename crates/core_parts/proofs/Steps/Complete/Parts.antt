@@ -6,7 +6,6 @@ use Rattle.std.proofs.Common.{◌∙◌, refl, sym, ap, subst, inl, inr, arith}
 use Rattle.std.proofs.{lemmas.Bool.cases_Bool, lemmas.Bool.cases_eq, lemmas.Bool.Decides.nat_tests}
 use Rattle.std.proofs.{lemmas.List.length-set}
 use Rattle.events.specs.declared.effect.Outcome.{Outcome}
-use Rattle.rename_map.specs.Maps.{released}
 use Rattle.retire_squash.specs.{Active.with_stage, Active.staged, declared.active.Active.Active}
 use Rattle.retire_squash.specs.{declared.active.Stage.Stage}
 use Rattle.retire_squash.specs.declared.active.Stage.TheVariants as stage
@@ -16,7 +15,7 @@ use Rattle.smt_model.specs.Fates.{Renamed, Issued, Completed, is, stage as stage
 use Rattle.smt_model.specs.Looks.{stored_by}
 use Rattle.smt_model.specs.Picture.{Picture}
 use Rattle.smt_model.specs.Steps.{IsComplete, IsDrop, KeepsFetched, KeepsJobs, EndsJob, filled_value, op_in}
-use Rattle.core_parts.specs.Accesses.{with_write}
+use Rattle.core_parts.specs.{Accesses.with_write, Checkpoints.released_by}
 use Rattle.core_parts.specs.Agree.{IsActive, HartAgrees, PartsAgree, ValuesAgree, JobsAgree, IsFilled}
 use Rattle.core_parts.specs.{declared.hart.HartState.HartState, declared.parts.Parts.Parts}
 use Rattle.core_parts.specs.{declared.slot.OpenJob.OpenJob}
@@ -60,11 +59,11 @@ renamed_issued : Renamed ≡ Issued → ⊥
 renamed_issued same = omega (arith, ap stage_number same)
 
 -- The hart with its outcome, without its map, and fetched from this pc.
-abbrev pub completed_hart : ℕ → Outcome → ℕ → HartState → HartState
-completed_hart n o pc x =
+abbrev pub completed_hart : ℕ → Op → Outcome → ℕ → HartState → HartState
+completed_hart n op o pc x =
     record x {
       active = with_stage n (stage.Completed o) x.active;
-      maps = record x.maps { kept = released n x.maps.kept };
+      maps = record x.maps { kept = released_by op n x.maps.kept };
       fetch_pc = pc;
     }
 
@@ -93,8 +92,8 @@ module _ (p q : Picture) (h n k : ℕ) (o : Outcome) (pc : ℕ) (s : IsComplete 
   actives_staged [] all = tt
   actives_staged (x ∷ xs) all = (active_staged x all.0, actives_staged xs all.1)
 
-  hart_completed : (x : HartState) → HartAgrees p h x → HartAgrees q h (completed_hart n o pc x)
-  hart_completed x was = record {
+  hart_completed : (op : Op) (x : HartState) → HartAgrees p h x → HartAgrees q h (completed_hart n op o pc x)
+  hart_completed op x was = record {
     decode_latch = was.decode_latch ∙ sym s.stays.hart.in_decode;
     decode_slots = slots_kept p q h x.decode_latch.items s.stays.shared.kept was.decode_slots;
     rename_latch = was.rename_latch ∙ sym s.stays.hart.in_rename;
@@ -129,7 +128,7 @@ pub record IsCompleted (h n k : ℕ) (op : Op) (o : Outcome) (pc : ℕ) (phys : 
   pub was : HartState
   pub at : was ≡ slice_index_or old.harts.items h was
   pub filled : IsFilled phys o.value old between
-  pub harts : new.harts.items ≡ slice_set old.harts.items h (completed_hart n o pc was)
+  pub harts : new.harts.items ≡ slice_set old.harts.items h (completed_hart n op o pc was)
   pub queue : new.queue ≡ between.queue
   pub free : new.free ≡ between.free
   pub values : new.values ≡ between.values
@@ -150,12 +149,12 @@ parts_completed p q h n k op o pc phys old between new inside agrees s is_phys i
     record {
       harts =
           rw is.harts
-          (each_set p q old.harts.items h is.was (completed_hart n o pc is.was) inside is.at (hart_completed p q h n k o pc s is.was) (others_kept p q h n s.stays s.of_hart s.flights)
+          (each_set p q old.harts.items h is.was (completed_hart n op o pc is.was) inside is.at (hart_completed p q h n k o pc s op is.was) (others_kept p q h n s.stays s.of_hart s.flights)
           agrees.harts);
       checkpoints =
           rw is.harts
-          (checkpoints_set old.harts.items h (completed_hart n o pc is.was) inside
-          (checkpoints_completed n (stage.Completed o) is.was.active is.was.maps
+          (checkpoints_set old.harts.items h (completed_hart n op o pc is.was) inside
+          (checkpoints_completed n op (stage.Completed o) is.was.active is.was.maps unresolved
           (checkpoints_here old.harts.items h is.was inside is.at agrees.checkpoints)) agrees.checkpoints);
       queue =
           rw is.queue
@@ -174,7 +173,7 @@ parts_completed p q h n k op o pc phys old between new inside agrees s is_phys i
       accesses =
           rw is.harts
           (accesses_set (with_write n (stored_by op o)) old.harts.items h is.was
-          (completed_hart n o pc is.was) old.accesses
+          (completed_hart n op o pc is.was) old.accesses
           new.accesses inside is.at is.accesses (accesses_completed n op o is.was.active unresolved) agrees.accesses);
       memory = rw is.memory (memory_kept p q old.memory s.stays.shared.memory agrees.memory);
     }
