@@ -26,6 +26,7 @@ pub struct LoadStore {
 
 impl Model for LoadStore {
     ghost use Rattle.std.specs.Prelude.{◌≡◌, List, length};
+    ghost use Rattle.numbers.specs.Sizes.{most_harts};
     ghost use Rattle.load_store.specs.Queues.{Queues};
 
     ghost Value = { List Queues };
