@@ -1,4 +1,4 @@
-use Rattle.std.proofs.Common.{[], ◌∷◌, ◌∙◌, reverse, sym, subst, arith}
+use Rattle.std.proofs.Common.{[], ◌∷◌, length, reverse, ap, sym, subst, arith}
 use Rattle.std.proofs.lemmas.List.{length-reverse, reverse-append}
 use Rattle.numbers.specs.Sizes.{most_events}
 use Rattle.core_lock.specs.Tallies.{AreTallies}
@@ -12,7 +12,14 @@ enter-requires c =
     c.in-Some.ensures.steps c.loop-event.invariant.whole in
     record {
       few = few (reverse so_far) c.loop-event.tallies most_events
-          (omega (arith, length-reverse so_far, fewer, c.iter-event-items.ensures.within, c.iter-event-items.ensures.small))
+          (omega (
+            arith,
+            length-reverse so_far,
+            fewer,
+            ap length c.iter-event-items.ensures.events,
+            c.iter-event-items.ensures.within,
+            c.iter-event-items.ensures.small,
+          ))
           c.loop-event.invariant.tallies;
     }
 

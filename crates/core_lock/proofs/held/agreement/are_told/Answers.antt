@@ -10,7 +10,7 @@ pub loop-place-preserved : goal.loop-place-preserved
 loop-place-preserved g c =
     let past = c.args.core.now.past in
     let k = c.loop-place.place in
-    let told = told_at c.history.result.now.items past c.tallies_of-tallies.result k c.index-tallies-place.result
+    let told = told_at c.history.result.now.items past c.tallies_of-tallies.result k _
     c.history.ensures.events
     (omega (arith, c.tallies_of-tallies.type_inv, c.loop-place-test.true)) c.tallies_of-tallies.ensures in
     places_more (λ k p. (p.actor ≡ k) × IsTold past p.actor p.count p.last) c.args.passes.now k
@@ -32,7 +32,7 @@ returns-then-from-place g c = (
       elim c.then-from-place.branch [
         | then-from-place-via-then-from-place w ↦ absurd (w.if-from-place.true (c.from.ensures ∙ here.0))
         | then-from-place-via-else-from-place+then-not-has_counted w ↦
-            let told = told_at c.history.result.now.items past c.tallies_of-tallies.result k w.index-tallies-place.result
+            let told = told_at c.history.result.now.items past c.tallies_of-tallies.result k _
             c.history.ensures.events
             (omega (arith, c.tallies_of-tallies.type_inv, c.loop-place-test.true)) c.tallies_of-tallies.ensures in
             sym w.if-not-has_counted.true ∙ w.has_counted.ensures.1 (counted_so past k _ _ _ _ told here)
