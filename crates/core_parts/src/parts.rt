@@ -133,8 +133,8 @@ fn set_value(values: &mut [Option<u32>; MOST_REGISTERS], register: Phys, value: 
     }
 }
 
-/// Gives an actor a job, or takes it away. There is no actor from `MOST_ACTORS` on, and then nothing
-/// changes.
+/// Gives an actor a job, or takes it away. There is no actor from `MOST_ACTORS` on, and then
+/// nothing changes.
 pub(crate) fn set_job(jobs: &mut [Option<OpenJob>; MOST_ACTORS], actor: usize, job: Option<OpenJob>)
     ensures { jobs.new ≡ slice_set jobs.old actor job }
 {

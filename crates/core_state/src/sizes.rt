@@ -6,8 +6,8 @@ use events::History;
 use numbers::sizes::{FEWEST_QUEUED, MOST_ACTORS, MOST_EXTRA, MOST_HARTS, MOST_QUEUED};
 use smt_model::{Config, Role};
 
-/// Whether a core may have these sizes and this limit on its history, by `numbers::sizes`. It has at
-/// least one hart, one extra register and one actor.
+/// Whether a core may have these sizes and this limit on its history, by `numbers::sizes`. It has
+/// at least one hart, one extra register and one actor.
 pub fn is_core(config: &Config, limit: u32) -> bool
     ensures accepted { result ≡ accepts config.now limit }
     ensures harts { IsTrue result → config.now.harts ≤ most_harts }

@@ -23,8 +23,8 @@ pub record Setup : Type 0 where
 abbrev pub registers_of : Setup → ℕ
 registers_of setup = first_extra setup.harts + setup.extra
 
--- The sizes of a core: at least one hart, one extra register and one actor, and no more of each than
--- there may be.
+-- The sizes of a core: at least one hart, one extra register and one actor, and no more of each
+-- than there may be.
 abbrev pub are_core_sizes : ℕ → ℕ → ℕ → ℕ → Bool
 are_core_sizes harts extra queue actors =
     (nat_le 1 harts && nat_le harts most_harts) && ((nat_le 1 extra && nat_le extra most_extra)
