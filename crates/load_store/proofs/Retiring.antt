@@ -32,7 +32,8 @@ keeps op c look o now held is none =
 abbrev pub access_of : Next → ℕ → ℕ → Computed
 access_of next addr datum = record (just_next next) { addr = addr; datum = datum }
 
-next_said : (kind : Kind) (writes : Bool) (c : Computed) (look : Option ℕ) → (outcome_by kind writes c look).next ≡ c.next
+next_said : (kind : Kind) (writes : Bool) (c : Computed) (look : Option ℕ)
+    → (outcome_by kind writes c look).next ≡ c.next
 next_said Computing writes c look = refl
 next_said Loading writes c look = refl
 next_said Storing writes c look = refl

@@ -1,10 +1,10 @@
-//! The loads and stores in flight, and what the core says of memory as an instruction completes and as
-//! it retires.
+//! The loads and stores in flight, and what the core says of memory as an instruction completes and
+//! as it retires.
 //!
 //! Read in this order: `store` (a store), `hart_queues` (the loads and stores of one hart), `look`
-//! (what a load sees), `queues` (those of all harts, and the two looks of a load), `completions` (the
-//! fault of an access, or a load's first look), `retirements` (what an instruction does to memory as
-//! it retires), `laws`.
+//! (what a load sees), `queues` (those of all harts, and the two looks of a load), `completions`
+//! (the fault of an access, or a load's first look), `retirements` (what an instruction does to
+//! memory as it retires), `laws`.
 #![tactic(auto)]
 
 mod completions;

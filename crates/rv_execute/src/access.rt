@@ -1,5 +1,5 @@
-//! The access of an instruction: how many bytes it moves, whether it reads, and what it makes of the
-//! number that it reads (RISC-V Unprivileged ISA, chapters "RV32I" and "A").
+//! The access of an instruction: how many bytes it moves, whether it reads, and what it makes of
+//! the number that it reads (RISC-V Unprivileged ISA, chapters "RV32I" and "A").
 
 ghost use Rattle.std.specs.Prelude.{◌≡◌};
 ghost use Rattle.smt_model.specs.Bytes.{load_value, read_value};

@@ -14,8 +14,8 @@ use rv_instr::{Kind, Op};
 
 /// The effect of an instruction, where `now` is the number that its access reads, and `held` tells
 /// whether its hart's reservation is on the word. A load, LR and AMO give what they read, a store
-/// writes, SC writes where the reservation is held, and an AMO writes what it makes of the word. One
-/// that ends or stops its hart does nothing else. Where memory isn't read, any `now` will do.
+/// writes, SC writes where the reservation is held, and an AMO writes what it makes of the word.
+/// One that ends or stops its hart does nothing else. Where memory isn't read, any `now` will do.
 #[inline(always)]
 pub fn effect_of(op: Op, computed: Computed, now: u32, held: bool) -> Effect
     ensures { (n : ℕ) → (reads_memory (kind_of op) ≡ true → now ≡ n)

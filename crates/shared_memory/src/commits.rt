@@ -11,8 +11,9 @@ use crate::memory::Memory;
 use events::Written;
 use rv_instr::{Kind, Op};
 
-/// What an instruction of a hart that goes on does with memory as it retires: LR reserves the word at
-/// `addr`, SC ends its hart's reservation, and then what is to be written is written.
+/// What an instruction of a hart that goes on does with memory as it retires: LR reserves the word
+/// at `addr`, SC ends its hart's reservation, and then what is to be written is written.
+#[inline(always)]
 pub fn commit_access(memory: &mut Memory, hart: u8, op: Op, addr: u32, write: Option<Written>)
     requires hart { hart < most_harts }
     requires write { IfSome write (CanWrite memory.old.image) }

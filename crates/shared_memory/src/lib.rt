@@ -2,8 +2,8 @@
 //!
 //! Read in this order: `access` (reads and writes), `bytes` (numbers in a list of bytes),
 //! `reservations`, `memory` (a byte for each address of RAM, little-endian, and one reservation a
-//! hart), `accesses` (why the access of an instruction faults, and what it reads), `commits` (what a
-//! retirement does with memory).
+//! hart), `accesses` (why the access of an instruction faults, and what it reads), `commits` (what
+//! a retirement does with memory).
 #![tactic(auto)]
 
 mod access;
