@@ -1,9 +1,8 @@
 #!/bin/sh
-# Counts what a misprediction costs in `step`: bench/wrong.sh [ROUNDS], else 400. In each round hart 0 has a multiplication that waits, OLDER
-# instructions that wait for it, a branch that is predicted wrong, and YOUNGER ones behind it; the branch completes first, and all younger ones
-# are squashed. Beside each a round of the same asks up to the branch's completion in which it is predicted right, then less by that one: so
-# what is left is the misprediction alone. MANY other branches stand before it, so that no place is left for its map where there are 8.
-# Instructions are those that callgrind counts, less those of a run of 20 rounds. SMTSIM is as in run.sh; `valgrind` is needed.
+# Counts what rounds with a misprediction cost in `step`: bench/wrong.sh [ROUNDS], else 400. In each round hart 0 has a multiplication that
+# waits, OLDER instructions that wait for it, MANY branches that wait for it and are predicted right, a branch that is predicted wrong and
+# completes at once, and YOUNGER ones that it squashes. Where 8 others wait, no place is left for its map. Instructions are those that callgrind
+# counts, less those of a run of 20 rounds. To compare, name another program by SMTSIM, as in run.sh; `valgrind` is needed.
 set -eu
 root=$(cd "$(dirname "$0")/.." && pwd)
 . "$root/bench/rounds.sh"
@@ -51,7 +50,7 @@ instructions() {
 }
 
 printf '%5s %5s %8s %19s\n' older many younger instructions/round
-for case in '0 0 60' '20 0 40' '40 0 20' '60 0 0' '0 8 52' '32 8 20' '52 8 0'; do
+for case in '0 0 60' '20 0 40' '40 0 20' '59 0 1' '0 8 52' '32 8 20' '51 8 1'; do
     # shellcheck disable=SC2086
     set -- $case
     few=$(instructions "$1" "$2" "$3" 20)
