@@ -42,13 +42,7 @@ pub fn effect(memory: &Memory, hart: u8, op: Op, outcome: Outcome) -> Effect
 }
 
 /// What an access does at an address, where it has no fault.
-fn access_effect(
-    memory: &Memory,
-    hart: u8,
-    op: Op,
-    addr: u32,
-    outcome: Outcome,
-) -> Effect
+fn access_effect(memory: &Memory, hart: u8, op: Op, addr: u32, outcome: Outcome) -> Effect
     requires hart { hart < 8 }
     requires no_fault { fault memory.now.image op addr ≡ None }
     ensures { touches_memory (kind_of op) ≡ true
