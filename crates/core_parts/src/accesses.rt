@@ -32,13 +32,7 @@ pub(crate) fn add_access(accesses: &mut LoadStore, hart: u8, op: Op, seq: Seq)
 }
 
 /// The store of number `seq`, if there is one, will write what its completion names.
-pub(crate) fn resolve_access(
-    accesses: &mut LoadStore,
-    hart: u8,
-    op: Op,
-    seq: Seq,
-    outcome: Outcome,
-)
+pub(crate) fn resolve_access(accesses: &mut LoadStore, hart: u8, op: Op, seq: Seq, outcome: Outcome)
     requires { hart < most_harts }
     ensures { Changes (with_write seq (stored_by op outcome)) hart accesses.old accesses.new }
 {

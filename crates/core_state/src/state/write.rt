@@ -78,13 +78,7 @@ impl State {
 
     /// Writes the completion of an instruction in flight, which may come next with this outcome.
     #[inline(always)]
-    pub(super) fn finish(
-        &mut self,
-        actor: u8,
-        hart: u8,
-        active: &Active,
-        outcome: Outcome,
-    ) -> Event
+    pub(super) fn finish(&mut self, actor: u8, hart: u8, active: &Active, outcome: Outcome) -> Event
         requires room { length self.old.past < self.old.limit }
         requires allowed { refused self.old.setup self.old.past
             (Complete actor active.now.seq outcome) ≡ None }

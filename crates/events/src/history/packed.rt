@@ -278,9 +278,5 @@ fn pack_write(write: Option<Written>) -> (Option<u8>, u32, u32)
 fn write_in(n: Option<u8>, addr: u32, datum: u32) -> Option<Written>
     ensures { result ≡ write_in n addr datum }
 {
-    Some(Written {
-        addr,
-        n: n?,
-        datum,
-    })
+    Some(Written { addr, n: n?, datum })
 }
