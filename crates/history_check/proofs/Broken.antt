@@ -6,6 +6,7 @@ use Rattle.std.proofs.{lemmas.List.reverse-append, lemmas.List.take_more, lemmas
 use Rattle.std.proofs.lemmas.Option.{none-some}
 use Rattle.events.specs.declared.event.Event.{Event}
 use Rattle.smt_model.specs.{Rules.is_legal, Rules.refused, Setup.Setup}
+use Rattle.core_state.specs.View.{CoreView}
 use Rattle.history_check.specs.Checking.{past_at}
 
 -- What was before some newer events is legal where all is.
@@ -23,13 +24,16 @@ next : (events : List Event) (i : ℕ) (d : Event) → i < length events
 next events i d inside =
     ap reverse (take_more events i d inside) ∙ reverse-append (take i events) (slice_index_or events i d ∷ [])
 
-pub illegal : (setup : Setup) (events : List Event) (index rule : ℕ) (event : Event) → index < length events
-    → event ≡ slice_index_or events index event → refused setup (past_at events index) event ≡ Some rule
-    → is_legal setup (reverse events) → ⊥
-illegal setup events index rule event inside at breaks legal =
-    let here = behind setup (reverse (drop (index + 1) events)) (past_at events (index + 1))
-    (subst (is_legal setup) (turned events (index + 1)) legal) in
-    let newest : is_legal setup (event ∷ past_at events index) =
-    subst (is_legal setup)
-    (next events index event inside ∙ ap (λ e. e ∷ past_at events index) (sym at)) here in
-    none-some rule (sym newest.0 ∙ breaks)
+-- A core that has followed the first of them refuses the next one.
+pub illegal : (events : List Event) (index rule : ℕ) (d : Event) (new old : CoreView)
+    → new ≡ record old { past = past_at events index } → index < length events
+    → refused new.setup new.past (slice_index_or events index d) ≡ Some rule
+    → is_legal old.setup (reverse events) → ⊥
+illegal events index rule d new old follows inside breaks legal =
+    let here = behind old.setup (reverse (drop (index + 1) events)) (past_at events (index + 1))
+    (subst (is_legal old.setup) (turned events (index + 1)) legal) in
+    let newest : is_legal old.setup (slice_index_or events index d ∷ past_at events index) =
+    subst (is_legal old.setup) (next events index d inside) here in
+    let refuses =
+    subst (λ (u : CoreView). refused u.setup u.past (slice_index_or events index d) ≡ Some rule) follows breaks in
+    none-some rule (sym newest.0 ∙ refuses)
