@@ -2,7 +2,7 @@
 //! of an ELF file's layout.
 
 use crate::lines::LIST;
-use crate::performing::{Performed, read_inputs_of, perform_whole};
+use crate::performing::{Performed, perform_whole, read_inputs_of};
 use crate::rows::{ends, shows, text_of};
 use std::alloc::Global;
 use std::process::Abort;

@@ -3,7 +3,7 @@
 
 use super::{ENDING, SINGLE, is_like};
 use crate::lines::run_line;
-use crate::performing::{Performed, read_inputs_of, perform_whole};
+use crate::performing::{Performed, perform_whole, read_inputs_of};
 use crate::rows::{ends, shows, text_of};
 use commands::{Inputs, Unread};
 use std::alloc::Global;
