@@ -1,5 +1,6 @@
 pub mod Fates
 pub mod Registers
+pub mod Touching
 pub mod Events
 pub mod Staying
 pub mod Steps
