@@ -56,10 +56,6 @@ touched-silent past actor n x silent s =
     ap (λ w. is_touched past s || touches_access w (op_at past s) (accessed (completion past s))) silent
     ∙ or_false (is_touched past s)
 
-never : (b c : Bool) → ((b && not true) && c) ≡ false
-never true c = refl
-never false c = refl
-
 pub looks-last : (op : Op) (touched : Bool) (x : Effect) (many : ℕ) → is_last x.next ≡ true
     → looks_after op touched x many ≡ many
 looks-last op touched x many last =
