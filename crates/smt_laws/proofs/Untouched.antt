@@ -10,6 +10,7 @@ use Rattle.events.specs.{declared.effect.Outcome.Outcome, declared.effect.Effect
 use Rattle.events.specs.{declared.effect.Written.Written, declared.event.Event.Event}
 use Rattle.events.specs.declared.event.Event.TheVariants.{Fetch, Decode, Rename, Issue, Complete, Drop, Retire}
 use Rattle.smt_model.specs.{Basics.first, Basics.or_zero, Setup.Setup, Exec.Computed, Nexts.is_last}
+use Rattle.smt_model.specs.{Outcomes.last_outcome, Registers.resulting}
 use Rattle.smt_model.specs.{Outcomes.outcome_of, Outcomes.outcome_by, Effects.effect_of, Effects.effect_by}
 use Rattle.smt_model.specs.{Effects.last_effect, Bytes.number_at, Bytes.read, Bytes.read_value, Bytes.byte_after}
 use Rattle.smt_model.specs.{Reservations.holds_word, Memory.byte_at, Memory.reserved, Flights.numbers, Flights.flight}
@@ -23,8 +24,8 @@ use Rattle.smt_model.specs.Rules.{refused, is_legal, is_first, computed_at, outc
 use Rattle.smt_model.proofs.Lists.{member, member-behind, member-filter, Each, Each-at, Each-all, Rises, Rises-filter}
 use Rattle.smt_model.proofs.{Fates.Sound.sound, Allowed.retire_allowed}
 use Rattle.smt_model.proofs.Fates.Moves.{fetch_was, decode_was, rename_was, issue_was, complete_was, stage_of, fate-kept}
-use Rattle.smt_model.proofs.Fates.Moves.{same_number-is}
-use Rattle.smt_model.proofs.Fates.Numbers.{known_below, is_of-kept, op_at-kept, numbers-of, numbers-rise}
+use Rattle.smt_model.proofs.Fates.Moves.{same_number-is, retire_was, stage-retired_as}
+use Rattle.smt_model.proofs.Fates.Numbers.{known_below, known_fetched, is_of-one, is_of-kept, op_at-kept, numbers-of, numbers-rise}
 use Rattle.smt_laws.specs.Untouched.{IsNextLoad, kept_effect, UntouchedLoadsReadTheSame, UntouchedLoadsKeep}
 use Rattle.smt_laws.specs.Untouched.{LoadsOfNothingKeep}
 use Rattle.smt_laws.proofs.{Fates.Order.older_passed, Fates.Order.retire_front, Registers.Namings.completion-kept}
@@ -413,3 +414,260 @@ overlaid-on setup past legal e ok h s op o v now was bytes no_retirement before 
     (λ x m. tells_nothing setup past legal e ok x
     (Each-at (IsSeen past h s) before.stores before.seen x m).completed (λ actor effect same.
     no_retirement actor x effect same))
+
+said_now : (past : List Event) (actor n : ℕ) (outcome : Outcome) (s : ℕ) (o : Outcome) → n ≡ s
+    → completion (Complete actor n outcome ∷ past) s ≡ Some o → outcome ≡ o
+said_now past actor n outcome s o here said =
+    let same : (n == s) ≡ true = grind (arith, nat_tests) in some_one outcome o (rw same at said)
+
+overlaid-completes : (setup : Setup) (past : List Event) → is_legal setup past → (actor s : ℕ) (o : Outcome)
+    → refused setup past (Complete actor s o) ≡ None
+    → (h : ℕ) (op : Op) (v : ℕ) → is_of past h s ≡ true → op_at past s ≡ op → is_loading (kind_of op) ≡ true
+    → o.value ≡ Some v → IsOverlaid setup (Complete actor s o ∷ past) h s op (or_zero o.addr) v
+overlaid-completes setup past legal actor s o ok h op v of_s is_op loads some =
+    let e = Complete actor s o in
+    let was = complete_was setup past (sound setup past legal) actor s o ok in
+    let found = known_fetched setup past legal s (omega arith) in
+    let f = found.fetch in
+    let same_hart : f.hart ≡ h = is_of-one past f.hart h s found.of_hart of_s in
+    let same_op : op_of_fetched (Some f) ≡ op = sym (ap op_of_fetched found.fetched) ∙ is_op in
+    subst (λ g. IsOverlaid setup (e ∷ past) g s op (or_zero o.addr) v) same_hart
+    (subst (λ p. IsOverlaid setup (e ∷ past) f.hart s p (or_zero o.addr) v) same_op
+    (overlaid-now setup past legal actor s o ok f found.fetched (ap (λ p. is_loading (kind_of p)) same_op ∙ loads) v
+    some))
+
+-- What a completed instruction said is computed of its operands.
+record IsComputed (setup : Setup) (past : List Event) (s : ℕ) (f : Fetched) (o : Outcome) : Type 0 where
+  look : ℕ
+  outcome_is : o ≡ outcome_of (op_of_fetched (Some f)) (computed_at setup past s f) (Some look)
+
+is_computed : (setup : Setup) (past : List Event) → is_legal setup past → (s : ℕ) (f : Fetched) (o : Outcome)
+    → fetching past s ≡ Some f → stage (fate past s) ≡ 5 → completion past s ≡ Some o → IsComputed setup past s f o
+is_computed setup past legal s f o found at said =
+    let done = completed-is setup past legal s at in
+    let same_f : done.fetch ≡ f = some_one done.fetch f (sym done.fetched ∙ found) in
+    let same_o : o ≡ done.outcome = some_one o done.outcome (sym said ∙ done.completed) in
+    record {
+      look = done.look;
+      outcome_is = same_o
+          ∙ (done.outcome_is
+          ∙ ap (λ g. outcome_of (op_of_fetched (Some g)) (computed_at setup past s g) (Some done.look)) same_f);
+    }
+
+there : (a : Option ℕ) (n : ℕ) → a ≡ Some n → a ≡ Some (or_zero a)
+there a n at = at ∙ ap Some (sym (ap or_zero at))
+
+addressed : (setup : Setup) (past : List Event) → is_legal setup past → (h s : ℕ) (op : Op) (o : Outcome) (v : ℕ)
+    → IsUntouched past h s op o v → o.addr ≡ Some (or_zero o.addr)
+addressed setup past legal h s op o v now =
+    let found = known_fetched setup past legal s (let at = now.completed in omega arith) in
+    let f = found.fetch in
+    let made = is_computed setup past legal s f o found.fetched now.completed now.said in
+    let same_op : op_of_fetched (Some f) ≡ op = sym (ap op_of_fetched found.fetched) ∙ now.is_op in
+    let says = says_a_look (op_of_fetched (Some f)) (computed_at setup past s f) made.look o v
+    (ap (λ p. is_loading (kind_of p)) same_op ∙ now.loading) made.outcome_is now.value in
+    there o.addr (computed_at setup past s f).addr says.addr
+
+untouched_both : (a b : Bool) → (a || b) ≡ false → (a ≡ false) × (b ≡ false)
+untouched_both true b none = absurd (grind arith)
+untouched_both false b none = (refl, none)
+
+-- A retirement that leaves it untouched.
+overlaid-retire : (setup : Setup) (past : List Event) → is_legal setup past → (actor n : ℕ) (x : Effect)
+    → refused setup past (Retire actor n x) ≡ None → (h s : ℕ) (op : Op) (o : Outcome) (v : ℕ)
+    → IsUntouched past h s op o v → stage (fate (Retire actor n x ∷ past) s) ≡ 5
+    → touches_access x.write (op_at past s) (accessed (completion past s)) ≡ false
+    → IsOverlaid setup past h s op (or_zero o.addr) v
+    → IsOverlaid setup (Retire actor n x ∷ past) h s op (or_zero o.addr) v
+overlaid-retire setup past legal actor n x ok h s op o v was now apart before =
+    let at : accessed (completion past s) ≡ Some (or_zero o.addr) =
+    ap accessed was.said ∙ addressed setup past legal h s op o v was in
+    let leaves : touches_access x.write op (Some (or_zero o.addr)) ≡ false =
+    ap (λ p. touches_access x.write p (Some (or_zero o.addr))) (sym was.is_op)
+    ∙ (ap (touches_access x.write (op_at past s)) (sym at) ∙ apart) in
+    overlaid-retired setup past legal actor n x ok h s op (or_zero o.addr) v was.of_hart was.completed now leaves
+    before.stores before.rises before.seen before.value
+
+-- The invariant: an untouched load's number is that of memory, with the stores over it that its first look saw and that
+-- are still in flight.
+pub overlaid : (setup : Setup) (past : List Event) → is_legal setup past → (h s : ℕ) (op : Op) (o : Outcome) (v : ℕ)
+    → IsUntouched past h s op o v → IsOverlaid setup past h s op (or_zero o.addr) v
+overlaid setup [] legal h s op o v now = absurd (let at = now.completed in grind arith)
+overlaid setup (Fetch actor hart n pc word predicted ∷ past) legal h s op o v now =
+    let e = Fetch actor hart n pc word predicted in
+    let was = completes setup past legal.1 e legal.0 s now.completed refl in
+    overlaid-on setup past legal.1 e legal.0 h s op o v now was (λ b. refl) (λ k m x same. absurd (grind arith))
+    (overlaid setup past legal.1 h s op o v
+    (untouched-before setup past legal.1 e legal.0 h s op o v now was now.untouched))
+overlaid setup (Decode actor n ∷ past) legal h s op o v now =
+    let e = Decode actor n in
+    let was = completes setup past legal.1 e legal.0 s now.completed refl in
+    overlaid-on setup past legal.1 e legal.0 h s op o v now was (λ b. refl) (λ k m x same. absurd (grind arith))
+    (overlaid setup past legal.1 h s op o v
+    (untouched-before setup past legal.1 e legal.0 h s op o v now was now.untouched))
+overlaid setup (Rename actor n register ∷ past) legal h s op o v now =
+    let e = Rename actor n register in
+    let was = completes setup past legal.1 e legal.0 s now.completed refl in
+    overlaid-on setup past legal.1 e legal.0 h s op o v now was (λ b. refl) (λ k m x same. absurd (grind arith))
+    (overlaid setup past legal.1 h s op o v
+    (untouched-before setup past legal.1 e legal.0 h s op o v now was now.untouched))
+overlaid setup (Issue actor n ∷ past) legal h s op o v now =
+    let e = Issue actor n in
+    let was = completes setup past legal.1 e legal.0 s now.completed refl in
+    overlaid-on setup past legal.1 e legal.0 h s op o v now was (λ b. refl) (λ k m x same. absurd (grind arith))
+    (overlaid setup past legal.1 h s op o v
+    (untouched-before setup past legal.1 e legal.0 h s op o v now was now.untouched))
+overlaid setup (Complete actor n outcome ∷ past) legal h s op o v now =
+    let e = Complete actor n outcome in
+    elim (cases_eq n s) [
+      | inl here ↦
+          let same : outcome ≡ o = said_now past actor n outcome s o here now.said in
+          let ok : refused setup past (Complete actor s o) ≡ None =
+          subst (λ z. refused setup past (Complete actor s z) ≡ None) same
+          (subst (λ z. refused setup past (Complete actor z outcome) ≡ None) here legal.0) in
+          subst (λ z. IsOverlaid setup (Complete actor n z ∷ past) h s op (or_zero o.addr) v) (sym same)
+          (subst (λ z. IsOverlaid setup (Complete actor z o ∷ past) h s op (or_zero o.addr) v) (sym here)
+          (overlaid-completes setup past legal.1 actor s o ok h op v now.of_hart now.is_op now.loading now.value))
+      | inr other ↦
+          let quiet : resulting e s ≡ None = grind (arith, nat_tests) in
+          let was = completes setup past legal.1 e legal.0 s now.completed quiet in
+          overlaid-on setup past legal.1 e legal.0 h s op o v now was (λ b. refl) (λ k m x same. absurd (grind arith))
+          (overlaid setup past legal.1 h s op o v
+          (untouched-before setup past legal.1 e legal.0 h s op o v now was now.untouched))
+    ]
+overlaid setup (Drop actor n ∷ past) legal h s op o v now =
+    let e = Drop actor n in
+    let was = completes setup past legal.1 e legal.0 s now.completed refl in
+    overlaid-on setup past legal.1 e legal.0 h s op o v now was (λ b. refl) (λ k m x same. absurd (grind arith))
+    (overlaid setup past legal.1 h s op o v
+    (untouched-before setup past legal.1 e legal.0 h s op o v now was now.untouched))
+overlaid setup (Retire actor n x ∷ past) legal h s op o v now =
+    let e = Retire actor n x in
+    let at = retire_was setup past actor n x legal.0 in
+    let as_told = stage-retired_as x in
+    let still = now.completed in
+    let other : n ≢ s = λ here. absurd (grind (arith, nat_tests)) in
+    let quiet : resulting e s ≡ None = grind (arith, nat_tests) in
+    let was = completes setup past legal.1 e legal.0 s now.completed quiet in
+    let both = untouched_both (is_touched past s) (touches_access x.write (op_at past s) (accessed (completion past s)))
+    now.untouched in
+    let before = untouched-before setup past legal.1 e legal.0 h s op o v now was both.0 in
+    overlaid-retire setup past legal.1 actor n x legal.0 h s op o v before now.completed both.1
+    (overlaid setup past legal.1 h s op o v before)
+
+-- ---- As the load is the oldest
+
+-- None of those stores is left.
+none_is_over : (setup : Setup) (past : List Event) → is_legal setup past → (h s : ℕ) (op : Op) (addr v : ℕ)
+    → first (flight past h) ≡ Some s
+    → (stores : List ℕ) → Each (IsSeen past h s) stores
+    → read op (λ b. overlaid_byte past b stores (byte_at setup past b)) addr ≡ v
+    → read op (byte_at setup past) addr ≡ v
+none_is_over setup past legal h s op addr v front [] seen value = value
+none_is_over setup past legal h s op addr v front (y ∷ ys) seen value =
+    let gone = older_passed setup past legal (λ x. is_in_flight (fate past x)) h s y front seen.0.of_hart
+    seen.0.older in
+    let flies : is_in_flight (fate past y) ≡ true = (let five = seen.0.completed in grind (arith, nat_tests)) in
+    absurd (true_false (sym flies ∙ gone))
+
+next_untouched : (past : List Event) (s : ℕ) (f : Fetched) (o : Outcome) (v : ℕ) → IsNextLoad past s f o
+    → is_touched past s ≡ false → o.value ≡ Some v → IsUntouched past f.hart s (op_of_fetched (Some f)) o v
+next_untouched past s f o v next untouched some = record {
+  of_hart = is_of_own past s f next.fetched;
+  completed = stage_of (fate past s) Completed next.completed;
+  is_op = ap op_of_fetched next.fetched;
+  loading = next.loading;
+  said = next.said;
+  value = some;
+  untouched = untouched;
+}
+
+pub untouched_read : UntouchedLoadsReadTheSame
+untouched_read setup past legal s f o next untouched v some =
+    let op = op_of_fetched (Some f) in
+    let c = computed_at setup past s f in
+    let at = stage_of (fate past s) Completed next.completed in
+    let made = is_computed setup past legal s f o next.fetched at next.said in
+    let says = says_a_look op c made.look o v next.loading made.outcome_is some in
+    let over = overlaid setup past legal f.hart s op o v (next_untouched past s f o v next untouched some) in
+    let front = same_number-is (first (flight past f.hart)) (Some s) next.oldest in
+    ap (read op (byte_at setup past)) (sym (ap or_zero says.addr))
+    ∙ none_is_over setup past legal f.hart s op (or_zero o.addr) v front over.stores over.seen over.value
+
+-- ---- What it retires with
+
+loaded_kind : (kind : Kind) (op : Op) (c : Computed) (v : ℕ) (held : Bool) → is_loading kind ≡ true
+    → effect_by kind op true c v held ≡ record (last_effect c.next) { value = Some v }
+loaded_kind Computing op c v held loads = absurd (grind arith)
+loaded_kind Loading op c v held loads = refl
+loaded_kind Storing op c v held loads = absurd (grind arith)
+loaded_kind Reserving op c v held loads = absurd (grind arith)
+loaded_kind Conditional op c v held loads = absurd (grind arith)
+loaded_kind Atomic op c v held loads = absurd (grind arith)
+
+loaded : (op : Op) (c : Computed) (look : ℕ) (o : Outcome) (v : ℕ) (held : Bool) → is_loading (kind_of op) ≡ true
+    → SaysALook op c look o v → o.value ≡ Some v → effect_of op c v held ≡ kept_effect o
+loaded op c look o v held loads says some =
+    let to : effect_of op c v held ≡ effect_by (kind_of op) op true c v held = rw (says.going, says.writes) refl in
+    to
+    ∙ (loaded_kind (kind_of op) op c v held loads
+    ∙ (ap (λ next. record (last_effect next) { value = Some v }) (sym says.next)
+    ∙ ap (λ a. record (last_effect o.next) { value = a }) (sym some)))
+
+none_kind : (kind : Kind) (op : Op) (writes : Bool) (c : Computed) (look now : ℕ) (held : Bool) (o : Outcome)
+    → is_loading kind ≡ true → o ≡ outcome_by kind writes c (Some look) → o.value ≡ None
+    → effect_by kind op writes c now held ≡ kept_effect o
+none_kind Computing op writes c look now held o loads is none = absurd (grind arith)
+none_kind Loading op true c look now held o loads is none = absurd (grind arith)
+none_kind Loading op false c look now held o loads is none = sym (ap kept_effect is)
+none_kind Storing op writes c look now held o loads is none = absurd (grind arith)
+none_kind Reserving op writes c look now held o loads is none = absurd (grind arith)
+none_kind Conditional op writes c look now held o loads is none = absurd (grind arith)
+none_kind Atomic op writes c look now held o loads is none = absurd (grind arith)
+
+none_of : (op : Op) (c : Computed) (look now : ℕ) (held : Bool) (o : Outcome) → is_loading (kind_of op) ≡ true
+    → o ≡ outcome_of op c (Some look) → o.value ≡ None → effect_of op c now held ≡ kept_effect o
+none_of op c look now held o loads is none =
+    elim (cases_Bool (is_last c.next)) [
+      | inl last ↦
+          let to : outcome_of op c (Some look) ≡ last_outcome c.next = rw last refl in
+          let effect : effect_of op c now held ≡ last_effect c.next = rw last refl in
+          effect ∙ sym (ap kept_effect (is ∙ to))
+      | inr going ↦
+          let to : outcome_of op c (Some look) ≡ outcome_by (kind_of op) (writes_register op) c (Some look) =
+          rw going refl in
+          let effect : effect_of op c now held ≡ effect_by (kind_of op) op (writes_register op) c now held =
+          rw going refl in
+          effect ∙ none_kind (kind_of op) op (writes_register op) c look now held o loads (is ∙ to) none
+    ]
+
+pub nothing_keeps : LoadsOfNothingKeep
+nothing_keeps setup past legal s f o next none =
+    let op = op_of_fetched (Some f) in
+    let c = computed_at setup past s f in
+    let at = stage_of (fate past s) Completed next.completed in
+    let made = is_computed setup past legal s f o next.fetched at next.said in
+    none_of op c made.look (read op (byte_at setup past) c.addr) (holds_word (reserved past f.hart) c.addr) o
+    next.loading made.outcome_is none
+
+something_keeps : (setup : Setup) (past : List Event) → is_legal setup past
+    → (s : ℕ) (f : Fetched) (o : Outcome) (v : ℕ) → IsNextLoad past s f o → is_touched past s ≡ false
+    → o.value ≡ Some v → effect_now setup past s f ≡ kept_effect o
+something_keeps setup past legal s f o v next untouched some =
+    let op = op_of_fetched (Some f) in
+    let c = computed_at setup past s f in
+    let at = stage_of (fate past s) Completed next.completed in
+    let made = is_computed setup past legal s f o next.fetched at next.said in
+    let says = says_a_look op c made.look o v next.loading made.outcome_is some in
+    let held = holds_word (reserved past f.hart) c.addr in
+    ap (λ number. effect_of op c number held) (untouched_read setup past legal s f o next untouched v some)
+    ∙ loaded op c made.look o v held next.loading says some
+
+keeps_by : (setup : Setup) (past : List Event) → is_legal setup past
+    → (s : ℕ) (f : Fetched) (o : Outcome) → IsNextLoad past s f o → is_touched past s ≡ false
+    → (a : Option ℕ) → o.value ≡ a → effect_now setup past s f ≡ kept_effect o
+keeps_by setup past legal s f o next untouched None none = nothing_keeps setup past legal s f o next none
+keeps_by setup past legal s f o next untouched (Some v) some = something_keeps setup past legal s f o v next untouched some
+
+pub untouched_keep : UntouchedLoadsKeep
+untouched_keep setup past legal s f o next untouched = keeps_by setup past legal s f o next untouched o.value refl
