@@ -1,11 +1,12 @@
 -- What the filter of the second looks rests on: a load that no write has touched since its first
 -- look retires with what that look gave. [Cain and Lipasti, ISCA 2004, section 3]
-use Rattle.std.specs.Prelude.{◌≡◌, ℕ, true, false, List, Some, None}
-use Rattle.smt_model.specs.Words.{Outcome, Effect, Event}
+use Rattle.std.specs.Prelude.{◌≡◌, ℕ, ◌+◌, ◌<◌, ◌≤◌, true, false, List, ◌∷◌, Some, None}
+use Rattle.smt_model.specs.Words.{Outcome, Effect, Event, Complete}
 use Rattle.smt_model.specs.{Setup.Setup, Bytes.read, Effects.last_effect, Memory.byte_at}
-use Rattle.smt_model.specs.{Kinds.kind_of, Kinds.is_loading, Flights.flight, Touched.is_touched}
+use Rattle.smt_model.specs.{Kinds.kind_of, Kinds.is_loading, Flights.flight}
+use Rattle.smt_model.specs.Touched.{shares_byte, is_touched, loads, looks}
 use Rattle.smt_model.specs.Fates.{Fetched, fetching, op_of_fetched, completion, fate, is, Completed}
-use Rattle.smt_model.specs.Rules.{is_legal, is_first, computed_at, effect_now}
+use Rattle.smt_model.specs.Rules.{is_allowed, is_legal, is_first, computed_at, effect_now}
 
 -- A load that has completed and is the oldest of its hart in flight: the next of it to retire.
 pub record IsNextLoad (past : List Event) (s : ℕ) (f : Fetched) (o : Outcome) : Type 0 where
@@ -40,3 +41,29 @@ LoadsOfNothingKeep =
     (setup : Setup) (past : List Event) → is_legal setup past
     → (s : ℕ) (f : Fetched) (o : Outcome) → IsNextLoad past s f o → o.value ≡ None
     → effect_now setup past s f ≡ kept_effect o
+
+-- ---- What is touched, and who looks again
+
+-- An address is one of both.
+pub record IsShared (a n b m : ℕ) : Type 0 where
+  pub one : ℕ
+  pub from_a : a ≤ one
+  pub to_a : one < a + n
+  pub from_b : b ≤ one
+  pub to_b : one < b + m
+
+-- Two accesses share a byte where there is such an address, and else not.
+abbrev pub SharesWhereOneIs : Type 0
+SharesWhereOneIs = (a n b m : ℕ)
+    → (shares_byte a n b m ≡ true → IsShared a n b m) × (IsShared a n b m → shares_byte a n b m ≡ true)
+
+-- As an instruction completes nothing has touched it.
+abbrev pub CompletionsAreUntouched : Type 0
+CompletionsAreUntouched =
+    (setup : Setup) (past : List Event) → is_legal setup past
+    → (actor s : ℕ) (o : Outcome) → is_allowed setup past (Complete actor s o)
+    → is_touched (Complete actor s o ∷ past) s ≡ false
+
+-- No more look again than retire.
+abbrev pub LooksAreOfLoads : Type 0
+LooksAreOfLoads = (setup : Setup) (past : List Event) → is_legal setup past → looks past ≤ loads past
