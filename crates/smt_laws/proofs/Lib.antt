@@ -1,5 +1,6 @@
 pub mod Fates
 pub mod Registers
+pub mod Touching
 pub mod Events
 pub mod Staying
 pub mod Steps
@@ -14,4 +15,5 @@ pub mod Sequential
 pub mod PlainLaws
 pub mod Executions
 pub mod Writes
+pub mod Untouched
 pub mod Showing

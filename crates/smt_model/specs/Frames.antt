@@ -94,10 +94,13 @@ pub record FetchesNothing (p q : Picture) : Type 0 where
   pub fetches : q.fetches ≡ p.fetches
   pub last_fetched : q.last_fetched ≡ p.last_fetched
 
--- No byte is written, and every hart holds the reservation that it held.
+-- No byte is written, every hart holds the reservation that it held, no access is touched, and no
+-- load looks again.
 pub record KeepsMemory (p q : Picture) : Type 0 where
   pub byte : (addr : ℕ) → q.byte addr ≡ p.byte addr
   pub reserved : (g : ℕ) → q.reserved g ≡ p.reserved g
+  pub touched : (s : ℕ) → q.touched s ≡ p.touched s
+  pub looks : q.looks ≡ p.looks
 
 -- What all harts share is the same, but the parts that change. No step forgets what was fetched, or
 -- changes an open job's operands.

@@ -21,6 +21,7 @@ pub mod Jobs
 pub mod Comparisons
 pub mod Rules
 pub mod Account
+pub mod Touched
 pub mod Picture
 pub mod Frames
 pub mod Steps

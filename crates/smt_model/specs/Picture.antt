@@ -12,6 +12,7 @@ use Rattle.smt_model.specs.Flights.{in_decode, in_rename, flight, queue, icount}
 use Rattle.smt_model.specs.Registers.{phys, mapped, committed, source_register, value, reads}
 use Rattle.smt_model.specs.Registers.{operand, is_unclaimed}
 use Rattle.smt_model.specs.Memory.{status, output, byte_at, reserved}
+use Rattle.smt_model.specs.Touched.{is_touched, looks}
 
 pub record Picture : Type 0 where
   -- of an instruction: what was fetched, its fate, the register it was given, what its completion
@@ -45,9 +46,12 @@ pub record Picture : Type 0 where
   pub last_fetched : Option ℕ
   pub records : List Record
   pub output : List ℕ
-  -- the byte at each address, and the word that each hart has reserved
+  -- the byte at each address, the word that each hart has reserved, the accesses that were touched,
+  -- and how many loads looked again
   pub byte : ℕ → ℕ
   pub reserved : ℕ → Option ℕ
+  pub touched : ℕ → Bool
+  pub looks : ℕ
 
 -- The physical register that instruction s finds for a source.
 abbrev pub source_register_in : List Event → (Op → ℕ) → ℕ → Option Fetched → ℕ
@@ -86,4 +90,6 @@ picture setup past = record {
   output = output past;
   byte = byte_at setup past;
   reserved = reserved past;
+  touched = is_touched past;
+  looks = looks past;
 }

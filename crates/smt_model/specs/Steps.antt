@@ -11,6 +11,7 @@ use Rattle.smt_model.specs.{Basics.holds_of, Basics.same_number, Basics.how_many
 use Rattle.smt_model.specs.{Kinds.first_source, Kinds.second_source, Plain.status_after}
 use Rattle.smt_model.specs.{Plain.output_after, Plain.is_going_status, Bytes.byte_after}
 use Rattle.smt_model.specs.{Reservations.reservation_after, Memory.address_of, Picture.Picture}
+use Rattle.smt_model.specs.Touched.{accessed, touches_access, looks_after}
 use Rattle.smt_model.specs.Fates.{Fetched, is, is_in_flight, op_of_fetched, Renamed, Issued}
 use Rattle.smt_model.specs.Fates.{Completed}
 pub use Rattle.smt_model.specs.Frames.{IsSameHart, IsSameInstruction, KeepsFlights, KeepsAllFlights}
@@ -78,6 +79,8 @@ pub record IsRename (p q : Picture) (h n : ℕ) (taken : Option ℕ) : Type 0 wh
   pub absent : is_in_flight (p.fate n) ≡ false
   pub fate : q.fate n ≡ Renamed
   pub phys : q.phys n ≡ taken
+  pub completion : q.completion n ≡ None
+  pub untouched : q.touched n ≡ false
   pub in_rename : p.in_rename h ≡ n ∷ q.in_rename h
   pub flight : q.flight h ≡ p.flight h ++ n ∷ []
   pub mapped :
@@ -152,6 +155,7 @@ pub record IsComplete (p q : Picture) (h n k : ℕ) (o : Outcome) (goes_on : ℕ
   pub fate : q.fate n ≡ Completed
   pub phys : q.phys n ≡ p.phys n
   pub completion : q.completion n ≡ Some o
+  pub untouched : q.touched n ≡ false
   pub fetch_pc : q.fetch_pc h ≡ goes_on
   pub no_value : is_some (p.phys n) ≡ false → o.value ≡ None
   pub values : FillsValues p q (p.phys n) o.value
@@ -253,6 +257,10 @@ pub record IsRetire (p q : Picture) (h n : ℕ) (x : Effect) (goes_on : ℕ) : T
       (g : ℕ) → q.reserved g
       ≡ reservation_after (op_in p n) (address_of (p.completion n)) x (is_hart_of p g n)
       (p.reserved g)
+  pub touched :
+      (s : ℕ) → q.touched s
+      ≡ (p.touched s || touches_access x.write (op_in p s) (accessed (p.completion s)))
+  pub looks : q.looks ≡ looks_after (op_in p n) (p.touched n) x p.looks
   pub flights : KeepsFlights p q n
   pub stays :
       StaysBut (ActiveList ∷ CommittedMap ∷ FetchPc ∷ [])

@@ -22,6 +22,8 @@ use Rattle.smt_laws.proofs.{Registers.Namings.matched, Registers.Committing.comm
 use Rattle.smt_laws.proofs.{Registers.Committing.committer-Complete, Events.Freeing.free-same}
 use Rattle.smt_laws.proofs.{Events.Freeing.is_flying, Events.Freeing.renamed_flies, Events.Harts.claims-calm}
 use Rattle.smt_laws.proofs.{Staying.others-calm, Staying.hart-calm, Registers.Held.is_held}
+use Rattle.smt_model.specs.Touched.{is_touched}
+use Rattle.smt_laws.proofs.Touching.{untouched_early}
 use Rattle.smt_laws.proofs.{Registers.Values.complete_says, Steps.Drop.job_done, Events.Filling.none_some}
 use Rattle.smt_laws.proofs.Events.Filling.{value-filled, reads-woken}
 use Rattle.smt_laws.proofs.Events.Calm.{IsCalm, fate-other, calm-flights, queue-calm, writer-calm, mapped-kept}
@@ -142,6 +144,13 @@ still_waits setup past legal actor n outcome ok straight s waits =
     ap (λ f. is f Renamed)
     (fate-other (Complete actor n outcome) past s other (calm-Complete past actor n outcome straight s)) ∙ waits
 
+-- It isn't touched yet.
+pub untouched-Complete : (setup : Setup) (past : List Event) → is_legal setup past → (actor n : ℕ) (outcome : Outcome)
+    → refused setup past (Complete actor n outcome) ≡ None → is_touched (Complete actor n outcome ∷ past) n ≡ false
+untouched-Complete setup past legal actor n outcome ok =
+    let was = complete_was setup past (sound setup past legal) actor n outcome ok in
+    untouched_early setup past legal n (omega arith)
+
 pub steps-Complete : (setup : Setup) (past : List Event) → is_legal setup past → (actor n : ℕ) (outcome : Outcome)
     → refused setup past (Complete actor n outcome) ≡ None → mispredicts past n outcome.next ≡ false → (h : ℕ)
     → is_of past h n ≡ true
@@ -165,6 +174,7 @@ steps-Complete setup past legal actor n outcome ok straight h of_n =
       fate = now-Complete setup past legal actor n outcome ok;
       phys = refl;
       completion = completion-Complete past actor n outcome;
+      untouched = untouched-Complete setup past legal actor n outcome ok;
       fetch_pc = pc-Complete setup past actor n outcome h (nowhere h);
       no_value = no_value setup past legal actor n outcome ok;
       values = λ x claimed. values-Complete setup past legal actor n outcome ok x;
@@ -196,7 +206,7 @@ steps-Complete setup past legal actor n outcome ok straight h of_n =
           fetches = record { fetched = λ s. refl; fetches = refl; last_fetched = refl };
           records = refl;
           output = refl;
-          memory = record { byte = λ addr. refl; reserved = λ g. refl };
+          memory = record { byte = λ addr. refl; reserved = λ g. refl; touched = λ s. refl; looks = refl };
         };
       };
     }

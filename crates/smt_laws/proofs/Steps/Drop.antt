@@ -54,6 +54,6 @@ steps-Drop setup past legal actor n ok =
         fetches = record { fetched = λ s. refl; fetches = refl; last_fetched = refl };
         records = refl;
         output = refl;
-        memory = record { byte = λ addr. refl; reserved = λ g. refl };
+        memory = record { byte = λ addr. refl; reserved = λ g. refl; touched = λ s. refl; looks = refl };
       };
     }

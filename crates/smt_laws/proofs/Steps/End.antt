@@ -36,6 +36,8 @@ use Rattle.smt_model.specs.Memory.{status, output, byte_at, reserved}
 use Rattle.smt_model.specs.Steps.{IsSameHart, IsSameInstruction, IsSquash, IsEnd, ReadsTheSame, filled_value, up_to}
 use Rattle.smt_model.specs.Steps.{beyond, youngest, has_register, AreOwn}
 use Rattle.smt_laws.proofs.Events.Squash.{IsSquashing, squash_other, in_decode-squash, in_rename-squash, icount-squash}
+use Rattle.smt_model.specs.{Fates.op_at, Touched.is_touched, Touched.looks}
+use Rattle.smt_laws.proofs.Touching.{touched-silent, looks-last}
 use Rattle.smt_laws.proofs.Events.Squash.{queue-squash, mapped-squash, apart}
 use Rattle.smt_laws.proofs.Events.SquashedRegisters.{are_own, in_the_flight, flight-rises, flight-owns}
 use Rattle.smt_laws.proofs.Steps.EndHalts.{not_read, end_middle, first_and_rest, all_pass, halts}
@@ -334,6 +336,8 @@ squash_rest setup past legal fit actor n x ok last h of_n =
           memory = record {
             byte = λ addr. ap (λ w. byte_after w addr (byte_at setup past addr)) silent.write;
             reserved = reserved-End past actor n x last;
+            touched = touched-silent past actor n x silent.write;
+            looks = looks-last (op_at past n) (is_touched past n) x (looks past) last;
           };
         };
       };

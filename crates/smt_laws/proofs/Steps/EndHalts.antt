@@ -136,7 +136,7 @@ halts setup past legal fit actor n x ok h of_n = record {
       fetches = record { fetched = λ s. refl; fetches = refl; last_fetched = refl };
       records = tt;
       output = refl;
-      memory = record { byte = λ addr. refl; reserved = λ g. refl };
+      memory = record { byte = λ addr. refl; reserved = λ g. refl; touched = λ s. refl; looks = refl };
     };
   };
 }

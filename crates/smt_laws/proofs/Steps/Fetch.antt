@@ -158,7 +158,7 @@ steps-Fetch setup past legal actor h n pc word predicted ok =
           fetches = tt;
           records = refl;
           output = refl;
-          memory = record { byte = λ addr. refl; reserved = λ g. refl };
+          memory = record { byte = λ addr. refl; reserved = λ g. refl; touched = λ s. refl; looks = refl };
         };
       };
     }

@@ -119,7 +119,7 @@ steps-Issue setup past legal actor n ok h of_n =
           fetches = record { fetched = λ s. refl; fetches = refl; last_fetched = refl };
           records = refl;
           output = refl;
-          memory = record { byte = λ addr. refl; reserved = λ g. refl };
+          memory = record { byte = λ addr. refl; reserved = λ g. refl; touched = λ s. refl; looks = refl };
         };
       };
     }

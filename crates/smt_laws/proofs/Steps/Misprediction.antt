@@ -22,7 +22,7 @@ use Rattle.smt_laws.proofs.Events.Mapping.{youngest-same}
 use Rattle.smt_model.specs.Steps.{IsSameHart, IsComplete, IsSquash, IsMisprediction, IsSameInstruction, ReadsTheSame}
 use Rattle.smt_model.specs.Steps.{woken_reading, filled_value, up_to}
 use Rattle.smt_laws.proofs.Steps.Complete.{now-Complete, was-Complete, completion-Complete, no_value, values-Complete}
-use Rattle.smt_laws.proofs.Steps.Complete.{readings-Complete}
+use Rattle.smt_laws.proofs.Steps.Complete.{readings-Complete, untouched-Complete}
 use Rattle.smt_laws.proofs.Events.Squash.{IsSquashing, squash_other, in_decode-squash, in_rename-squash, flight-squash}
 use Rattle.smt_laws.proofs.Events.Squash.{icount-squash, queue-squash, mapped-squash, apart}
 use Rattle.smt_laws.proofs.Events.SquashedRegisters.{are_own, flight-rises, flight-owns, IsGiving, free-squash}
@@ -58,6 +58,7 @@ completes setup past legal actor n o ok h goes_on of_n = record {
   fate = at_own n Completed (fate past n);
   phys = refl;
   completion = at_own n (Some o) (completion past n);
+  untouched = untouched-Complete setup past legal actor n o ok;
   fetch_pc = at_own h goes_on (fetch_pc setup past h);
   no_value = no_value setup past legal actor n o ok;
   values = λ x claimed. refl;
@@ -100,7 +101,7 @@ completes setup past legal actor n o ok h goes_on of_n = record {
       fetches = record { fetched = λ s. refl; fetches = refl; last_fetched = refl };
       records = refl;
       output = refl;
-      memory = record { byte = λ addr. refl; reserved = λ g. refl };
+      memory = record { byte = λ addr. refl; reserved = λ g. refl; touched = λ s. refl; looks = refl };
     };
   };
 }
@@ -276,7 +277,7 @@ squashes_rest setup past legal actor n o ok fits mispredicted_next h of_n =
           fetches = record { fetched = λ s. refl; fetches = refl; last_fetched = refl };
           records = refl;
           output = refl;
-          memory = record { byte = λ addr. refl; reserved = λ g. refl };
+          memory = record { byte = λ addr. refl; reserved = λ g. refl; touched = λ s. refl; looks = refl };
         };
       };
     }

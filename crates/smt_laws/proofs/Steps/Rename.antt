@@ -1,6 +1,6 @@
 -- What a rename changes: its hart's oldest in rename goes to the end of the flight and into the queue, takes its
 -- register off the free ones, and enters it into its hart's map.
-use Rattle.std.specs.Prelude.{◌≡◌, ◌≢◌, ℕ, ◌<◌, Bool, true, false, not, ◌&&◌, nat_lt, List, [], ◌∷◌, ◌++◌, Option, Some}
+use Rattle.std.specs.Prelude.{◌≡◌, ◌≢◌, ℕ, ◌<◌, ◌≤◌, Bool, true, false, not, ◌&&◌, nat_lt, List, [], ◌∷◌, ◌++◌, Option, Some}
 use Rattle.std.specs.Prelude.{None, is_some}
 use Rattle.std.specs.List.{filter}
 use Rattle.std.proofs.Common.{◌∙◌, refl, sym, ap, subst, inl, inr, arith}
@@ -12,7 +12,7 @@ use Rattle.smt_model.specs.{Basics.same_number, Setup.Setup, Setup.registers_of,
 use Rattle.smt_model.specs.{Kinds.second_source, Kinds.writes_register, Rules.refused, Rules.is_legal, Picture.picture}
 use Rattle.smt_model.specs.{Picture.is_free, Picture.source_register_in}
 use Rattle.smt_model.specs.Fates.{Fate, InRename, Renamed, Fetched, fate, fetching, is, is_in_flight, is_of, op_at}
-use Rattle.smt_model.specs.Fates.{op_of_fetched}
+use Rattle.smt_model.specs.Fates.{op_of_fetched, stage}
 use Rattle.smt_model.specs.Flights.{numbers, all_numbers, in_rename, flight, queue}
 use Rattle.smt_model.specs.Registers.{phys, writes, holder, source_register, mapped, is_unclaimed, value, value_by}
 use Rattle.smt_model.specs.Registers.{first_value, reading_by, reads, option_inner}
@@ -20,7 +20,8 @@ use Rattle.smt_model.proofs.Lists.{member, member-behind, Each, Each-at, Each-fi
 use Rattle.smt_model.proofs.Lists.{filter-loses-first, filter-gains-last}
 use Rattle.smt_model.proofs.Fates.Moves.{rename_was, same_number-is, same_number-self}
 use Rattle.smt_laws.proofs.{Fates.Order.in_order, Registers.Namings.result-none, Registers.Namings.taken}
-use Rattle.smt_laws.proofs.Registers.Namings.{same_truth-is}
+use Rattle.smt_laws.proofs.Registers.Namings.{same_truth-is, completion-none}
+use Rattle.smt_laws.proofs.Touching.{untouched_early}
 use Rattle.smt_model.proofs.Registers.Claims.{claimant}
 use Rattle.smt_model.proofs.Registers.Claims.{flight_claimed, committed_claimed}
 use Rattle.smt_laws.proofs.Registers.Committing.{committed-kept, committer-Rename}
@@ -365,6 +366,11 @@ not_mine : (register : Option ℕ) (x : ℕ) → is_register_taken register x �
 not_mine register x apart same =
     absurd (true_false (sym (ap (λ o. same_number o (Some x)) same ∙ same_number-self (Some x)) ∙ apart))
 
+was_early : (setup : Setup) (past : List Event) (actor n : ℕ) (register : Option ℕ)
+    → refused setup past (Rename actor n register) ≡ None
+    → stage (fate past n) ≤ 4
+was_early setup past actor n register ok = let was = rename_was setup past actor n register ok in omega arith
+
 pub steps-Rename : (setup : Setup) (past : List Event) → is_legal setup past → (actor n : ℕ) (register : Option ℕ)
     → refused setup past (Rename actor n register) ≡ None → (h : ℕ) → is_of past h n ≡ true
     → IsRename (picture setup past) (picture setup (Rename actor n register ∷ past)) h n register
@@ -380,6 +386,8 @@ steps-Rename setup past legal actor n register ok h of_n =
       absent = ap is_in_flight (was-Rename setup past actor n register ok);
       fate = now-Rename setup past actor n register ok;
       phys = named-Rename past actor n register;
+      completion = completion-none setup past legal n (was_early setup past actor n register ok);
+      untouched = untouched_early setup past legal n (was_early setup past actor n register ok);
       in_rename = leaves-Rename setup past legal actor n register ok h of_n;
       flight = enters-Rename setup past legal actor n register ok h of_n;
       mapped = λ r low high. mapped-Rename setup past legal actor n register ok h r of_n low;
@@ -414,7 +422,7 @@ steps-Rename setup past legal actor n register ok h of_n =
           fetches = record { fetched = λ s. refl; fetches = refl; last_fetched = refl };
           records = refl;
           output = refl;
-          memory = record { byte = λ addr. refl; reserved = λ g. refl };
+          memory = record { byte = λ addr. refl; reserved = λ g. refl; touched = λ s. refl; looks = refl };
         };
       };
     }

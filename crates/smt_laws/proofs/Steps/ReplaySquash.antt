@@ -136,7 +136,7 @@ squash_first setup past legal fit h n = record {
       fetches = record { fetched = λ s. refl; fetches = refl; last_fetched = refl };
       records = refl;
       output = refl;
-      memory = record { byte = λ addr. refl; reserved = λ g. refl };
+      memory = record { byte = λ addr. refl; reserved = λ g. refl; touched = λ s. refl; looks = refl };
     };
   };
 }
