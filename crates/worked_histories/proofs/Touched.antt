@@ -1,10 +1,13 @@
 -- Which loads have to look again, computed on worked histories whose numbers were found by hand: a write touches the
 -- loads that it shares a byte with, of whatever hart and whatever address they begin at.
 use Rattle.std.specs.Prelude.{◌≡◌, ℕ, true, false, ◌∷◌, List, [], map, take, Some, None, refl}
-use Rattle.events.specs.{declared.effect.Next.TheVariants.Pc, declared.effect.Effect.Effect}
+use Rattle.events.specs.{declared.effect.Next.TheVariants.Pc, declared.effect.Next.TheVariants.Stopped}
+use Rattle.events.specs.{declared.effect.Effect.Effect}
 use Rattle.events.specs.declared.event.Event.{Event}
 use Rattle.events.specs.declared.event.Event.TheVariants.{Fetch, Decode, Rename, Issue, Complete, Retire}
+use Rattle.rv_instr.specs.Decode.{op_of_word}
 use Rattle.smt_model.specs.{Setup.Setup, Touched.shares_byte, Touched.is_touched, Touched.loads, Touched.looks}
+use Rattle.smt_model.specs.{Touched.gives_loaded}
 use Rattle.worked_histories.proofs.Histories.{core, outcome, effect, access, write, past_of, refusal, rules_of_events}
 
 -- ---- Bytes that two accesses share: the word at 8 has those from 8 to 11.
@@ -18,6 +21,22 @@ without_it :
     shares_byte 8 4 12 4 ∷ shares_byte 4 4 8 4 ∷ shares_byte 7 1 8 4 ∷ shares_byte 9 0 8 4 ∷ shares_byte 8 4 9 0 ∷ []
     ≡ false ∷ false ∷ false ∷ false ∷ false ∷ []
 without_it = refl
+
+-- ---- Which retirements give a register what was loaded
+
+-- lw x5,0(x6) and lb x5,0(x6) do. lw x0,0(x6), sw x7,0(x6), lr.w x5,(x6), amoadd.w x5,x7,(x6) and addi x7,x5,1 don't.
+who_counts :
+    map (λ word. gives_loaded (op_of_word (Some word)) (effect (Some 9) (Pc 0x80000004))) (
+    0x00032283 ∷ 0x00030283 ∷ 0x00032003 ∷ 0x00732023 ∷ 0x100322af ∷ 0x007322af ∷ 0x00128393 ∷ []
+    )
+    ≡ true ∷ true ∷ false ∷ false ∷ false ∷ false ∷ false ∷ []
+unfolding rules_of_events
+who_counts = refl
+
+-- Nor does lw x5,0(x6) where it stops.
+who_stops : gives_loaded (op_of_word (Some 0x00032283)) (effect None (Stopped 5)) ≡ false
+unfolding rules_of_events
+who_stops = refl
 
 -- ---- Three loads of one hart, and a write of another
 
