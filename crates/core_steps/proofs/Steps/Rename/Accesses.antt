@@ -12,7 +12,7 @@ use Rattle.core_parts.specs.{Agree.HartAgrees, Agree.From}
 use Rattle.core_steps.specs.{Renaming.IsRenaming}
 use Rattle.core_parts.specs.{declared.slot.Slot.Slot, declared.hart.HartState.HartState, declared.parts.Parts.Parts}
 use Rattle.core_parts.proofs.Agreement.Queues.{has_place, queues_here, queues_are}
-use Rattle.core_steps.proofs.Steps.Rename.Parts.{next_slot, slot_op}
+use Rattle.core_steps.proofs.Steps.Rename.Slot.{next_slot, slot_op}
 
 all_filter : (P : ℕ → Type 0) (test : ℕ → Bool) (xs : List ℕ) → AllByRecursion P xs → AllByRecursion P (filter test xs)
 all_filter P test [] all = tt

@@ -16,7 +16,7 @@ use Rattle.core_steps.specs.{Renaming.CanRename, Renaming.CanEnter}
 use Rattle.core_parts.specs.{declared.slot.Slot.Slot}
 use Rattle.core_parts.specs.{declared.hart.HartState.HartState, declared.parts.Parts.Parts}
 use Rattle.core_parts.proofs.{Agreement.Queues.active_op}
-use Rattle.core_steps.proofs.{Steps.Rename.Parts.slot_op}
+use Rattle.core_steps.proofs.{Steps.Rename.Slot.slot_op}
 
 -- ---- Counting
 
