@@ -1,6 +1,6 @@
-//! What the core says of a retirement.
+//! What the core says of a retirement. Memory is read only for what has to look at it.
 
-ghost use Rattle.std.specs.Prelude.{◌≡◌, ℕ, ◌<◌, Option};
+ghost use Rattle.std.specs.Prelude.{◌≡◌, ℕ, ◌<◌, Option, true, false};
 ghost use Rattle.numbers.specs.Sizes.{most_harts};
 ghost use Rattle.smt_model.specs.Bytes.{read};
 ghost use Rattle.smt_model.specs.Effects.{effect_of};
@@ -9,33 +9,78 @@ ghost use Rattle.smt_model.specs.Faults.{checked};
 ghost use Rattle.smt_model.specs.Outcomes.{outcome_of};
 ghost use Rattle.smt_model.specs.Reservations.{holds_word};
 ghost use Rattle.shared_memory.specs.Contents.{byte_of, reserved_of};
+ghost use Rattle.load_store.specs.Looks.{keeps_first, first_effect};
+ghost use Rattle.load_store.specs.Queues.{queues_of};
 
-use events::{Effect, Next, Outcome};
+use crate::queues::LoadStore;
+use events::{Effect, Next, Outcome, Seq};
 use rv_execute::{Computed, effect_of, last_effect};
 use rv_instr::Op;
 use shared_memory::{Memory, fault, read};
 
-/// What the hart's instruction does that retires with this outcome, by memory and reservations as
-/// they are now; for a load this is its second look.
+/// What the hart's instruction `seq` does that retires with this outcome: a load that nothing has
+/// touched since its first look what it said as it completed, with no look at memory, and any other
+/// instruction what memory and reservations make of it as they are now; for a load this is its
+/// second look.
 #[inline(always)]
-pub fn effect(memory: &Memory, hart: u8, op: Op, outcome: Outcome) -> Effect
+pub fn effect(
+    memory: &Memory,
+    accesses: &LoadStore,
+    hart: u8,
+    seq: Seq,
+    op: Op,
+    outcome: Outcome,
+) -> Effect
+    requires { hart < most_harts }
+    ensures first { keeps_first op seq (queues_of accesses.now hart).loads ≡ true
+        → result ≡ first_effect outcome }
+    ensures now { keeps_first op seq (queues_of accesses.now hart).loads ≡ false
+        → (c : ComputedView) (look : Option ℕ)
+        → outcome ≡ outcome_of op (checked memory.now.image op c) look
+        → result ≡ effect_of op (checked memory.now.image op c)
+        (read op (byte_of memory.now) c.addr) (holds_word (reserved_of memory.now hart) c.addr) }
+{
+    if keeps_first(accesses, hart, seq, op) {
+        return first_effect(outcome);
+    }
+    effect_by_memory(memory, hart, op, outcome)
+}
+
+/// Whether the instruction is a load that doesn't have to look again.
+fn keeps_first(accesses: &LoadStore, hart: u8, seq: Seq, op: Op) -> bool
+    requires { hart < most_harts }
+    ensures { result ≡ keeps_first op seq (queues_of accesses.now hart).loads }
+{
+    op.kind().is_loading() && !accesses.needs_look(hart, seq)
+}
+
+/// What an instruction said as it completed.
+fn first_effect(outcome: Outcome) -> Effect
+    ensures { result ≡ first_effect outcome }
+{
+    Effect {
+        value: outcome.value,
+        out: outcome.out,
+        ..last_effect(outcome.next)
+    }
+}
+
+/// What the hart's instruction does that retires with this outcome, by memory and reservations as
+/// they are now.
+#[inline(always)]
+fn effect_by_memory(memory: &Memory, hart: u8, op: Op, outcome: Outcome) -> Effect
     requires { hart < most_harts }
     ensures { (c : ComputedView) (look : Option ℕ)
         → outcome ≡ outcome_of op (checked memory.now.image op c) look
         → result ≡ effect_of op (checked memory.now.image op c)
         (read op (byte_of memory.now) c.addr) (holds_word (reserved_of memory.now hart) c.addr) }
 {
-    let only = last_effect(outcome.next);
     let Some(addr) = outcome.addr else {
-        return Effect {
-            value: outcome.value,
-            out: outcome.out,
-            ..only
-        };
+        return first_effect(outcome);
     };
     // The address was checked as the instruction completed, so there is no fault here.
     if fault(memory, op, addr).is_some() {
-        return only;
+        return last_effect(outcome.next);
     }
     let access = access_at(outcome.next, addr, outcome.datum.unwrap_or(0));
     let now = read(memory, op, addr);
