@@ -151,7 +151,7 @@ pub record IsDone (setup : Setup) (past : List Event) (n : ℕ) (x : Effect) : T
   pub next : outcome.next ≡ x.next
   pub next_is : x.next ≡ (computed_at setup past n fetch).next
 
-is_of_own : (past : List Event) (n : ℕ) (f : Fetched) → fetching past n ≡ Some f → is_of past f.hart n ≡ true
+pub is_of_own : (past : List Event) (n : ℕ) (f : Fetched) → fetching past n ≡ Some f → is_of past f.hart n ≡ true
 is_of_own past n f at = let same : (f.hart == f.hart) ≡ true = grind (arith, nat_tests) in rw at same
 
 pub done-at : (setup : Setup) (past : List Event) → is_legal setup past → (actor n : ℕ) (x : Effect)

@@ -15,4 +15,5 @@ pub mod Sequential
 pub mod PlainLaws
 pub mod Executions
 pub mod Writes
+pub mod Untouched
 pub mod Showing

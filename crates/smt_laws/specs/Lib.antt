@@ -1,4 +1,5 @@
 pub mod Histories
+pub mod Untouched
 pub mod Sequential
 pub mod Chain
 pub mod PlainLaws

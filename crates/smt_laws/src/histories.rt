@@ -4,6 +4,9 @@
 ghost use Rattle.smt_laws.specs.Histories.{ClaimedOnce, CommittedHold, FlightsHold, GoesInOrder};
 ghost use Rattle.smt_laws.specs.Histories.{LeavesNothing, MovesByStep, OneOfAKind, ResultsAreRules};
 ghost use Rattle.smt_laws.specs.Histories.{SourcesAreClaimed, SourcesStay, ValuesStay};
+ghost use Rattle.smt_laws.specs.Untouched.{CompletionsAreUntouched, LoadsOfNothingKeep};
+ghost use Rattle.smt_laws.specs.Untouched.{LooksAreOfLoads, SharesWhereOneIs, UntouchedLoadsKeep};
+ghost use Rattle.smt_laws.specs.Untouched.{UntouchedLoadsReadTheSame};
 
 /// Each instruction moves by eight steps alone (fetched, decoded, renamed, issued, completed,
 /// retired or halted, and squashed while it is live), and has at most one event of each kind.
@@ -42,4 +45,21 @@ pub fn values_stay()
 /// What a completed instruction said is what the rules compute of its operands.
 pub fn results_are_rules()
     ensures says { ResultsAreRules }
+{}
+
+/// A load whose bytes no retirement has written since its completion finds in memory, as it
+/// retires, the number that its first look gave: it retires with what its completion said. So does
+/// one that gives no register a number.
+pub fn untouched_loads_keep()
+    ensures same { UntouchedLoadsReadTheSame }
+    ensures keep { UntouchedLoadsKeep }
+    ensures nothing { LoadsOfNothingKeep }
+{}
+
+/// What touches an access is a write that shares an address with it, after its completion; and no
+/// more loads look again than retire.
+pub fn touched_loads_look_again()
+    ensures shares { SharesWhereOneIs }
+    ensures fresh { CompletionsAreUntouched }
+    ensures least { LooksAreOfLoads }
 {}

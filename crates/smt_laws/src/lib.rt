@@ -2,7 +2,7 @@
 //! the plain machine, one instruction at a time.
 //!
 //! There is no code here. The statements stand in `specs`, to be read in this order: `Histories`,
-//! `Sequential`, `Chain`, `Execution`, `Shown`, `Scripts`, `PlainLaws`. `account` is the type of what a
+//! `Untouched`, `Sequential`, `Chain`, `Execution`, `Shown`, `Scripts`, `PlainLaws`. `account` is the type of what a
 //! history comes to: who prints one knows the laws and no core.
 #![tactic(auto)]
 

@@ -159,7 +159,7 @@ completed-now setup past legal actor n outcome ok =
     }
 
 -- What is completed now was completed before, or completes now.
-completes : (setup : Setup) (past : List Event) → is_legal setup past → (e : Event)
+pub completes : (setup : Setup) (past : List Event) → is_legal setup past → (e : Event)
     → refused setup past e ≡ None → (s : ℕ)
     → stage (fate (e ∷ past) s) ≡ 5 → (resulting e s ≡ None) → stage (fate past s) ≡ 5
 completes setup past legal (Fetch actor hart n pc word predicted) ok s now quiet = grind (arith, nat_tests)
