@@ -1,9 +1,7 @@
--- What a step leaves of the agreement of the parts with the picture, part by part.
+-- The agreement of the parts with the picture, part by part: at the beginning, and after a change.
 pub mod Harts
 pub mod Rest
 pub mod Shared
-pub mod Filled
-pub mod Fill
 pub mod Accesses
 pub mod Checkpoints
 pub mod Queues

@@ -1,3 +1,3 @@
 pub mod Agreement
 pub mod Listing
-pub mod Steps
+pub mod Squashing

@@ -8,12 +8,12 @@ use Rattle.rv_instr.specs.{Decode.op_of_word, declared.op.Op.Op}
 use Rattle.free_list.specs.Flags.{holds}
 use Rattle.issue_queue.specs.{Queue.Queue, declared.entry.Entry.Entry, declared.entry.Source.Source}
 use Rattle.issue_queue.specs.{declared.entry.Source.TheVariants.Value}
-use Rattle.issue_queue.specs.{declared.entry.Source.TheVariants.Waits, Entry.woken_source}
+use Rattle.issue_queue.specs.{declared.entry.Source.TheVariants.Waits}
 use Rattle.rename_map.specs.Maps.{lookup, committed_of}
 use Rattle.retire_squash.specs.{declared.active.Active.Active, declared.active.Stage.Stage}
 use Rattle.retire_squash.specs.declared.active.Stage.TheVariants as stage
 use Rattle.smt_model.specs.{Kinds.destination, Kinds.first_source, Kinds.second_source}
-use Rattle.smt_model.specs.{Picture.Picture, Steps.filled_value}
+use Rattle.smt_model.specs.{Picture.Picture}
 use Rattle.smt_model.specs.Fates.{Fetched, Renamed, Issued, Completed}
 use Rattle.core_parts.specs.{Accesses.AccessesAgree, Accesses.MemoryAgrees}
 use Rattle.core_parts.specs.Checkpoints.{CheckpointsAgree}
@@ -138,28 +138,3 @@ pub record KeepsSizes (old new : Parts) : Type 0 where
   pub harts : length new.harts.items ≡ length old.harts.items
   pub queue : new.queue.size ≡ old.queue.size
   pub image : new.memory.image ≡ old.memory.image
-
--- An entry's source once register `register` has been given the number `filled`, if any.
-abbrev pub filled_source : Option ℕ → Option ℕ → Source → Source
-filled_source None filled source = source
-filled_source (Some register) None source = source
-filled_source (Some register) (Some number) source = woken_source register number source
-
-abbrev pub filled_entry : Option ℕ → Option ℕ → Entry → Entry
-filled_entry register filled e =
-    record e { sources = map (filled_source register filled) e.sources }
-
--- A number has been given to a register and to the entries that wait for it; nothing else has
--- changed.
-pub record IsFilled (register filled : Option ℕ) (old new : Parts) : Type 0 where
-  pub harts : new.harts ≡ old.harts
-  pub queue : new.queue
-      ≡ record old.queue { entries = map (filled_entry register filled) old.queue.entries }
-  pub free : new.free ≡ old.free
-  pub count : length new.values ≡ length old.values
-  pub values : (x : ℕ) (d : Option ℕ) → x < length old.values
-      → slice_index_or new.values x d ≡ filled_value register filled x
-      (slice_index_or old.values x d)
-  pub jobs : new.jobs ≡ old.jobs
-  pub accesses : new.accesses ≡ old.accesses
-  pub memory : new.memory ≡ old.memory

@@ -1,14 +1,12 @@
 -- The checkpoints of each hart: of which instructions its maps are kept, and what these are.
-use Rattle.std.specs.Prelude.{◌≡◌, ℕ, ◌<◌, ◌==◌, ◌&&◌, Bool, true, false, not, nat_lt, List, length}
-use Rattle.std.specs.Prelude.{slice_index_or, if◌then◌else◌}
+use Rattle.std.specs.Prelude.{◌≡◌, ℕ, ◌<◌, ◌==◌, ◌&&◌, Bool, true, false, not, List, length}
+use Rattle.std.specs.Prelude.{slice_index_or}
 use Rattle.std.specs.List.{AllByRecursion, list_any}
 use Rattle.rv_instr.specs.{declared.op.Op.Op, declared.op.Op.TheVariants.Known}
 use Rattle.rv_instr.specs.declared.instr.Instr.TheVariants.{Jal, Jalr, Branch}
-use Rattle.rename_map.specs.Maps.{Maps, Checkpoint, KeepsToo, kept_of, committed_of}
-use Rattle.rename_map.specs.Maps.{most_checkpoints, released}
+use Rattle.rename_map.specs.Maps.{Maps, Checkpoint, kept_of, committed_of}
 use Rattle.retire_squash.specs.{declared.active.Active.Active, declared.active.Stage.Stage}
 use Rattle.retire_squash.specs.declared.active.Stage.TheVariants as stage
-use Rattle.smt_model.specs.{Picture.Picture, Steps.youngest, Steps.up_to}
 use Rattle.core_parts.specs.Squash.{older, mapped_by}
 use Rattle.core_parts.specs.declared.hart.HartState.{HartState}
 
@@ -46,31 +44,3 @@ HasCheckpoints x = AreCheckpoints x.active x.maps
 abbrev pub CheckpointsAgree : List HartState → Type 0
 CheckpointsAgree harts =
     (h : ℕ) (d : HartState) → h < length harts → HasCheckpoints (slice_index_or harts h d)
-
--- ---- What the steps make of them
-
--- The map of now is kept too, where this is so.
-abbrev pub KeepsWhere : Bool → Checkpoint → List Checkpoint → List Checkpoint → Type 0
-KeepsWhere true k old new = KeepsToo k old new
-KeepsWhere false k old new = new ≡ old
-
--- A renamed instruction's map is kept where it is a branch, JAL or JALR and fewer than 8 are kept.
-abbrev pub is_kept : Op → List Checkpoint → Bool
-is_kept op kept = is_control_transfer op && nat_lt (length kept) most_checkpoints
-
--- A completed instruction's map is released; none but a branch, JAL or JALR has one.
-abbrev pub released_by : Op → ℕ → List Checkpoint → List Checkpoint
-released_by op seq kept = if is_control_transfer op then released seq kept else kept
-
--- ---- A hart's map that is restored before its younger instructions are squashed
-
--- The picture with this map of hart h; or as it is. And the map that a squash behind number n makes.
-abbrev pub with_map : (ℕ → ℕ) → Picture → ℕ → Picture
-with_map map p h = record p { mapped = λ g r. if g == h then map r else p.mapped g r }
-
-abbrev pub with_map_if : Bool → (ℕ → ℕ) → Picture → ℕ → Picture
-with_map_if true map p h = with_map map p h
-with_map_if false map p h = p
-
-abbrev pub map_behind : Picture → ℕ → ℕ → ℕ → ℕ
-map_behind p h n r = youngest p r (up_to n (p.flight h)) (p.committed h r)

@@ -1,13 +1,7 @@
 pub mod Accesses
 pub mod Agree
 pub mod Checkpoints
-pub mod Complete
-pub mod Decode
-pub mod Fetch
 pub mod First
-pub mod Issuing
 pub mod Listed
 pub mod Place
-pub mod Renaming
-pub mod Retirement
 pub mod Squash

@@ -1,6 +1,5 @@
-ghost use Rattle.std.specs.Prelude.{◌≡◌, ◌<◌};
+ghost use Rattle.std.specs.Prelude.{◌<◌};
 ghost use Rattle.numbers.specs.Sizes.{most_harts};
-ghost use Rattle.core_parts.specs.Fetch.{has_room};
 ghost use Rattle.core_parts.specs.First.{IsNew};
 
 use crate::slot::Slot;
@@ -42,12 +41,5 @@ impl HartState {
             fetch_pc: entry,
             status: Status::Going,
         }
-    }
-
-    /// Whether the hart may be fetched: it is going and its decode latch has room.
-    pub(crate) fn may_fetch(&self) -> bool
-        ensures { result ≡ has_room self.now }
-    {
-        matches!(self.status, Status::Going) && !self.decode_latch.is_full()
     }
 }

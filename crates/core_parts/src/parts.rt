@@ -1,10 +1,9 @@
-ghost use Rattle.std.specs.Prelude.{◌≡◌, ℕ, ◌<◌, ◌≤◌, ◌==◌, ◌||◌, Bool, false, List, Option, Some};
-ghost use Rattle.std.specs.Prelude.{None, length, IfOk, IfSome, slice_index_or, slice_set};
+ghost use Rattle.std.specs.Prelude.{◌≡◌, ℕ, ◌<◌, ◌≤◌, ◌||◌, false, Option, Some};
+ghost use Rattle.std.specs.Prelude.{None, length, is_some, count_by, IfOk, IfSome, slice_index_or};
 ghost use Rattle.numbers.specs.Sizes.{most_harts, most_extra, most_queued, most_registers};
 ghost use Rattle.free_list.specs.Flags.{holds};
 ghost use Rattle.smt_model.specs.Basics.{same_number};
 ghost use Rattle.smt_model.specs.Setup.{first_number};
-ghost use Rattle.core_parts.specs.Agree.{IsFilled};
 ghost use Rattle.core_parts.specs.First.{BeginsAs, first_values};
 ghost use Rattle.core_parts.specs.Listed.{listed};
 
@@ -71,20 +70,6 @@ impl Parts {
             memory: Memory::new(image, alloc)?,
         })
     }
-
-    /// Puts an instruction's number into its register, if it has both, and hands it to the entries
-    /// that wait for it. A register that is given none holds none.
-    pub(crate) fn fill(&mut self, register: Option<Phys>, value: Option<u32>)
-        ensures { IsFilled register value self.old self.new }
-    {
-        let Some(register) = register else {
-            return;
-        };
-        set_value(&mut self.values, register, value);
-        if let Some(value) = value {
-            self.queue.wake(register, value);
-        }
-    }
 }
 
 /// Writes what hart `hart`'s registers 1 to 31 hold at the start: x10 its number, x11 how many
@@ -122,29 +107,8 @@ pub fn value_of(values: &[Option<u32>; MOST_REGISTERS], register: Phys) -> Optio
     }
 }
 
-/// Puts a number into a physical register, or takes it away. There is no register from
-/// `MOST_REGISTERS` on, and then nothing changes.
-fn set_value(values: &mut [Option<u32>; MOST_REGISTERS], register: Phys, value: Option<u32>)
-    ensures { values.new ≡ slice_set values.old register value }
-{
-    let place = usize::from(register);
-    if place < MOST_REGISTERS {
-        values[place] = value;
-    }
-}
-
-/// Gives an actor a job, or takes it away. There is no actor from `MOST_ACTORS` on, and then
-/// nothing changes.
-pub(crate) fn set_job(jobs: &mut [Option<OpenJob>; MOST_ACTORS], actor: usize, job: Option<OpenJob>)
-    ensures { jobs.new ≡ slice_set jobs.old actor job }
-{
-    if actor < MOST_ACTORS {
-        jobs[actor] = job;
-    }
-}
-
 /// Puts an instruction's register back among the free ones.
-pub(crate) fn give_back(free: &mut FreeList, register: Option<Phys>)
+pub fn give_back(free: &mut FreeList, register: Option<Phys>)
     requires { IfSome register (λ r. (r < most_registers) × (holds free.old r ≡ false)) }
     ensures { (x : ℕ) → holds free.new x ≡ (holds free.old x || same_number register (Some x)) }
 {
@@ -164,4 +128,17 @@ pub fn registers_in(free: &FreeList) -> ArrayVec<Phys, MOST_REGISTERS>
         }
     }
     registers
+}
+
+/// How many of the actors' jobs are open.
+pub fn count_jobs(jobs: &[Option<OpenJob>]) -> usize
+    ensures { result ≡ count_by is_some jobs.now }
+{
+    let mut count = 0;
+    for job in jobs {
+        if job.is_some() {
+            count += 1;
+        }
+    }
+    count
 }

@@ -24,7 +24,7 @@ impl Parts {
     /// longer kept, and its map and counter are what the older ones make them. The map is made
     /// again, but where it was restored.
     #[inline(never)]
-    pub(crate) fn squash(&mut self, hart: u8, after: Seq, restored: bool)
+    pub fn squash(&mut self, hart: u8, after: Seq, restored: bool)
         requires step { From self.old hart (λ p q. Squashes p q hart after restored) }
         ensures agrees { (p q : Picture) → PartsAgree p self.old
             → Squashes p q hart after restored → PartsAgree q self.new }

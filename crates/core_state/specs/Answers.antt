@@ -7,7 +7,7 @@ use Rattle.exec_units.specs.Job.{JobView}
 use Rattle.smt_model.specs.{Setup.Setup, Kinds.first_source, Kinds.second_source, Registers.operand}
 use Rattle.smt_model.specs.{Rules.refused, Jobs.job, Asks.Ask, Asks.answers, Picture.is_free}
 use Rattle.smt_model.specs.Fates.{Fetched, fetching, fetches, op_of_fetched}
-use Rattle.core_parts.specs.declared.point.FetchPoint.{FetchPoint}
+use Rattle.core_steps.specs.declared.point.FetchPoint.{FetchPoint}
 
 -- No event that answers this ask is allowed.
 abbrev pub AllowsNone : Setup → Ask → List Event → Type 0

@@ -10,7 +10,7 @@ mod refused;
 mod sizes;
 mod state;
 
-pub use core_parts::FetchPoint;
+pub use core_steps::FetchPoint;
 pub use refused::CoreRefused;
 pub use sizes::is_core;
 pub use state::State;

@@ -26,7 +26,9 @@ mod write;
 use crate::log::append;
 use crate::refused::CoreRefused;
 use crate::sizes::is_core;
-use core_parts::{FetchPoint, Parts, choose, unit_of};
+use core_parts::Parts;
+use core_steps::{FetchPoint, choose, completion_of, fetch_slot, handed_back, in_flight};
+use core_steps::{next_to_decode, next_to_issue, next_to_rename, next_to_retire, unit_of};
 use decoded_code::Code;
 use elf_image::Image;
 use events::{Effect, Event, History, Outcome, Record};
@@ -182,7 +184,7 @@ impl State {
         let op = self.code.op_at(point.pc);
         let slot = point.slot(self.fetched, op, predicted);
         let event = point.event(actor, slot.seq, predicted);
-        self.parts.fetch(usize::from(point.hart), slot);
+        fetch_slot(&mut self.parts, usize::from(point.hart), slot);
         self.last = Some(point.hart);
         self.fetched += 1;
         append(&mut self.history, &event);
@@ -205,7 +207,7 @@ impl State {
         if !self.has_actor(actor) {
             return None;
         }
-        let seq = self.parts.next_to_decode(hart)?;
+        let seq = next_to_decode(&self.parts, hart)?;
         Some(self.write_decode(actor, hart, seq))
     }
 
@@ -227,7 +229,7 @@ impl State {
         if !self.has_actor(actor) {
             return None;
         }
-        let (seq, phys) = self.parts.next_to_rename(hart)?;
+        let (seq, phys) = next_to_rename(&self.parts, hart)?;
         Some(self.write_rename(actor, hart, seq, phys))
     }
 
@@ -259,7 +261,7 @@ impl State {
         ensures idle { IfNone result (AllowsNone self.now.setup (AskIssue actor) self.now.past) }
     {
         let kind = unit_of(*self.config.roles.get(usize::from(actor))?)?;
-        self.parts.next_to_issue(actor, kind)
+        next_to_issue(&self.parts, actor, kind)
     }
 
     /// Takes back the job of actor `actor`, worked: a completion, or a drop where the instruction
@@ -275,11 +277,11 @@ impl State {
             (IsStrange self.old.setup self.old.past actor done.now.job) }
         ensures none { IfNone result (self.new ≡ self.old) }
     {
-        let job = self.parts.handed_back(actor, done)?;
-        let Some(active) = self.parts.in_flight(job.hart, job.seq) else {
+        let job = handed_back(&self.parts, actor, done)?;
+        let Some(active) = in_flight(&self.parts, job.hart, job.seq) else {
             return Some(self.drop_job(actor, job.seq));
         };
-        let outcome = self.parts.completion_of(&job, done.outcome());
+        let outcome = completion_of(&self.parts, &job, done.outcome());
         Some(self.finish(actor, job.hart, &active, outcome))
     }
 
@@ -299,7 +301,7 @@ impl State {
         if !self.has_actor(actor) {
             return None;
         }
-        let (active, outcome) = self.parts.next_to_retire(hart)?;
+        let (active, outcome) = next_to_retire(&self.parts, hart)?;
         let effect = effect(&self.parts.memory, hart, active.op, outcome);
         Some(self.write_retire(actor, hart, &active, effect))
     }

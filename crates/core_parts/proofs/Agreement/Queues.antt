@@ -1,5 +1,5 @@
 -- The queues of all harts, and memory, after a step of one hart.
-use Rattle.std.specs.Prelude.{◌≡◌, ◌≢◌, ℕ, ◌<◌, ◌==◌, true, false, List, [], ◌∷◌, length, map, filter, None}
+use Rattle.std.specs.Prelude.{◌≡◌, ◌≢◌, ℕ, ◌<◌, ◌==◌, true, false, List, [], ◌∷◌, length, map, filter}
 use Rattle.std.specs.Prelude.{slice_index_or, slice_set}
 use Rattle.std.specs.List.{AllByRecursion}
 use Rattle.std.proofs.Common.{◌∙◌, refl, sym, ap, inl, inr, arith}
@@ -15,7 +15,6 @@ use Rattle.core_parts.specs.Accesses.{AccessesAgree, MemoryAgrees, accesses_of, 
 use Rattle.core_parts.specs.Accesses.{is_load_in, is_store_in, store_of, store_in, write_at, write_in}
 use Rattle.core_parts.specs.Agree.{HartAgrees, IsActive, IsStage}
 use Rattle.core_parts.specs.declared.hart.HartState.{HartState}
-use Rattle.core_parts.proofs.Agreement.Accesses.{IsOpen}
 
 -- ---- The queues
 
@@ -111,25 +110,6 @@ stores_are p h (x ∷ xs) all =
           ∙ ap (λ ns. store_in p x.seq ∷ ns) (stores_are p h xs all.1))
       | inr f ↦ let none : is_store_in p x.seq ≡ false = rw same f in rw (f, none) (stores_are p h xs all.1)
     ]
-
--- One that hasn't completed isn't resolved.
-open_at : (p : Picture) (s : ℕ) (op : Op) (at : Stage) → IsStage p s at → (p.fate s ≡ Completed → ⊥)
-    → write_at op at ≡ None
-open_at p s op stage.Renamed is never = refl
-open_at p s op stage.Issued is never = refl
-open_at p s op (stage.Completed outcome) is never = absurd (never is.0)
-
-pub opens : (p : Picture) (h n : ℕ) (op : Op) → op_in p n ≡ op → (p.fate n ≡ Completed → ⊥) → (xs : List Active)
-    → AllByRecursion (IsActive p h) xs → AllByRecursion (IsOpen n op) xs
-opens p h n op same never [] all = tt
-opens p h n op same never (x ∷ xs) all = (
-  λ own.
-      let number : x.seq ≡ n = grind (arith, nat_tests) in (
-        sym (active_op p h x all.0) ∙ (ap (op_in p) number ∙ same),
-        open_at p x.seq x.op x.stage all.0.stage (λ done. never (ap p.fate (sym number) ∙ done)),
-      ),
-  opens p h n op same never xs all.1,
-)
 
 -- The queues of a hart are the loads and the stores of its flight.
 pub queues_are : (p : Picture) (h : ℕ) (x : HartState) → HartAgrees p h x → accesses_of x.active ≡ queues_in p h

@@ -15,7 +15,7 @@ use Rattle.smt_model.specs.{Jobs.is_actor, Jobs.job, Setup.Setup}
 use Rattle.smt_model.specs.Fates.{Fate, fate, fetching, is, is_in_flight, is_of, Squashed}
 use Rattle.smt_model.specs.Rules.{first_failing, refused, of_fetched, outcome_now}
 use Rattle.core_parts.specs.Agree.{IsActive, PartsAgree}
-use Rattle.core_parts.specs.{Complete.IsSameJob}
+use Rattle.core_steps.specs.{Complete.IsSameJob}
 use Rattle.core_state.specs.{Refusals.HasInFlight, Refusals.IsJobWith, Refusals.open_view}
 use Rattle.core_state.specs.{State.IsCore, State.view_of, View.CoreView}
 use Rattle.core_parts.specs.{declared.slot.OpenJob.OpenJob}

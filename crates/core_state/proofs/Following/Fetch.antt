@@ -9,7 +9,7 @@ use Rattle.smt_model.specs.Rules.{first_failing, refused}
 use Rattle.smt_laws.proofs.Fates.Choosing.{chosen}
 use Rattle.smt_model.proofs.Fates.Moves.{same_number-is}
 use Rattle.smt_model.proofs.Fates.Moves.{fetch_number}
-use Rattle.core_parts.specs.{Fetch.next_hart, declared.point.FetchPoint.FetchPoint}
+use Rattle.core_steps.specs.{Fetch.next_hart, declared.point.FetchPoint.FetchPoint}
 use Rattle.core_state.specs.{Answers.fetched_at}
 use Rattle.core_state.specs.{State.IsCore, State.past_of, State.setup_in, State.view_of}
 use Rattle.core_state.specs.{View.CoreView, declared.state.State.TheInside.Inside}

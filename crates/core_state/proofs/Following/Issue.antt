@@ -15,12 +15,13 @@ use Rattle.smt_model.specs.Flights.{queue, all_numbers}
 use Rattle.smt_model.specs.Rules.{first_failing, refused, is_for, is_oldest_ready, is_legal}
 use Rattle.smt_model.proofs.{Lists.member, Lists.filter-member, Fates.Numbers.all_numbers-member}
 use Rattle.smt_model.proofs.{Fates.Numbers.known_below, Fates.Moves.stage_of}
-use Rattle.core_parts.specs.{Agree.IsEntry, Issuing.suits}
+use Rattle.core_parts.specs.{Agree.IsEntry}
+use Rattle.core_steps.specs.{Issuing.suits}
 use Rattle.core_state.specs.{Refusals.idle_unit, Refusals.IsEntryOf}
 use Rattle.core_state.proofs.Following.Place.{found, missing}
 use Rattle.core_state.proofs.Following.Tests.{refused-is, holds, fails}
 use Rattle.core_state.proofs.Steps.Asked.{some_of}
-use Rattle.core_parts.proofs.Steps.Issue.Next.{ready_known, suits_known}
+use Rattle.core_steps.proofs.Steps.Issue.Next.{ready_known, suits_known}
 use Rattle.core_state.proofs.Steps.Issue.Rules.{issue_unit, issue_can}
 
 -- ---- The entry

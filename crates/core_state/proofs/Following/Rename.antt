@@ -16,7 +16,7 @@ use Rattle.core_state.specs.Refusals.{is_free_or_none}
 use Rattle.core_parts.specs.declared.parts.Parts.{Parts}
 use Rattle.core_parts.specs.declared.slot.Slot.{Slot}
 use Rattle.core_state.proofs.Following.Tests.{refused-is, holds, fails}
-use Rattle.core_parts.proofs.Steps.Rename.Next.{counted}
+use Rattle.core_steps.proofs.Steps.Rename.Next.{counted}
 
 module _ (setup : Setup) (past : List Event) (actor s : ℕ) (taken : Option ℕ) where
   abbrev oldest : Bool

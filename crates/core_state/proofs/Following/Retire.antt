@@ -11,7 +11,8 @@ use Rattle.smt_model.specs.{Jobs.is_actor, Setup.Setup, Picture.Picture, Picture
 use Rattle.smt_model.specs.Fates.{Fate, fate, fetching, is, is_in_flight, Completed}
 use Rattle.smt_model.specs.Rules.{first_failing, refused, is_first, of_fetched, effect_now}
 use Rattle.smt_model.proofs.{Fates.Numbers.at_hart, Fates.Moves.same_number-is}
-use Rattle.core_parts.specs.{Agree.HartAgrees, Agree.IsActive, Agree.IsStage, Retirement.CanRetire}
+use Rattle.core_parts.specs.{Agree.HartAgrees, Agree.IsActive, Agree.IsStage}
+use Rattle.core_steps.specs.{Retirement.CanRetire}
 use Rattle.core_parts.specs.Place.{InActiveList}
 use Rattle.core_state.specs.{Refusals.outcome_at}
 use Rattle.core_state.specs.{State.IsCore, State.view_of, View.CoreView}

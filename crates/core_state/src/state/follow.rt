@@ -13,7 +13,7 @@ ghost use Rattle.core_state.specs.Refusals.{HasInFlight};
 ghost use Rattle.core_state.specs.View.{CoreView, grown};
 
 use super::State;
-use core_parts::FetchPoint;
+use core_steps::{FetchPoint, in_flight};
 use events::{Effect, Event, Outcome};
 use numbers::{Phys, Seq};
 use retire_squash::Active;
@@ -180,7 +180,7 @@ impl State {
         ensures number { result.seq ≡ seq }
         ensures active { IsActive (picture self.now.setup self.now.past) hart result }
     {
-        let Some(active) = self.parts.in_flight(hart, seq) else {
+        let Some(active) = in_flight(&self.parts, hart, seq) else {
             unreachable!();
         };
         active

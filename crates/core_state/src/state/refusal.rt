@@ -16,7 +16,8 @@ mod retire;
 mod same;
 
 use super::State;
-use core_parts::{FetchPoint, HartState, Slot};
+use core_parts::{HartState, Slot};
+use core_steps::FetchPoint;
 use events::Event;
 use numbers::Seq;
 use retire_squash::Active;

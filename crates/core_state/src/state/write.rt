@@ -13,6 +13,7 @@ ghost use Rattle.core_state.specs.View.{CoreView, grown};
 
 use super::State;
 use crate::log::{append, put_out};
+use core_steps::{decode_oldest, drop_job, finish, issue_entry, rename_oldest, retire_oldest};
 use events::{Effect, Event, Outcome, Record};
 use exec_units::Job;
 use issue_queue::Entry;
@@ -29,7 +30,7 @@ impl State {
         ensures event { result ≡ Decode actor seq }
         ensures made { self.new ≡ grown result self.old }
     {
-        self.parts.decode(hart);
+        decode_oldest(&mut self.parts, hart);
         let event = Event::Decode { actor, seq };
         append(&mut self.history, &event);
         event
@@ -51,7 +52,7 @@ impl State {
         ensures event { result ≡ Rename actor seq phys }
         ensures made { self.new ≡ grown result self.old }
     {
-        self.parts.rename(hart, phys);
+        rename_oldest(&mut self.parts, hart, phys);
         let event = Event::Rename { actor, seq, phys };
         append(&mut self.history, &event);
         event
@@ -67,7 +68,7 @@ impl State {
         ensures made { self.new ≡ grown result.1 self.old }
         ensures job { IsJobOf self.new.setup self.new.past actor result.0 }
     {
-        let job = self.parts.issue(actor, entry);
+        let job = issue_entry(&mut self.parts, actor, entry);
         let event = Event::Issue {
             actor,
             seq: entry.seq,
@@ -86,7 +87,7 @@ impl State {
         ensures event { result ≡ Complete actor active.now.seq outcome }
         ensures made { self.new ≡ grown result self.old }
     {
-        self.parts.finish(actor, hart, active, &outcome);
+        finish(&mut self.parts, actor, hart, active, &outcome);
         let event = Event::Complete {
             actor,
             seq: active.seq,
@@ -103,7 +104,7 @@ impl State {
         ensures event { result ≡ Event.Drop actor seq }
         ensures made { self.new ≡ grown result self.old }
     {
-        self.parts.drop_job(actor);
+        drop_job(&mut self.parts, actor);
         let event = Event::Drop { actor, seq };
         append(&mut self.history, &event);
         event
@@ -125,7 +126,7 @@ impl State {
         ensures event { result ≡ Retire actor active.now.seq effect }
         ensures made { self.new ≡ grown result self.old }
     {
-        self.parts.retire(hart, active, effect);
+        retire_oldest(&mut self.parts, hart, active, effect);
         self.records.push_reserved(Record {
             hart,
             pc: active.pc,

@@ -1,7 +1,7 @@
 use Rattle.std.proofs.Common.{◌∙◌, sym, ap}
 use Rattle.rename_map.specs.Maps.{renamed_by}
 use Rattle.smt_model.specs.Steps.{renamed_map}
-use Rattle.core_parts.proofs.Steps.Squash.Map.{renamed_by-append}
+use Rattle.core_parts.proofs.Squashing.Map.{renamed_by-append}
 use Rattle.core_parts.proofs.squash.add_renaming.Goals as goal
 
 pub returns-in-1-to-31-Some-clause-renamed : goal.returns-in-1-to-31-Some-clause-renamed

@@ -1,6 +1,6 @@
 use Rattle.std.proofs.Common.{◌∙◌, sym, ap, arith}
 use Rattle.smt_model.specs.Steps.{renamed_map}
-use Rattle.core_parts.proofs.Steps.Squash.Map.{mapped_by_more}
+use Rattle.core_parts.proofs.Squashing.Map.{mapped_by_more}
 use Rattle.core_parts.proofs.squash.renamings_of.Goals as goal
 
 pub loop-one-preserved : goal.loop-one-preserved

@@ -1,5 +1,5 @@
 use Rattle.std.proofs.Common.{◌∙◌, refl}
-use Rattle.core_parts.proofs.Steps.Squash.Registers.{giving_none, giving_requires, giving_more, given_older, given_free}
+use Rattle.core_parts.proofs.Squashing.Registers.{giving_none, giving_requires, giving_more, given_older, given_free}
 use Rattle.core_parts.proofs.squash.squash_behind.Goals as goal
 
 pub loop-young-init : goal.loop-young-init

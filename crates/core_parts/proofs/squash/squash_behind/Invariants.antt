@@ -1,5 +1,5 @@
 use Rattle.std.proofs.Common.{length}
-use Rattle.core_parts.proofs.Steps.Squash.Registers.{IsGiving}
+use Rattle.core_parts.proofs.Squashing.Registers.{IsGiving}
 use Rattle.core_parts.proofs.squash.squash_behind.Given as goal
 
 abbrev pub invariant-loop-young : goal.invariant-loop-young

@@ -17,7 +17,7 @@ use Rattle.smt_model.proofs.{Lists.member, Lists.filter-member, Fates.Numbers.nu
 use Rattle.smt_model.proofs.Fates.Sound.{sound}
 use Rattle.core_parts.specs.Agree.{IsOpenJob, HasOpenJob, JobsAgree}
 use Rattle.core_state.specs.{Answers.IsJobOf, Answers.IsStrange}
-use Rattle.core_parts.specs.{Complete.IsSameJob}
+use Rattle.core_steps.specs.{Complete.IsSameJob}
 use Rattle.core_parts.specs.{declared.slot.OpenJob.OpenJob}
 
 pub member_any : (n : ℕ) (xs : List ℕ) → member n xs ≡ list_any (λ s. s == n) xs

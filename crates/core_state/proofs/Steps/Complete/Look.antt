@@ -12,7 +12,8 @@ use Rattle.smt_model.specs.{Exec.exec, Nexts.is_last, Faults.checked, Outcomes.o
 use Rattle.smt_model.specs.{Picture.picture, Registers.operand, Rules.computed_at, Rules.outcome_now, Rules.is_legal}
 use Rattle.smt_model.specs.Fates.{Fetched, Completed, completion, fate, fetching, op_of_fetched, stage}
 use Rattle.smt_laws.proofs.Registers.Values.{completed-is}
-use Rattle.core_parts.specs.{Agree.IsOpenJob, Complete.IsSameJob, declared.slot.OpenJob.OpenJob}
+use Rattle.core_parts.specs.{Agree.IsOpenJob, declared.slot.OpenJob.OpenJob}
+use Rattle.core_steps.specs.{Complete.IsSameJob}
 
 -- A fault changes no address.
 pub checked-address : (image : ProgramImage) (op : Op) (c : Computed) → (checked image op c).addr ≡ c.addr

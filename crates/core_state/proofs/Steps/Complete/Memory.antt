@@ -9,7 +9,8 @@ use Rattle.smt_model.specs.{Fates.op_of_fetched, Picture.picture, Rules.outcome_
 use Rattle.load_store.specs.{Looks.seen, Queues.queues_of}
 use Rattle.load_store.specs.{Histories.HasMemory, Stores.stores_at}
 use Rattle.load_store.proofs.Forwarding.{sees_first_look}
-use Rattle.core_parts.specs.{Agree.IsOpenJob, Agree.PartsAgree, Complete.IsSameJob}
+use Rattle.core_parts.specs.{Agree.IsOpenJob, Agree.PartsAgree}
+use Rattle.core_steps.specs.{Complete.IsSameJob}
 use Rattle.core_parts.specs.{declared.hart.HartState.HartState, declared.parts.Parts.Parts}
 use Rattle.core_parts.specs.{declared.slot.OpenJob.OpenJob}
 use Rattle.core_parts.proofs.{Agreement.Queues.queues_are}

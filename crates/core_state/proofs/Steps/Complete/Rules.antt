@@ -17,7 +17,8 @@ use Rattle.smt_model.specs.Rules.{outcome_now, refused, is_legal}
 use Rattle.smt_model.proofs.{Allowed.complete_allows, Allowed.drop_allows, Fates.Moves.same_number-self}
 use Rattle.smt_laws.proofs.{Steps.Complete.steps-Complete, Steps.Misprediction.steps-Misprediction}
 use Rattle.smt_model.proofs.Fates.Sound.{sound}
-use Rattle.core_parts.specs.{Agree.IsActive, Agree.IsOpenJob, Complete.IsFinish}
+use Rattle.core_parts.specs.{Agree.IsActive, Agree.IsOpenJob}
+use Rattle.core_steps.specs.{Complete.IsFinish}
 use Rattle.core_parts.specs.{declared.slot.OpenJob.OpenJob}
 use Rattle.core_parts.proofs.Agreement.Harts.{stage_flies}
 

@@ -15,7 +15,7 @@ use Rattle.smt_model.specs.{Picture.picture, Rules.refused, Steps.IsDrop}
 use Rattle.smt_laws.proofs.{Fates.Choosing.hart_there, Steps.Drop.steps-Drop}
 use Rattle.core_parts.specs.Agree.{PartsAgree, KeepsSizes, From, IsActive, IsOpenJob}
 use Rattle.core_state.specs.{Answers.IsJobOf, Answers.IsStrange, View.CoreView}
-use Rattle.core_parts.specs.{Complete.IsSameJob, Complete.IsFinish}
+use Rattle.core_steps.specs.{Complete.IsSameJob, Complete.IsFinish}
 use Rattle.core_parts.specs.{declared.parts.Parts.Parts, declared.slot.OpenJob.OpenJob}
 use Rattle.core_state.specs.{declared.state.State.TheInside.Inside}
 use Rattle.core_state.specs.State.{IsCore, past_of, setup_in, view_of}

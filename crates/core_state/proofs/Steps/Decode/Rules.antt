@@ -13,7 +13,8 @@ use Rattle.smt_laws.proofs.Fates.Choosing.{hart_there}
 use Rattle.smt_model.proofs.{Lists.first-member, Lists.member-filter, Fates.Moves.same_number-is, Fates.Numbers.at_hart}
 use Rattle.smt_model.proofs.Fates.Numbers.{numbers-of}
 use Rattle.smt_laws.proofs.Steps.Decode.{steps-Decode}
-use Rattle.core_parts.specs.{Agree.PartsAgree, Agree.From, Decode.CanDecode, Decode.Decodes}
+use Rattle.core_parts.specs.{Agree.PartsAgree, Agree.From}
+use Rattle.core_steps.specs.{Decode.CanDecode, Decode.Decodes}
 use Rattle.core_state.specs.{Answers.AllowsNone}
 use Rattle.core_parts.specs.{declared.parts.Parts.Parts}
 use Rattle.core_state.proofs.Steps.Asked.{some_of, same_self}

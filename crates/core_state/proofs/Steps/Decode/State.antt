@@ -6,7 +6,8 @@ use Rattle.events.specs.{History.EventList, declared.event.Event.Event, declared
 use Rattle.smt_model.specs.{Asks.AskDecode, Asks.answers, Fates.is_of, Picture.Picture, Picture.picture, Rules.refused}
 use Rattle.smt_model.specs.{Jobs.is_actor, Steps.IsDecode}
 use Rattle.smt_laws.proofs.{Steps.Decode.steps-Decode, Fates.Choosing.hart_there}
-use Rattle.core_parts.specs.{Agree.PartsAgree, Agree.From, Agree.KeepsSizes, Decode.CanDecode, Decode.Decodes}
+use Rattle.core_parts.specs.{Agree.PartsAgree, Agree.From, Agree.KeepsSizes}
+use Rattle.core_steps.specs.{Decode.CanDecode, Decode.Decodes}
 use Rattle.core_state.specs.{View.CoreView, declared.state.State.TheInside.Inside}
 use Rattle.core_parts.specs.{declared.parts.Parts.Parts}
 use Rattle.core_state.specs.State.{IsCore, view_of, past_of, setup_in}

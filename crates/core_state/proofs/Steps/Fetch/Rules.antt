@@ -20,8 +20,9 @@ use Rattle.smt_model.proofs.Lists.{member, member-append, member-behind, member-
 use Rattle.core_parts.specs.Agree.{HartAgrees, EachAgrees, PartsAgree, From}
 use Rattle.core_state.specs.{Answers.AllowsNone, Answers.CanFetch}
 use Rattle.core_parts.specs.{declared.hart.HartState.HartState}
-use Rattle.core_parts.specs.{declared.parts.Parts.Parts, declared.point.FetchPoint.FetchPoint, declared.slot.Slot.Slot}
-use Rattle.core_parts.specs.Fetch.{has_room, may_fetch_at, count_at, next_hart, Fetches}
+use Rattle.core_parts.specs.{declared.parts.Parts.Parts, declared.slot.Slot.Slot}
+use Rattle.core_steps.specs.{declared.point.FetchPoint.FetchPoint}
+use Rattle.core_steps.specs.Fetch.{has_room, may_fetch_at, count_at, next_hart, Fetches}
 use Rattle.core_state.proofs.Steps.Asked.{some_of, same_self}
 
 -- ---- The choice over the parts is the history's

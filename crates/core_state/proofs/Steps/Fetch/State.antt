@@ -14,9 +14,10 @@ use Rattle.rv_instr.specs.{Decode.op_of_word, declared.op.Op.Op}
 use Rattle.core_parts.specs.Agree.{HartAgrees, PartsAgree, From, KeepsSizes}
 use Rattle.core_state.specs.{Answers.CanFetch, Answers.fetched_at, View.CoreView}
 use Rattle.core_parts.specs.{declared.hart.HartState.HartState}
-use Rattle.core_parts.specs.{declared.parts.Parts.Parts, declared.point.FetchPoint.FetchPoint, declared.slot.Slot.Slot}
+use Rattle.core_parts.specs.{declared.parts.Parts.Parts, declared.slot.Slot.Slot}
+use Rattle.core_steps.specs.{declared.point.FetchPoint.FetchPoint}
 use Rattle.core_state.specs.{declared.state.State.TheInside.Inside}
-use Rattle.core_parts.specs.Fetch.{next_hart, slot_at, Fetches, fetched_of}
+use Rattle.core_steps.specs.Fetch.{next_hart, slot_at, Fetches, fetched_of}
 use Rattle.core_state.specs.State.{IsCore, view_of, past_of, setup_in}
 use Rattle.core_state.proofs.Steps.Fetch.Rules.{choice-is, fetch_can, fetch_from, CannotFetch}
 use Rattle.core_state.proofs.{Steps.Invariant.core_fetched, Views.Viewed.actor_in, Views.Viewed.short_in}

@@ -15,7 +15,8 @@ use Rattle.smt_model.proofs.{Lists.member, Lists.filter-member, Allowed.issue_al
 use Rattle.smt_model.proofs.{Fates.Moves.fate_at, Fates.Moves.issue_was, Fates.Numbers.known_below}
 use Rattle.smt_model.proofs.Fates.Numbers.{all_numbers-member}
 use Rattle.smt_laws.proofs.Steps.Issue.{steps-Issue}
-use Rattle.core_parts.specs.{Agree.IsEntry, Issuing.CanIssue, Issuing.IsIssuing}
+use Rattle.core_parts.specs.{Agree.IsEntry}
+use Rattle.core_steps.specs.{Issuing.CanIssue, Issuing.IsIssuing}
 
 -- The last rule, for an actor whose unit is known.
 abbrev pub none_before : Setup → List Event → Option UnitKind → ℕ → Bool

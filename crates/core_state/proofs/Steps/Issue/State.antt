@@ -16,13 +16,13 @@ use Rattle.core_parts.specs.Agree.{PartsAgree, IsEntry, IsOpenJob, KeepsSizes, F
 use Rattle.core_state.specs.{Answers.AllowsNone, Answers.IsJobOf, State.IsCore, State.past_of, State.setup_in}
 use Rattle.core_parts.specs.{declared.parts.Parts.Parts}
 use Rattle.core_state.specs.{declared.state.State.TheInside.Inside}
-use Rattle.core_parts.specs.Issuing.{CanIssue, IsIssuing, job_of, open_job_of}
+use Rattle.core_steps.specs.Issuing.{CanIssue, IsIssuing, job_of, open_job_of}
 use Rattle.core_state.specs.{State.view_of, View.CoreView}
 use Rattle.smt_model.proofs.Allowed.{issue_allowed}
 use Rattle.core_state.proofs.{Steps.Invariant.core_grown, Steps.Invariant.quiet_issue}
-use Rattle.core_parts.proofs.{Steps.Issue.Next.ready_known}
+use Rattle.core_steps.proofs.{Steps.Issue.Next.ready_known}
 use Rattle.core_state.proofs.{Steps.Invariant.past_push, Steps.NoAnswer.allows_none, Steps.NoAnswer.core_sizes}
-use Rattle.core_parts.proofs.{Steps.Issue.Parts.job_issued}
+use Rattle.core_steps.proofs.{Steps.Issue.Parts.job_issued}
 use Rattle.core_state.proofs.Steps.Issue.Rules.{issue_may, issue_can, issue_unit, issuing, entry_of_hart}
 
 -- ---- The actor's unit

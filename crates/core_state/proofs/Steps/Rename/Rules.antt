@@ -19,7 +19,7 @@ use Rattle.smt_model.proofs.Fates.Numbers.{numbers-of}
 use Rattle.smt_laws.proofs.{Events.Mapping.mapped-is, Fates.Order.in_order, Registers.Namings.same_truth-is}
 use Rattle.smt_laws.proofs.{Registers.Namings.in_range, Registers.Namings.taken, Fates.Choosing.hart_there}
 use Rattle.smt_laws.proofs.{Steps.RenameMap.mapped_claimed, Steps.Rename.steps-Rename}
-use Rattle.core_parts.specs.Renaming.{CanRename, IsRenaming}
+use Rattle.core_steps.specs.Renaming.{CanRename, IsRenaming}
 
 -- ---- From the picture to the rules
 

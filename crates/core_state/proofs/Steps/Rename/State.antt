@@ -11,7 +11,7 @@ use Rattle.smt_model.proofs.Allowed.{rename_allowed}
 use Rattle.smt_laws.proofs.Fates.Choosing.{hart_there}
 use Rattle.core_parts.specs.{Agree.PartsAgree, Agree.KeepsSizes, Agree.From}
 use Rattle.core_state.specs.{Answers.AllowsNone, Answers.IsLeastFree}
-use Rattle.core_parts.specs.{Renaming.CanRename, Renaming.IsRenaming, Renaming.IsLeastIn}
+use Rattle.core_steps.specs.{Renaming.CanRename, Renaming.IsRenaming, Renaming.IsLeastIn}
 use Rattle.core_state.specs.{State.IsCore, State.past_of}
 use Rattle.core_state.specs.{State.setup_in, declared.state.State.TheInside.Inside}
 use Rattle.core_parts.specs.{declared.parts.Parts.Parts}

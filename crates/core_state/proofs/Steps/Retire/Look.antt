@@ -23,7 +23,7 @@ use Rattle.smt_model.specs.Rules.{computed_at, effect_now, is_first, is_legal, o
 use Rattle.smt_model.proofs.{Allowed.retire_allows, Fates.Moves.same_number-self}
 use Rattle.smt_laws.proofs.Steps.End.{steps-End}
 use Rattle.smt_laws.proofs.{Steps.Retire.steps-Retire, Steps.Replay.steps-Replay}
-use Rattle.core_parts.specs.Retirement.{CanRetire}
+use Rattle.core_steps.specs.Retirement.{CanRetire}
 
 -- ---- What is read of two memories with the same bytes
 

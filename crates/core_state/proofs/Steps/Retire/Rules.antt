@@ -29,7 +29,7 @@ use Rattle.smt_model.proofs.Fates.Moves.{stage_of, fate_at}
 use Rattle.smt_model.proofs.Fates.Numbers.{first_of_hart}
 use Rattle.core_state.specs.Answers.{AllowsNone}
 use Rattle.core_parts.specs.{Agree.IsStage}
-use Rattle.core_parts.specs.Retirement.{CanRetire, NoneCanRetire, IsOldestActive, Retires, first_value, is_replay}
+use Rattle.core_steps.specs.Retirement.{CanRetire, NoneCanRetire, IsOldestActive, Retires, first_value, is_replay}
 use Rattle.core_state.proofs.Steps.Retire.Look.{fetched_of, retires_now, RetiresBy, retires_by_tests}
 
 some_inner : {A : Type 0} → (a b : A) → Some a ≡ Some b → a ≡ b

@@ -22,7 +22,7 @@ use Rattle.core_parts.specs.{Agree.PartsAgree, Agree.KeepsSizes, Agree.From}
 use Rattle.core_state.specs.{Answers.AllowsNone, View.CoreView}
 use Rattle.core_parts.specs.{declared.parts.Parts.Parts}
 use Rattle.core_state.specs.{declared.state.State.TheInside.Inside}
-use Rattle.core_parts.specs.Retirement.{CanRetire, NoneCanRetire, Retires}
+use Rattle.core_steps.specs.Retirement.{CanRetire, NoneCanRetire, Retires}
 use Rattle.core_state.specs.State.{IsCore, past_of, setup_in, view_of}
 use Rattle.retire_squash.specs.declared.active.Stage.{Stage}
 use Rattle.retire_squash.specs.declared.active.Stage.TheVariants as stages

@@ -13,6 +13,7 @@ ghost use Rattle.exec_units.specs.Job.{outcome_of_job};
 use super::same::is_same_outcome;
 use crate::state::State;
 use core_parts::OpenJob;
+use core_steps::{completion_of, in_flight};
 use events::{Event, Outcome};
 use exec_units::{Job, work};
 use numbers::Seq;
@@ -36,10 +37,10 @@ impl State {
         let Some(job) = self.job_with(actor, seq) else {
             return Err(2);
         };
-        if self.parts.in_flight(job.hart, seq).is_none() {
+        if in_flight(&self.parts, job.hart, seq).is_none() {
             return Err(3);
         }
-        let now = self.parts.completion_of(&job, worked(&job));
+        let now = completion_of(&self.parts, &job, worked(&job));
         if !is_same_outcome(outcome, now) {
             return Err(4);
         }
@@ -56,7 +57,7 @@ impl State {
         let Some(job) = self.job_with(actor, seq) else {
             return Some(2);
         };
-        if self.parts.in_flight(job.hart, seq).is_some() {
+        if in_flight(&self.parts, job.hart, seq).is_some() {
             return Some(3);
         }
         None

@@ -7,7 +7,7 @@ ghost use Rattle.smt_model.specs.Rules.{refused};
 use super::first_failing;
 use super::same::is_same_number;
 use crate::state::State;
-use core_parts::{FetchPoint, choose};
+use core_steps::{FetchPoint, choose};
 use numbers::Seq;
 
 impl State {

@@ -11,7 +11,7 @@ ghost use Rattle.core_state.specs.Refusals.{idle_unit, IsEntryOf};
 
 use super::first_failing;
 use crate::state::State;
-use core_parts::unit_of;
+use core_steps::unit_of;
 use issue_queue::{Entry, SlabQueue};
 use numbers::Seq;
 use rv_instr::{Op, UnitKind};

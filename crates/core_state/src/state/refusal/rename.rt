@@ -11,7 +11,7 @@ ghost use Rattle.core_state.specs.Refusals.{is_free_or_none};
 use super::decode::is_oldest;
 use super::first_failing;
 use crate::state::State;
-use core_parts::{loads, stores};
+use core_steps::{loads, stores};
 use numbers::sizes::MOST_ACCESSES;
 use numbers::{Phys, Seq};
 use retire_squash::Active;

@@ -1,6 +1,6 @@
 use Rattle.std.proofs.Common.{refl, ap, subst, ◌≡◌, get_or, slice_set}
 use Rattle.core_parts.proofs.Agreement.Queues.{has_place}
-use Rattle.core_parts.proofs.Steps.Squash.Shared.{parts_squashed, own_registers}
+use Rattle.core_parts.proofs.Squashing.Shared.{parts_squashed, own_registers}
 use Rattle.core_parts.proofs.parts.Parts.squash.Goals as goal
 
 pub squash-requires-2 : goal.squash-requires-2

@@ -1,6 +1,6 @@
 -- The choice over the parts is the history's.
 use Rattle.std.proofs.Common.{◌∙◌, ◌==◌, sym, ap}
-use Rattle.core_parts.specs.Fetch.{next_hart}
+use Rattle.core_steps.specs.Fetch.{next_hart}
 use Rattle.core_state.proofs.Following.Fetch.{chosen_is, some_chosen, none_chosen}
 use Rattle.core_state.proofs.state.State.is_chosen.Goals as goal
 

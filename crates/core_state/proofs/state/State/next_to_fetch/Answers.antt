@@ -2,7 +2,7 @@
 use Rattle.std.proofs.Common.{◌∙◌, sym, subst, ap, arith}
 use Rattle.smt_model.specs.Asks.{AskFetch}
 use Rattle.core_state.specs.{Answers.AllowsNone, State.past_of, State.setup_in, View.CoreView}
-use Rattle.core_parts.specs.{Fetch.next_hart}
+use Rattle.core_steps.specs.{Fetch.next_hart}
 use Rattle.core_state.proofs.{Steps.Fetch.Rules.fetch_idle, Steps.Fetch.State.found_can, Steps.Fetch.State.none_chosen}
 use Rattle.core_state.proofs.state.State.next_to_fetch.Goals as goal
 

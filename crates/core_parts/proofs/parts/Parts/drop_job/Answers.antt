@@ -1,8 +1,0 @@
-use Rattle.std.proofs.Common.{◌∙◌, ap, None, slice_set}
-use Rattle.core_parts.proofs.Steps.Complete.Parts.{parts_dropped}
-use Rattle.core_parts.proofs.parts.Parts.drop_job.Goals as goal
-
-pub returns-clause-agrees : goal.returns-clause-agrees
-returns-clause-agrees c = λ p q n agrees step.
-    parts_dropped p q n c.args.actor c.args.self.now _ agrees step
-    (c.set_job.ensures ∙ ap (λ k. slice_set c.args.self.now.jobs k None) c.from-actor.ensures)

@@ -1,0 +1,9 @@
+pub mod Accesses
+pub mod Checkpoints
+pub mod Complete
+pub mod Decode
+pub mod Fetch
+pub mod Filled
+pub mod Issuing
+pub mod Renaming
+pub mod Retirement

@@ -1,0 +1,60 @@
+//! What the steps do with a hart's loads and stores in flight.
+
+ghost use Rattle.std.specs.Prelude.{◌≡◌, ◌<◌, true, length};
+ghost use Rattle.numbers.specs.Sizes.{most_harts, most_accesses};
+ghost use Rattle.load_store.specs.Queues.{Above, Changes, numbers, queues_of};
+ghost use Rattle.smt_model.specs.Kinds.{kind_of, is_loading, is_storing};
+ghost use Rattle.smt_model.specs.Looks.{stored_by};
+ghost use Rattle.core_steps.specs.Accesses.{with_access, with_write, without_access};
+
+use events::Outcome;
+use load_store::LoadStore;
+use numbers::Seq;
+use rv_execute::access_size;
+use rv_instr::{Kind, Op};
+
+/// Adds an instruction that is renamed, where it is a load or a store.
+pub(crate) fn add_access(accesses: &mut LoadStore, hart: u8, op: Op, seq: Seq)
+    requires hart { hart < most_harts }
+    requires load_room { is_loading (kind_of op) ≡ true
+        → length (queues_of accesses.old hart).loads < most_accesses }
+    requires store_room { is_storing (kind_of op) ≡ true
+        → length (queues_of accesses.old hart).stores < most_accesses }
+    requires load_above { Above seq (queues_of accesses.old hart).loads }
+    requires store_above { Above seq (numbers (queues_of accesses.old hart).stores) }
+    ensures { Changes (with_access op seq) hart accesses.old accesses.new }
+{
+    match op.kind() {
+        Kind::Loading => accesses.add_load(hart, seq),
+        Kind::Storing => accesses.add_store(hart, seq),
+        Kind::Computing | Kind::Reserving | Kind::Conditional | Kind::Atomic => {}
+    }
+}
+
+/// The store of number `seq`, if there is one, will write what its completion names.
+pub(crate) fn resolve_access(accesses: &mut LoadStore, hart: u8, op: Op, seq: Seq, outcome: Outcome)
+    requires { hart < most_harts }
+    ensures { Changes (with_write seq (stored_by op outcome)) hart accesses.old accesses.new }
+{
+    if let Some(addr) = outcome.addr {
+        let datum = outcome.datum.unwrap_or(0);
+        accesses.resolve_store(hart, seq, addr, access_size(op), datum);
+    }
+}
+
+/// Removes the hart's oldest instruction, where it is a load or a store. What a store writes is
+/// written by `commit_access`.
+pub(crate) fn remove_access(accesses: &mut LoadStore, hart: u8, op: Op)
+    requires hart { hart < most_harts }
+    requires load { is_loading (kind_of op) ≡ true
+        → 0 < length (queues_of accesses.old hart).loads }
+    requires store { is_storing (kind_of op) ≡ true
+        → 0 < length (queues_of accesses.old hart).stores }
+    ensures { Changes (without_access op) hart accesses.old accesses.new }
+{
+    match op.kind() {
+        Kind::Loading => accesses.retire_load(hart),
+        Kind::Storing => accesses.drop_store(hart),
+        Kind::Computing | Kind::Reserving | Kind::Conditional | Kind::Atomic => {}
+    }
+}
