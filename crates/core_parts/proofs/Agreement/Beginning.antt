@@ -212,7 +212,7 @@ begins harts extra image x count new queue free registers values actors jobs few
       jobs = λ k d inside. rw (jobs k d inside) refl;
       accesses = record {
         places = omega arith;
-        each = λ h d inside. accesses h ∙ sym (ap accesses_of (new h d inside).active);
+        each = λ h d inside. accesses h ∙ sym (ap (accesses_of (picture setup []).touched) (new h d inside).active);
       };
       memory = record {
         byte = λ addr. memory.bytes addr ∙ ap (λ i. byte_in i addr) (sym same_image);
