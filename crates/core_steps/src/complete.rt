@@ -1,5 +1,5 @@
 ghost use Rattle.std.specs.Prelude.{◌≡◌, ℕ, ◌<◌, ◌==◌, ◌↔◌, IsTrue, IfSome, IfNone, Some, None};
-ghost use Rattle.std.specs.Prelude.{Option, false, length, slice_index_or};
+ghost use Rattle.std.specs.Prelude.{Option, false, length, slice_index_or, slice_set};
 ghost use Rattle.std.specs.List.{list_any};
 ghost use Rattle.numbers.specs.Sizes.{most_harts};
 ghost use Rattle.load_store.specs.Looks.{seen};
@@ -25,6 +25,7 @@ use events::{Next, Outcome};
 use exec_units::{Done, Job};
 use load_store::completion;
 use numbers::Seq;
+use numbers::sizes::MOST_ACTORS;
 use retire_squash::{Active, Stage};
 use rv_instr::Op;
 

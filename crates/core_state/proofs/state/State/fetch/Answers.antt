@@ -12,8 +12,8 @@ slot-slot-requires c =
     op_of_point c.self.inside c.self.invariant c.args.self.now c.self.view_is c.args.actor c.args.point c.args.predicted
     c.op_at-op.result (c.op_at-op.ensures c.self.inside.image c.self.invariant.code) c.requires.allowed
 
-pub fetch-requires-clause-step : goal.fetch-requires-clause-step
-fetch-requires-clause-step c =
+pub fetch_slot-requires-clause-step : goal.fetch_slot-requires-clause-step
+fetch_slot-requires-clause-step c =
     fetch_starts c.self.inside c.self.invariant c.args.self.now c.self.view_is c.args.actor c.args.point
     c.args.predicted c.from.result
     c.slot-slot.result c.from.ensures c.slot-slot.ensures c.requires.room c.requires.allowed
@@ -30,7 +30,7 @@ invariant_of-self c =
     fetch_core c.self.inside c.self.invariant c.args.self.now c.self.view_is c.args.actor c.args.point c.args.predicted
     c.from.result
     c.slot-slot.result c.event-event.result c.from.ensures c.slot-slot.ensures c.event-event.ensures c.requires.allowed
-    c.fetch.new.self c.append.new.history c.fetch.ensures.agrees c.fetch.ensures.sizes c.append.ensures
+    c.fetch_slot.new.parts c.append.new.history c.fetch_slot.ensures.agrees c.fetch_slot.ensures.sizes c.append.ensures
 
 pub returns-clause-event : goal.returns-clause-event
 returns-clause-event c =

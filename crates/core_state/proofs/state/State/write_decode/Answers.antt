@@ -2,8 +2,8 @@
 use Rattle.core_state.proofs.Steps.Decode.State.{decode_starts, decode_core}
 use Rattle.core_state.proofs.state.State.write_decode.Goals as goal
 
-pub decode-requires : goal.decode-requires
-decode-requires c = record {
+pub decode_oldest-requires : goal.decode_oldest-requires
+decode_oldest-requires c = record {
   step = decode_starts c.self.inside c.self.invariant c.args.self.now c.self.view_is c.args.actor c.args.hart c.args.seq
       c.requires.allowed c.requires.of_hart;
 }
@@ -11,4 +11,4 @@ decode-requires c = record {
 pub invariant_of-self : goal.invariant_of-self
 invariant_of-self c =
     decode_core c.self.inside c.self.invariant c.args.self.now c.self.view_is c.args.actor c.args.hart c.args.seq
-    c.requires.allowed c.requires.of_hart _ _ c.decode.ensures.agrees c.decode.ensures.sizes c.append.ensures
+    c.requires.allowed c.requires.of_hart _ _ c.decode_oldest.ensures.agrees c.decode_oldest.ensures.sizes c.append.ensures

@@ -2,8 +2,8 @@
 use Rattle.core_state.proofs.Steps.Retire.State.{finds_next, said_outcome, found_from, write_in_core, core_after}
 use Rattle.core_state.proofs.state.State.write_retire.Goals as goal
 
-pub retire-requires : goal.retire-requires
-retire-requires c =
+pub retire_oldest-requires : goal.retire_oldest-requires
+retire_oldest-requires c =
     let finds = finds_next c.self.inside c.self.invariant c.args.self.now c.self.view_is c.args.actor c.args.hart
     c.args.active.now c.args.effect c.requires.allowed c.requires.active in
     record {
@@ -13,13 +13,13 @@ retire-requires c =
 
 pub invariant_of-self : goal.invariant_of-self
 invariant_of-self c =
-    core_after c.self.inside c.retire.new.self c.push_reserved.new.self c.put_out.new.output c.append.new.history
+    core_after c.self.inside c.retire_oldest.new.parts c.push_reserved.new.self c.put_out.new.output c.append.new.history
     c.args.actor c.args.hart c.args.active.now
     (said_outcome c.self.inside c.self.invariant c.args.self.now c.self.view_is c.args.actor c.args.hart
     c.args.active.now c.args.effect c.requires.allowed c.requires.active)
     c.args.effect c.self.invariant
     (finds_next c.self.inside c.self.invariant c.args.self.now c.self.view_is c.args.actor c.args.hart
     c.args.active.now c.args.effect c.requires.allowed c.requires.active)
-    c.retire.ensures.agrees c.retire.ensures.sizes c.push_reserved.ensures.items
+    c.retire_oldest.ensures.agrees c.retire_oldest.ensures.sizes c.push_reserved.ensures.items
     c.push_reserved.ensures.capacity c.put_out.ensures.items
     c.put_out.ensures.capacity c.append.ensures
