@@ -52,6 +52,8 @@ pub struct State {
     last: Option<u8>,
     /// How many instructions were fetched.
     fetched: Seq,
+    /// How many loads looked again as they retired, since a write had touched them.
+    looks: u32,
     records: Vec<Record>,
     output: Vec<u8>,
     history: History,
@@ -81,6 +83,7 @@ impl Drop for State {
             parts: _,
             last: _,
             fetched: _,
+            looks: _,
             records: _,
             output: _,
             history: _,
@@ -139,6 +142,7 @@ impl State {
             parts,
             last: None,
             fetched: 0,
+            looks: 0,
             records,
             output,
             history,
@@ -302,7 +306,14 @@ impl State {
             return None;
         }
         let (active, outcome) = next_to_retire(&self.parts, hart)?;
-        let effect = effect(&self.parts.memory, hart, active.op, outcome);
+        let effect = effect(
+            &self.parts.memory,
+            &self.parts.accesses,
+            hart,
+            active.seq,
+            active.op,
+            outcome,
+        );
         Some(self.write_retire(actor, hart, &active, effect))
     }
 

@@ -3,8 +3,7 @@
 -- that a write has touched since. [section 3: filtering replays]
 use Rattle.std.specs.Prelude.{ℕ, nat_lt, Bool, not, ◌&&◌, if◌then◌else◌, List, [], ◌∷◌}
 use Rattle.rv_instr.specs.declared.op.Op.{Op}
-use Rattle.events.specs.{declared.effect.Outcome.Outcome, declared.effect.Effect.Effect}
-use Rattle.smt_model.specs.{Bytes.byte_after, Effects.last_effect, Kinds.kind_of, Kinds.is_loading}
+use Rattle.smt_model.specs.{Bytes.byte_after, Kinds.kind_of, Kinds.is_loading}
 use Rattle.shared_memory.specs.Contents.{Contents, byte_of}
 use Rattle.load_store.specs.{Queues.needs_look, declared.load.Load.Load, declared.store.Store.Store}
 
@@ -24,7 +23,3 @@ seen seq stores m addr = overlaid_by seq stores addr (byte_of m addr)
 -- The instruction is a load that nothing has touched since its first look, or that has had none.
 abbrev pub keeps_first : Op → ℕ → List Load → Bool
 keeps_first op seq loads = is_loading (kind_of op) && not (needs_look seq loads)
-
--- It does what it said as it completed.
-abbrev pub first_effect : Outcome → Effect
-first_effect o = record (last_effect o.next) { value = o.value; out = o.out }

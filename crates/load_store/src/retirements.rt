@@ -1,20 +1,21 @@
 //! What the core says of a retirement. Memory is read only for what has to look at it.
 
-ghost use Rattle.std.specs.Prelude.{◌≡◌, ℕ, ◌<◌, Option, true, false};
+ghost use Rattle.std.specs.Prelude.{◌≡◌, ℕ, ◌+◌, ◌<◌, ◌^◌, Option, true, false};
 ghost use Rattle.numbers.specs.Sizes.{most_harts};
 ghost use Rattle.smt_model.specs.Bytes.{read};
-ghost use Rattle.smt_model.specs.Effects.{effect_of};
+ghost use Rattle.smt_model.specs.Effects.{effect_of, last_effect};
 ghost use Rattle.smt_model.specs.Exec.{Computed as ComputedView, just_next};
 ghost use Rattle.smt_model.specs.Faults.{checked};
 ghost use Rattle.smt_model.specs.Outcomes.{outcome_of};
 ghost use Rattle.smt_model.specs.Reservations.{holds_word};
+ghost use Rattle.smt_model.specs.Touched.{gives_loaded, looks_after};
 ghost use Rattle.shared_memory.specs.Contents.{byte_of, reserved_of};
-ghost use Rattle.load_store.specs.Looks.{keeps_first, first_effect};
-ghost use Rattle.load_store.specs.Queues.{queues_of};
+ghost use Rattle.load_store.specs.Looks.{keeps_first};
+ghost use Rattle.load_store.specs.Queues.{needs_look, queues_of};
 
 use crate::queues::LoadStore;
 use events::{Effect, Next, Outcome, Seq};
-use rv_execute::{Computed, effect_of, last_effect};
+use rv_execute::{Computed, effect_of, is_last, last_effect};
 use rv_instr::Op;
 use shared_memory::{Memory, fault, read};
 
@@ -33,7 +34,7 @@ pub fn effect(
 ) -> Effect
     requires { hart < most_harts }
     ensures first { keeps_first op seq (queues_of accesses.now hart).loads ≡ true
-        → result ≡ first_effect outcome }
+        → result ≡ record (last_effect outcome.next) { value = outcome.value } }
     ensures now { keeps_first op seq (queues_of accesses.now hart).loads ≡ false
         → (c : ComputedView) (look : Option ℕ)
         → outcome ≡ outcome_of op (checked memory.now.image op c) look
@@ -41,7 +42,10 @@ pub fn effect(
         (read op (byte_of memory.now) c.addr) (holds_word (reserved_of memory.now hart) c.addr) }
 {
     if keeps_first(accesses, hart, seq, op) {
-        return first_effect(outcome);
+        return Effect {
+            value: outcome.value,
+            ..last_effect(outcome.next)
+        };
     }
     effect_by_memory(memory, hart, op, outcome)
 }
@@ -54,17 +58,6 @@ fn keeps_first(accesses: &LoadStore, hart: u8, seq: Seq, op: Op) -> bool
     op.kind().is_loading() && !accesses.needs_look(hart, seq)
 }
 
-/// What an instruction said as it completed.
-fn first_effect(outcome: Outcome) -> Effect
-    ensures { result ≡ first_effect outcome }
-{
-    Effect {
-        value: outcome.value,
-        out: outcome.out,
-        ..last_effect(outcome.next)
-    }
-}
-
 /// What the hart's instruction does that retires with this outcome, by memory and reservations as
 /// they are now.
 #[inline(always)]
@@ -75,12 +68,17 @@ fn effect_by_memory(memory: &Memory, hart: u8, op: Op, outcome: Outcome) -> Effe
         → result ≡ effect_of op (checked memory.now.image op c)
         (read op (byte_of memory.now) c.addr) (holds_word (reserved_of memory.now hart) c.addr) }
 {
+    let only = last_effect(outcome.next);
     let Some(addr) = outcome.addr else {
-        return first_effect(outcome);
+        return Effect {
+            value: outcome.value,
+            out: outcome.out,
+            ..only
+        };
     };
     // The address was checked as the instruction completed, so there is no fault here.
     if fault(memory, op, addr).is_some() {
-        return last_effect(outcome.next);
+        return only;
     }
     let access = access_at(outcome.next, addr, outcome.datum.unwrap_or(0));
     let now = read(memory, op, addr);
@@ -98,4 +96,33 @@ fn access_at(next: Next, addr: u32, datum: u32) -> Computed
         datum,
         out: None,
     }
+}
+
+/// How many loads have had to look again once the hart's instruction `seq` retires with this
+/// effect, where so many had to before.
+pub fn looks_after(
+    accesses: &LoadStore,
+    hart: u8,
+    seq: Seq,
+    op: Op,
+    effect: &Effect,
+    before: u32,
+) -> u32
+    requires hart { hart < most_harts }
+    requires few { before + 1 < 2 ^ 32 }
+    ensures { result ≡ looks_after op (needs_look seq (queues_of accesses.now hart).loads)
+        effect.now before }
+{
+    if gives_loaded(op, effect) && accesses.needs_look(hart, seq) {
+        before + 1
+    } else {
+        before
+    }
+}
+
+/// Whether it is a load that gives a register its number: its rd isn't x0, and it doesn't stop.
+pub fn gives_loaded(op: Op, effect: &Effect) -> bool
+    ensures { result ≡ gives_loaded op effect.now }
+{
+    (op.kind().is_loading() && op.writes_register()) && !is_last(effect.next)
 }

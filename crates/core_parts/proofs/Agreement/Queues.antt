@@ -8,7 +8,7 @@ use Rattle.std.proofs.{lemmas.List.length-set, lemmas.List.get_or-set_same, lemm
 use Rattle.rv_instr.specs.declared.op.Op.{Op}
 use Rattle.retire_squash.specs.{declared.active.Active.Active, declared.active.Stage.Stage}
 use Rattle.retire_squash.specs.declared.active.Stage.TheVariants as stage
-use Rattle.smt_model.specs.{Fates.Completed, Fates.op_of_fetched, Picture.Picture, Frames.KeepsMemory, Steps.op_in}
+use Rattle.smt_model.specs.{Fates.op_of_fetched, Picture.Picture, Frames.KeepsMemory, Steps.op_in}
 use Rattle.shared_memory.specs.Contents.{Contents}
 use Rattle.load_store.specs.Queues.{Queues, queues_of, Changes}
 use Rattle.core_parts.specs.Accesses.{AccessesAgree, MemoryAgrees, accesses_of, queues_in, is_load, is_store}

@@ -26,7 +26,7 @@ use Rattle.core_steps.proofs.Agreement.Checkpoints.{checkpoints_issued}
 use Rattle.core_steps.proofs.{Agreement.Accesses.accesses_issued}
 use Rattle.core_parts.proofs.{Agreement.Queues.accesses_still}
 use Rattle.core_steps.proofs.{Agreement.Accesses.opens}
-use Rattle.core_parts.proofs.{Agreement.Queues.memory_kept}
+use Rattle.core_parts.proofs.{Agreement.Queues.memory_kept, Agreement.Queues.accesses_kept}
 use Rattle.core_parts.proofs.Agreement.Shared.{waiting_kept, lent_kept, values_kept}
 
 -- ---- The hart's own
@@ -194,7 +194,7 @@ pub parts_issued : (p q : Picture) (x : Parts) (k : ℕ) (e : Entry) (state new 
     × ValuesAgree q x.values
     × (length (slice_set x.jobs k (Some (open_job_of e))) ≡ 16)
     × JobsAgree q (slice_set x.jobs k (Some (open_job_of e)))
-    × AccessesAgree (slice_set x.harts.items e.hart new) x.accesses × MemoryAgrees q x.memory
+    × AccessesAgree q.touched (slice_set x.harts.items e.hart new) x.accesses × MemoryAgrees q x.memory
     × CheckpointsAgree (slice_set x.harts.items e.hart new)
 parts_issued p q x k e state new queue issuing ready actor agrees inside at active count rest queued =
     let step = issuing.step in
@@ -212,8 +212,10 @@ parts_issued p q x k e state new queue issuing ready actor agrees inside at acti
       values_kept p q x.values step.stays.shared.free step.stays.shared.values agrees.values,
       length-set x.jobs k (Some (open_job_of e)) ∙ agrees.actors,
       jobs_issued p q k e x.jobs issuing ready actor agrees.actors agrees.jobs,
-      accesses_still x.harts.items e.hart state new x.accesses inside at
-          (ap accesses_of active ∙ accesses_issued e.seq (op_in p e.seq) state.active unresolved) agrees.accesses,
+      accesses_kept p.touched q.touched (slice_set x.harts.items e.hart new) x.accesses step.stays.shared.memory.touched
+          (accesses_still p.touched x.harts.items e.hart state new x.accesses inside at
+          (ap (accesses_of p.touched) active
+          ∙ accesses_issued p.touched e.seq (op_in p e.seq) state.active unresolved) agrees.accesses),
       memory_kept p q x.memory step.stays.shared.memory agrees.memory,
       checkpoints_set x.harts.items e.hart new inside
           (subst HasCheckpoints (sym rest)

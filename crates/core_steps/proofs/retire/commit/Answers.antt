@@ -45,15 +45,15 @@ returns-clause-agrees c p q agrees commits =
     } in
     parts_committed p q c.args.hart c.args.active.now c.args.effect c.args.pc old c.fill_register.new.parts a y
     c.commit_oldest-replaced.result
-    c.give_back.new.free c.remove_access.new.accesses c.commit_access.new.memory
+    c.give_back.new.free c.remove_access.new.accesses c.touch_accesses.new.accesses c.commit_access.new.memory
     c.requires.step.inside (c.index_mut.ensures.value ∙ ap (λ i. slice_index_or old.harts.items i a) c.from.ensures)
-    c.commit_oldest-replaced.ensures c.remove_access.ensures made c.give_back.ensures
+    c.commit_oldest-replaced.ensures c.remove_access.ensures c.touch_accesses.ensures made c.give_back.ensures
     (subst
     (λ i. IsFilled c.args.active.now.phys c.args.effect.value
     (record old {
       harts = with_item old.harts i y;
       free = c.give_back.new.free;
-      accesses = c.remove_access.new.accesses;
+      accesses = c.touch_accesses.new.accesses;
       memory = c.commit_access.new.memory;
     }) c.fill_register.new.parts)
     c.from.ensures c.fill_register.ensures)

@@ -1,4 +1,5 @@
 use Rattle.std.proofs.Common.{◌≡◌, ℕ, ◌∙◌, ap, None, unwrap_or, rules}
+use Rattle.events.specs.declared.effect.Effect.{Effect}
 use Rattle.smt_model.specs.{Bytes.read, Effects.effect_of, Faults.fault, Faults.checked, Reservations.holds_word}
 use Rattle.shared_memory.specs.Contents.{byte_of, reserved_of}
 use Rattle.load_store.proofs.Retiring.{access_of, keeps, does_there, no_fault}
@@ -7,7 +8,7 @@ use Rattle.load_store.proofs.retirements.effect_by_memory.Goals as goal
 pub returns-in_default : goal.returns-in_default
 returns-in_default c = λ d look is.
     let o = c.args.outcome in
-    c.first_effect.ensures
+    ap (λ (x : Effect). record x { value = o.value; out = o.out }) c.last_effect-only.ensures
     ∙ keeps c.args.op (checked c.args.memory.now.image c.args.op d) look o _ _ is (search rules)
 
 pub returns-then-is_some : goal.returns-then-is_some
