@@ -6,7 +6,7 @@ cd "$(dirname "$0")"
 work=$(mktemp -d)
 trap 'rm -rf "$work"' EXIT
 for program in sort primes search; do
-    riscv64-unknown-elf-gcc -march=rv32im -mabi=ilp32 -std=c11 -O2 -ffreestanding \
+    riscv64-unknown-elf-gcc -march=rv32im -mabi=ilp32 -std=c11 -I ../start -O2 -ffreestanding \
         -fno-tree-loop-distribute-patterns -c -o "$work/$program.o" "$program.c"
     for hart in 0 1 2 3 4 5 6 7; do
         riscv64-unknown-elf-as -march=rv32im -mabi=ilp32 --defsym HART=$hart --defsym HARTS=8 -o "$work/start.o" start_linux.s

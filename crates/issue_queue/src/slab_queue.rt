@@ -20,6 +20,16 @@ use std::marker::Model;
 /// nothing until it is woken: a wake follows the list of those that wait for its register, and the
 /// oldest ready one of a kind stands first in the order of its kind.
 ///
+/// ```text
+/// slab      key 0: number 4, add   key 1: number 9, mul   key 3: number 7, lw
+///           17, waits for 62       waits for 62 twice     80001000, 0
+/// waiting   register 62 > first source of key 1 > second source of key 1 > second source of key 0
+/// ready     alu: none              mul: none              mem: number 7 under key 3
+/// ```
+///
+/// Who has both numbers goes into its kind's order. Entries, lists and orders agree (`IsSound` of
+/// specs/Parts, a sentence for each).
+///
 /// A clause sees the instructions by rising number, and the room.
 #[derive(Drop)]
 pub struct SlabQueue {

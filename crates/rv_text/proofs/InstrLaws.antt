@@ -18,7 +18,8 @@ use Rattle.rv_text.specs.Reading.{◌>>=◌, first_at, next_at, base_at, address
 use Rattle.rv_text.specs.Reading.{upper_operands, jump_operands, branch_operands, memory_operands, immediate_operands}
 use Rattle.rv_text.specs.Reading.{shift_operands, register_operands, load_reserved_operands, atomic_operands, atomic_at}
 use Rattle.rv_text.specs.Reading.{instr_at}
-use Rattle.rv_text.proofs.FieldLaws.{ok_is, IsField, EndsAt, register_is, signed_is, amount_is, upper_is, target_is}
+use Rattle.rv_text.proofs.FieldLaws.{ok_is, IsField, EndsAt, register_is, signed_is, amount_is, upper_is}
+use Rattle.rv_text.proofs.TargetLaws.{target_is}
 use Rattle.rv_text.proofs.RowLaws.{end_at_takes, end_at_again, two_takes, two_again, two_alone_takes, two_alone_again}
 use Rattle.rv_text.proofs.RowLaws.{three_takes, three_again, three_alone_takes, three_alone_again}
 

@@ -1,4 +1,5 @@
 pub mod FieldLaws
+pub mod TargetLaws
 pub mod InstrLaws
 pub mod Names
 pub mod RowLaws

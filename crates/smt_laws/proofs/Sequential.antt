@@ -1,13 +1,13 @@
 -- The headline: the retirements of every legal history are a run of the plain machine, which ends where the history
 -- does.
-use Rattle.std.specs.Prelude.{◌≡◌, ℕ, ◌+◌, ◌-◌, ◌*◌, ◌/◌, ◌%◌, ◌<◌, ◌≤◌, true, nat_lt, if◌then◌else◌, List, [], ◌∷◌}
-use Rattle.std.specs.Prelude.{Option, Some, None}
-use Rattle.std.proofs.Common.{◌∙◌, refl, ap, inl, inr, arith}
+use Rattle.std.specs.Prelude.{◌≡◌, ℕ, ◌+◌, ◌-◌, ◌*◌, ◌/◌, ◌%◌, ◌<◌, ◌≤◌, Bool, true, false, nat_lt, if◌then◌else◌}
+use Rattle.std.specs.Prelude.{List, [], ◌∷◌, map, Option, Some, None}
+use Rattle.std.proofs.Common.{◌∙◌, refl, ap, subst, true≢false, inl, inr, arith}
 use Rattle.std.proofs.{lemmas.Bool.cases_lt, lemmas.Bool.Decides.nat_tests}
 use Rattle.events.specs.{declared.effect.Outcome.Outcome, declared.effect.Effect.Effect, declared.event.Event.Event}
 use Rattle.events.specs.declared.event.Event.TheVariants.{Fetch, Decode, Rename, Issue, Complete, Drop, Retire}
-use Rattle.smt_model.specs.{Setup.Setup, Setup.registers_of, Setup.first_number, Bytes.byte_after, Plain.start}
-use Rattle.smt_model.specs.{Plain.output_after, Fates.stage, Fates.fate, Fates.op_of_fetched, Rules.refused}
+use Rattle.smt_model.specs.{declared.config.Status.Status, Setup.Setup, Setup.registers_of, Setup.first_number, Bytes.byte_after, Plain.start}
+use Rattle.smt_model.specs.{Plain.output_after, Plain.run, Folds.by_retirements, Fates.stage, Fates.fate, Fates.op_of_fetched, Rules.refused}
 use Rattle.smt_model.specs.{Rules.is_legal, Rules.computed_at}
 use Rattle.smt_model.specs.Registers.{committed, value, claims, flight_claims, committed_claims}
 use Rattle.smt_model.proofs.{Fates.Moves.complete_was, Fates.Sound.sound}
@@ -85,6 +85,10 @@ begins setup = record {
 
 -- ---- Each event
 
+abbrev retires : Event → Bool
+retires (Retire actor n x) = true
+retires e = false
+
 is_register : (setup : Setup) (h r : ℕ) → h < setup.harts → 1 ≤ r → r < 32 → IsRegister setup h r
 is_register setup h r there low high = record { hart = there; low = low; high = high }
 
@@ -131,118 +135,32 @@ keeps-Complete setup past legal actor n o ok h r there =
 keeps-Drop : (setup : Setup) (past : List Event) (actor n : ℕ) → Keeps setup past (Drop actor n)
 keeps-Drop setup past actor n h r there = refl
 
-goes-Fetch : (setup : Setup) (past : List Event) → (legal : is_legal setup past) → IsSequential setup past
-    → (actor hart n pc : ℕ) (word : Option ℕ) (predicted : ℕ)
-    → (ok : refused setup past (Fetch actor hart n pc word predicted) ≡ None)
-    → IsSequential setup (Fetch actor hart n pc word predicted ∷ past)
-goes-Fetch setup past legal k actor hart n pc word predicted ok = record {
-  claimed_once = claims-once setup (Fetch actor hart n pc word predicted ∷ past) (ok, legal);
-  claimed_there = claims-there setup (Fetch actor hart n pc word predicted ∷ past) (ok, legal);
-  ran = k.ran;
-  runs = k.runs;
-  records = k.records;
-  registers = λ h r there low high.
-      keeps-Fetch setup past legal actor hart n pc word predicted ok h r (is_register setup h r there low high)
-      ∙ k.registers h r there low high;
-  pcs = k.pcs;
-  statuses = k.statuses;
-  reserved = k.reserved;
-  bytes = k.bytes;
-  output = k.output;
-}
+-- What retirements make of a start is the same after an event that is none, so the history stays a run.
+still : {A : Type 0} (change : ℕ → Effect → List Event → A → A) (first : A) (e : Event) (past : List Event)
+    → retires e ≡ false → by_retirements change first past ≡ by_retirements change first (e ∷ past)
+still change first (Fetch actor hart n pc word predicted) past none = refl
+still change first (Decode actor n) past none = refl
+still change first (Rename actor n register) past none = refl
+still change first (Issue actor n) past none = refl
+still change first (Complete actor n o) past none = refl
+still change first (Drop actor n) past none = refl
+still change first (Retire actor n x) past none = absurd (true≢false none)
 
-goes-Decode : (setup : Setup) (past : List Event) → (legal : is_legal setup past) → IsSequential setup past
-    → (actor n : ℕ)
-    → (ok : refused setup past (Decode actor n) ≡ None) → IsSequential setup (Decode actor n ∷ past)
-goes-Decode setup past legal k actor n ok = record {
-  claimed_once = claims-once setup (Decode actor n ∷ past) (ok, legal);
-  claimed_there = claims-there setup (Decode actor n ∷ past) (ok, legal);
+goes-on : (setup : Setup) (past : List Event) → (legal : is_legal setup past) → IsSequential setup past → (e : Event)
+    → retires e ≡ false → (ok : refused setup past e ≡ None) → Keeps setup past e → IsSequential setup (e ∷ past)
+goes-on setup past legal k e none ok keeps = record {
+  claimed_once = claims-once setup (e ∷ past) (ok, legal);
+  claimed_there = claims-there setup (e ∷ past) (ok, legal);
   ran = k.ran;
-  runs = k.runs;
-  records = k.records;
+  runs = subst (λ newer. run setup (map (λ r. r.hart) newer) ≡ Some k.ran) (still _ _ e past none) k.runs;
+  records = k.records ∙ still _ _ e past none;
   registers = λ h r there low high.
-      keeps-Decode setup past legal actor n ok h r (is_register setup h r there low high)
-      ∙ k.registers h r there low high;
-  pcs = k.pcs;
-  statuses = k.statuses;
-  reserved = k.reserved;
-  bytes = k.bytes;
-  output = k.output;
-}
-
-goes-Rename : (setup : Setup) (past : List Event) → (legal : is_legal setup past) → IsSequential setup past
-    → (actor n : ℕ) (register : Option ℕ)
-    → (ok : refused setup past (Rename actor n register) ≡ None) → IsSequential setup (Rename actor n register ∷ past)
-goes-Rename setup past legal k actor n register ok = record {
-  claimed_once = claims-once setup (Rename actor n register ∷ past) (ok, legal);
-  claimed_there = claims-there setup (Rename actor n register ∷ past) (ok, legal);
-  ran = k.ran;
-  runs = k.runs;
-  records = k.records;
-  registers = λ h r there low high.
-      keeps-Rename setup past legal actor n register ok h r (is_register setup h r there low high)
-      ∙ k.registers h r there low high;
-  pcs = k.pcs;
-  statuses = k.statuses;
-  reserved = k.reserved;
-  bytes = k.bytes;
-  output = k.output;
-}
-
-goes-Issue : (setup : Setup) (past : List Event) → (legal : is_legal setup past) → IsSequential setup past
-    → (actor n : ℕ)
-    → (ok : refused setup past (Issue actor n) ≡ None) → IsSequential setup (Issue actor n ∷ past)
-goes-Issue setup past legal k actor n ok = record {
-  claimed_once = claims-once setup (Issue actor n ∷ past) (ok, legal);
-  claimed_there = claims-there setup (Issue actor n ∷ past) (ok, legal);
-  ran = k.ran;
-  runs = k.runs;
-  records = k.records;
-  registers = λ h r there low high.
-      keeps-Issue setup past legal actor n ok h r (is_register setup h r there low high)
-      ∙ k.registers h r there low high;
-  pcs = k.pcs;
-  statuses = k.statuses;
-  reserved = k.reserved;
-  bytes = k.bytes;
-  output = k.output;
-}
-
-goes-Complete : (setup : Setup) (past : List Event) → (legal : is_legal setup past) → IsSequential setup past
-    → (actor n : ℕ) (o : Outcome)
-    → (ok : refused setup past (Complete actor n o) ≡ None) → IsSequential setup (Complete actor n o ∷ past)
-goes-Complete setup past legal k actor n o ok = record {
-  claimed_once = claims-once setup (Complete actor n o ∷ past) (ok, legal);
-  claimed_there = claims-there setup (Complete actor n o ∷ past) (ok, legal);
-  ran = k.ran;
-  runs = k.runs;
-  records = k.records;
-  registers = λ h r there low high.
-      keeps-Complete setup past legal actor n o ok h r (is_register setup h r there low high)
-      ∙ k.registers h r there low high;
-  pcs = k.pcs;
-  statuses = k.statuses;
-  reserved = k.reserved;
-  bytes = k.bytes;
-  output = k.output;
-}
-
-goes-Drop : (setup : Setup) (past : List Event) → (legal : is_legal setup past) → IsSequential setup past
-    → (actor n : ℕ)
-    → (ok : refused setup past (Drop actor n) ≡ None) → IsSequential setup (Drop actor n ∷ past)
-goes-Drop setup past legal k actor n ok = record {
-  claimed_once = claims-once setup (Drop actor n ∷ past) (ok, legal);
-  claimed_there = claims-there setup (Drop actor n ∷ past) (ok, legal);
-  ran = k.ran;
-  runs = k.runs;
-  records = k.records;
-  registers = λ h r there low high.
-      keeps-Drop setup past actor n h r (is_register setup h r there low high) ∙ k.registers h r there low high;
-  pcs = k.pcs;
-  statuses = k.statuses;
-  reserved = k.reserved;
-  bytes = k.bytes;
-  output = k.output;
+      keeps h r (is_register setup h r there low high) ∙ k.registers h r there low high;
+  pcs = λ h. k.pcs h ∙ ap (λ (pcs : ℕ → ℕ). pcs h) (still _ _ e past none);
+  statuses = λ h. k.statuses h ∙ ap (λ (statuses : ℕ → Status). statuses h) (still _ _ e past none);
+  reserved = λ h. k.reserved h ∙ ap (λ (reserved : ℕ → Option ℕ). reserved h) (still _ _ e past none);
+  bytes = λ a. k.bytes a ∙ ap (λ (bytes : ℕ → ℕ). bytes a) (still _ _ e past none);
+  output = k.output ∙ still _ _ e past none;
 }
 
 -- A retirement is a step.
@@ -273,16 +191,22 @@ goes-Retire setup past legal k actor n x ok =
 pub sequential : EachIsSequential
 sequential setup [] legal = begins setup
 sequential setup (Fetch actor hart n pc word predicted ∷ past) legal =
-    goes-Fetch setup past legal.1 (sequential setup past legal.1) actor hart n pc word predicted legal.0
+    goes-on setup past legal.1 (sequential setup past legal.1) (Fetch actor hart n pc word predicted) refl legal.0
+    (keeps-Fetch setup past legal.1 actor hart n pc word predicted legal.0)
 sequential setup (Decode actor n ∷ past) legal =
-    goes-Decode setup past legal.1 (sequential setup past legal.1) actor n legal.0
+    goes-on setup past legal.1 (sequential setup past legal.1) (Decode actor n) refl legal.0
+    (keeps-Decode setup past legal.1 actor n legal.0)
 sequential setup (Rename actor n register ∷ past) legal =
-    goes-Rename setup past legal.1 (sequential setup past legal.1) actor n register legal.0
+    goes-on setup past legal.1 (sequential setup past legal.1) (Rename actor n register) refl legal.0
+    (keeps-Rename setup past legal.1 actor n register legal.0)
 sequential setup (Issue actor n ∷ past) legal =
-    goes-Issue setup past legal.1 (sequential setup past legal.1) actor n legal.0
+    goes-on setup past legal.1 (sequential setup past legal.1) (Issue actor n) refl legal.0
+    (keeps-Issue setup past legal.1 actor n legal.0)
 sequential setup (Complete actor n o ∷ past) legal =
-    goes-Complete setup past legal.1 (sequential setup past legal.1) actor n o legal.0
+    goes-on setup past legal.1 (sequential setup past legal.1) (Complete actor n o) refl legal.0
+    (keeps-Complete setup past legal.1 actor n o legal.0)
 sequential setup (Drop actor n ∷ past) legal =
-    goes-Drop setup past legal.1 (sequential setup past legal.1) actor n legal.0
+    goes-on setup past legal.1 (sequential setup past legal.1) (Drop actor n) refl legal.0
+    (keeps-Drop setup past actor n)
 sequential setup (Retire actor n x ∷ past) legal =
     goes-Retire setup past legal.1 (sequential setup past legal.1) actor n x legal.0

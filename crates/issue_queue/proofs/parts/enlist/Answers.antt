@@ -1,7 +1,8 @@
 use Rattle.std.proofs.Common.{◌∙◌, sym, subst, slice_index}
 use Rattle.issue_queue.specs.{Waiting.IsLinked, Waiting.with_register, Parts.register_of}
 use Rattle.issue_queue.proofs.Following.{none_some}
-use Rattle.issue_queue.proofs.Agreeing.{links_but, listed-some, listed-none}
+use Rattle.issue_queue.proofs.Agreeing.{links_but}
+use Rattle.issue_queue.proofs.Waking.{listed-some, listed-none}
 use Rattle.issue_queue.proofs.parts.enlist.Goals as goal
 
 pub returns-in-Some : goal.returns-in-Some

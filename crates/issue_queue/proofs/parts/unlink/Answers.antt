@@ -1,6 +1,7 @@
 use Rattle.std.proofs.Common.{◌∙◌, None, sym, slice_index}
 use Rattle.issue_queue.proofs.Following.{none_some}
-use Rattle.issue_queue.proofs.Agreeing.{links_but, listed-some, listed-none}
+use Rattle.issue_queue.proofs.Agreeing.{links_but}
+use Rattle.issue_queue.proofs.Waking.{listed-some, listed-none}
 use Rattle.issue_queue.proofs.parts.unlink.Goals as goal
 
 pub remove-requires-clause-there : goal.remove-requires-clause-there

@@ -1,7 +1,7 @@
 use Rattle.std.proofs.Common.{◌+◌, sym, subst, arith}
 use Rattle.arrayvec.specs.ArrayVec.{ArrayVec}
 use Rattle.issue_queue.specs.declared.entry.Entry.{Entry}
-use Rattle.issue_queue.proofs.Slots.{IsPartly, partly_none, partly_some, partly_whole, partly_nothing}
+use Rattle.issue_queue.proofs.Finding.{IsPartly, partly_none, partly_some, partly_whole, partly_nothing}
 use Rattle.issue_queue.proofs.slab_queue.rising_of.Goals.{in-Some, in_default}
 use Rattle.issue_queue.proofs.slab_queue.rising_of.Goals as goal
 

@@ -1,4 +1,4 @@
-use Rattle.issue_queue.proofs.Slots.{IsPartly}
+use Rattle.issue_queue.proofs.Finding.{IsPartly}
 use Rattle.issue_queue.proofs.slab_queue.rising_of.Given as goal
 
 -- the entries under the keys so far stand in it, and no others

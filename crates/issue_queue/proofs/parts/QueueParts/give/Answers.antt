@@ -5,7 +5,7 @@ use Rattle.slab.proofs.SlabLemmas.{Updates-with_value}
 use Rattle.issue_queue.specs.{Entry.can_issue, declared.entry.Entry.Entry}
 use Rattle.issue_queue.specs.Ready.{order_of, in_order}
 use Rattle.issue_queue.specs.Parts.{key_of, side_of, waits_of, waits_at, with_source, ready_of}
-use Rattle.issue_queue.proofs.Agreeing.{given_sound, given_room}
+use Rattle.issue_queue.proofs.Waking.{given_sound, given_room}
 use Rattle.issue_queue.proofs.parts.QueueParts.give.Goals as goal
 
 pub unlink-requires-clause-there : goal.unlink-requires-clause-there

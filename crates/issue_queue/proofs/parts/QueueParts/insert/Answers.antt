@@ -3,7 +3,8 @@ use Rattle.numbers.specs.Sizes.{most_queued}
 use Rattle.issue_queue.specs.Parts.{waits_of, waits_at}
 use Rattle.issue_queue.specs.Waiting.{with_register}
 use Rattle.issue_queue.proofs.Following.{with_other}
-use Rattle.issue_queue.proofs.Agreeing.{added_sound, added_room, at_first, at_second}
+use Rattle.issue_queue.proofs.Agreeing.{added_sound, at_first, at_second}
+use Rattle.issue_queue.proofs.Waking.{added_room}
 use Rattle.issue_queue.proofs.parts.QueueParts.insert.Goals as goal
 
 pub offer-requires-clause-room : goal.offer-requires-clause-room

@@ -1,7 +1,7 @@
 use Rattle.std.proofs.Common.{◌∙◌, ap, arith}
 use Rattle.slab.specs.Slab.{Slab}
 use Rattle.issue_queue.specs.declared.entry.Entry.{Entry}
-use Rattle.issue_queue.proofs.Agreeing.{empty_sound}
+use Rattle.issue_queue.proofs.Waking.{empty_sound}
 use Rattle.issue_queue.proofs.parts.QueueParts.new.Goals as goal
 
 pub returns-clause-sound : goal.returns-clause-sound

@@ -1,5 +1,5 @@
 use Rattle.std.proofs.Common.{◌∙◌, sym}
-use Rattle.issue_queue.proofs.Agreeing.{none_wakes, given_fewer}
+use Rattle.issue_queue.proofs.Waking.{none_wakes, given_fewer}
 use Rattle.issue_queue.proofs.parts.QueueParts.wake.Goals as goal
 
 pub loop-node-smaller : goal.loop-node-smaller

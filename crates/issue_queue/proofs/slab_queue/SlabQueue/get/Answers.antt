@@ -1,6 +1,6 @@
 use Rattle.std.proofs.Common.{◌∙◌, ◌==◌, find, sym, ap}
 use Rattle.issue_queue.specs.{Queue.Queue, declared.entry.Entry.Entry}
-use Rattle.issue_queue.proofs.Slots.{found-number, found-none}
+use Rattle.issue_queue.proofs.Finding.{found-number, found-none}
 use Rattle.issue_queue.proofs.slab_queue.SlabQueue.get.Goals as goal
 
 pub returns-in-Some : goal.returns-in-Some

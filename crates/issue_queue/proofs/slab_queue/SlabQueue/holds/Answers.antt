@@ -1,6 +1,6 @@
 use Rattle.std.proofs.Common.{◌∙◌, ap}
 use Rattle.issue_queue.specs.Queue.{Queue, has_number}
-use Rattle.issue_queue.proofs.Slots.{holds_by}
+use Rattle.issue_queue.proofs.Finding.{holds_by}
 use Rattle.issue_queue.proofs.slab_queue.SlabQueue.holds.Goals as goal
 
 pub returns : goal.returns

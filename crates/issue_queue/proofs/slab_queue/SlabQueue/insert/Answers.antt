@@ -1,5 +1,5 @@
-use Rattle.issue_queue.proofs.{Rising.same_entries, Slots.listed, Slots.listed-added, Slots.no-number, Slots.has_room}
-use Rattle.issue_queue.proofs.Slots.{queue_kept, fits_added}
+use Rattle.issue_queue.proofs.{Rising.same_entries, Slots.listed, Slots.listed-added, Finding.no-number, Finding.has_room}
+use Rattle.issue_queue.proofs.Finding.{queue_kept, fits_added}
 use Rattle.issue_queue.proofs.slab_queue.SlabQueue.insert.Goals as goal
 
 pub insert-requires-clause-sound : goal.insert-requires-clause-sound

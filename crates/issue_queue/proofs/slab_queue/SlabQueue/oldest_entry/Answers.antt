@@ -1,7 +1,8 @@
 use Rattle.std.proofs.Common.{◌≡◌, ◌∙◌, sym, ap}
 use Rattle.issue_queue.specs.Queue.{Queue, first_ready}
 use Rattle.issue_queue.proofs.Rising.{IsOldest-answered}
-use Rattle.issue_queue.proofs.Slots.{listed, rising, first-oldest, first-none}
+use Rattle.issue_queue.proofs.Slots.{listed, rising}
+use Rattle.issue_queue.proofs.Finding.{first-oldest, first-none}
 use Rattle.issue_queue.proofs.slab_queue.SlabQueue.oldest_entry.Goals.{After-copied}
 use Rattle.issue_queue.proofs.slab_queue.SlabQueue.oldest_entry.Goals as goal
 

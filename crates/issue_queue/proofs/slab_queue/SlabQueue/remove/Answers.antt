@@ -1,7 +1,8 @@
 use Rattle.std.proofs.Common.{◌≡◌, ◌∙◌, filter, sym, ap, subst}
 use Rattle.issue_queue.specs.{Queue.is_other, declared.entry.Entry.Entry}
 use Rattle.issue_queue.proofs.Rising.{same_entries, without_none}
-use Rattle.issue_queue.proofs.Slots.{listed, listed-gone, has-none, some_same, queue_kept, fits_filtered}
+use Rattle.issue_queue.proofs.Slots.{listed, listed-gone, some_same}
+use Rattle.issue_queue.proofs.Finding.{has-none, queue_kept, fits_filtered}
 use Rattle.issue_queue.proofs.slab_queue.SlabQueue.remove.Goals.{After-remove}
 use Rattle.issue_queue.proofs.slab_queue.SlabQueue.remove.Goals as goal
 

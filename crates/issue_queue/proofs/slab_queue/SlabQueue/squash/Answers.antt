@@ -1,5 +1,5 @@
 use Rattle.issue_queue.specs.Queue.{stays}
-use Rattle.issue_queue.proofs.{Rising.same_entries, Slots.listed, Slots.listed-kept, Slots.queue_kept, Slots.fits_filtered}
+use Rattle.issue_queue.proofs.{Rising.same_entries, Slots.listed, Slots.listed-kept, Finding.queue_kept, Finding.fits_filtered}
 use Rattle.issue_queue.proofs.slab_queue.SlabQueue.squash.Goals as goal
 
 pub squash-requires : goal.squash-requires

@@ -1,7 +1,8 @@
 use Rattle.std.proofs.Common.{◌≡◌, ◌∙◌, Some, filter, sym, ap}
 use Rattle.issue_queue.specs.Queue.{Queue, first_ready, is_other}
 use Rattle.issue_queue.proofs.Rising.{IsOldest-first_ready, same_entries}
-use Rattle.issue_queue.proofs.Slots.{listed, rising, first-oldest, first-none, listed-gone, queue_kept, fits_filtered}
+use Rattle.issue_queue.proofs.Slots.{listed, rising, listed-gone}
+use Rattle.issue_queue.proofs.Finding.{first-oldest, first-none, queue_kept, fits_filtered}
 use Rattle.issue_queue.proofs.slab_queue.SlabQueue.take_oldest.Goals.{After-remove}
 use Rattle.issue_queue.proofs.slab_queue.SlabQueue.take_oldest.Goals as goal
 

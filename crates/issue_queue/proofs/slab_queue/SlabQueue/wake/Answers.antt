@@ -1,5 +1,5 @@
 use Rattle.issue_queue.specs.Entry.{woken_entry}
-use Rattle.issue_queue.proofs.{Rising.same_entries, Slots.listed, Slots.listed-woken, Slots.queue_kept, Slots.fits_mapped}
+use Rattle.issue_queue.proofs.{Rising.same_entries, Slots.listed, Slots.listed-woken, Finding.queue_kept, Finding.fits_mapped}
 use Rattle.issue_queue.proofs.slab_queue.SlabQueue.wake.Goals as goal
 
 pub wake-requires : goal.wake-requires

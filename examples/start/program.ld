@@ -1,5 +1,6 @@
 /* Two loadable segments: the code from the start of RAM, to be read and executed, and behind it the data. The stacks are at the
-   end of RAM. Change ram_size together with the key `ram` of the configuration. */
+   end of RAM. Change ram_size together with the key `ram` of the configuration. A section that stands nowhere here is an error:
+   the linker would else put it where it likes, into the code too. */
 OUTPUT_ARCH(riscv)
 ENTRY(_start)
 
@@ -23,7 +24,11 @@ SECTIONS
     .data : { *(.data .data.* .sdata .sdata.*) } :data
     .bss : { *(.sbss .sbss.*) *(.bss .bss.* COMMON) } :data
     data_end = .;
-    /DISCARD/ : { *(.riscv.attributes) *(.comment) *(.note*) *(.eh_frame*) }
+    /* LLVM's linker asks for the sections that it makes itself. */
+    .symtab 0 : { *(.symtab) }
+    .strtab 0 : { *(.strtab) }
+    .shstrtab 0 : { *(.shstrtab) }
+    /DISCARD/ : { *(.riscv.attributes) *(.comment) *(.note*) *(.eh_frame*) *(.llvm_addrsig) *(.debug*) *(.rela.*) }
 }
 
 ASSERT(data_end <= ram_end - most_harts * stack_size, "the data reach into the stacks")
