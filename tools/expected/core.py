@@ -8,6 +8,7 @@ from dataclasses import dataclass, field
 
 from instructions import ATOMIC_RESULTS, MASK, NO_WORD, SIZES
 from instructions import compute, decode, predicted, signed
+from looks import Completion, Retirement
 
 UNITS = ("alu", "mul", "mem")
 
@@ -73,6 +74,7 @@ class Core:
         self.jobs = {}  # actor: the instruction that it has open
         self.events, self.fetches, self.last_fetched = 0, 0, None
         self.records, self.output = [], []
+        self.history = []  # the completions and retirements, for who looks again
 
     # ---- What is asked of the core
 
@@ -185,6 +187,8 @@ class Core:
             if i.rd and i.kind == "load":
                 done["value"] = self.loaded(i, c.addr, f)
         f.stage, f.done = "completed", done
+        access = None if done["addr"] is None else (done["addr"], SIZES.get(i.name, 4))
+        self.history.append(Completion(f.number, access))
         if f.register is not None:
             self.values[f.register] = done["value"]
         if c.next[0] == "p" and c.next[1] != f.predicted:
@@ -214,6 +218,8 @@ class Core:
         elif f.instruction.kind == "load" and value != f.done["value"]:
             self.squash_after(f, f.done["next"][1])
         hart.flying.remove(f)
+        gives_loaded = f.instruction.kind == "load" and f.register is not None and goes_on
+        self.history.append(Retirement(f.number, write and write[:2], gives_loaded))
         if f.done["out"] is not None:
             self.output.append(f.done["out"])
         addr, data = "-", "-"

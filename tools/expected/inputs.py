@@ -13,7 +13,9 @@ RANGES = {
     "limit": (0, 16777216), "turns": (0, 10**18),
 }
 # How many files each command has, and which options beside `--config`.
-COMMANDS = {"step": (2, ("--records", "--show")), "plain": (2, ("--records",)), "list": (1, ())}
+COMMANDS = {
+    "step": (2, ("--records", "--show", "--looks")), "plain": (2, ("--records",)), "list": (1, ()),
+}
 
 
 class Refused(Exception):
@@ -30,7 +32,8 @@ def read_line(words):
         raise Refused("command line", 2)
     command, rest = words[0], list(words[1:])
     count, flags = COMMANDS[command]
-    line = {"command": command, "files": [], "config": None, "records": False, "show": False}
+    line = {"command": command, "files": [], "config": None}
+    line |= {"records": False, "show": False, "looks": False}
     seen = set()
     while rest:
         word = rest.pop(0)

@@ -1,7 +1,7 @@
 """What a history says: the second judge's definitions.
 
-Written from crates/smt_model/specs (Folds, Fates, Flights, Registers, Memory, Looks, Fetching,
-Jobs, Account), definition by definition, under their names. There is no state of a core: each
+Written from crates/smt_model/specs (Folds, Fates, Flights, Registers, Memory, Looks, Touched,
+Fetching, Jobs, Account), definition by definition, under their names. There is no state of a core: each
 answer is a filter or a fold over the list of events, of which the first n count. A fold has one
 clause for one event more, as there; what it said after each event is remembered.
 """
@@ -287,6 +287,32 @@ class History:
                 seen = seen if write is None else written_byte(write, address, seen)
         return seen
 
+    # ---- Who looks again
+
+    @fold(False)
+    def is_touched(self, e, past, before, s):
+        """A write since the completion of s shares a byte with its access."""
+        o = self.completion(past, s)
+        if not isinstance(e, Retire) or e.effect.write is None or o is None or o.address is None:
+            return before
+        start, size, _ = e.effect.write
+        return before or shares_byte(start, size, o.address, self.op_at(past, s).size)
+
+    def gives_loaded(self, e, past):
+        """It is the retirement of a load that gives a register its number."""
+        if not isinstance(e, Retire) or is_last(e.effect.next):
+            return False
+        op = self.op_at(past, e.seq)
+        return op.kind == "loading" and op.rd != 0
+
+    @fold(0)
+    def loads(self, e, past, before):
+        return before + self.gives_loaded(e, past)
+
+    @fold(0)
+    def looks(self, e, past, before):
+        return before + (self.gives_loaded(e, past) and self.is_touched(past, e.seq))
+
     # ---- Fetching, and open jobs
 
     @fold(lambda self, h: self.image.entry)
@@ -331,6 +357,11 @@ class History:
 
     def open_job_count(self):
         return sum(self.job(len(self.events), k) is not None for k in range(len(self.roles)))
+
+
+def shares_byte(a, n, b, m):
+    """The n bytes from a and the m bytes from b share one."""
+    return n > 0 and m > 0 and a < b + m and b < a + n
 
 
 def written_byte(write, address, before):

@@ -1,7 +1,7 @@
 """What the program prints and how it ends, for the words of a command line, as
 docs/FORMATS.md says it.
 
-    python3 tools/expected/program.py step IMAGE SCRIPT [--config FILE] [--records] [--show]
+    python3 tools/expected/program.py step IMAGE SCRIPT [--config FILE] [--records] [--show] [--looks]
     python3 tools/expected/program.py plain IMAGE ORDER [--config FILE] [--records]
     python3 tools/expected/program.py list IMAGE [--config FILE]
 """
@@ -11,6 +11,7 @@ import sys
 import core
 import image
 import inputs
+import looks
 from inputs import Refused
 from instructions import spelled
 from plain import Plain
@@ -95,6 +96,11 @@ def tables(machine):
         yield f"reg {p} {core.digits(machine.values[p])}"
 
 
+def looked(machine):
+    again, loads = looks.looks(machine.history), looks.loads(machine.history)
+    return f"looks {len(again)} of {len(loads)} loads"
+
+
 def report(machine, with_records):
     if with_records:
         yield from machine.records
@@ -146,6 +152,7 @@ def asked(made, settings, second, line):
     machine = core.Core(made, settings)
     out = list(make_asks(machine, asks))
     out += tables(machine) if line["show"] else []
+    out += [looked(machine)] if line["looks"] else []
     out += report(machine, line["records"])
     return out, exit_status([hart.status for hart in machine.harts])
 

@@ -9,11 +9,12 @@
 The model of the core here makes the history of a random program, configuration and script. In some
 of them what the rules leave open (where a fetch goes on, which free register is taken) is decided
 at random. Half of the traces stay as they are: the second judge (judge.py) has to print the model's
-report on them. In the other half one line is changed, moved, doubled, taken out or put behind. The
-judge and the model, which makes one event of the trace after the other while it can, have to refuse
-the same event; the rule is the judge's alone. `PROGRAM check` has to print what the judge prints,
-byte for byte, with the same status. What differs is left in FOLDER and told, and the exit status is
-then 1. Trace K of a seed is the same whatever COUNT is.
+report on them, and by its definitions as many loads look again as the model says. In the other half
+one line is changed, moved, doubled, taken out or put behind. The judge and the model, which makes
+one event of the trace after the other while it can, have to refuse the same event; the rule is the
+judge's alone. `PROGRAM check` has to print what the judge prints, byte for byte, with the same
+status. What differs is left in FOLDER and told, and the exit status is then 1. Trace K of a seed is
+the same whatever COUNT is.
 """
 
 import collections
@@ -30,6 +31,7 @@ import fill
 import image
 import inputs
 import judge
+import judge_history
 import judge_inputs
 import program
 import random_runs
@@ -150,7 +152,8 @@ def trace_text(lines):
 
 
 def made(seed, k):
-    """The files of trace k, the model's report, and the first event that was changed, if any."""
+    """The files of trace k, what the model reports, how many loads it has look again, and the first
+    event that was changed, if any."""
     r = random.Random(f"trace {seed} {k}")
     config, words = random_runs.some_config(r), random_runs.some_code(r)
     del config["limit"]
@@ -166,14 +169,14 @@ def made(seed, k):
     machine = OpenCore(image.load(file, settings["ram"]), settings, r, r.choice((0, 0, 0.1, 0.3)))
     most = r.choice(MOST_LINES if way >= 0.4 else (200, 320))
     lines = history_of(machine, inputs.read_script(script.encode()), most)
-    report = list(program.report(machine, True))
+    report, looked = list(program.report(machine, True)), program.looked(machine)
     place = None
     if k % 2 and lines:
         lines, place = one_more(r, lines, machine) if way < 0.1 else changed(r, lines, machine)
     keys = (f"{key} = {value}".replace("'", '"') for key, value in config.items())
     files = {"image.elf": file, "config.toml": text_of(keys), "trace": trace_text(lines)}
     status = program.exit_status([hart.status for hart in machine.harts])
-    return files, (text_of(report).decode(), "", status), place
+    return files, (text_of(report).decode(), "", status), looked, place
 
 
 def by_judge(files, records=True):
@@ -228,10 +231,20 @@ def write(folder, files):
             file.write(data)
 
 
-def differences(folder, name, files, report, place, found):
+def looked_by_judge(files):
+    settings = judge_inputs.settings_of(files["config.toml"])
+    found = judge_inputs.image_of(files["image.elf"], settings.ram)
+    events = judge_inputs.trace_of(files["trace"])
+    history = judge_history.History(settings, found, events)
+    return f"looks {history.looks(len(events))} of {history.loads(len(events))} loads"
+
+
+def differences(folder, name, files, report, looked, place, found):
     """What is wrong about a trace, a line each."""
     if place is None and found != report:
         yield "the judge and the model say otherwise"
+    if place is None and looked_by_judge(files) != looked:
+        yield "the judge and the model count other looks"
     if place is not None and is_refused_early(found[1], place):
         yield "the judge refuses what stands before the change"
     words = found[1].split()
@@ -294,11 +307,11 @@ def main(words):
     count, seed, folder, name = int(words[0]), words[1], words[2], words[3]
     said, wrong, events = collections.Counter(), 0, 0
     for k in range(count):
-        files, report, place = made(seed, k)
+        files, report, looked, place = made(seed, k)
         found = by_judge(files)
         events += files["trace"].count(b"\n") - 1
         said[("changed: " if place is not None else "as made: ") + kind_of(files, found)] += 1
-        differing = list(differences(f"{folder}/now", name, files, report, place, found))
+        differing = list(differences(f"{folder}/now", name, files, report, looked, place, found))
         if differing:
             wrong += 1
             write(f"{folder}/{seed}.{k}", files)

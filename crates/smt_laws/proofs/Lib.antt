@@ -15,5 +15,7 @@ pub mod Sequential
 pub mod PlainLaws
 pub mod Executions
 pub mod Writes
+pub mod Overlays
+pub mod Overlaid
 pub mod Untouched
 pub mod Showing

@@ -5,6 +5,7 @@ use Rattle.events.specs.{declared.effect.Next.TheVariants.Pc, declared.event.Eve
 use Rattle.events.specs.declared.event.Event.TheVariants.{Fetch, Decode, Rename, Issue, Complete, Retire}
 use Rattle.smt_model.specs.declared.config.Role.TheVariants as role
 use Rattle.smt_model.specs.{Basics.below, Setup.Setup, Bytes.number_at, Memory.byte_at, Fetching.fetch_pc}
+use Rattle.smt_model.specs.{Touched.looks}
 use Rattle.smt_model.specs.Fates.{fate, Completed, Retired, Squashed}
 use Rattle.worked_histories.proofs.Histories.{core, one_of_each, outcome, effect, access, write, past_of, turned_at}
 use Rattle.worked_histories.proofs.Histories.{refusal, refusal_at, rules_of_events, standing, standing_after, order_of}
@@ -74,6 +75,11 @@ forwarded_refines :
     (standing one (0x80001000 ∷ []) (past_of forwarded))
 unfolding rules_of_events
 forwarded_refines = refl
+
+-- The store touches the load that had its number from it, as it retires: the load looks again.
+looks_after_forwarding : map (λ n. looks (past_of (take n forwarded))) (22 ∷ 23 ∷ 24 ∷ []) ≡ 0 ∷ 1 ∷ 1 ∷ []
+unfolding rules_of_events
+looks_after_forwarding = refl
 
 -- ---- A load ahead of an older store of its own hart
 

@@ -12,5 +12,6 @@ mod Renaming
 mod Reservations
 mod Results
 mod Squashes
+mod Touched
 mod Units
 mod Statements

@@ -5,6 +5,7 @@ use Rattle.events.specs.{declared.effect.Next.TheVariants.Pc, declared.effect.Re
 use Rattle.events.specs.declared.event.Event.TheVariants.{Fetch, Decode, Rename, Issue, Complete, Drop, Retire}
 use Rattle.smt_model.specs.{Basics.below, Setup.Setup, Flights.live, Registers.is_unclaimed, Registers.value}
 use Rattle.smt_model.specs.{Fetching.fetch_pc, Jobs.job, Account.records, Account.committed_value}
+use Rattle.smt_model.specs.Touched.{is_touched, loads, looks}
 use Rattle.smt_model.specs.Fates.{fate, InDecode, Issued, Completed, Retired, Squashed}
 use Rattle.worked_histories.proofs.Histories.{core, outcome, effect, access, write, retired, past_of, turned_at, refusal}
 use Rattle.worked_histories.proofs.Histories.{refusal_at, rules_of_events, standing, standing_after, order_of}
@@ -241,3 +242,18 @@ fates_after_a_silent_store :
     ≡ Retired ∷ Retired ∷ Completed ∷ InDecode ∷ Issued ∷ []
 unfolding rules_of_events
 fates_after_a_silent_store = refl
+
+-- The store touched number 4. Number 8 looked after it, and is untouched: one of the two loads looks again.
+touched_by_a_silent_store : map (is_touched (past_of squashes_none)) (4 ∷ 8 ∷ []) ≡ true ∷ false ∷ []
+unfolding rules_of_events
+touched_by_a_silent_store = refl
+
+looks_after_a_silent_store :
+    map (λ n. looks (past_of (take n squashes_none))) (45 ∷ 46 ∷ 47 ∷ 48 ∷ 49 ∷ []) ≡ 0 ∷ 1 ∷ 1 ∷ 1 ∷ 1 ∷ []
+unfolding rules_of_events
+looks_after_a_silent_store = refl
+
+-- With the store of 2 number 8 is squashed, and is no load that retires.
+looks_of_the_replayed : looks (past_of squashes_now) ∷ loads (past_of squashes_now) ∷ [] ≡ 1 ∷ 1 ∷ []
+unfolding rules_of_events
+looks_of_the_replayed = refl
