@@ -14,8 +14,9 @@ ghost use Rattle.load_store.specs.Looks.{seen};
 use crate::hart_queues::HartQueues;
 use crate::look::look;
 use events::{Seq, Written};
-use numbers::sizes::{HART_ROOM, MOST_HARTS};
+use numbers::sizes::HART_ROOM;
 use shared_memory::Memory;
+use std::array;
 use std::marker::Model;
 
 /// The loads and the stores in flight of up to `MOST_HARTS` harts, each hart's in program order: at
@@ -37,25 +38,13 @@ impl Model for LoadStore {
     ghost invariant = { λ a. length a.harts ≡ most_harts };
 }
 
-// `LoadStore::new` writes out the queues of so many.
-const _: () = prove!(MOST_HARTS == 8);
-
 impl LoadStore {
     /// No loads and no stores.
     pub fn new() -> Self
         ensures { (h : ℕ) → queues_of result h ≡ empty }
     {
         LoadStore {
-            harts: [
-                HartQueues::new(),
-                HartQueues::new(),
-                HartQueues::new(),
-                HartQueues::new(),
-                HartQueues::new(),
-                HartQueues::new(),
-                HartQueues::new(),
-                HartQueues::new(),
-            ],
+            harts: array::from_fn(|_| HartQueues::new()),
         }
     }
 

@@ -5,6 +5,7 @@ use Rattle.std.specs.List.{AllByRecursion}
 use Rattle.std.proofs.Common.{◌∙◌, refl, sym, ap, inl, inr, arith}
 use Rattle.std.proofs.{lemmas.Bool.cases_Bool, lemmas.Bool.cases_eq, lemmas.Bool.Decides.nat_tests}
 use Rattle.std.proofs.{lemmas.List.length-set, lemmas.List.get_or-set_same, lemmas.List.get_or-set_other}
+use Rattle.numbers.specs.Sizes.{most_harts}
 use Rattle.rv_instr.specs.declared.op.Op.{Op}
 use Rattle.retire_squash.specs.{declared.active.Active.Active, declared.active.Stage.Stage}
 use Rattle.retire_squash.specs.declared.active.Stage.TheVariants as stage
@@ -34,7 +35,7 @@ changes_nothing h all = λ g. elim (cases_Bool (g == h)) [ inl t ↦ rw t refl |
 
 -- A hart of these has a place.
 pub has_place : {t : ℕ → Bool} (harts : List HartState) (accesses : List Queues) (h : ℕ)
-    → AccessesAgree t harts accesses → h < length harts → h < 8
+    → AccessesAgree t harts accesses → h < length harts → h < most_harts
 has_place harts accesses h agrees inside = let most = agrees.places in omega arith
 
 -- What the queues of a hart are.

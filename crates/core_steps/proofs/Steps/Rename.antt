@@ -1,4 +1,9 @@
 -- A rename.
+pub mod Slot
+pub mod Hart
+pub mod Queue
+pub mod Registers
+pub mod Ready
 pub mod Parts
 pub mod Accesses
 pub mod Next

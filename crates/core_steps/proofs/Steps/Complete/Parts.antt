@@ -5,6 +5,7 @@ use Rattle.std.specs.List.{AllByRecursion}
 use Rattle.std.proofs.Common.{◌∙◌, refl, sym, ap, subst, inl, inr, arith}
 use Rattle.std.proofs.{lemmas.Bool.cases_Bool, lemmas.Bool.cases_eq, lemmas.Bool.Decides.nat_tests}
 use Rattle.std.proofs.{lemmas.List.length-set}
+use Rattle.numbers.specs.Sizes.{most_actors}
 use Rattle.events.specs.declared.effect.Outcome.{Outcome}
 use Rattle.retire_squash.specs.{Active.with_stage, Active.staged, declared.active.Active.Active}
 use Rattle.retire_squash.specs.{declared.active.Stage.Stage}
@@ -42,7 +43,7 @@ numbers_staged n at [] = refl
 numbers_staged n at (x ∷ xs) = rw (seq_staged n at x, numbers_staged n at xs) refl
 
 -- The job of one actor is done, the others' stay.
-pub jobs_done : (p q : Picture) (k : ℕ) (jobs : List (Option OpenJob)) → length jobs ≡ 16 → KeepsFetched p q
+pub jobs_done : (p q : Picture) (k : ℕ) (jobs : List (Option OpenJob)) → length jobs ≡ most_actors → KeepsFetched p q
     → EndsJob p q k → KeepsJobs p q → JobsAgree p jobs → JobsAgree q (slice_set jobs k None)
 jobs_done p q k jobs count kept job operands agrees = λ j d under.
     let set = at_set jobs k j None d (omega arith) in

@@ -7,6 +7,7 @@ use Rattle.std.proofs.Common.{◌∙◌, refl, sym, ap, subst, inl, inr, arith}
 use Rattle.std.proofs.{lemmas.Bool.and_parts, lemmas.Bool.cases_Bool, lemmas.Bool.cases_eq}
 use Rattle.std.proofs.{lemmas.Bool.Decides.nat_tests, lemmas.List.length-set, lemmas.List.get_or-set_same}
 use Rattle.std.proofs.{lemmas.List.get_or-set_other}
+use Rattle.numbers.specs.Sizes.{most_actors}
 use Rattle.issue_queue.specs.{Entry.has_values, Entry.is_value, Queue.Queue, Queue.is_other, declared.entry.Entry.Entry}
 use Rattle.issue_queue.specs.{declared.entry.Source.TheVariants.Value}
 use Rattle.retire_squash.specs.{Active.with_stage, declared.active.Active.Active}
@@ -164,8 +165,8 @@ job_issued p q k e issuing ready =
     }
 
 jobs_issued : (p q : Picture) (k : ℕ) (e : Entry) (jobs : List (Option OpenJob)) → IsIssuing p q k e
-    → has_values e ≡ true → k < 16
-    → length jobs ≡ 16 → JobsAgree p jobs → JobsAgree q (slice_set jobs k (Some (open_job_of e)))
+    → has_values e ≡ true → k < most_actors
+    → length jobs ≡ most_actors → JobsAgree p jobs → JobsAgree q (slice_set jobs k (Some (open_job_of e)))
 jobs_issued p q k e jobs issuing ready inside count all = λ j d under.
     let step = issuing.step in
     elim (cases_eq j k) [
@@ -186,13 +187,13 @@ renamed_completed same = omega (arith, ap stage_number same)
 
 pub parts_issued : (p q : Picture) (x : Parts) (k : ℕ) (e : Entry) (state new : HartState) (queue : Queue)
     → IsIssuing p q k e → has_values e ≡ true
-    → k < 16 → PartsAgree p x → e.hart < length x.harts.items → state ≡ slice_index_or x.harts.items e.hart state
+    → k < most_actors → PartsAgree p x → e.hart < length x.harts.items → state ≡ slice_index_or x.harts.items e.hart state
     → new.active ≡ with_stage e.seq stage.Issued state.active → new.icount + 1 ≡ state.icount
     → new ≡ record state { active = new.active; icount = new.icount }
     → queue ≡ record x.queue { entries = filter (is_other e.seq) x.queue.entries }
     → EachAgrees q (slice_set x.harts.items e.hart new) × QueueAgrees q queue × FreeAgrees q x.free
     × ValuesAgree q x.values
-    × (length (slice_set x.jobs k (Some (open_job_of e))) ≡ 16)
+    × (length (slice_set x.jobs k (Some (open_job_of e))) ≡ most_actors)
     × JobsAgree q (slice_set x.jobs k (Some (open_job_of e)))
     × AccessesAgree q.touched (slice_set x.harts.items e.hart new) x.accesses × MemoryAgrees q x.memory
     × CheckpointsAgree (slice_set x.harts.items e.hart new)

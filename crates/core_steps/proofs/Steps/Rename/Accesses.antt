@@ -3,6 +3,7 @@ use Rattle.std.specs.Prelude.{◌≡◌, ℕ, ◌<◌, Bool, true, List, [], ◌
 use Rattle.std.specs.List.{AllByRecursion}
 use Rattle.std.proofs.Common.{◌∙◌, refl, sym, ap, subst, inl, inr}
 use Rattle.std.proofs.{lemmas.Bool.cases_Bool, lemmas.List.length-map}
+use Rattle.numbers.specs.Sizes.{most_accesses, most_harts}
 use Rattle.rv_instr.specs.declared.op.Op.{Op}
 use Rattle.smt_model.specs.{Kinds.kind_of, Kinds.is_loading, Kinds.is_storing, Picture.Picture}
 use Rattle.smt_model.specs.Steps.{op_in}
@@ -12,7 +13,7 @@ use Rattle.core_parts.specs.{Agree.HartAgrees, Agree.From}
 use Rattle.core_steps.specs.{Renaming.IsRenaming}
 use Rattle.core_parts.specs.{declared.slot.Slot.Slot, declared.hart.HartState.HartState, declared.parts.Parts.Parts}
 use Rattle.core_parts.proofs.Agreement.Queues.{has_place, queues_here, queues_are}
-use Rattle.core_steps.proofs.Steps.Rename.Parts.{next_slot, slot_op}
+use Rattle.core_steps.proofs.Steps.Rename.Slot.{next_slot, slot_op}
 
 all_filter : (P : ℕ → Type 0) (test : ℕ → Bool) (xs : List ℕ) → AllByRecursion P xs → AllByRecursion P (filter test xs)
 all_filter P test [] all = tt
@@ -31,8 +32,8 @@ load_numbers_in p (x ∷ xs) = ap (λ ns. x ∷ ns) (load_numbers_in p xs)
 
 -- What the code must know before it adds instruction `seq` to these queues.
 pub record HasRoom (op : Op) (seq : ℕ) (q : Queues) : Type 0 where
-  pub load_room : is_loading (kind_of op) ≡ true → length q.loads < 16
-  pub store_room : is_storing (kind_of op) ≡ true → length q.stores < 16
+  pub load_room : is_loading (kind_of op) ≡ true → length q.loads < most_accesses
+  pub store_room : is_storing (kind_of op) ≡ true → length q.stores < most_accesses
   pub load_above : Above seq (load_numbers q.loads)
   pub store_above : Above seq (numbers q.stores)
 
@@ -44,10 +45,10 @@ room_in p q size h taken renaming op same =
     let stores : List ℕ = filter (is_store_in p) (p.flight h) in
     record {
       load_room = λ loading.
-          subst (λ m. m < 16) (sym (length-map loads (load_in p)))
+          subst (λ m. m < most_accesses) (sym (length-map loads (load_in p)))
           (renaming.can.load_room (ap (λ o. is_loading (kind_of o)) same ∙ loading));
       store_room = λ storing.
-          subst (λ m. m < 16) (sym (length-map stores (store_in p)))
+          subst (λ m. m < most_accesses) (sym (length-map stores (store_in p)))
           (renaming.can.store_room (ap (λ o. is_storing (kind_of o)) same ∙ storing));
       load_above =
           subst (Above n) (sym (load_numbers_in p loads))
@@ -80,5 +81,5 @@ room_at x h taken i state slots d from same at read =
     (room_in p from.after x.queue.size h taken from.step slot.op op)))
 
 -- A hart that renames has a place among the queues.
-pub place_at : (x : Parts) (h : ℕ) (taken : Option ℕ) → From x h (λ p q. IsRenaming p q x.queue.size h taken) → h < 8
+pub place_at : (x : Parts) (h : ℕ) (taken : Option ℕ) → From x h (λ p q. IsRenaming p q x.queue.size h taken) → h < most_harts
 place_at x h taken from = has_place x.harts.items x.accesses h from.agrees.accesses from.inside

@@ -6,7 +6,9 @@ use Rattle.core_parts.specs.{declared.slot.Slot.Slot}
 use Rattle.load_store.specs.Queues.{Changes}
 use Rattle.core_steps.specs.Accesses.{with_access}
 use Rattle.core_steps.proofs.Steps.Rename.Accesses.{room_at, place_at}
-use Rattle.core_steps.proofs.Steps.Rename.Parts.{same_hart, ready_at, parts_renamed, known_range, same_entry}
+use Rattle.core_steps.proofs.Steps.Rename.Parts.{same_hart, parts_renamed}
+use Rattle.core_steps.proofs.Steps.Rename.Queue.{same_entry}
+use Rattle.core_steps.proofs.Steps.Rename.Ready.{ready_at, known_range}
 use Rattle.rv_instr.specs.{declared.op.Op.TheVariants.Known, declared.instr.Instr.TheVariants.Lui}
 use Rattle.core_steps.proofs.rename.rename_oldest.Goals as goal
 
