@@ -8,7 +8,7 @@ use Rattle.smt_model.specs.{declared.config.Status.Status, Account.open_job_coun
 use Rattle.events.specs.declared.effect.Record.{Record}
 use Rattle.reports.specs.Report.{records_text, report_text, status_number}
 use Rattle.reports.proofs.Appending.{appends_more}
-use Rattle.commands.specs.Account.{AreTables, IsReported, statuses_of, retired_of, report_of}
+use Rattle.commands.specs.Account.{AreTables, IsReported, looks_of, statuses_of, retired_of, report_of}
 
 -- A call that gave no error has done what it does where it gives none.
 pub on_ok_done : {A E : Type 0} (r : Result A E) (P : Type 0) → is_err r ≡ false → OnOk r P → P
@@ -25,16 +25,23 @@ module _ (core : CoreView) (with_records : Bool) (rs : List Record) (events lent
   same_text = rw (is_records, is_events, is_lent, is_statuses, is_put) refl
 
   -- Its tables were printed, and then its report.
-  pub reported : (with_tables : Bool) (old mid new : Option (List ℕ)) (tables bytes : List ℕ)
+  pub reported : (with_tables with_looks : Bool) (old mid behind new : Option (List ℕ)) (tables bytes looked : List ℕ)
       (stand : List Status) (exit_status : ℕ) → AreTables with_tables tables → bytes ≡ tables → Appends old mid bytes
-      → Appends mid new (records_text with_records rs ++ report_text events (length rs) lent statuses put)
+      → looked ≡ looks_of with_looks core → Appends mid behind looked
+      → Appends behind new (records_text with_records rs ++ report_text events (length rs) lent statuses put)
       → stand ≡ statuses → exit_status ≡ status_number stand
-      → IsReported core with_records with_tables old new exit_status
-  reported with_tables old mid new tables bytes stand exit_status are same first next is_stand harts = record {
+      → IsReported core with_records with_tables with_looks old new exit_status
+  reported with_tables with_looks old mid behind new tables bytes looked stand exit_status are same first is_looked then
+      next is_stand harts = record {
     printed = (
-      tables ++ (records_text with_records rs ++ report_text events (length rs) lent statuses put),
-      record { tables = tables; are_tables = are; whole = ap (λ t. tables ++ t) same_text },
-      appends_more old mid new _ _ (subst (Appends old mid) same first) next,
+      tables ++ (looked ++ (records_text with_records rs ++ report_text events (length rs) lent statuses put)),
+      record {
+        tables = tables;
+        are_tables = are;
+        whole = ap (λ t. tables ++ (looked ++ t)) same_text
+            ∙ ap (λ l. tables ++ (l ++ (records_text with_records (retired_of core) ++ report_of core))) is_looked;
+      },
+      appends_more old mid new _ _ (subst (Appends old mid) same first) (appends_more mid behind new _ _ then next),
     );
     harts = harts ∙ ap status_number (is_stand ∙ is_statuses);
   }
@@ -43,7 +50,7 @@ module _ (core : CoreView) (with_records : Bool) (rs : List Record) (events lent
   pub reported_untabled : (old new : Option (List ℕ)) (stand : List Status) (exit_status : ℕ)
       → Appends old new (records_text with_records rs ++ report_text events (length rs) lent statuses put)
       → stand ≡ statuses → exit_status ≡ status_number stand
-      → IsReported core with_records false old new exit_status
+      → IsReported core with_records false false old new exit_status
   reported_untabled old new stand exit_status written is_stand harts = record {
     printed = (
       records_text with_records rs ++ report_text events (length rs) lent statuses put,

@@ -36,11 +36,11 @@ output_refusal settings image trace events listed core reason read same is accep
 pub comes_to : (settings : Settings) (image : ProgramImage) (trace : List ℕ) (with_records : Bool)
     (events listed : List AnyEvent) (core : CoreView) (old new : Option (List ℕ)) (exit_status : ℕ)
     → IsTraceOf trace events → listed ≡ events → core ≡ following settings image listed
-    → is_accepted core.setup core.limit ≡ true → Shown core → IsReported core with_records false old new exit_status
+    → is_accepted core.setup core.limit ≡ true → Shown core → IsReported core with_records false false old new exit_status
     → CheckComesTo settings image trace with_records old new exit_status
 comes_to settings image trace with_records events listed core old new exit_status read same is accepted shown reported =
     let is_core : core ≡ following settings image events = is ∙ ap (following settings image) same in
-    let report = subst (λ (u : CoreView). IsReported u with_records false old new exit_status) is_core reported in
+    let report = subst (λ (u : CoreView). IsReported u with_records false false old new exit_status) is_core reported in
     record {
       events = events;
       is_trace = read;

@@ -92,15 +92,16 @@ report_refusal settings reason accepted manned (inr same) =
 pub never_image : (settings : Settings) (number : ℕ) → IsRunRefusal settings (Image number) → ⊥
 never_image settings number is = is
 
-pub comes_to : (settings : Settings) (image : ProgramImage) (with_records with_tables : Bool) (core : CoreView)
-    (Traced : CoreView → Type 0) (old new : Option (List ℕ)) (exit_status : ℕ) → with_tables ≡ false
+pub comes_to : (settings : Settings) (image : ProgramImage) (with_records with_tables with_looks : Bool) (core : CoreView)
+    (Traced : CoreView → Type 0) (old new : Option (List ℕ)) (exit_status : ℕ) → with_tables ≡ false → with_looks ≡ false
     → AreAccepted settings → (LackARole settings → ⊥)
     → core.setup ≡ setup_of image settings.config → core.limit ≡ settings.limit → Shown core
-    → Traced core → IsReported core with_records with_tables old new exit_status
+    → Traced core → IsReported core with_records with_tables with_looks old new exit_status
     → RunComesTo settings image with_records Traced old new exit_status
-comes_to settings image with_records with_tables core Traced old new exit_status none accepted manned setup limit shown
+comes_to settings image with_records with_tables with_looks core Traced old new exit_status none unlooked accepted manned setup limit shown
     traced reported =
-    let untabled = subst (λ tables. IsReported core with_records tables old new exit_status) none reported in
+    let untabled = subst (λ tables. IsReported core with_records tables false old new exit_status) none
+    (subst (λ looked. IsReported core with_records with_tables looked old new exit_status) unlooked reported) in
     record {
       accepted = accepted;
       manned = manned;

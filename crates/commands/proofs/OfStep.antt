@@ -32,14 +32,14 @@ never_image settings script number is = is
 
 -- The asks were printed, and then the account.
 pub comes_to : {P : Type 0} (predicts : P → ℕ → ℕ → ℕ → ℕ → P → Type 0) (before after : P) (settings : Settings)
-    (image : ProgramImage) (script : List ℕ) (with_records with_tables : Bool) (core : CoreView)
+    (image : ProgramImage) (script : List ℕ) (with_records with_tables with_looks : Bool) (core : CoreView)
     (Traced : CoreView → Type 0) (old mid new : Option (List ℕ)) (exit_status : ℕ)
     → AreAccepted settings → IsAsking script
     → core.setup ≡ setup_of image settings.config → core.limit ≡ settings.limit → Shown core
     → Prints old mid (AreAskedWith predicts before after script core)
-    → Traced core → IsReported core with_records with_tables mid new exit_status
-    → StepComesTo settings image script with_records with_tables Traced old new exit_status
-comes_to predicts before after settings image script with_records with_tables core Traced old mid new exit_status
+    → Traced core → IsReported core with_records with_tables with_looks mid new exit_status
+    → StepComesTo settings image script with_records with_tables with_looks Traced old new exit_status
+comes_to predicts before after settings image script with_records with_tables with_looks core Traced old mid new exit_status
     accepted asking setup limit shown asks traced reported = record {
       accepted = accepted;
       is_asking = asking;

@@ -71,5 +71,5 @@ pub record CheckComesTo (settings : Settings) (image : ProgramImage) (trace : Li
   pub past : core.past ≡ reverse events
   pub accepted : is_accepted core.setup core.limit ≡ true
   pub shown : Shown core
-  pub printed : Prints old new (IsAccount core with_records false)
+  pub printed : Prints old new (IsAccount core with_records false false)
   pub harts : exit_status ≡ status_number (statuses_of core)

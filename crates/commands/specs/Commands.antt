@@ -35,7 +35,7 @@ abbrev pub CommandComesTo : Command → Settings → ProgramImage → Read → (
     → Option (List ℕ) → Option (List ℕ) → ℕ → Type 0
 CommandComesTo (commands.Step step) settings image second Traced old new status =
     OfFile second (λ script. StepComesTo settings image script step.records step.show
-    (Traced (is_some step.trace)) old new status)
+    step.looks (Traced (is_some step.trace)) old new status)
 CommandComesTo (commands.Run run) settings image second Traced old new status =
     RunComesTo settings image run.records (Traced (is_some run.trace)) old new status
 CommandComesTo (commands.Check check) settings image second Traced old new status =

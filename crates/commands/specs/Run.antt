@@ -47,5 +47,5 @@ pub record RunComesTo (settings : Settings) (image : ProgramImage) (with_records
   pub limit : core.limit ≡ settings.limit
   pub shown : Shown core
   pub traced : Traced core
-  pub printed : Prints old new (IsAccount core with_records false)
+  pub printed : Prints old new (IsAccount core with_records false false)
   pub harts : exit_status ≡ status_number (statuses_of core)

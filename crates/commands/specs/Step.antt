@@ -34,12 +34,12 @@ IsScriptRefusal script Memory = Unit {0}
 IsScriptRefusal script _ = ⊥
 
 -- The lines of all that a script has asked of a core, and then what is printed of it.
-pub record AreAsksAndAccount (core : CoreView) (script : List ℕ) (with_records with_tables : Bool)
-    (text : List ℕ) : Type 0 where
+pub record AreAsksAndAccount (core : CoreView) (script : List ℕ)
+    (with_records with_tables with_looks : Bool) (text : List ℕ) : Type 0 where
   pub asks : List ℕ
   pub account : List ℕ
   pub are_asked : AreAsked script core asks
-  pub is_account : IsAccount core with_records with_tables account
+  pub is_account : IsAccount core with_records with_tables with_looks account
   pub both : text ≡ asks ++ account
 
 -- What the command comes to. There is a core of this image and these settings, one of those that
@@ -47,7 +47,7 @@ pub record AreAsksAndAccount (core : CoreView) (script : List ℕ) (with_records
 -- answers to the script's asks, and then what is printed of it; the exit status is that of its
 -- harts.
 pub record StepComesTo (settings : Settings) (image : ProgramImage) (script : List ℕ)
-    (with_records with_tables : Bool) (Traced : CoreView → Type 0) (old new : Option (List ℕ))
+    (with_records with_tables with_looks : Bool) (Traced : CoreView → Type 0) (old new : Option (List ℕ))
     (exit_status : ℕ) : Type 0 where
   pub accepted : AreAccepted settings
   pub is_asking : IsAsking script
@@ -56,5 +56,6 @@ pub record StepComesTo (settings : Settings) (image : ProgramImage) (script : Li
   pub limit : core.limit ≡ settings.limit
   pub shown : Shown core
   pub traced : Traced core
-  pub printed : Prints old new (AreAsksAndAccount core script with_records with_tables)
+  pub printed : Prints old new (AreAsksAndAccount core script with_records with_tables
+      with_looks)
   pub harts : exit_status ≡ status_number (statuses_of core)

@@ -1,14 +1,19 @@
-//! What is reported of a core: its trace, its tables, its records and its report. Each command that
+//! What is reported of a core: its trace, its tables, how many of its loads looked again, its records
+//! and its report. Each command that
 //! has a core at its end reports it so.
 
 ghost use Rattle.std.specs.Prelude.{◌≡◌, OnOk, IfOk, IfErr, ◌⊎◌, true, false};
-ghost use Rattle.std.specs.Prelude.{is_some};
+ghost use Rattle.std.specs.Prelude.{is_some, [], if◌then◌else◌};
+ghost use Rattle.std.specs.Io.KnownBytes.{Appends};
+ghost use Rattle.smt_model.specs.Basics.{how_many};
+ghost use Rattle.reports.specs.Report.{is_load_record, looks_line};
 ghost use Rattle.commands.specs.declared.refused.Refused.TheVariants.{Memory, Output};
 ghost use Rattle.commands.specs.Account.{AreTables, IsReported, IsTraceWritten};
 
 use crate::refused::Refused;
 use event_text::{Sink, print_trace};
-use reports::{report, status_of, write_tables};
+use events::Record;
+use reports::{report, report_looks, status_of, write_tables};
 use smt_core::Core;
 use std::alloc::{AllocError, Global};
 use std::io::Write;
@@ -20,29 +25,33 @@ pub struct Wanted {
     pub records: bool,
     /// The tables of the core, before the records.
     pub tables: bool,
+    /// How many of its loads looked again, behind the tables.
+    pub looks: bool,
     /// The trace of the core, put into its sink.
     pub trace: bool,
 }
 
 impl Wanted {
     /// What a command wants that names this file for its trace, or none.
-    pub fn new(records: bool, tables: bool, trace: Option<&str>) -> Self
+    pub fn new(records: bool, tables: bool, looks: bool, trace: Option<&str>) -> Self
         ensures { result ≡ record {
           records = records;
           tables = tables;
+          looks = looks;
           trace = is_some trace.entry;
         } }
     {
         Wanted {
             records,
             tables,
+            looks,
             trace: trace.is_some(),
         }
     }
 }
 
-/// Writes the trace of a core where it is wanted, and then its tables, where they are wanted, and
-/// its report. Answers the exit status: how the harts stand.
+/// Writes the trace of a core where it is wanted, and then its tables and how many loads looked
+/// again, where they are wanted, and its report. Answers the exit status: how the harts stand.
 ///
 /// `Output` is answered where the sink or `out` took no more, `Memory` where there is none for the
 /// text of the tables. Where the sink failed, nothing is written.
@@ -58,7 +67,7 @@ pub(crate) fn write_account<S: Sink, W: Write>(
     ensures traced { OnOk result (IsTraceWritten S.written S.has_failed trace.old trace.new
         wanted.trace core.now) }
     ensures reported { IfOk result (IsReported core.now wanted.records wanted.tables
-        (W.contents out.old) (W.contents out.new)) }
+        wanted.looks (W.contents out.old) (W.contents out.new)) }
     ensures unwanted { wanted.trace ≡ false → trace.new ≡ trace.old }
     ensures unbroken { OnOk result (S.has_failed trace.new ≡ false) }
     ensures unreported { S.has_failed trace.new ≡ true
@@ -87,7 +96,8 @@ fn write_trace<S: Sink>(core: &Core, wanted: bool, sink: &mut S) -> Result<(), R
     }
 }
 
-/// Writes the tables where they are wanted, and the report. Answers how the harts stand.
+/// Writes the tables and how many loads looked again, where they are wanted, and the report.
+/// Answers how the harts stand.
 fn report_core<W: Write>(
     core: &Core,
     wanted: Wanted,
@@ -96,7 +106,7 @@ fn report_core<W: Write>(
 ) -> Result<u8, Refused>
     ensures refused { IfErr result (λ reason. (reason ≡ Memory) ⊎ (reason ≡ Output)) }
     ensures reported { IfOk result (IsReported core.now wanted.records wanted.tables
-        (W.contents out.old) (W.contents out.new)) }
+        wanted.looks (W.contents out.old) (W.contents out.new)) }
 {
     let tables = match table_text(core, wanted.tables, alloc) {
         Ok(tables) => tables,
@@ -106,8 +116,29 @@ fn report_core<W: Write>(
         return Err(Refused::Output);
     }
     let account = core.account();
+    write_looks(wanted.looks, core.looks(), account.records, out)?;
     match report(&account, wanted.records, out) {
         Ok(()) => Ok(status_of(account.statuses.as_slice())),
+        Err(_) => Err(Refused::Output),
+    }
+}
+
+/// Writes how many of the loads among these records looked again, where that is wanted.
+fn write_looks<W: Write>(
+    wanted: bool,
+    looks: u32,
+    records: &[Record],
+    out: &mut W,
+) -> Result<(), Refused>
+    ensures refused { IfErr result (λ reason. reason ≡ Output) }
+    ensures written { OnOk result (Appends (W.contents out.old) (W.contents out.new)
+        (if wanted then looks_line looks (how_many is_load_record records.now) else [])) }
+{
+    if !wanted {
+        return Ok(());
+    }
+    match report_looks(looks, records, out) {
+        Ok(()) => Ok(()),
         Err(_) => Err(Refused::Output),
     }
 }

@@ -87,7 +87,7 @@ fn follow_all(
 fn report_checked<W: Write>(checked: &Checked, records: bool, out: &mut W) -> Result<u8, Refused>
     ensures refused { IfErr result (λ reason. reason ≡ Output) }
     ensures reported { IfOk result
-        (IsReported checked.now records false (W.contents out.old) (W.contents out.new)) }
+        (IsReported checked.now records false false (W.contents out.old) (W.contents out.new)) }
 {
     let account = checked.account();
     match report(&account, records, out) {

@@ -147,12 +147,12 @@ fn perform_command<
 {
     match command {
         Command::Step(step) => {
-            let wanted = Wanted::new(step.records, step.show, step.trace);
+            let wanted = Wanted::new(step.records, step.show, step.looks, step.trace);
             let script = second?;
             perform_step(image, settings, script, wanted, predict, trace, out, alloc)
         }
         Command::Run(run) => {
-            let wanted = Wanted::new(run.records, false, run.trace);
+            let wanted = Wanted::new(run.records, false, false, run.trace);
             perform_run(
                 rt, image, settings, wanted, gate, predict, trace, out, alloc,
             )

@@ -116,6 +116,7 @@ pub fn perform_run<
     alloc: Global,
 ) -> Result<u8, Refused>
     requires untabled { wanted.tables ≡ false }
+    requires unlooked { wanted.looks ≡ false }
     requires works { S.has_failed trace.old ≡ false }
     ensures refused { IfErr result (IsRunRefusal settings.now) }
     ensures ended { IfOk result (RunComesTo settings.now image.now wanted.records

@@ -145,7 +145,7 @@ pub fn perform_step<P: Predict + Copy, S: Sink, W: Write>(
     requires works { S.has_failed trace.old ≡ false }
     ensures refused { IfErr result (IsStepRefusal settings.now script.now) }
     ensures ended { IfOk result (StepComesTo settings.now image.now script.now wanted.records
-        wanted.tables (IsTraceWritten S.written S.has_failed trace.old trace.new wanted.trace)
+        wanted.tables wanted.looks (IsTraceWritten S.written S.has_failed trace.old trace.new wanted.trace)
         (W.contents out.old) (W.contents out.new)) }
     ensures unwanted { wanted.trace ≡ false → trace.new ≡ trace.old }
     ensures unbroken { OnOk result (S.has_failed trace.new ≡ false) }

@@ -3,6 +3,7 @@ use Rattle.std.specs.Prelude.{◌≡◌, ℕ, zero, suc, ◌+◌, ◌≤◌, Boo
 use native.Mathlib.Numerals.{unary_clauses}
 use Rattle.std.proofs.Common.{◌∙◌, refl, ap, inl, inr, arith}
 use Rattle.std.proofs.{lemmas.Bool.cases_Bool, lemmas.List.length_push}
+use Rattle.numbers.specs.Sizes.{most_registers}
 use Rattle.smt_model.specs.Basics.{below}
 use Rattle.smt_model.proofs.Lists.{filter-append, filter-same}
 use Rattle.core_parts.specs.Listed.{listed}
@@ -37,10 +38,10 @@ below_fits t (suc n) =
 
 pub listed_same : (p q : ℕ → Bool) → ((x : ℕ) → p x ≡ q x) → listed p ≡ listed q
 unfolding listed
-listed_same p q same = filter-same p q (below 512) (λ x m. same x)
+listed_same p q same = filter-same p q (below most_registers) (λ x m. same x)
 
--- The list is whole once all 512 have been looked at.
-pub listed_whole : (t : ℕ → Bool) (n : ℕ) (xs : List ℕ) → n ≡ 512 → xs ≡ filter t (below n) → xs ≡ listed t
+-- The list is whole once all registers have been looked at.
+pub listed_whole : (t : ℕ → Bool) (n : ℕ) (xs : List ℕ) → n ≡ most_registers → xs ≡ filter t (below n) → xs ≡ listed t
 unfolding listed
 listed_whole t n xs all is = is ∙ ap (λ k. filter t (below k)) all
 

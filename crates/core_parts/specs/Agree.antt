@@ -121,7 +121,7 @@ pub record PartsAgree (p : Picture) (x : Parts) : Type 0 where
   pub values : ValuesAgree p x.values
   pub actors : length x.jobs ≡ most_actors
   pub jobs : JobsAgree p x.jobs
-  pub accesses : AccessesAgree x.harts.items x.accesses
+  pub accesses : AccessesAgree p.touched x.harts.items x.accesses
   pub memory : MemoryAgrees p x.memory
 
 -- A step of hart h can be made: the parts agree with a picture that the step starts from.

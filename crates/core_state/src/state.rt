@@ -27,8 +27,10 @@ use crate::log::append;
 use crate::refused::CoreRefused;
 use crate::sizes::is_core;
 use core_parts::Parts;
-use core_steps::{FetchPoint, choose, completion_of, fetch_slot, handed_back, in_flight};
-use core_steps::{next_to_decode, next_to_issue, next_to_rename, next_to_retire, unit_of};
+use core_steps::{
+    FetchPoint, choose, completion_of, fetch_slot, handed_back, in_flight, next_to_decode,
+    next_to_issue, next_to_rename, next_to_retire, unit_of,
+};
 use decoded_code::Code;
 use elf_image::Image;
 use events::{Effect, Event, History, Outcome, Record};
@@ -52,6 +54,8 @@ pub struct State {
     last: Option<u8>,
     /// How many instructions were fetched.
     fetched: Seq,
+    /// How many loads looked again as they retired, since a write had touched them.
+    looks: u32,
     records: Vec<Record>,
     output: Vec<u8>,
     history: History,
@@ -81,6 +85,7 @@ impl Drop for State {
             parts: _,
             last: _,
             fetched: _,
+            looks: _,
             records: _,
             output: _,
             history: _,
@@ -139,6 +144,7 @@ impl State {
             parts,
             last: None,
             fetched: 0,
+            looks: 0,
             records,
             output,
             history,
@@ -302,7 +308,14 @@ impl State {
             return None;
         }
         let (active, outcome) = next_to_retire(&self.parts, hart)?;
-        let effect = effect(&self.parts.memory, hart, active.op, outcome);
+        let effect = effect(
+            &self.parts.memory,
+            &self.parts.accesses,
+            hart,
+            active.seq,
+            active.op,
+            outcome,
+        );
         Some(self.write_retire(actor, hart, &active, effect))
     }
 

@@ -11,7 +11,7 @@ abbrev pub KeepsWhere : Bool → Checkpoint → List Checkpoint → List Checkpo
 KeepsWhere true k old new = KeepsToo k old new
 KeepsWhere false k old new = new ≡ old
 
--- A renamed instruction's map is kept where it is a branch, JAL or JALR and fewer than 8 are kept.
+-- A renamed instruction's map is kept where it is a branch, JAL or JALR and there is room.
 abbrev pub is_kept : Op → List Checkpoint → Bool
 is_kept op kept = is_control_transfer op && nat_lt (length kept) most_checkpoints
 

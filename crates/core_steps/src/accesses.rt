@@ -1,13 +1,12 @@
 //! What the steps do with a hart's loads and stores in flight.
 
-ghost use Rattle.std.specs.Prelude.{◌≡◌, ◌<◌, true, length};
+ghost use Rattle.std.specs.Prelude.{◌≡◌, ℕ, ◌<◌, true, length};
 ghost use Rattle.numbers.specs.Sizes.{most_harts, most_accesses};
-ghost use Rattle.load_store.specs.Queues.{Above, Changes, numbers, queues_of};
+ghost use Rattle.load_store.specs.Queues.{Above, Changes, load_numbers, numbers, queues_of};
 ghost use Rattle.smt_model.specs.Kinds.{kind_of, is_loading, is_storing};
-ghost use Rattle.smt_model.specs.Looks.{stored_by};
-ghost use Rattle.core_steps.specs.Accesses.{with_access, with_write, without_access};
+ghost use Rattle.core_steps.specs.Accesses.{with_access, with_outcome, with_touched, without_access};
 
-use events::Outcome;
+use events::{Outcome, Written};
 use load_store::LoadStore;
 use numbers::Seq;
 use rv_execute::access_size;
@@ -20,7 +19,7 @@ pub(crate) fn add_access(accesses: &mut LoadStore, hart: u8, op: Op, seq: Seq)
         → length (queues_of accesses.old hart).loads < most_accesses }
     requires store_room { is_storing (kind_of op) ≡ true
         → length (queues_of accesses.old hart).stores < most_accesses }
-    requires load_above { Above seq (queues_of accesses.old hart).loads }
+    requires load_above { Above seq (load_numbers (queues_of accesses.old hart).loads) }
     requires store_above { Above seq (numbers (queues_of accesses.old hart).stores) }
     ensures { Changes (with_access op seq) hart accesses.old accesses.new }
 {
@@ -31,14 +30,29 @@ pub(crate) fn add_access(accesses: &mut LoadStore, hart: u8, op: Op, seq: Seq)
     }
 }
 
-/// The store of number `seq`, if there is one, will write what its completion names.
+/// Instruction `seq` has completed: if it is a store, it will write what its completion names, and
+/// if it is a load that was given its number, it has had its first look.
 pub(crate) fn resolve_access(accesses: &mut LoadStore, hart: u8, op: Op, seq: Seq, outcome: Outcome)
     requires { hart < most_harts }
-    ensures { Changes (with_write seq (stored_by op outcome)) hart accesses.old accesses.new }
+    ensures { Changes (with_outcome seq op outcome) hart accesses.old accesses.new }
 {
-    if let Some(addr) = outcome.addr {
-        let datum = outcome.datum.unwrap_or(0);
-        accesses.resolve_store(hart, seq, addr, access_size(op), datum);
+    let Some(addr) = outcome.addr else {
+        return;
+    };
+    let datum = outcome.datum.unwrap_or(0);
+    accesses.resolve_store(hart, seq, addr, access_size(op), datum);
+    if outcome.value.is_some() {
+        accesses.looked(hart, seq, addr, access_size(op));
+    }
+}
+
+/// A retirement has written this, if anything: it touches the loads of all harts that have looked
+/// there.
+pub(crate) fn touch_accesses(accesses: &mut LoadStore, write: Option<Written>)
+    ensures { (h : ℕ) → queues_of accesses.new h ≡ with_touched write (queues_of accesses.old h) }
+{
+    if let Some(write) = write {
+        accesses.touch(&write);
     }
 }
 

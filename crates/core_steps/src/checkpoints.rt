@@ -25,7 +25,7 @@ fn is_control_transfer(op: Op) -> bool
 }
 
 /// Keeps the map as it is after the rename of instruction `seq`, where that is a branch, JAL or
-/// JALR and fewer than 8 are kept.
+/// JALR and there is room for another.
 pub(crate) fn keep_map(maps: &mut HartMaps, op: Op, seq: Seq)
     requires { kept_under seq maps.old.kept ≡ None }
     ensures kept { KeepsWhere (is_kept op maps.old.kept)

@@ -8,7 +8,7 @@ ghost use Rattle.core_steps.specs.Retirement.{CanRetire, NoneCanRetire, Retires}
 ghost use Rattle.core_steps.specs.Retirement.{Commits, Replays, Ends, Leaves, HasCommitted, HasLeft};
 ghost use Rattle.core_steps.specs.Retirement.{first_value, is_replay};
 
-use crate::accesses::remove_access;
+use crate::accesses::{remove_access, touch_accesses};
 use crate::fill::fill_register;
 use core_parts::{HartState, Parts, give_back};
 use events::{Effect, Next, Outcome};
@@ -99,7 +99,8 @@ fn replay(parts: &mut Parts, hart: u8, active: &Active, effect: Effect, pc: u32)
 }
 
 /// Its register becomes the committed one, and the one before becomes free. Memory is written
-/// and its hart's reservation changes as its effect says; the hart is fetched from `pc`.
+/// and its hart's reservation changes as its effect says, and the write touches the loads of all
+/// harts that have looked there; the hart is fetched from `pc`.
 #[inline(always)]
 fn commit(parts: &mut Parts, hart: u8, active: &Active, effect: Effect, pc: u32)
     requires step { From parts.old hart (λ p q. Commits p q hart active.now effect pc) }
@@ -117,6 +118,7 @@ fn commit(parts: &mut Parts, hart: u8, active: &Active, effect: Effect, pc: u32)
     remove_access(&mut parts.accesses, hart, active.op);
     let addr = address_at(active.stage);
     commit_access(&mut parts.memory, hart, active.op, addr, effect.write);
+    touch_accesses(&mut parts.accesses, effect.write);
     give_back(&mut parts.free, replaced);
     fill_register(parts, active.phys, effect.value);
 }

@@ -1,5 +1,6 @@
 pub mod Rising
 pub mod Resolving
+pub mod Turning
 pub mod Checking
 pub mod Completing
 pub mod Retiring

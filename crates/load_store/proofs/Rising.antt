@@ -4,8 +4,9 @@ use Rattle.std.proofs.Common.{refl, ap}
 use Rattle.std.specs.List.{AllByRecursion}
 use Rattle.events.specs.declared.effect.Written.{Written}
 use Rattle.rv_execute.specs.Access.{IsSize}
-use Rattle.load_store.specs.declared.store.Store.{Store}
-use Rattle.load_store.specs.Queues.{Above, IsRising, numbers, IsSized, stays, resolved}
+use Rattle.load_store.specs.{declared.load.Load.Load, declared.load.FirstLook.FirstLook, declared.store.Store.Store}
+use Rattle.load_store.specs.Queues.{Above, IsRising, load_numbers, numbers, IsSized, load_stays, stays, resolved}
+use Rattle.load_store.specs.Queues.{looking, touched_load}
 
 -- one more
 pub AllByRecursion-push : {X : Type 0} (P : X → Type 0) (xs : List X) (y : X) → AllByRecursion P xs → P y
@@ -21,6 +22,10 @@ IsRising-push (x ∷ xs) y rising above =
 pub numbers-push : (xs : List Store) (y : Store) → numbers (xs ++ y ∷ []) ≡ numbers xs ++ y.seq ∷ []
 numbers-push [] y = refl
 numbers-push (x ∷ xs) y = ap (λ ns. x.seq ∷ ns) (numbers-push xs y)
+
+pub load_numbers-push : (xs : List Load) (y : Load) → load_numbers (xs ++ y ∷ []) ≡ load_numbers xs ++ y.seq ∷ []
+load_numbers-push [] y = refl
+load_numbers-push (x ∷ xs) y = ap (λ ns. x.seq ∷ ns) (load_numbers-push xs y)
 
 -- some less
 pub AllByRecursion-filter : {X : Type 0} (P : X → Type 0) (test : X → Bool) (xs : List X) → AllByRecursion P xs
@@ -46,6 +51,30 @@ numbers-filter after (x ∷ xs) =
     elim (leb x.seq after) as (λ b. cond b (x.seq ∷ rest) rest
     ≡ numbers (cond b (x ∷ filter (stays after) xs) (filter (stays after) xs)))
     [ true ↦ ap (λ ns. x.seq ∷ ns) (numbers-filter after xs) | false ↦ numbers-filter after xs ]
+
+pub load_numbers-filter : (after : ℕ) (xs : List Load)
+    → filter (λ x. leb x after) (load_numbers xs) ≡ load_numbers (filter (load_stays after) xs)
+load_numbers-filter after [] = refl
+load_numbers-filter after (x ∷ xs) =
+    let rest = filter (λ y. leb y after) (load_numbers xs) in
+    elim (leb x.seq after) as (λ b. cond b (x.seq ∷ rest) rest
+    ≡ load_numbers (cond b (x ∷ filter (load_stays after) xs) (filter (load_stays after) xs)))
+    [ true ↦ ap (λ ns. x.seq ∷ ns) (load_numbers-filter after xs) | false ↦ load_numbers-filter after xs ]
+
+-- one has looked, or some were touched
+seq-looking : (seq : ℕ) (look : FirstLook) (x : Load) → (looking seq look x).seq ≡ x.seq
+seq-looking seq look x =
+    elim (x.seq == seq) as (λ b. (cond b (record x { look = Some look }) x).seq ≡ x.seq) [ true ↦ refl | false ↦ refl ]
+
+pub load_numbers-looking : (seq : ℕ) (look : FirstLook) (xs : List Load)
+    → load_numbers (map (looking seq look) xs) ≡ load_numbers xs
+load_numbers-looking seq look [] = refl
+load_numbers-looking seq look (x ∷ xs) =
+    rw (seq-looking seq look x) (ap (λ ns. x.seq ∷ ns) (load_numbers-looking seq look xs))
+
+pub load_numbers-touched : (w : Written) (xs : List Load) → load_numbers (map (touched_load w) xs) ≡ load_numbers xs
+load_numbers-touched w [] = refl
+load_numbers-touched w (x ∷ xs) = ap (λ ns. x.seq ∷ ns) (load_numbers-touched w xs)
 
 -- one resolved
 seq-resolved : (seq : ℕ) (w : Written) (x : Store) → (resolved seq w x).seq ≡ x.seq

@@ -1,10 +1,12 @@
 ghost use Rattle.std.specs.Prelude.{◌≡◌, ◌<◌, ◌==◌, List, length, map, IfSome};
 ghost use Rattle.numbers.specs.Sizes.{most_accesses};
 ghost use Rattle.rv_execute.specs.Access.{IsSize};
-ghost use Rattle.load_store.specs.Queues.{empty, Above, numbers, oldest_write, resolved, with_load};
-ghost use Rattle.load_store.specs.Queues.{with_store, with_resolved, without_load, without_store};
-ghost use Rattle.load_store.specs.Queues.{squashed};
+ghost use Rattle.load_store.specs.Queues.{empty, Above, load_numbers, numbers, oldest_write};
+ghost use Rattle.load_store.specs.Queues.{resolved, looking, touched_load, with_load, with_store};
+ghost use Rattle.load_store.specs.Queues.{with_resolved, with_look, with_touch, needs_look};
+ghost use Rattle.load_store.specs.Queues.{without_load, without_store, squashed};
 
+use crate::load::{FirstLook, Load, after_look, after_write};
 use crate::store::Store;
 use arrayvec::ArrayVec;
 use events::{Seq, Written};
@@ -14,19 +16,20 @@ use std::marker::Model;
 /// The loads and the stores of one hart in flight, at most `MOST_ACCESSES` of each, oldest first.
 #[derive(Drop)]
 pub struct HartQueues {
-    loads: ArrayVec<Seq, MOST_ACCESSES>,
+    loads: ArrayVec<Load, MOST_ACCESSES>,
     stores: ArrayVec<Store, MOST_ACCESSES>,
 }
 
 impl Model for HartQueues {
     ghost use Rattle.std.specs.List.{AllByRecursion};
-    ghost use Rattle.load_store.specs.Queues.{Queues, IsRising, IsSized, numbers};
+    ghost use Rattle.load_store.specs.Queues.{Queues, IsRising, IsSized, load_numbers, numbers};
 
     ghost Value = { Queues };
 
     ghost view = { λ a. record { loads = a.loads.items; stores = a.stores.items } };
 
-    ghost invariant = { λ a. IsRising a.loads.items × IsRising (numbers a.stores.items)
+    ghost invariant = { λ a. IsRising (load_numbers a.loads.items)
+        × IsRising (numbers a.stores.items)
         × AllByRecursion IsSized a.stores.items };
 }
 
@@ -74,13 +77,13 @@ impl HartQueues {
         self.stores.first()?.write
     }
 
-    /// Adds a load, younger than those that are there.
+    /// Adds a load, younger than those that are there. It has had no look yet.
     pub fn add_load(&mut self, seq: Seq)
         requires room { length self.old.loads < most_accesses }
-        requires above { Above seq self.old.loads }
+        requires above { Above seq (load_numbers self.old.loads) }
         ensures { self.new ≡ with_load seq self.old }
     {
-        self.loads.push(seq);
+        self.loads.push(Load { seq, look: None });
     }
 
     /// Adds a store, younger than those that are there. It isn't resolved yet.
@@ -98,6 +101,32 @@ impl HartQueues {
         ensures { self.new ≡ with_resolved seq write self.old }
     {
         resolve(self.stores.as_mut_slice(), seq, write);
+    }
+
+    /// The load of this number has looked at the `n` bytes from an address, if it is there.
+    pub fn looked(&mut self, seq: Seq, addr: u32, n: u8)
+        ensures { self.new ≡ with_look seq addr n self.old }
+    {
+        let look = FirstLook {
+            addr,
+            n,
+            touched: false,
+        };
+        look_from(self.loads.as_mut_slice(), seq, look);
+    }
+
+    /// This has been written: it touches the looks that share a byte with it.
+    pub fn touch(&mut self, write: Written)
+        ensures { self.new ≡ with_touch write self.old }
+    {
+        touch_each(self.loads.as_mut_slice(), write);
+    }
+
+    /// Whether the load of this number has looked and was touched since.
+    pub fn needs_look(&self, seq: Seq) -> bool
+        ensures { result ≡ needs_look seq self.now.loads }
+    {
+        is_touched(self.loads.as_slice(), seq)
     }
 
     /// Removes the oldest load, which there must be.
@@ -120,7 +149,7 @@ impl HartQueues {
     pub fn squash(&mut self, after: Seq)
         ensures { self.new ≡ squashed after self.old }
     {
-        self.loads.retain(|seq| *seq <= after);
+        self.loads.retain(|load| load.seq <= after);
         self.stores.retain(|store| store.seq <= after);
     }
 }
@@ -133,4 +162,34 @@ fn resolve(stores: &mut [Store], seq: Seq, write: Written)
             store.write = Some(write);
         }
     }
+}
+
+/// The load of this number has had this first look.
+fn look_from(loads: &mut [Load], seq: Seq, look: FirstLook)
+    ensures { loads.new ≡ map (looking seq look) loads.old }
+{
+    for load in loads.iter_mut() {
+        *load = after_look(*load, seq, look);
+    }
+}
+
+/// This has been written.
+fn touch_each(loads: &mut [Load], write: Written)
+    ensures { loads.new ≡ map (touched_load write) loads.old }
+{
+    for load in loads.iter_mut() {
+        *load = after_write(*load, write);
+    }
+}
+
+/// Whether the load of this number was touched, the first of it where there are several.
+fn is_touched(loads: &[Load], seq: Seq) -> bool
+    ensures { result ≡ needs_look seq loads.now }
+{
+    for load in loads {
+        if load.seq == seq {
+            return load.was_touched();
+        }
+    }
+    false
 }

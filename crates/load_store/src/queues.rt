@@ -5,16 +5,18 @@ ghost use Rattle.smt_model.specs.Bytes.{number_at, write_of};
 ghost use Rattle.smt_model.specs.Faults.{read_fault, write_fault};
 ghost use Rattle.rv_execute.specs.Access.{IsSize};
 ghost use Rattle.shared_memory.specs.Contents.{IsWritten, byte_of};
-ghost use Rattle.load_store.specs.Queues.{Above, numbers, empty, queues_of, Changes, oldest_write};
-ghost use Rattle.load_store.specs.Queues.{with_load, with_store, with_resolved, without_load};
+ghost use Rattle.load_store.specs.Queues.{Above, load_numbers, numbers, empty, queues_of, Changes};
+ghost use Rattle.load_store.specs.Queues.{oldest_write, with_load, with_store, with_resolved};
+ghost use Rattle.load_store.specs.Queues.{with_look, with_touch, needs_look, without_load};
 ghost use Rattle.load_store.specs.Queues.{without_store, squashed};
 ghost use Rattle.load_store.specs.Looks.{seen};
 
 use crate::hart_queues::HartQueues;
 use crate::look::look;
 use events::{Seq, Written};
-use numbers::sizes::{HART_ROOM, MOST_HARTS};
+use numbers::sizes::HART_ROOM;
 use shared_memory::Memory;
+use std::array;
 use std::marker::Model;
 
 /// The loads and the stores in flight of up to `MOST_HARTS` harts, each hart's in program order: at
@@ -36,25 +38,13 @@ impl Model for LoadStore {
     ghost invariant = { λ a. length a.harts ≡ most_harts };
 }
 
-// `LoadStore::new` writes out the queues of so many.
-const _: () = prove!(MOST_HARTS == 8);
-
 impl LoadStore {
     /// No loads and no stores.
     pub fn new() -> Self
         ensures { (h : ℕ) → queues_of result h ≡ empty }
     {
         LoadStore {
-            harts: [
-                HartQueues::new(),
-                HartQueues::new(),
-                HartQueues::new(),
-                HartQueues::new(),
-                HartQueues::new(),
-                HartQueues::new(),
-                HartQueues::new(),
-                HartQueues::new(),
-            ],
+            harts: array::from_fn(|_| HartQueues::new()),
         }
     }
 
@@ -74,11 +64,11 @@ impl LoadStore {
         self.harts[usize::from(hart)].stores_full()
     }
 
-    /// Adds a load, younger than those of its hart that are there.
+    /// Adds a load, younger than those of its hart that are there. It has had no look yet.
     pub fn add_load(&mut self, hart: u8, seq: Seq)
         requires hart { hart < most_harts }
         requires room { length (queues_of self.old hart).loads < most_accesses }
-        requires above { Above seq (queues_of self.old hart).loads }
+        requires above { Above seq (load_numbers (queues_of self.old hart).loads) }
         ensures { Changes (with_load seq) hart self.old self.new }
     {
         self.harts[usize::from(hart)].add_load(seq);
@@ -115,7 +105,35 @@ impl LoadStore {
         look(memory, self.harts[usize::from(hart)].stores(), seq, addr, n)
     }
 
-    /// What a load reads as it retires: memory alone.
+    /// The hart's load of this number, if it is there, has had its first look, at the `n` bytes from
+    /// an address; nothing has touched these since.
+    pub fn looked(&mut self, hart: u8, seq: Seq, addr: u32, n: u8)
+        requires { hart < most_harts }
+        ensures { Changes (with_look seq addr n) hart self.old self.new }
+    {
+        self.harts[usize::from(hart)].looked(seq, addr, n);
+    }
+
+    /// A retirement has written this: of every hart it touches the loads whose first look shares a
+    /// byte with it.
+    pub fn touch(&mut self, write: &Written)
+        ensures { (h : ℕ) → queues_of self.new h ≡ with_touch write.now (queues_of self.old h) }
+    {
+        for hart in 0..HART_ROOM {
+            self.harts[hart].touch(*write);
+        }
+    }
+
+    /// Whether the hart's load of this number has to look again as it retires: some write has
+    /// touched it since its first look.
+    pub fn needs_look(&self, hart: u8, seq: Seq) -> bool
+        requires { hart < most_harts }
+        ensures { result ≡ needs_look seq (queues_of self.now hart).loads }
+    {
+        self.harts[usize::from(hart)].needs_look(seq)
+    }
+
+    /// What a load reads as it looks again: memory alone.
     pub fn second_look(&self, memory: &Memory, addr: u32, n: u8) -> u32
         requires size { IsSize n }
         requires no_fault { read_fault memory.now.image addr n ≡ None }

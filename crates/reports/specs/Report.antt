@@ -8,6 +8,7 @@ use Rattle.event_text.specs.{Line.record_text_of}
 use Rattle.smt_model.specs.{declared.config.Status.Status, declared.config.Status.TheVariants.Going}
 use Rattle.smt_model.specs.{declared.config.Status.TheVariants.Ended}
 use Rattle.smt_model.specs.{declared.config.Status.TheVariants.Stopped, Plain.is_going_status}
+use Rattle.smt_model.specs.{Words.op_of_word, Touched.gives_loaded}
 
 -- The hart has ended with 0.
 abbrev pub has_ended_well : Status → Bool
@@ -25,6 +26,16 @@ status_number statuses =
 -- A name, a number and a newline.
 abbrev pub count_line : List ℕ → ℕ → List ℕ
 count_line name count = name ++ 32 ∷ (decimal count ++ 10 ∷ [])
+
+-- A load among the retired instructions that gives a register its number: its rd isn't x0, and it
+-- didn't stop.
+abbrev pub is_load_record : Record → Bool
+is_load_record r = gives_loaded (op_of_word r.word) r.effect
+
+-- How many of so many such loads looked again.
+abbrev pub looks_line : ℕ → ℕ → List ℕ
+looks_line looks loads =
+    codes "looks " ++ (decimal looks ++ (codes " of " ++ (decimal loads ++ codes " loads\n")))
 
 -- How a hart stands, with the number that it has ended with or the cause for which it has stopped.
 abbrev pub status_text : Status → List ℕ

@@ -3,7 +3,7 @@
 //! Read in this order: `access` (reads and writes), `bytes` (numbers in a list of bytes),
 //! `reservations`, `memory` (a byte for each address of RAM, little-endian, and one reservation a
 //! hart), `accesses` (why the access of an instruction faults, and what it reads), `commits` (what
-//! a retirement does with memory).
+//! a retirement does with memory), `sharing` (which accesses share a byte).
 #![tactic(auto)]
 
 mod access;
@@ -12,8 +12,10 @@ mod bytes;
 mod commits;
 mod memory;
 mod reservations;
+mod sharing;
 
 pub use access::AccessKind;
 pub use accesses::{fault, read};
 pub use commits::commit_access;
 pub use memory::Memory;
+pub use sharing::touches;

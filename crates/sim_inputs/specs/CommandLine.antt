@@ -47,6 +47,9 @@ order_rule = file_rule (codes "ORDER")
 abbrev pub config_rule : Rule
 config_rule = file_option_rule (codes "config")
 
+abbrev pub looks_rule : Rule
+looks_rule = flag_rule (codes "looks")
+
 abbrev pub records_rule : Rule
 records_rule = flag_rule (codes "records")
 
@@ -60,10 +63,10 @@ written_trace_rule = file_option_rule (codes "trace")
 abbrev pub subcommand : Text → List Rule → App
 subcommand name rules = fold with_rule (new_app name) rules
 
--- `step IMAGE SCRIPT`, with `--config FILE`, `--records`, `--show` and `--trace FILE`.
+-- `step IMAGE SCRIPT`, with `--config FILE`, `--looks`, `--records`, `--show` and `--trace FILE`.
 abbrev pub step_command : App
-step_command = subcommand (codes "step") (image_rule ∷ script_rule ∷ config_rule ∷ records_rule
-    ∷ show_rule ∷ written_trace_rule ∷ [])
+step_command = subcommand (codes "step") (image_rule ∷ script_rule ∷ config_rule ∷ looks_rule
+    ∷ records_rule ∷ show_rule ∷ written_trace_rule ∷ [])
 
 -- `run IMAGE`, with `--config FILE`, `--records` and `--trace FILE`.
 abbrev pub run_command : App
@@ -131,6 +134,7 @@ pub record IsStep (rows : List Row) (step : StepCommand) : Type 0 where
   pub image : IsFile rows (codes "IMAGE") step.image
   pub script : IsFile rows (codes "SCRIPT") step.script
   pub trace : IsFileOption rows (codes "trace") step.trace
+  pub looks : IsFlag rows (codes "looks") step.looks
   pub records : IsFlag rows (codes "records") step.records
   pub show : IsFlag rows (codes "show") step.show
 

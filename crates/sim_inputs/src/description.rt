@@ -111,6 +111,12 @@ const CONFIG: Argument = Argument {
     help: "The configuration, a TOML file: see smtsim --help",
 };
 
+const LOOKS: Argument = Argument {
+    kind: Kind::Flag,
+    name: "looks",
+    help: "Print how many loads looked again, after the tables",
+};
+
 const RECORDS: Argument = Argument {
     kind: Kind::Flag,
     name: "records",
@@ -134,7 +140,7 @@ static SUBCOMMANDS: [Subcommand; 6] = [
     Subcommand {
         name: "step",
         about: "Make a script's asks of the core in order, and print a report",
-        arguments: &[IMAGE, SCRIPT, CONFIG, RECORDS, SHOW, WRITTEN_TRACE],
+        arguments: &[IMAGE, SCRIPT, CONFIG, LOOKS, RECORDS, SHOW, WRITTEN_TRACE],
         form: SCRIPT_FORM,
     },
     Subcommand {

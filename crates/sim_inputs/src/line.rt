@@ -26,6 +26,8 @@ pub struct StepCommand<'a> {
     pub script: &'a str,
     /// `--trace FILE`: the file that the history is written to.
     pub trace: Option<&'a str>,
+    /// `--looks`: how many loads looked again is printed behind the tables.
+    pub looks: bool,
     /// `--records`: a line for each record is printed before the report.
     pub records: bool,
     /// `--show`: the core's tables are printed between the asks and the report.

@@ -64,6 +64,7 @@ fn step_in<'a>(found: &ArgMatches<'a>) -> Option<StepCommand<'a>>
         image: file(found, "IMAGE")?,
         script: file(found, "SCRIPT")?,
         trace: file(found, "trace"),
+        looks: is_set(found, "looks"),
         records: is_set(found, "records"),
         show: is_set(found, "show"),
     })

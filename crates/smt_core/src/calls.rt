@@ -19,6 +19,7 @@ ghost use Rattle.smt_model.specs.Rules.{is_legal};
 ghost use Rattle.smt_core.specs.Headline.{IsPlainRun, IsPlainRegister, IsPlainMemory};
 ghost use Rattle.smt_core.specs.Answers.{Answered, IssueAnswered, CompleteAnswered, IsPredicted};
 ghost use Rattle.smt_model.specs.Setup.{is_accepted, registers_of};
+ghost use Rattle.smt_model.specs.Touched.{looks};
 
 use crate::answer::{Answer, CompleteAnswer, IssueAnswer};
 use crate::predict::Predict;
@@ -195,6 +196,14 @@ impl Core {
             lent: self.state.lent(),
             events: self.history().len() as u32,
         }
+    }
+
+    /// How many loads with an rd other than x0 have retired without stopping and looked again, since
+    /// some write touched their bytes between their completion and their retirement.
+    pub fn looks(&self) -> u32
+        ensures { result ≡ looks self.now.past }
+    {
+        self.state.looks()
     }
 
     /// What hart `hart`'s register `register` holds as its retired instructions leave it; none

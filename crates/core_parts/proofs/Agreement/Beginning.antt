@@ -7,6 +7,7 @@ use Rattle.std.proofs.Common.{◌∙◌, refl, subst, sym, ap, inl, inr, arith}
 use Rattle.std.proofs.{lemmas.Bool.cases_Bool, lemmas.Bool.cases_eq, lemmas.Bool.cases_lt}
 use Rattle.std.proofs.{lemmas.Bool.Decides.nat_tests, lemmas.List.get_or-set_same, lemmas.List.get_or-set_other}
 use Rattle.std.proofs.{lemmas.List.length_push, Math.ListN.get_or-append, Math.Seq.get_or-append_seam}
+use Rattle.numbers.specs.Sizes.{most_actors, most_harts, most_registers}
 use Rattle.free_list.specs.Flags.{holds}
 use Rattle.issue_queue.specs.Queue.{Queue}
 use Rattle.smt_model.specs.{Picture.picture, Picture.is_free, Registers.is_unclaimed, Registers.first_register}
@@ -36,11 +37,11 @@ more_other : (h r x : ℕ) → x ≢ 31 * h + r - 1 → 1 ≤ r
     → (nat_le (31 * h) x && nat_lt (x + 1) (31 * h + (r + 1))) ≡ (nat_le (31 * h) x && nat_lt (x + 1) (31 * h + r))
 more_other h r x other low = grind (arith, nat_tests)
 
-pub values_more : (values old : List (Option ℕ)) (harts h r number : ℕ) → length values ≡ 512 → 1 ≤ r → r < 32 → h < 8
+pub values_more : (values old : List (Option ℕ)) (harts h r number : ℕ) → length values ≡ most_registers → 1 ≤ r → r < 32 → h < most_harts
     → number ≡ first_number harts h r
-    → ((x : ℕ) (d : Option ℕ) → x < 512
+    → ((x : ℕ) (d : Option ℕ) → x < most_registers
     → slice_index_or values x d ≡ first_values_below r harts h x (slice_index_or old x d))
-    → (x : ℕ) (d : Option ℕ) → x < 512
+    → (x : ℕ) (d : Option ℕ) → x < most_registers
     → slice_index_or (slice_set values (31 * h + r - 1) (Some number)) x d
     ≡ first_values_below (r + 1) harts h x (slice_index_or old x d)
 values_more values old harts h r number count low high few is before x d inside =
@@ -66,18 +67,18 @@ AreNew entry harts = (h : ℕ) (d : HartState) → h < length harts → IsNew h 
 
 -- The registers of the harts below `some` have their first numbers, and no other has a number.
 abbrev pub AreFirst : ℕ → ℕ → List (Option ℕ) → Type 0
-AreFirst harts some values = (x : ℕ) (d : Option ℕ) → x < 512
+AreFirst harts some values = (x : ℕ) (d : Option ℕ) → x < most_registers
     → slice_index_or values x d
     ≡ (if nat_lt x (31 * some) then Some (first_number harts (x / 31) (x % 31 + 1)) else None)
 
 pub first_start : (harts : ℕ) (values : List (Option ℕ))
-    → ((x : ℕ) (d : Option ℕ) → x < 512 → slice_index_or values x d ≡ None)
+    → ((x : ℕ) (d : Option ℕ) → x < most_registers → slice_index_or values x d ≡ None)
     → AreFirst harts 0 values
 first_start harts values none x d inside =
     let low : nat_lt x (31 * 0) ≡ false = grind (arith, nat_tests) in rw low (none x d inside)
 
 pub first_more : (harts h : ℕ) (old new : List (Option ℕ))
-    → ((x : ℕ) (d : Option ℕ) → x < 512 → slice_index_or new x d ≡ first_values harts h x (slice_index_or old x d))
+    → ((x : ℕ) (d : Option ℕ) → x < most_registers → slice_index_or new x d ≡ first_values harts h x (slice_index_or old x d))
     → AreFirst harts h old → AreFirst harts (h + 1) new
 first_more harts h old new sets before x d inside =
     elim (cases_lt x (31 * h)) [
@@ -186,10 +187,10 @@ first_free setup x =
 pub begins : (harts extra : ℕ) (image : ProgramImage) (x : Parts) → length x.harts.items ≡ harts
     → AreNew image.entry x.harts.items
     → x.queue.entries ≡ []
-    → ((q : ℕ) → holds x.free q ≡ (nat_le (31 * harts) q && nat_lt q (31 * harts + extra))) → length x.values ≡ 512
-    → AreFirst harts harts x.values → length x.jobs ≡ 16
-    → ((k : ℕ) (d : Option OpenJob) → k < 16 → slice_index_or x.jobs k d ≡ None)
-    → harts ≤ 8 → ((h : ℕ) → queues_of x.accesses h ≡ empty) → IsStart image x.memory
+    → ((q : ℕ) → holds x.free q ≡ (nat_le (31 * harts) q && nat_lt q (31 * harts + extra))) → length x.values ≡ most_registers
+    → AreFirst harts harts x.values → length x.jobs ≡ most_actors
+    → ((k : ℕ) (d : Option OpenJob) → k < most_actors → slice_index_or x.jobs k d ≡ None)
+    → harts ≤ most_harts → ((h : ℕ) → queues_of x.accesses h ≡ empty) → IsStart image x.memory
     → BeginsAs harts extra image x
 begins harts extra image x count new queue free registers values actors jobs few accesses memory setup same_harts
     same_extra same_image =
@@ -205,14 +206,14 @@ begins harts extra image x count new queue free registers values actors jobs few
           (subst (λ n. holds x.free q ≡ (nat_le (31 * harts) q && nat_lt q (31 * harts + n))) (sym same_extra) (free q))
           ∙ first_free setup q;
       registers = registers;
-      values = λ y d inside claimed. let under : y < 512 = omega arith in
+      values = λ y d inside claimed. let under : y < most_registers = omega arith in
           values y d under ∙ ap (λ n. if nat_lt y (31 * n) then Some (first_number n (y / 31) (y % 31 + 1)) else None)
           (sym same_harts);
       actors = actors;
       jobs = λ k d inside. rw (jobs k d inside) refl;
       accesses = record {
         places = omega arith;
-        each = λ h d inside. accesses h ∙ sym (ap accesses_of (new h d inside).active);
+        each = λ h d inside. accesses h ∙ sym (ap (accesses_of (picture setup []).touched) (new h d inside).active);
       };
       memory = record {
         byte = λ addr. memory.bytes addr ∙ ap (λ i. byte_in i addr) (sym same_image);

@@ -8,6 +8,7 @@ use Rattle.core_parts.specs.Checkpoints.{CheckpointsAgree}
 use Rattle.core_parts.specs.Agree.{QueueAgrees, FreeAgrees, ValuesAgree, JobsAgree, EachAgrees, PartsAgree}
 use Rattle.core_parts.specs.declared.parts.Parts.{Parts}
 use Rattle.core_parts.proofs.{Agreement.Queues.memory_kept, Agreement.Shared.queue_kept, Agreement.Shared.values_kept}
+use Rattle.core_parts.proofs.{Agreement.Queues.accesses_kept}
 use Rattle.core_parts.proofs.{Agreement.Shared.jobs_kept}
 
 -- What such a step keeps, whether it fetches or not.
@@ -37,7 +38,7 @@ all_kept p q flights shared = record {
 -- All that such a step leaves, where its harts agree.
 pub rest_kept : (p q : Picture) (x y : Parts) → KeepsRest p q → PartsAgree p x → EachAgrees q y.harts.items
     → y.queue ≡ x.queue
-    → y.free ≡ x.free → y.values ≡ x.values → y.jobs ≡ x.jobs → AccessesAgree y.harts.items y.accesses
+    → y.free ≡ x.free → y.values ≡ x.values → y.jobs ≡ x.jobs → AccessesAgree p.touched y.harts.items y.accesses
     → y.memory ≡ x.memory → CheckpointsAgree y.harts.items → PartsAgree q y
 rest_kept p q x y keeps agrees harts queue free values jobs accesses memory checkpoints = record {
   harts = harts;
@@ -51,6 +52,6 @@ rest_kept p q x y keeps agrees harts queue free values jobs accesses memory chec
   actors = ap length jobs ∙ agrees.actors;
   jobs = subst (JobsAgree q) (sym jobs)
       (jobs_kept p q x.jobs keeps.shared.kept keeps.shared.job keeps.shared.operands agrees.jobs);
-  accesses = accesses;
+  accesses = accesses_kept p.touched q.touched y.harts.items y.accesses keeps.shared.memory.touched accesses;
   memory = subst (MemoryAgrees q) (sym memory) (memory_kept p q x.memory keeps.shared.memory agrees.memory);
 }

@@ -4,6 +4,7 @@ use Rattle.std.specs.Prelude.{None, IfSome}
 use Rattle.std.specs.List.{AllByRecursion, list_any}
 use Rattle.std.proofs.Common.{◌∙◌, refl, sym, ap, subst, arith, append_assoc}
 use Rattle.std.proofs.{lemmas.Bool.Decides.nat_tests, lemmas.List.append-nil, lemmas.List.Elements.filter-append}
+use Rattle.numbers.specs.Sizes.{most_registers}
 use Rattle.free_list.specs.Flags.{holds}
 use Rattle.retire_squash.specs.{Active.Within, declared.active.Active.Active}
 use Rattle.smt_model.specs.Basics.{same_number}
@@ -44,13 +45,13 @@ module _ (n : ℕ) (before old new : List Active) (a : Active) (free_before free
   whole : before ≡ new ++ a ∷ giving.rest
   whole = giving.whole ∙ ap (λ xs. xs ++ giving.rest) is_squashed_behind ∙ append_assoc new (a ∷ []) giving.rest
 
-  can_give : HaveOwn free_before before → (x : ℕ) → a.phys ≡ Some x → (x < 512) × (holds free x ≡ false)
+  can_give : HaveOwn free_before before → (x : ℕ) → a.phys ≡ Some x → (x < most_registers) × (holds free x ≡ false)
   can_give own x has =
       let mine = owned_at free_before new a giving.rest (subst (HaveOwn free_before) whole own) x has in
       (mine.in_range, giving.given x ∙ (rw (mine.claimed, mine.alone) refl))
 
   pub giving_requires : HaveOwn free_before before → (o : Option ℕ) → o ≡ a.phys
-      → IfSome o (λ r. (r < 512) × (holds free r ≡ false))
+      → IfSome o (λ r. (r < most_registers) × (holds free r ≡ false))
   giving_requires own None is = tt
   giving_requires own (Some x) is = can_give own x (sym is)
 

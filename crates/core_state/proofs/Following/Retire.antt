@@ -1,5 +1,5 @@
 -- Which rule a retirement breaks.
-use Rattle.std.specs.Prelude.{◌≡◌, ℕ, Bool, true, false, List, [], ◌∷◌, map, Some, None}
+use Rattle.std.specs.Prelude.{◌≡◌, ℕ, ◌<◌, length, Bool, true, false, List, [], ◌∷◌, map, Some, None}
 use Rattle.std.proofs.Common.{◌∙◌, refl, sym, ap, subst, arith}
 use Rattle.std.proofs.{lemmas.Option.none-some, lemmas.Bool.Decides.nat_tests}
 use Rattle.events.specs.{declared.effect.Effect.Effect, declared.effect.Outcome.Outcome, declared.event.Event.Event}
@@ -19,7 +19,7 @@ use Rattle.core_state.specs.{State.IsCore, State.view_of, View.CoreView}
 use Rattle.core_parts.specs.declared.hart.HartState.{HartState}
 use Rattle.core_state.specs.{declared.state.State.TheInside.Inside}
 use Rattle.core_state.proofs.Following.Tests.{refused-is, holds, fails}
-use Rattle.core_state.proofs.Steps.Retire.{Look.fetched_of, State.Effects, State.effect_in}
+use Rattle.core_state.proofs.Steps.Retire.{Look.fetched_of, State.Says, State.effect_in}
 
 not_completed_if_gone : (f : Fate) → is_in_flight f ≡ false → is f Completed ≡ false
 not_completed_if_gone f gone = grind (arith, nat_tests)
@@ -121,9 +121,10 @@ module _ (setup : Setup) (past : List Event) (actor s : ℕ) (effect : Effect) w
             ∙ (holds 3 oldest ((4, says) ∷ []) oldest_is ∙ rw says_is refl)))
 
 pub effect_view : (i : Inside) (core : IsCore i) (v : CoreView) → view_of i ≡ v → (h : ℕ) (x : Active) (o : Outcome)
-    (effect : Effect) → CanRetire (picture v.setup v.past) h x o
-    → Effects i.parts.memory i.parts.memory.image h x.op o effect
+    (s : ℕ) (effect : Effect) → h < length i.parts.harts.items → x.seq ≡ s
+    → CanRetire (picture v.setup v.past) h x o → Says i h s x.op o effect
     → effect ≡ effect_now v.setup v.past x.seq (fetched_of h x)
-effect_view i core v at h x o effect can says =
+effect_view i core v at h x o s effect inside number can says =
     subst (λ u. effect ≡ effect_now u.setup u.past x.seq (fetched_of h x)) at
-    (effect_in i h x o effect core (subst (λ u. CanRetire (picture u.setup u.past) h x o) (sym at) can) says)
+    (effect_in i h x o effect core inside (subst (λ u. CanRetire (picture u.setup u.past) h x o) (sym at) can)
+    (subst (λ n. Says i h n x.op o effect) (sym number) says))

@@ -7,7 +7,7 @@ use Rattle.events.specs.{History.EventList, declared.effect.Outcome.Outcome, dec
 use Rattle.events.specs.{declared.event.Event.Event}
 use Rattle.events.specs.declared.event.Event.TheVariants.{Fetch, Decode, Rename, Issue, Complete, Drop}
 use Rattle.smt_model.specs.{Account.records, Fates.fetches, Fetching.last_fetched, Memory.output, Picture.picture}
-use Rattle.smt_model.specs.{Rules.refused, Rules.is_legal}
+use Rattle.smt_model.specs.{Rules.refused, Rules.is_legal, Touched.looks}
 use Rattle.core_parts.specs.{Agree.PartsAgree, Agree.KeepsSizes}
 use Rattle.core_state.specs.{State.IsCore, State.past_of, State.setup_in}
 use Rattle.core_parts.specs.{declared.parts.Parts.Parts}
@@ -21,28 +21,59 @@ past_push items e = reverse-append items (e ∷ [])
 pub record Quiet (e : Event) : Type 0 where
   pub fetches : (past : List Event) → fetches (e ∷ past) ≡ fetches past
   pub last_fetched : (past : List Event) → last_fetched (e ∷ past) ≡ last_fetched past
+  pub looks : (past : List Event) → looks (e ∷ past) ≡ looks past
   pub records : (past : List Event) → records (e ∷ past) ≡ records past
   pub output : (past : List Event) → output (e ∷ past) ≡ output past
 
 pub quiet_decode : (actor s : ℕ) → Quiet (Decode actor s)
 quiet_decode actor s =
-    record { fetches = λ past. refl; last_fetched = λ past. refl; records = λ past. refl; output = λ past. refl }
+    record {
+      fetches = λ past. refl;
+      last_fetched = λ past. refl;
+      looks = λ past. refl;
+      records = λ past. refl;
+      output = λ past. refl;
+    }
 
 pub quiet_rename : (actor s : ℕ) (phys : Option ℕ) → Quiet (Rename actor s phys)
 quiet_rename actor s phys =
-    record { fetches = λ past. refl; last_fetched = λ past. refl; records = λ past. refl; output = λ past. refl }
+    record {
+      fetches = λ past. refl;
+      last_fetched = λ past. refl;
+      looks = λ past. refl;
+      records = λ past. refl;
+      output = λ past. refl;
+    }
 
 pub quiet_issue : (actor s : ℕ) → Quiet (Issue actor s)
 quiet_issue actor s =
-    record { fetches = λ past. refl; last_fetched = λ past. refl; records = λ past. refl; output = λ past. refl }
+    record {
+      fetches = λ past. refl;
+      last_fetched = λ past. refl;
+      looks = λ past. refl;
+      records = λ past. refl;
+      output = λ past. refl;
+    }
 
 pub quiet_complete : (actor s : ℕ) (outcome : Outcome) → Quiet (Complete actor s outcome)
 quiet_complete actor s outcome =
-    record { fetches = λ past. refl; last_fetched = λ past. refl; records = λ past. refl; output = λ past. refl }
+    record {
+      fetches = λ past. refl;
+      last_fetched = λ past. refl;
+      looks = λ past. refl;
+      records = λ past. refl;
+      output = λ past. refl;
+    }
 
 pub quiet_drop : (actor s : ℕ) → Quiet (Drop actor s)
 quiet_drop actor s =
-    record { fetches = λ past. refl; last_fetched = λ past. refl; records = λ past. refl; output = λ past. refl }
+    record {
+      fetches = λ past. refl;
+      last_fetched = λ past. refl;
+      looks = λ past. refl;
+      records = λ past. refl;
+      output = λ past. refl;
+    }
 
 -- What every step owes: the event is allowed, and the parts agree with the history that has it.
 pub record Grows (i : Inside) (parts : Parts) (e : Event) : Type 0 where
@@ -70,6 +101,7 @@ core_grown i parts history e core grows quiet longer =
       agrees = subst (λ p. PartsAgree (picture (setup_in i) p) parts) turned grows.agrees;
       fetched = core.fetched ∙ sym (quiet.fetches (past_of i)) ∙ ap fetches turned;
       last = core.last ∙ sym (quiet.last_fetched (past_of i)) ∙ ap last_fetched turned;
+      looks = core.looks ∙ sym (quiet.looks (past_of i)) ∙ ap looks turned;
       records = core.records ∙ ap reverse (sym (quiet.records (past_of i)) ∙ ap records turned);
       output = core.output ∙ sym (quiet.output (past_of i)) ∙ ap output turned;
       records_fit = omega arith;
@@ -103,6 +135,7 @@ core_fetched i parts history actor h pc word predicted core grows longer =
       agrees = subst (λ p. PartsAgree (picture (setup_in i) p) parts) turned grows.agrees;
       fetched = next ∙ ap fetches turned;
       last = ap last_fetched turned;
+      looks = core.looks ∙ ap looks turned;
       records = core.records ∙ ap (λ p. reverse (records p)) turned;
       output = core.output ∙ ap output turned;
       records_fit = omega arith;
@@ -111,22 +144,24 @@ core_fetched i parts history actor h pc word predicted core grows longer =
       output_room = core.output_room;
     })
 
--- What a retirement owes besides: its record comes first among the newest, and the output is what the history puts out.
-pub record Retires (i : Inside) (now : List Record) (out : List ℕ) (e : Event) : Type 0 where
+-- What a retirement owes besides: the loads that looked again are counted, its record comes first among the newest, and
+-- the output is what the history puts out.
+pub record Retires (i : Inside) (many : ℕ) (now : List Record) (out : List ℕ) (e : Event) : Type 0 where
   pub fetches : fetches (e ∷ past_of i) ≡ fetches (past_of i)
   pub last_fetched : last_fetched (e ∷ past_of i) ≡ last_fetched (past_of i)
+  pub looks : many ≡ looks (e ∷ past_of i)
   pub records : now ≡ reverse (records (e ∷ past_of i))
   pub output : out ≡ output (e ∷ past_of i)
   pub one_record : length now ≤ length i.records.items + 1
   pub one_byte : length out ≤ length i.output.items + 1
 
-pub core_retired : (i : Inside) (parts : Parts) (now : Vec Record Global) (out : Vec ℕ Global) (history : EventList)
-    (e : Event) → IsCore i
-    → Grows i parts e → Retires i now.items out.items e → vec_capacity now ≡ vec_capacity i.records
+pub core_retired : (i : Inside) (parts : Parts) (many : ℕ) (now : Vec Record Global) (out : Vec ℕ Global)
+    (history : EventList) (e : Event) → IsCore i
+    → Grows i parts e → Retires i many now.items out.items e → vec_capacity now ≡ vec_capacity i.records
     → vec_capacity out ≡ vec_capacity i.output
     → history ≡ record i.history { items = i.history.items ++ e ∷ [] }
-    → IsCore (record i { parts = parts; records = now; output = out; history = history })
-core_retired i parts now out history e core grows retires records_room output_room longer =
+    → IsCore (record i { parts = parts; looks = many; records = now; output = out; history = history })
+core_retired i parts many now out history e core grows retires records_room output_room longer =
     let more = length_push i.history.items e in
     let records_were = core.records_fit in
     let output_was = core.output_fit in
@@ -135,7 +170,8 @@ core_retired i parts now out history e core grows retires records_room output_ro
     let records_fit_in = core.records_room in
     let output_fits_in = core.output_room in
     let turned = sym (past_push i.history.items e) in
-    subst (λ h. IsCore (record i { parts = parts; records = now; output = out; history = h })) (sym longer) (record {
+    subst (λ h. IsCore (record i { parts = parts; looks = many; records = now; output = out; history = h }))
+    (sym longer) (record {
       sizes = core.sizes;
       limit = core.limit;
       harts = grows.sizes.harts ∙ core.harts;
@@ -146,6 +182,7 @@ core_retired i parts now out history e core grows retires records_room output_ro
       agrees = subst (λ p. PartsAgree (picture (setup_in i) p) parts) turned grows.agrees;
       fetched = core.fetched ∙ sym retires.fetches ∙ ap fetches turned;
       last = core.last ∙ sym retires.last_fetched ∙ ap last_fetched turned;
+      looks = retires.looks ∙ ap looks turned;
       records = retires.records ∙ ap (λ p. reverse (records p)) turned;
       output = retires.output ∙ ap output turned;
       records_fit = omega arith;

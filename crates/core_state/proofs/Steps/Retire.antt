@@ -2,4 +2,5 @@
 pub mod Rules
 pub mod Look
 pub mod Writes
+pub mod Touched
 pub mod State

@@ -12,6 +12,7 @@ ghost use Rattle.smt_model.specs.Picture.{is_free, picture};
 ghost use Rattle.smt_model.specs.Registers.{claims};
 ghost use Rattle.smt_model.specs.Rules.{is_legal};
 ghost use Rattle.smt_model.specs.Setup.{registers_of};
+ghost use Rattle.smt_model.specs.Touched.{looks};
 ghost use Rattle.core_parts.specs.Agree.{PartsAgree};
 ghost use Rattle.core_parts.specs.Listed.{listed};
 ghost use Rattle.core_state.specs.Setup.{setup_of};
@@ -95,6 +96,14 @@ impl State {
         ensures { result ≡ open_job_count self.now.setup self.now.past }
     {
         count_jobs(&self.parts.jobs) as u32
+    }
+
+    /// How many loads with an rd other than x0 have looked again as they retired, since a write had
+    /// touched their bytes after their completion.
+    pub fn looks(&self) -> u32
+        ensures { result ≡ looks self.now.past }
+    {
+        self.looks
     }
 
     /// The events so far.

@@ -17,6 +17,7 @@ use core_steps::{decode_oldest, drop_job, finish, issue_entry, rename_oldest, re
 use events::{Effect, Event, Outcome, Record};
 use exec_units::Job;
 use issue_queue::Entry;
+use load_store::looks_after;
 use numbers::{Phys, Seq};
 use retire_squash::Active;
 
@@ -126,6 +127,14 @@ impl State {
         ensures event { result ≡ Retire actor active.now.seq effect }
         ensures made { self.new ≡ grown result self.old }
     {
+        self.looks = looks_after(
+            &self.parts.accesses,
+            hart,
+            active.seq,
+            active.op,
+            &effect,
+            self.looks,
+        );
         retire_oldest(&mut self.parts, hart, active, effect);
         self.records.push_reserved(Record {
             hart,

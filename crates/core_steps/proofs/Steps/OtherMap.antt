@@ -99,7 +99,12 @@ squash_with row m q h n squash =
           };
           records = shared.records;
           output = shared.output;
-          memory = record { byte = shared.memory.byte; reserved = shared.memory.reserved };
+          memory = record {
+            byte = shared.memory.byte;
+            reserved = shared.memory.reserved;
+            touched = shared.memory.touched;
+            looks = shared.memory.looks;
+          };
         };
       };
     }
@@ -147,6 +152,7 @@ completes_with row p m h n k o pc s =
       of_hart = s.of_hart;
       lent = s.lent;
       waited = s.waited;
+      untouched = s.untouched;
       fate = s.fate;
       phys = s.phys;
       completion = s.completion;
@@ -183,7 +189,12 @@ completes_with row p m h n k o pc s =
           };
           records = shared.records;
           output = shared.output;
-          memory = record { byte = shared.memory.byte; reserved = shared.memory.reserved };
+          memory = record {
+            byte = shared.memory.byte;
+            reserved = shared.memory.reserved;
+            touched = shared.memory.touched;
+            looks = shared.memory.looks;
+          };
         };
       };
     }
@@ -262,6 +273,6 @@ parts_with row p h x m old new inside at is same is_row kept agrees =
       values = agrees.values;
       actors = agrees.actors;
       jobs = jobs_kept p q old.jobs (λ s f found. found) (λ k. refl) (λ k s was now. (refl, refl)) agrees.jobs;
-      accesses = accesses_still old.harts.items h x y old.accesses inside at refl agrees.accesses;
+      accesses = accesses_still p.touched old.harts.items h x y old.accesses inside at refl agrees.accesses;
       memory = record { byte = agrees.memory.byte; reserved = agrees.memory.reserved };
     })

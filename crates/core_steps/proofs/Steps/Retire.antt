@@ -1,5 +1,6 @@
 -- A retirement.
 pub mod Memory
+pub mod Touching
 pub mod Parts
 pub mod Replay
 pub mod Halt

@@ -17,7 +17,7 @@ use Rattle.core_parts.proofs.{Agreement.Queues.queues_are}
 use Rattle.core_state.proofs.{Steps.Complete.Look.looks_right}
 
 -- The first of some harts.
-first_hart : (harts : List HartState) (h : ℕ) → h < length harts → HartState
+pub first_hart : (harts : List HartState) (h : ℕ) → h < length harts → HartState
 first_hart [] h inside = absurd (omega arith)
 first_hart (x ∷ xs) h inside = x
 

@@ -1,10 +1,11 @@
 -- A core's retirement: what its parts' step starts from, and that the state is a core's again after it.
-use Rattle.std.specs.Prelude.{◌≡◌, ℕ, ◌<◌, ◌≤◌, ◌+◌, ◌==◌, Bool, true, List, [], ◌∷◌, ◌++◌, Option, Some, None, IfNone}
+use Rattle.std.specs.Prelude.{◌≡◌, ℕ, ◌<◌, ◌≤◌, ◌+◌, ◌^◌, ◌==◌, Bool, true, false, List, [], ◌∷◌, ◌++◌, Option, Some, None, IfNone}
 use Rattle.std.specs.Prelude.{length, reverse, vec_capacity, IfSome}
 use Rattle.elf_image.specs.Image.{ProgramImage}
 use Rattle.rv_instr.specs.declared.op.Op.{Op}
-use Rattle.std.proofs.Common.{◌∙◌, Vec, Global, refl, sym, ap, subst, arith}
-use Rattle.std.proofs.{lemmas.Bool.Decides.nat_tests, lemmas.List.length_push, lemmas.List.reverse-append}
+use Rattle.std.proofs.Common.{◌∙◌, Vec, Global, refl, sym, ap, subst, inl, inr, arith}
+use Rattle.std.proofs.{lemmas.Bool.cases_Bool, lemmas.Bool.Decides.nat_tests, lemmas.List.length_push}
+use Rattle.std.proofs.{lemmas.List.reverse-append}
 use Rattle.events.specs.{History.EventList, declared.effect.Effect.Effect, declared.effect.Outcome.Outcome}
 use Rattle.events.specs.{declared.effect.Record.Record, declared.event.Event.TheVariants.Retire}
 use Rattle.retire_squash.specs.declared.active.Active.{Active}
@@ -17,6 +18,10 @@ use Rattle.smt_model.specs.{Bytes.read, Reservations.holds_word, Registers.opera
 use Rattle.smt_model.specs.{Memory.byte_at, Memory.reserved, Kinds.first_source, Kinds.second_source}
 use Rattle.shared_memory.specs.Contents.{Contents, byte_of, reserved_of}
 use Rattle.shared_memory.specs.Contents.{CanWrite}
+use Rattle.smt_model.specs.Touched.{looks_after, looks}
+use Rattle.smt_laws.specs.Untouched.{kept_effect}
+use Rattle.smt_laws.proofs.Touching.{looks_under}
+use Rattle.load_store.specs.{Looks.keeps_first, Queues.needs_look, Queues.queues_of}
 use Rattle.smt_laws.proofs.Steps.Retire.{records-Retire}
 use Rattle.core_parts.specs.{Agree.PartsAgree, Agree.KeepsSizes, Agree.From}
 use Rattle.core_state.specs.{Answers.AllowsNone, View.CoreView}
@@ -38,6 +43,7 @@ use Rattle.core_state.proofs.Steps.Retire.Look.{fetched_of, retires_now, effect-
 use Rattle.core_state.proofs.{Steps.Retire.Writes.can_write, Steps.Complete.Look.says_with_look}
 use Rattle.core_state.proofs.{Steps.Complete.Look.checked-address}
 use Rattle.core_parts.proofs.{Agreement.Queues.has_place}
+use Rattle.core_state.proofs.Steps.Retire.Touched.{keeps_now, looks_now}
 use Rattle.core_state.proofs.Steps.Retire.Rules.{retires_by, is_its_own, none_completed}
 
 registers_fit : (i : Inside) → IsCore i → registers_of (setup_in i) ≤ 512
@@ -59,12 +65,18 @@ Effects m image h op o effect =
     (c : Computed) (look : Option ℕ) → o ≡ outcome_of op (checked image op c) look
     → effect ≡ effect_of op (checked image op c) (read op (byte_of m) c.addr) (holds_word (reserved_of m h) c.addr)
 
--- It is what the rules want now.
-pub effect_in : (i : Inside) (h : ℕ) (x : Active) (o : Outcome) (effect : Effect) → IsCore i
+-- And of a load that doesn't look again what its completion said.
+pub record Says (i : Inside) (h s : ℕ) (op : Op) (o : Outcome) (effect : Effect) : Type 0 where
+  pub first : keeps_first op s (queues_of i.parts.accesses h).loads ≡ true → effect ≡ kept_effect o
+  pub now : keeps_first op s (queues_of i.parts.accesses h).loads ≡ false
+      → Effects i.parts.memory i.parts.memory.image h op o effect
+
+-- By memory it is what the rules want now.
+by_memory : (i : Inside) (h : ℕ) (x : Active) (o : Outcome) (effect : Effect) → IsCore i
     → CanRetire (picture (setup_in i) (past_of i)) h x o
     → Effects i.parts.memory i.parts.memory.image h x.op o effect
     → effect ≡ effect_now (setup_in i) (past_of i) x.seq (fetched_of h x)
-effect_in i h x o effect core can says =
+by_memory i h x o effect core can says =
     let setup = setup_in i in
     let past = past_of i in
     let m = i.parts.memory in
@@ -82,6 +94,16 @@ effect_in i h x o effect core can says =
     (sym (checked-address setup.image op c))
     ∙ effect-same setup past x.seq f (byte_of m) (reserved_of m h) core.agrees.memory.byte
     (core.agrees.memory.reserved h))
+
+-- It is what the rules want now.
+pub effect_in : (i : Inside) (h : ℕ) (x : Active) (o : Outcome) (effect : Effect) → IsCore i
+    → h < length i.parts.harts.items → CanRetire (picture (setup_in i) (past_of i)) h x o
+    → Says i h x.seq x.op o effect → effect ≡ effect_now (setup_in i) (past_of i) x.seq (fetched_of h x)
+effect_in i h x o effect core inside can says =
+    elim (cases_Bool (keeps_first x.op x.seq (queues_of i.parts.accesses h).loads)) [
+      | inl keeps ↦ says.first keeps ∙ keeps_now i core h x o inside can keeps
+      | inr again ↦ by_memory i h x o effect core can (says.now again)
+    ]
 
 -- And what it writes can be written.
 pub write_in_core : (i : Inside) (h : ℕ) (x : Active) (effect : Effect) → IsCore i
@@ -111,12 +133,12 @@ pub finds_in : (i : Inside) (v : CoreView) (actor h : ℕ) (x : Active) (o : Out
     → view_of i ≡ v
     → has ≡ is_actor v.setup actor → has ≡ true → h < length i.parts.harts.items
     → ((p : Picture) → PartsAgree p i.parts → CanRetire p h x o)
-    → IsCore i → Effects i.parts.memory i.parts.memory.image h x.op o effect → Finds i actor h x o effect
+    → IsCore i → Says i h x.seq x.op o effect → Finds i actor h x o effect
 finds_in i v actor h x o effect has at tells true_is inside can core says = record {
   there = subst (λ w. is_actor w.setup actor ≡ true) (sym at) (sym tells ∙ true_is);
   inside = inside;
   can = can (picture (setup_in i) (past_of i)) core.agrees;
-  effect_is = effect_in i h x o effect core (can (picture (setup_in i) (past_of i)) core.agrees) says;
+  effect_is = effect_in i h x o effect core inside (can (picture (setup_in i) (past_of i)) core.agrees) says;
 }
 
 abbrev pub now_of : Inside → Picture
@@ -177,16 +199,17 @@ length_after : (byte : Option ℕ) (before : List ℕ) → length (output_after 
 length_after None before = omega arith
 length_after (Some byte) before = let more = length_push before byte in omega arith
 
-pub core_after : (i : Inside) (parts : Parts) (now : Vec Record Global) (out : Vec ℕ Global) (history : EventList)
+pub core_after : (i : Inside) (parts : Parts) (many : ℕ) (now : Vec Record Global) (out : Vec ℕ Global) (history : EventList)
     (actor h : ℕ) (x : Active)
     (o : Outcome) (effect : Effect) → IsCore i → Finds i actor h x o effect
     → ((p q : Picture) → PartsAgree p i.parts → Retires p q h x effect → PartsAgree q parts) → KeepsSizes i.parts parts
+    → many ≡ looks_after x.op (needs_look x.seq (queues_of i.parts.accesses h).loads) effect i.looks
     → now.items ≡ i.records.items ++ record { hart = h; pc = x.pc; word = x.word; effect = effect } ∷ []
     → vec_capacity now ≡ vec_capacity i.records → out.items ≡ output_after effect.out i.output.items
     → vec_capacity out ≡ vec_capacity i.output
     → history ≡ record i.history { items = i.history.items ++ Retire actor x.seq effect ∷ [] }
-    → IsCore (record i { parts = parts; records = now; output = out; history = history })
-core_after i parts now out history actor h x o effect core finds steps sizes recorded records_room put
+    → IsCore (record i { parts = parts; looks = many; records = now; output = out; history = history })
+core_after i parts many now out history actor h x o effect core finds steps sizes counted recorded records_room put
     output_room longer =
     let past = past_of i in
     let f : Fetched = record { hart = h; pc = x.pc; word = x.word; predicted = x.predicted } in
@@ -194,7 +217,7 @@ core_after i parts now out history actor h x o effect core finds steps sizes rec
     let can = finds.can in
     let newest : records (Retire actor x.seq effect ∷ past) ≡ line ∷ records past =
     records-Retire past actor x.seq effect f can.is_active.fetched in
-    core_retired i parts now out history (Retire actor x.seq effect) core
+    core_retired i parts many now out history (Retire actor x.seq effect) core
     (record {
       allowed = found_follows i actor h x o effect core finds;
       agrees = steps (now_of i) (picture (setup_in i) (Retire actor x.seq effect ∷ past)) core.agrees
@@ -204,6 +227,7 @@ core_after i parts now out history actor h x o effect core finds steps sizes rec
     (record {
       fetches = refl;
       last_fetched = refl;
+      looks = counted ∙ looks_now i core h x o finds.inside can actor effect finds.effect_is;
       records =
           recorded
           ∙ (ap (λ rs. rs ++ line ∷ []) core.records
@@ -214,6 +238,15 @@ core_after i parts now out history actor h x o effect core finds steps sizes rec
       one_byte = subst (λ bs. length bs ≤ length i.output.items + 1) (sym put) (length_after effect.out i.output.items);
     })
     records_room output_room longer
+
+-- There is room to count one more.
+pub few_looks : (i : Inside) (v : CoreView) → view_of i ≡ v → IsCore i → length v.past < v.limit → i.looks + 1 < 2 ^ 32
+few_looks i v at core room =
+    let here : length (past_of i) < i.history.limit = subst (λ w. length w.past < w.limit) (sym at) room in
+    let most = core.limit in
+    let few = looks_under (past_of i) in
+    let many = core.looks in
+    omega arith
 
 pub if_none : {A : Type 0} → (r : Option A) (P : Type 0) → P → IfNone r P
 if_none None P holds = holds

@@ -36,7 +36,14 @@ impl State {
         if !is_oldest_active(self.hart(hart).active.items(), seq) {
             return Err(3);
         }
-        let now = effect(&self.parts.memory, hart, active.op, outcome);
+        let now = effect(
+            &self.parts.memory,
+            &self.parts.accesses,
+            hart,
+            seq,
+            active.op,
+            outcome,
+        );
         if !is_same_effect(said, now) {
             return Err(4);
         }

@@ -108,7 +108,7 @@ module _ (p : Picture) (h n : ℕ) (x : HartState) (old new : Parts) (inside : h
         values = agrees.values;
         actors = agrees.actors;
         jobs = agrees.jobs;
-        accesses = subst (λ xs. AccessesAgree xs old.accesses) (sym same) agrees.accesses;
+        accesses = subst (λ xs. AccessesAgree p.touched xs old.accesses) (sym same) agrees.accesses;
         memory = agrees.memory;
       })
   restored_by (Some k) found now =

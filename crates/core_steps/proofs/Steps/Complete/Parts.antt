@@ -5,6 +5,7 @@ use Rattle.std.specs.List.{AllByRecursion}
 use Rattle.std.proofs.Common.{◌∙◌, refl, sym, ap, subst, inl, inr, arith}
 use Rattle.std.proofs.{lemmas.Bool.cases_Bool, lemmas.Bool.cases_eq, lemmas.Bool.Decides.nat_tests}
 use Rattle.std.proofs.{lemmas.List.length-set}
+use Rattle.numbers.specs.Sizes.{most_actors}
 use Rattle.events.specs.declared.effect.Outcome.{Outcome}
 use Rattle.retire_squash.specs.{Active.with_stage, Active.staged, declared.active.Active.Active}
 use Rattle.retire_squash.specs.{declared.active.Stage.Stage}
@@ -15,7 +16,7 @@ use Rattle.smt_model.specs.Fates.{Renamed, Issued, Completed, is, stage as stage
 use Rattle.smt_model.specs.Looks.{stored_by}
 use Rattle.smt_model.specs.Picture.{Picture}
 use Rattle.smt_model.specs.Steps.{IsComplete, IsDrop, KeepsFetched, KeepsJobs, EndsJob, filled_value, op_in}
-use Rattle.core_steps.specs.{Accesses.with_write, Checkpoints.released_by}
+use Rattle.core_steps.specs.{Accesses.with_outcome, Checkpoints.released_by}
 use Rattle.core_parts.specs.Agree.{IsActive, HartAgrees, PartsAgree, ValuesAgree, JobsAgree}
 use Rattle.core_steps.specs.Filled.{IsFilled}
 use Rattle.core_parts.specs.{declared.hart.HartState.HartState, declared.parts.Parts.Parts}
@@ -27,7 +28,7 @@ use Rattle.core_parts.proofs.Agreement.Checkpoints.{checkpoints_here, checkpoint
 use Rattle.core_steps.proofs.{Agreement.Accesses.accesses_completed}
 use Rattle.core_parts.proofs.{Agreement.Queues.accesses_set}
 use Rattle.core_steps.proofs.{Agreement.Accesses.opens}
-use Rattle.core_parts.proofs.{Agreement.Queues.memory_kept}
+use Rattle.core_parts.proofs.{Agreement.Queues.memory_kept, Agreement.Queues.accesses_kept}
 use Rattle.core_parts.proofs.{Agreement.Shared.queue_kept, Agreement.Shared.lent_kept, Agreement.Shared.values_kept}
 use Rattle.core_steps.proofs.{Agreement.Filled.WakesBoth, Agreement.Filled.queue_filled, Agreement.Fill.at_set}
 
@@ -42,7 +43,7 @@ numbers_staged n at [] = refl
 numbers_staged n at (x ∷ xs) = rw (seq_staged n at x, numbers_staged n at xs) refl
 
 -- The job of one actor is done, the others' stay.
-pub jobs_done : (p q : Picture) (k : ℕ) (jobs : List (Option OpenJob)) → length jobs ≡ 16 → KeepsFetched p q
+pub jobs_done : (p q : Picture) (k : ℕ) (jobs : List (Option OpenJob)) → length jobs ≡ most_actors → KeepsFetched p q
     → EndsJob p q k → KeepsJobs p q → JobsAgree p jobs → JobsAgree q (slice_set jobs k None)
 jobs_done p q k jobs count kept job operands agrees = λ j d under.
     let set = at_set jobs k j None d (omega arith) in
@@ -137,7 +138,7 @@ pub record IsCompleted (h n k : ℕ) (op : Op) (o : Outcome) (pc : ℕ) (phys : 
   pub free : new.free ≡ between.free
   pub values : new.values ≡ between.values
   pub jobs : new.jobs ≡ slice_set old.jobs k None
-  pub accesses : Changes (with_write n (stored_by op o)) h old.accesses new.accesses
+  pub accesses : Changes (with_outcome n op o) h old.accesses new.accesses
   pub memory : new.memory ≡ old.memory
 
 pub parts_completed : (p q : Picture) (h n k : ℕ) (op : Op) (o : Outcome) (pc : ℕ) (phys : Option ℕ)
@@ -176,9 +177,13 @@ parts_completed p q h n k op o pc phys old between new inside agrees s is_phys i
           (jobs_done p q k old.jobs agrees.actors s.stays.shared.kept s.job s.stays.shared.operands agrees.jobs);
       accesses =
           rw is.harts
-          (accesses_set (with_write n (stored_by op o)) old.harts.items h is.was
+          (accesses_kept p.touched q.touched (slice_set old.harts.items h (completed_hart n op o pc is.was)) new.accesses
+          s.stays.shared.memory.touched
+          (accesses_set p.touched (with_outcome n op o) old.harts.items h is.was
           (completed_hart n op o pc is.was) old.accesses
-          new.accesses inside is.at is.accesses (accesses_completed n op o is.was.active unresolved) agrees.accesses);
+          new.accesses inside is.at is.accesses
+          (accesses_completed p.touched n op o is.was.active (sym (s.stays.shared.memory.touched n) ∙ s.untouched)
+          unresolved) agrees.accesses));
       memory = rw is.memory (memory_kept p q old.memory s.stays.shared.memory agrees.memory);
     }
 
@@ -199,6 +204,6 @@ parts_dropped p q n k old jobs agrees s is =
       values = values_kept p q old.values s.shared.free s.shared.values agrees.values;
       actors = rw is (length-set old.jobs k None ∙ agrees.actors);
       jobs = rw is (jobs_done p q k old.jobs agrees.actors s.shared.kept s.job s.shared.operands agrees.jobs);
-      accesses = agrees.accesses;
+      accesses = accesses_kept p.touched q.touched old.harts.items old.accesses s.shared.memory.touched agrees.accesses;
       memory = memory_kept p q old.memory s.shared.memory agrees.memory;
     }

@@ -6,6 +6,7 @@ use Rattle.std.specs.List.{AllByRecursion, list_all, list_any}
 use Rattle.std.proofs.Common.{◌∙◌, refl, sym, ap, subst, inl, inr, arith}
 use Rattle.std.proofs.{lemmas.Bool.and_parts, lemmas.Bool.cases_Bool, lemmas.Bool.cases_eq}
 use Rattle.std.proofs.{lemmas.Bool.Decides.nat_tests}
+use Rattle.numbers.specs.Sizes.{most_actors}
 use Rattle.rv_instr.specs.{Registers.op_unit, declared.op.UnitKind.UnitKind}
 use Rattle.issue_queue.specs.{Entry.has_values, Entry.is_value, Entry.can_issue, Queue.IsOldestReady}
 use Rattle.issue_queue.specs.{Queue.first_ready, declared.entry.Entry.Entry}
@@ -108,7 +109,7 @@ idle_known : (p : Picture) (k : ℕ) (job : Option OpenJob) → job ≡ None →
 idle_known p k None none is = is
 idle_known p k (Some job) none is = absurd cc
 
-pub can_issue_it : (p : Picture) (x : Parts) (k : ℕ) (kind : UnitKind) (e : Entry) → PartsAgree p x → k < 16
+pub can_issue_it : (p : Picture) (x : Parts) (k : ℕ) (kind : UnitKind) (e : Entry) → PartsAgree p x → k < most_actors
     → slice_index_or x.jobs k None ≡ None
     → IsOldestReady kind x.queue.entries e → first_ready kind x.queue.entries ≡ Some e
     → IsEntry p e × CanIssue p k kind e.seq
@@ -165,7 +166,7 @@ found_ready kind xs None is = tt
 found_ready kind xs (Some e) is =
     (and_parts (same_unit kind (op_unit e.op)) (has_values e) (found_passes (can_issue kind) e xs (sym is))).1
 
-pub found_can : (x : Parts) (k : ℕ) (kind : UnitKind) (r : Option Entry) → k < 16 → slice_index_or x.jobs k None ≡ None
+pub found_can : (x : Parts) (k : ℕ) (kind : UnitKind) (r : Option Entry) → k < most_actors → slice_index_or x.jobs k None ≡ None
     → IfSome r (IsOldestReady kind x.queue.entries)
     → r ≡ first_ready kind x.queue.entries
     → IfSome r (λ e. (p : Picture) → PartsAgree p x → IsEntry p e × CanIssue p k kind e.seq)

@@ -7,6 +7,7 @@ use Rattle.std.proofs.Common.{◌∙◌, refl, sym, ap, subst, inl, inr, arith}
 use Rattle.std.proofs.{lemmas.Bool.and_parts, lemmas.Bool.cases_Bool, lemmas.Bool.cases_eq}
 use Rattle.std.proofs.{lemmas.Bool.Decides.nat_tests, lemmas.List.length-set, lemmas.List.get_or-set_same}
 use Rattle.std.proofs.{lemmas.List.get_or-set_other}
+use Rattle.numbers.specs.Sizes.{most_actors}
 use Rattle.issue_queue.specs.{Entry.has_values, Entry.is_value, Queue.Queue, Queue.is_other, declared.entry.Entry.Entry}
 use Rattle.issue_queue.specs.{declared.entry.Source.TheVariants.Value}
 use Rattle.retire_squash.specs.{Active.with_stage, declared.active.Active.Active}
@@ -26,7 +27,7 @@ use Rattle.core_steps.proofs.Agreement.Checkpoints.{checkpoints_issued}
 use Rattle.core_steps.proofs.{Agreement.Accesses.accesses_issued}
 use Rattle.core_parts.proofs.{Agreement.Queues.accesses_still}
 use Rattle.core_steps.proofs.{Agreement.Accesses.opens}
-use Rattle.core_parts.proofs.{Agreement.Queues.memory_kept}
+use Rattle.core_parts.proofs.{Agreement.Queues.memory_kept, Agreement.Queues.accesses_kept}
 use Rattle.core_parts.proofs.Agreement.Shared.{waiting_kept, lent_kept, values_kept}
 
 -- ---- The hart's own
@@ -164,8 +165,8 @@ job_issued p q k e issuing ready =
     }
 
 jobs_issued : (p q : Picture) (k : ℕ) (e : Entry) (jobs : List (Option OpenJob)) → IsIssuing p q k e
-    → has_values e ≡ true → k < 16
-    → length jobs ≡ 16 → JobsAgree p jobs → JobsAgree q (slice_set jobs k (Some (open_job_of e)))
+    → has_values e ≡ true → k < most_actors
+    → length jobs ≡ most_actors → JobsAgree p jobs → JobsAgree q (slice_set jobs k (Some (open_job_of e)))
 jobs_issued p q k e jobs issuing ready inside count all = λ j d under.
     let step = issuing.step in
     elim (cases_eq j k) [
@@ -186,15 +187,15 @@ renamed_completed same = omega (arith, ap stage_number same)
 
 pub parts_issued : (p q : Picture) (x : Parts) (k : ℕ) (e : Entry) (state new : HartState) (queue : Queue)
     → IsIssuing p q k e → has_values e ≡ true
-    → k < 16 → PartsAgree p x → e.hart < length x.harts.items → state ≡ slice_index_or x.harts.items e.hart state
+    → k < most_actors → PartsAgree p x → e.hart < length x.harts.items → state ≡ slice_index_or x.harts.items e.hart state
     → new.active ≡ with_stage e.seq stage.Issued state.active → new.icount + 1 ≡ state.icount
     → new ≡ record state { active = new.active; icount = new.icount }
     → queue ≡ record x.queue { entries = filter (is_other e.seq) x.queue.entries }
     → EachAgrees q (slice_set x.harts.items e.hart new) × QueueAgrees q queue × FreeAgrees q x.free
     × ValuesAgree q x.values
-    × (length (slice_set x.jobs k (Some (open_job_of e))) ≡ 16)
+    × (length (slice_set x.jobs k (Some (open_job_of e))) ≡ most_actors)
     × JobsAgree q (slice_set x.jobs k (Some (open_job_of e)))
-    × AccessesAgree (slice_set x.harts.items e.hart new) x.accesses × MemoryAgrees q x.memory
+    × AccessesAgree q.touched (slice_set x.harts.items e.hart new) x.accesses × MemoryAgrees q x.memory
     × CheckpointsAgree (slice_set x.harts.items e.hart new)
 parts_issued p q x k e state new queue issuing ready actor agrees inside at active count rest queued =
     let step = issuing.step in
@@ -212,8 +213,10 @@ parts_issued p q x k e state new queue issuing ready actor agrees inside at acti
       values_kept p q x.values step.stays.shared.free step.stays.shared.values agrees.values,
       length-set x.jobs k (Some (open_job_of e)) ∙ agrees.actors,
       jobs_issued p q k e x.jobs issuing ready actor agrees.actors agrees.jobs,
-      accesses_still x.harts.items e.hart state new x.accesses inside at
-          (ap accesses_of active ∙ accesses_issued e.seq (op_in p e.seq) state.active unresolved) agrees.accesses,
+      accesses_kept p.touched q.touched (slice_set x.harts.items e.hart new) x.accesses step.stays.shared.memory.touched
+          (accesses_still p.touched x.harts.items e.hart state new x.accesses inside at
+          (ap (accesses_of p.touched) active
+          ∙ accesses_issued p.touched e.seq (op_in p e.seq) state.active unresolved) agrees.accesses),
       memory_kept p q x.memory step.stays.shared.memory agrees.memory,
       checkpoints_set x.harts.items e.hart new inside
           (subst HasCheckpoints (sym rest)

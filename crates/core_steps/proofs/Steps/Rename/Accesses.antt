@@ -3,11 +3,12 @@ use Rattle.std.specs.Prelude.{◌≡◌, ℕ, ◌<◌, Bool, true, List, [], ◌
 use Rattle.std.specs.List.{AllByRecursion}
 use Rattle.std.proofs.Common.{◌∙◌, refl, sym, ap, subst, inl, inr}
 use Rattle.std.proofs.{lemmas.Bool.cases_Bool, lemmas.List.length-map}
+use Rattle.numbers.specs.Sizes.{most_accesses, most_harts}
 use Rattle.rv_instr.specs.declared.op.Op.{Op}
 use Rattle.smt_model.specs.{Kinds.kind_of, Kinds.is_loading, Kinds.is_storing, Picture.Picture}
 use Rattle.smt_model.specs.Steps.{op_in}
-use Rattle.load_store.specs.Queues.{Queues, queues_of, Above, numbers}
-use Rattle.core_parts.specs.Accesses.{is_load_in, is_store_in, store_in, queues_in}
+use Rattle.load_store.specs.Queues.{Queues, queues_of, Above, load_numbers, numbers}
+use Rattle.core_parts.specs.Accesses.{is_load_in, is_store_in, load_in, store_in, queues_in}
 use Rattle.core_parts.specs.{Agree.HartAgrees, Agree.From}
 use Rattle.core_steps.specs.{Renaming.IsRenaming}
 use Rattle.core_parts.specs.{declared.slot.Slot.Slot, declared.hart.HartState.HartState, declared.parts.Parts.Parts}
@@ -25,24 +26,33 @@ numbers_in : (p : Picture) (xs : List ℕ) → numbers (map (store_in p) xs) ≡
 numbers_in p [] = refl
 numbers_in p (x ∷ xs) = ap (λ ns. x ∷ ns) (numbers_in p xs)
 
+load_numbers_in : (p : Picture) (xs : List ℕ) → load_numbers (map (load_in p) xs) ≡ xs
+load_numbers_in p [] = refl
+load_numbers_in p (x ∷ xs) = ap (λ ns. x ∷ ns) (load_numbers_in p xs)
+
 -- What the code must know before it adds instruction `seq` to these queues.
 pub record HasRoom (op : Op) (seq : ℕ) (q : Queues) : Type 0 where
-  pub load_room : is_loading (kind_of op) ≡ true → length q.loads < 16
-  pub store_room : is_storing (kind_of op) ≡ true → length q.stores < 16
-  pub load_above : Above seq q.loads
+  pub load_room : is_loading (kind_of op) ≡ true → length q.loads < most_accesses
+  pub store_room : is_storing (kind_of op) ≡ true → length q.stores < most_accesses
+  pub load_above : Above seq (load_numbers q.loads)
   pub store_above : Above seq (numbers q.stores)
 
 room_in : (p q : Picture) (size h : ℕ) (taken : Option ℕ) → (renaming : IsRenaming p q size h taken) → (op : Op)
     → op_in p renaming.number ≡ op → HasRoom op renaming.number (queues_in p h)
 room_in p q size h taken renaming op same =
     let n = renaming.number in
+    let loads : List ℕ = filter (is_load_in p) (p.flight h) in
     let stores : List ℕ = filter (is_store_in p) (p.flight h) in
     record {
-      load_room = λ loading. renaming.can.load_room (ap (λ o. is_loading (kind_of o)) same ∙ loading);
+      load_room = λ loading.
+          subst (λ m. m < most_accesses) (sym (length-map loads (load_in p)))
+          (renaming.can.load_room (ap (λ o. is_loading (kind_of o)) same ∙ loading));
       store_room = λ storing.
-          subst (λ m. m < 16) (sym (length-map stores (store_in p)))
+          subst (λ m. m < most_accesses) (sym (length-map stores (store_in p)))
           (renaming.can.store_room (ap (λ o. is_storing (kind_of o)) same ∙ storing));
-      load_above = all_filter (λ s. s < n) (is_load_in p) (p.flight h) renaming.younger;
+      load_above =
+          subst (Above n) (sym (load_numbers_in p loads))
+          (all_filter (λ s. s < n) (is_load_in p) (p.flight h) renaming.younger);
       store_above =
           subst (Above n) (sym (numbers_in p stores))
           (all_filter (λ s. s < n) (is_store_in p) (p.flight h) renaming.younger);
@@ -71,5 +81,5 @@ room_at x h taken i state slots d from same at read =
     (room_in p from.after x.queue.size h taken from.step slot.op op)))
 
 -- A hart that renames has a place among the queues.
-pub place_at : (x : Parts) (h : ℕ) (taken : Option ℕ) → From x h (λ p q. IsRenaming p q x.queue.size h taken) → h < 8
+pub place_at : (x : Parts) (h : ℕ) (taken : Option ℕ) → From x h (λ p q. IsRenaming p q x.queue.size h taken) → h < most_harts
 place_at x h taken from = has_place x.harts.items x.accesses h from.agrees.accesses from.inside

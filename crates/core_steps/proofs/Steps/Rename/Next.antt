@@ -6,6 +6,7 @@ use Rattle.std.specs.List.{AllByRecursion}
 use Rattle.std.proofs.Common.{◌∙◌, refl, sym, ap, subst, arith}
 use Rattle.std.proofs.{lemmas.Bool.or_parts, lemmas.Bool.Decides.nat_tests, lemmas.List.length-map}
 use Rattle.std.proofs.{lemmas.List.Sums.length-filter}
+use Rattle.numbers.specs.Sizes.{most_accesses}
 use Rattle.rv_instr.specs.declared.op.Op.{Op}
 use Rattle.free_list.specs.Flags.{holds}
 use Rattle.retire_squash.specs.declared.active.Active.{Active}
@@ -37,11 +38,11 @@ pub counted : (p : Picture) (h : ℕ) (test : Op → Bool) (xs : List Active) �
     → how_many (λ s. test (op_in p s)) (map (λ a. a.seq) xs) ≡ count_by (λ a. test a.op) xs
 counted p h test xs all = counted_all p h test xs all ∙ length-filter (λ (a : Active). test a.op) xs
 
-room_by : (b : Bool) (n : ℕ) → (b && nat_le 16 n) ≡ false → b ≡ true → n < 16
+room_by : (b : Bool) (n : ℕ) → (b && nat_le most_accesses n) ≡ false → b ≡ true → n < most_accesses
 room_by b n free is = grind (arith, nat_tests)
 
-no_room_by : (b : Bool) (n : ℕ) → (b ≡ true → n < 16) → (b && nat_le 16 n) ≡ false
-no_room_by true n room = let under : n < 16 = room refl in grind (arith, nat_tests)
+no_room_by : (b : Bool) (n : ℕ) → (b ≡ true → n < most_accesses) → (b && nat_le most_accesses n) ≡ false
+no_room_by true n room = let under : n < most_accesses = room refl in grind (arith, nat_tests)
 no_room_by false n room = refl
 
 -- ---- The oldest decoded
@@ -79,8 +80,8 @@ can_rename p x h state slot taken agrees inside at enters room fits free =
     let is = first_is p h state.rename_latch.items slot enters.oldest hart.rename_slots in
     let op : op_in p slot.seq ≡ slot.op = slot_op p h slot.seq slot refl is in
     let memory =
-    or_parts (is_loading (kind_of slot.op) && nat_le 16 (count_by (λ a. is_loading (kind_of a.op)) state.active))
-    (is_storing (kind_of slot.op) && nat_le 16 (count_by (λ a. is_storing (kind_of a.op)) state.active))
+    or_parts (is_loading (kind_of slot.op) && nat_le most_accesses (count_by (λ a. is_loading (kind_of a.op)) state.active))
+    (is_storing (kind_of slot.op) && nat_le most_accesses (count_by (λ a. is_storing (kind_of a.op)) state.active))
     enters.memory_room in
     let loads = counted p h (λ o. is_loading (kind_of o)) state.active hart.actives in
     let stores = counted p h (λ o. is_storing (kind_of o)) state.active hart.actives in
@@ -90,13 +91,13 @@ can_rename p x h state slot taken agrees inside at enters room fits free =
       queue_room = subst (λ ns. length ns < x.queue.size) agrees.queue.numbers (rw length-map room);
       flight_room = subst (λ ns. length ns < 64) hart.active (rw length-map enters.room);
       load_room = λ loading.
-          subst (λ ns. how_many (λ s. is_loading (kind_of (op_in p s))) ns < 16) hart.active
-          (subst (λ n. n < 16) (sym loads)
+          subst (λ ns. how_many (λ s. is_loading (kind_of (op_in p s))) ns < most_accesses) hart.active
+          (subst (λ n. n < most_accesses) (sym loads)
           (room_by (is_loading (kind_of slot.op)) (count_by (λ a. is_loading (kind_of a.op)) state.active) memory.0
           (ap (λ o. is_loading (kind_of o)) (sym op) ∙ loading)));
       store_room = λ storing.
-          subst (λ ns. how_many (λ s. is_storing (kind_of (op_in p s))) ns < 16) hart.active
-          (subst (λ n. n < 16) (sym stores)
+          subst (λ ns. how_many (λ s. is_storing (kind_of (op_in p s))) ns < most_accesses) hart.active
+          (subst (λ n. n < most_accesses) (sym stores)
           (room_by (is_storing (kind_of slot.op)) (count_by (λ a. is_storing (kind_of a.op)) state.active) memory.1
           (ap (λ o. is_storing (kind_of o)) (sym op) ∙ storing)));
       fits = fits ∙ ap (λ o. not (destination o == 0)) (sym op);
@@ -122,12 +123,12 @@ must_enter p x h n state taken agrees inside at can =
     let loads = counted p h (λ o. is_loading (kind_of o)) state.active hart.actives in
     let stores = counted p h (λ o. is_storing (kind_of o)) state.active hart.actives in
     let no_load = no_room_by (is_loading (kind_of slot.op)) (count_by (λ a. is_loading (kind_of a.op)) state.active)
-    (λ loading. subst (λ m. m < 16) loads
-    (subst (λ ns. how_many (λ s. is_loading (kind_of (op_in p s))) ns < 16) (sym hart.active)
+    (λ loading. subst (λ m. m < most_accesses) loads
+    (subst (λ ns. how_many (λ s. is_loading (kind_of (op_in p s))) ns < most_accesses) (sym hart.active)
     (can.load_room (ap (λ o. is_loading (kind_of o)) op ∙ loading)))) in
     let no_store = no_room_by (is_storing (kind_of slot.op)) (count_by (λ a. is_storing (kind_of a.op)) state.active)
-    (λ storing. subst (λ m. m < 16) stores
-    (subst (λ ns. how_many (λ s. is_storing (kind_of (op_in p s))) ns < 16) (sym hart.active)
+    (λ storing. subst (λ m. m < most_accesses) stores
+    (subst (λ ns. how_many (λ s. is_storing (kind_of (op_in p s))) ns < most_accesses) (sym hart.active)
     (can.store_room (ap (λ o. is_storing (kind_of o)) op ∙ storing)))) in
     record {
       slot = slot;

@@ -3,6 +3,7 @@ use Rattle.std.specs.Prelude.{◌≡◌, ℕ, ◌<◌, ◌&&◌, not, Bool, List
 use Rattle.std.specs.Prelude.{length, Option, slice_index_or, slice_set}
 use Rattle.std.proofs.Common.{◌∙◌, refl, sym, ap, subst}
 use Rattle.std.proofs.lemmas.List.{get_or_default}
+use Rattle.numbers.specs.Sizes.{most_registers}
 use Rattle.rv_instr.specs.{Registers.op_rs1, Registers.op_rs2}
 use Rattle.free_list.specs.Flags.{holds}
 use Rattle.issue_queue.specs.{Queue.Queue}
@@ -23,7 +24,7 @@ use Rattle.core_parts.specs.{declared.slot.Slot.Slot, declared.hart.HartState.Ha
 use Rattle.core_parts.proofs.Agreement.Checkpoints.{checkpoints_here, checkpoints_set}
 use Rattle.core_steps.proofs.{Agreement.Accesses.accesses_pushed}
 use Rattle.core_parts.proofs.{Agreement.Queues.accesses_set}
-use Rattle.core_parts.proofs.{Agreement.Queues.memory_kept}
+use Rattle.core_parts.proofs.{Agreement.Queues.memory_kept, Agreement.Queues.accesses_kept}
 use Rattle.core_parts.proofs.Agreement.Shared.{jobs_kept}
 use Rattle.core_steps.proofs.Steps.Rename.Slot.{next_slot}
 use Rattle.core_steps.proofs.Steps.Rename.Hart.{harts_renamed, checkpoints_renamed}
@@ -54,8 +55,8 @@ pub parts_renamed : (p q : Picture) (x : Parts) (size h : ℕ) (taken : Option �
     (values : List (Option ℕ)) (accesses : List Queues) → IsRenaming p q size h taken → PartsAgree p x
     → h < length x.harts.items → state ≡ slice_index_or x.harts.items h state
     → HasMade x h taken (slice_index_or state.rename_latch.items 0 d) state new queue free values accesses
-    → EachAgrees q (slice_set x.harts.items h new) × QueueAgrees q queue × FreeAgrees q free × (length values ≡ 512)
-    × ValuesAgree q values × JobsAgree q x.jobs × AccessesAgree (slice_set x.harts.items h new) accesses
+    → EachAgrees q (slice_set x.harts.items h new) × QueueAgrees q queue × FreeAgrees q free × (length values ≡ most_registers)
+    × ValuesAgree q values × JobsAgree q x.jobs × AccessesAgree q.touched (slice_set x.harts.items h new) accesses
     × MemoryAgrees q x.memory × CheckpointsAgree (slice_set x.harts.items h new)
 parts_renamed p q x size h taken d state new queue free values accesses renaming agrees inside at made =
     let n = renaming.number in
@@ -82,8 +83,12 @@ parts_renamed p q x size h taken d state new queue free values accesses renaming
       ap length made.lost ∙ (emptied_length taken x.values ∙ agrees.registers),
       subst (ValuesAgree q) (sym made.lost) (values_renamed p q h n taken x.values step agrees.values),
       jobs_kept p q x.jobs step.stays.shared.kept step.stays.shared.job step.stays.shared.operands agrees.jobs,
-      accesses_set (with_access slot.op slot.seq) x.harts.items h state new x.accesses accesses inside at made.added
-          (ap accesses_of made.own.active ∙ accesses_pushed state.active (active_of slot taken) refl) agrees.accesses,
+      accesses_kept p.touched q.touched (slice_set x.harts.items h new) accesses step.stays.shared.memory.touched
+          (accesses_set p.touched (with_access slot.op slot.seq) x.harts.items h state new x.accesses accesses inside at
+          made.added
+          (ap (accesses_of p.touched) made.own.active
+          ∙ accesses_pushed p.touched state.active (active_of slot taken) (record { load = refl; store = refl }))
+          agrees.accesses),
       memory_kept p q x.memory step.stays.shared.memory agrees.memory,
       checkpoints_set x.harts.items h new inside
           (checkpoints_renamed p q size h taken slot state new renaming hart next.number made.own

@@ -6,6 +6,7 @@ use Rattle.std.specs.List.{AllByRecursion}
 use Rattle.std.proofs.Common.{◌∙◌, refl, sym, ap, subst, inl, inr, arith}
 use Rattle.std.proofs.{lemmas.Bool.cases_Bool, lemmas.Bool.cases_eq}
 use Rattle.std.proofs.{lemmas.Bool.Decides.nat_tests}
+use Rattle.numbers.specs.Sizes.{most_registers}
 use Rattle.rv_instr.specs.{Registers.op_rs1, Registers.op_rs2, declared.op.Op.Op}
 use Rattle.rv_instr.proofs.DecodedLemmas.{op_rs1_below, op_rs2_below}
 use Rattle.issue_queue.specs.{Queue.has_number, declared.entry.Entry.Entry, declared.entry.Source.Source}
@@ -58,7 +59,7 @@ numbers_inserted e (x ∷ xs) =
     ]
 
 source_found : (p q : Picture) (h n : ℕ) (which : Op → ℕ) (op : Op) (values : List (Option ℕ)) (x : HartState)
-    → HartAgrees p h x → length values ≡ 512 → ValuesAgree p values
+    → HartAgrees p h x → length values ≡ most_registers → ValuesAgree p values
     → ((r : ℕ) → 0 < r → r < 32 → IsClaimed p (p.mapped h r)) → which op < 32
     → (0 < which op → q.seen which n ≡ p.mapped h (which op))
     → q.reads which n ≡ (if which op == 0 then Some 0 else p.value (p.mapped h (which op)))

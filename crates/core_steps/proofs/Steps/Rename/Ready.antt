@@ -4,6 +4,7 @@ use Rattle.std.specs.Prelude.{length, Option, Some, None, is_some, IfSome, slice
 use Rattle.std.specs.List.{AllByRecursion}
 use Rattle.std.proofs.Common.{◌∙◌, refl, sym, ap, subst, arith}
 use Rattle.std.proofs.{lemmas.Bool.Decides.nat_tests}
+use Rattle.numbers.specs.Sizes.{most_registers}
 use Rattle.rv_instr.specs.{Table.OpInRange, declared.op.Op.Op}
 use Rattle.issue_queue.specs.{Queue.has_number}
 use Rattle.issue_queue.specs.Queue as entries
@@ -69,6 +70,6 @@ ready_at x h taken i state slots d from same at read =
     subst (λ xs. IsReady x taken state (slice_index_or xs 0 d)) (sym read)
     (ready_to_rename from.before from.after x x.queue.size h taken state d from.step from.agrees from.inside here)
 
-pub known_range : (taken : Option ℕ) → ((x : ℕ) → taken ≡ Some x → x < 512) → IfSome taken (λ x. x < 512)
+pub known_range : (taken : Option ℕ) → ((x : ℕ) → taken ≡ Some x → x < most_registers) → IfSome taken (λ x. x < most_registers)
 known_range None known = tt
 known_range (Some x) known = known x refl

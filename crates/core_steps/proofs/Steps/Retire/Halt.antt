@@ -76,7 +76,12 @@ halts_with p m h n x halt =
           };
           records = tt;
           output = shared.output;
-          memory = record { byte = shared.memory.byte; reserved = shared.memory.reserved };
+          memory = record {
+            byte = shared.memory.byte;
+            reserved = shared.memory.reserved;
+            touched = shared.memory.touched;
+            looks = shared.memory.looks;
+          };
         };
       };
     }

@@ -3,7 +3,8 @@ use Rattle.std.specs.Prelude.{◌≡◌, ℕ, ◌<◌, ◌==◌, true, List, [],
 use Rattle.std.specs.Prelude.{if◌then◌else◌, slice_index_or}
 use Rattle.std.specs.List.{AllByRecursion}
 use Rattle.std.proofs.Common.{◌∙◌, refl, sym, ap, subst, inl, inr, arith}
-use Rattle.std.proofs.{lemmas.Bool.cases_eq, lemmas.Bool.Decides.nat_tests}
+use Rattle.std.proofs.{lemmas.Bool.cases_eq, lemmas.Bool.Decides.nat_tests, lemmas.List.get_or_default}
+use Rattle.numbers.specs.Sizes.{most_harts}
 use Rattle.events.specs.{declared.effect.Effect.Effect, declared.effect.Written.Written}
 use Rattle.rv_instr.specs.declared.op.Op.{Op}
 use Rattle.retire_squash.specs.{declared.active.Active.Active, declared.active.Stage.Stage}
@@ -21,40 +22,47 @@ use Rattle.core_steps.specs.{Retirement.Commits}
 use Rattle.core_parts.specs.{declared.hart.HartState.HartState, declared.parts.Parts.Parts}
 use Rattle.core_steps.proofs.{Agreement.Accesses.accesses_left, Agreement.Accesses.load_there}
 use Rattle.core_steps.proofs.{Agreement.Accesses.store_there}
-use Rattle.core_parts.proofs.{Agreement.Queues.active_op, Agreement.Queues.queues_here}
+use Rattle.core_parts.proofs.Agreement.Queues.{active_op, has_place, queues_here}
 
 -- ---- The queues
 
 -- The oldest, of number n, leaves an active list.
 pub accesses_dropped : (p : Picture) (h n : ℕ) (op : Op) (xs : List Active) (rest : List ℕ)
     → map (λ a. a.seq) xs ≡ n ∷ rest → AllByRecursion (IsActive p h) xs → op_in p n ≡ op
-    → accesses_of (drop 1 xs) ≡ without_access op (accesses_of xs)
+    → accesses_of p.touched (drop 1 xs) ≡ without_access op (accesses_of p.touched xs)
 accesses_dropped p h n op [] rest numbers all same = absurd cc
 accesses_dropped p h n op (x ∷ xs) rest numbers all same =
     let number : x.seq ≡ n = cc in
-    accesses_left op x xs (sym (active_op p h x all.0) ∙ (ap (op_in p) number ∙ same))
+    accesses_left p.touched op x xs (sym (active_op p h x all.0) ∙ (ap (op_in p) number ∙ same))
 
--- What the code must know before it removes a hart's oldest instruction from these queues.
-pub record IsThere (op : Op) (q : Queues) : Type 0 where
-  pub load : is_loading (kind_of op) ≡ true → 0 < length q.loads
-  pub store : is_storing (kind_of op) ≡ true → 0 < length q.stores
+-- What the code must know before it removes a hart's oldest instruction from the hart's queues.
+pub record CanRemove (accesses : List Queues) (h : ℕ) (op : Op) : Type 0 where
+  pub hart : h < most_harts
+  pub load : is_loading (kind_of op) ≡ true → 0 < length (queues_of accesses h).loads
+  pub store : is_storing (kind_of op) ≡ true → 0 < length (queues_of accesses h).stores
 
-first_there : (p : Picture) (h n : ℕ) (op : Op) (xs : List Active) (rest : List ℕ)
-    → map (λ a. a.seq) xs ≡ n ∷ rest → AllByRecursion (IsActive p h) xs → op_in p n ≡ op
-    → IsThere op (accesses_of xs)
-first_there p h n op [] rest numbers all same = absurd cc
-first_there p h n op (x ∷ xs) rest numbers all same =
-    let number : x.seq ≡ n = cc in
-    let is : x.op ≡ op = sym (active_op p h x all.0) ∙ (ap (op_in p) number ∙ same) in
-    record { load = λ loads. load_there op x xs is loads; store = λ stores. store_there op x xs is stores }
+can_remove_first : (p : Picture) (h : ℕ) (x : Active) (rest : List ℕ) (accesses : List Queues) (xs : List Active)
+    → h < most_harts → queues_of accesses h ≡ accesses_of p.touched xs → map (λ a. a.seq) xs ≡ x.seq ∷ rest
+    → AllByRecursion (IsActive p h) xs → IsActive p h x → CanRemove accesses h x.op
+can_remove_first p h x rest accesses [] place queues numbers all is = absurd cc
+can_remove_first p h x rest accesses (a ∷ xs) place queues numbers all is =
+    let number : a.seq ≡ x.seq = cc in
+    let op : a.op ≡ x.op = sym (active_op p h a all.0) ∙ (ap (op_in p) number ∙ active_op p h x is) in
+    record {
+      hart = place;
+      load = λ loads. subst (λ (q : Queues). 0 < length q.loads) (sym queues) (load_there p.touched x.op a xs op loads);
+      store = λ stores. subst (λ (q : Queues). 0 < length q.stores) (sym queues) (store_there p.touched x.op a xs op stores);
+    }
 
-pub is_there : (p : Picture) (h n : ℕ) (op : Op) (rest : List ℕ) (x : Parts) (a : HartState) → PartsAgree p x
-    → h < length x.harts.items → a ≡ slice_index_or x.harts.items h a → p.flight h ≡ n ∷ rest → op_in p n ≡ op
-    → IsThere op (queues_of x.accesses h)
-is_there p h n op rest x a agrees inside at flight same =
-    let hart : HartAgrees p h a = subst (HartAgrees p h) (sym at) (agrees.harts h a inside) in
-    subst (IsThere op) (sym (queues_here x.harts.items x.accesses h a agrees.accesses inside at))
-    (first_there p h n op a.active rest (hart.active ∙ flight) hart.actives same)
+pub can_remove : (p : Picture) (h : ℕ) (x : Active) (rest : List ℕ) (old : Parts) (d : HartState) → PartsAgree p old
+    → h < length old.harts.items → IsActive p h x → p.flight h ≡ x.seq ∷ rest → CanRemove old.accesses h x.op
+can_remove p h x rest old d agrees inside is flight =
+    let a = slice_index_or old.harts.items h d in
+    let hart : HartAgrees p h a = agrees.harts h d inside in
+    can_remove_first p h x rest old.accesses a.active
+    (has_place old.harts.items old.accesses h agrees.accesses inside)
+    (queues_here old.harts.items old.accesses h a agrees.accesses inside (get_or_default old.harts.items h d a inside))
+    (hart.active ∙ flight) hart.actives is
 
 -- ---- Memory
 

@@ -1,9 +1,10 @@
 -- What a retirement does to the parts: committed or halted, they agree with the picture after the step. Lists and
 -- pictures alone.
 use Rattle.std.specs.Prelude.{◌≡◌, ◌≢◌, ℕ, ◌<◌, ◌==◌, ◌&&◌, ◌||◌, not, Bool, true, false, List, [], ◌∷◌, Option, Some}
-use Rattle.std.specs.Prelude.{None, IfSome, map, drop, length, is_some, slice_index, slice_index_or}
+use Rattle.std.specs.Prelude.{None, IfSome, map, drop, length, is_some, slice_index, slice_index_or, slice_set}
 use Rattle.std.specs.{List.AllByRecursion, Vec.with_item}
 use Rattle.std.proofs.Common.{◌∙◌, refl, subst, sym, ap, arith}
+use Rattle.numbers.specs.Sizes.{most_registers}
 use Rattle.smt_model.specs.{Basics.same_number, declared.config.Status.Status, Kinds.destination, Fates.is}
 use Rattle.smt_model.specs.{Fates.Renamed, Fates.Completed, Picture.Picture}
 use Rattle.std.proofs.lemmas.Bool.Decides.{nat_tests}
@@ -13,9 +14,9 @@ use Rattle.rename_map.specs.Maps.{committed_of, released_after}
 use Rattle.retire_squash.specs.declared.active.Active.{Active}
 use Rattle.smt_model.specs.Steps.{KeepsFetched, KeepsFlights, KeepsReadings, filled_value, renamed_map, op_in, AreOwn}
 use Rattle.shared_memory.specs.Contents.{Contents}
-use Rattle.load_store.specs.Queues.{Queues, Changes}
+use Rattle.load_store.specs.Queues.{Queues, queues_of, Changes}
 use Rattle.core_parts.specs.Accesses.{MemoryAgrees, accesses_of}
-use Rattle.core_steps.specs.Accesses.{without_access}
+use Rattle.core_steps.specs.Accesses.{without_access, with_touched}
 use Rattle.core_parts.specs.Agree.{IsActive, HartAgrees, EachAgrees, IsSlot, FreeAgrees, ValuesAgree, JobsAgree}
 use Rattle.core_parts.specs.Agree.{PartsAgree}
 use Rattle.core_steps.specs.Filled.{IsFilled}
@@ -25,10 +26,11 @@ use Rattle.core_parts.specs.{declared.hart.HartState.HartState, declared.slot.Sl
 use Rattle.smt_model.proofs.Fates.Moves.{stage_of, fate_at}
 use Rattle.core_steps.proofs.{Agreement.Filled.WakesBoth, Agreement.Filled.queue_filled, Agreement.Filled.filled_none}
 use Rattle.core_parts.proofs.{Agreement.Shared.jobs_kept, Agreement.Queues.accesses_set, Agreement.Queues.active_op}
-use Rattle.core_parts.proofs.{Agreement.Queues.memory_kept}
+use Rattle.core_parts.proofs.{Agreement.Queues.memory_kept, Agreement.Queues.accesses_kept}
 use Rattle.core_parts.proofs.Agreement.Checkpoints.{checkpoints_here, checkpoints_set}
 use Rattle.core_steps.proofs.Steps.Retire.Checkpoints.{popped, left}
 use Rattle.core_steps.proofs.Steps.Retire.Memory.{IsCommitted, accesses_dropped, memory_committed}
+use Rattle.core_steps.proofs.Steps.Retire.Touching.{accesses_touched, actives_left}
 use Rattle.core_parts.proofs.Agreement.Harts.{slots_kept, stage_flies, active_kept, others_kept, each_set}
 
 or_left : (a b : Bool) → (a || b) ≡ false → a ≡ false
@@ -187,16 +189,17 @@ free_committed p q h x effect pc a y replaced old new commits has is gives agree
     commits.step.free agrees
 
 pub parts_committed : (p q : Picture) (h : ℕ) (x : Active) (effect : Effect) (pc : ℕ) (old new : Parts)
-    (a y : HartState) (replaced : Option ℕ) (free : List Bool) (accesses : List Queues) (memory : Contents)
+    (a y : HartState) (replaced : Option ℕ) (free : List Bool) (left accesses : List Queues) (memory : Contents)
     → h < length old.harts.items → a ≡ slice_index_or old.harts.items h a
-    → HasCommitted a y x.rd x.phys pc replaced → Changes (without_access x.op) h old.accesses accesses
+    → HasCommitted a y x.rd x.phys pc replaced → Changes (without_access x.op) h old.accesses left
+    → ((g : ℕ) → queues_of accesses g ≡ with_touched effect.write (queues_of left g))
     → IsCommitted h x effect.write old.memory memory
     → ((r : ℕ) → holds free r ≡ (holds old.free r || same_number replaced (Some r)))
     → IsFilled x.phys effect.value
     (record old { harts = with_item old.harts h y; free = free; accesses = accesses; memory = memory }) new
     → PartsAgree p old → Commits p q h x effect pc → PartsAgree q new
-parts_committed p q h x effect pc old new a y replaced free accesses memory inside at has gone made gives filled agrees
-    commits =
+parts_committed p q h x effect pc old new a y replaced free gone_from accesses memory inside at has gone touches made
+    gives filled agrees commits =
     let step = commits.step in
     let oldest = commits.is_oldest in
     let here : HartAgrees p h a = subst (HartAgrees p h) (sym at) (agrees.harts h a inside) in
@@ -233,10 +236,12 @@ parts_committed p q h x effect pc old new a y replaced free accesses memory insi
           (jobs_kept p q old.jobs step.stays.shared.kept step.stays.shared.job step.stays.shared.operands agrees.jobs);
       accesses =
           rw (filled.accesses, filled.harts)
-          (accesses_set (without_access x.op) old.harts.items h a y old.accesses accesses inside at gone
-          (ap accesses_of has.active
+          (accesses_touched p q.touched effect.write (slice_set old.harts.items h y) gone_from accesses step.touched
+          (actives_left p h a y old.harts.items inside at has.active agrees.harts) touches
+          (accesses_set p.touched (without_access x.op) old.harts.items h a y old.accesses gone_from inside at gone
+          (ap (accesses_of p.touched) has.active
           ∙ accesses_dropped p h x.seq x.op a.active (q.flight h) (here.active ∙ step.flight) here.actives
-          (active_op p h x oldest.is_active)) agrees.accesses);
+          (active_op p h x oldest.is_active)) agrees.accesses));
       memory =
           subst (MemoryAgrees q) (sym filled.memory)
           (memory_committed p q h x effect pc old.memory memory commits made agrees.memory);
@@ -311,18 +316,19 @@ parts_left p q h x status old a y free accesses inside at has gone gives agrees 
       actors = agrees.actors;
       jobs = jobs_kept p q old.jobs step.stays.shared.kept step.stays.shared.job step.stays.shared.operands agrees.jobs;
       accesses =
-          accesses_set (without_access x.op) old.harts.items h a y old.accesses accesses inside at gone
-          (ap (λ (z : HartState). accesses_of z.active) has
+          accesses_kept p.touched q.touched (slice_set old.harts.items h y) accesses step.stays.shared.memory.touched
+          (accesses_set p.touched (without_access x.op) old.harts.items h a y old.accesses accesses inside at gone
+          (ap (λ (z : HartState). accesses_of p.touched z.active) has
           ∙ accesses_dropped p h x.seq x.op a.active (q.flight h) (here.active ∙ step.flight) here.actives
-          (active_op p h x oldest.is_active)) agrees.accesses;
+          (active_op p h x oldest.is_active)) agrees.accesses);
       memory = memory_kept p q old.memory step.stays.shared.memory agrees.memory;
     }
 
 -- Its own register can be given back: it is in range and isn't free.
 pub own_leaves : (p q : Picture) (h : ℕ) (x : Active) (status : Status) (free : List Bool) → Leaves p q h x status
     → FreeAgrees p free
-    → IfSome x.phys (λ r. (r < 512) × (holds free r ≡ false))
+    → IfSome x.phys (λ r. (r < most_registers) × (holds free r ≡ false))
 own_leaves p q h x status free leaves agrees =
-    if_some x.phys (λ r. (r < 512) × (holds free r ≡ false)) (λ r named.
+    if_some x.phys (λ r. (r < most_registers) × (holds free r ≡ false)) (λ r named.
     let own = (subst (AreOwn p) leaves.step.flight leaves.step.own).0 r (sym leaves.is_oldest.phys ∙ named) in
     (own.in_range, agrees r ∙ own.claimed))

@@ -1,5 +1,7 @@
-use Rattle.std.specs.Prelude.{◌<◌}
-use Rattle.std.proofs.Common.{◌∙◌, sym, subst}
+use Rattle.std.specs.Prelude.{◌≡◌, ◌<◌, slice_index_or}
+use Rattle.std.proofs.Common.{◌∙◌, sym, ap, subst}
+use Rattle.smt_model.specs.Steps.{IsComplete}
+use Rattle.core_parts.specs.declared.hart.HartState.{HartState}
 use Rattle.core_steps.specs.{Checkpoints.map_behind, Checkpoints.with_map_if}
 use Rattle.core_parts.proofs.Agreement.Queues.{has_place}
 use Rattle.core_steps.proofs.Steps.OtherMap.{completes_if, op_if, phys_if, squashes_if}
@@ -46,6 +48,19 @@ squash-requires c =
             mispredicted.squash;
       };
     }
+
+pub returns-in_default-clause-agrees : goal.returns-in_default-clause-agrees
+returns-in_default-clause-agrees c = λ p q agrees step.
+    let h = c.args.hart in
+    let old = c.args.parts.now in
+    let x = c.index.result.now in
+    let at : x ≡ slice_index_or old.harts.items h x =
+    subst (λ i. x ≡ slice_index_or old.harts.items i x) c.from.ensures c.index.ensures in
+    let on : p.fetch_pc h ≡ x.fetch_pc =
+    sym (ap (λ (z : HartState). z.fetch_pc) at ∙ (agrees.harts h x c.requires.step.inside).fetch_pc) in
+    c.write_outcome.ensures.agrees p q agrees
+    (subst (IsComplete p q h c.args.active.now.seq c.args.actor c.args.outcome.now) on
+    (step.straight (sym c.redirect_pc.ensures ∙ c.in_default.is))) step.phys step.op
 
 pub returns-clause-agrees : goal.returns-clause-agrees
 returns-clause-agrees c = λ p q agrees step.

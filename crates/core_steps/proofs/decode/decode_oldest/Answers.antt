@@ -20,8 +20,8 @@ returns-clause-agrees c = λ p q agrees n step.
     (each_set p q c.args.parts.now.harts.items h x y inside c.index_mut.ensures.value
     (own_decode p q h n x y here c.move_to_rename.ensures) (λ g other z. other_decode p q h n g z other here) agrees.harts)
     refl refl refl refl
-    (accesses_still c.args.parts.now.harts.items h x y c.args.parts.now.accesses inside c.index_mut.ensures.value
-    (ap accesses_of c.move_to_rename.ensures.active) agrees.accesses)
+    (accesses_still p.touched c.args.parts.now.harts.items h x y c.args.parts.now.accesses inside c.index_mut.ensures.value
+    (ap (accesses_of p.touched) c.move_to_rename.ensures.active) agrees.accesses)
     refl
     (checkpoints_set c.args.parts.now.harts.items h y inside
     (checkpoints_same x y c.move_to_rename.ensures.active c.move_to_rename.ensures.maps

@@ -18,8 +18,8 @@ returns-clause-agrees c = λ p q agrees step.
     (own_fetch p q h slot x y c.requires.op step c.enter_latch.ensures)
     (λ g other z. other_fetch p q h slot g z other step) agrees.harts)
     refl refl refl refl
-    (accesses_still c.args.parts.now.harts.items h x y c.args.parts.now.accesses c.requires.step.inside
-    c.index_mut.ensures.value (ap accesses_of c.enter_latch.ensures.active) agrees.accesses)
+    (accesses_still p.touched c.args.parts.now.harts.items h x y c.args.parts.now.accesses c.requires.step.inside
+    c.index_mut.ensures.value (ap (accesses_of p.touched) c.enter_latch.ensures.active) agrees.accesses)
     refl
     (checkpoints_set c.args.parts.now.harts.items h y c.requires.step.inside
     (checkpoints_same x y c.enter_latch.ensures.active c.enter_latch.ensures.maps

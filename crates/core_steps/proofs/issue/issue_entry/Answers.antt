@@ -1,5 +1,6 @@
 use Rattle.std.specs.Prelude.{◌≡◌, length, Some, slice_index_or, slice_set, List, Option}
 use Rattle.std.proofs.Common.{refl, sym, subst}
+use Rattle.numbers.specs.Sizes.{most_actors}
 use Rattle.core_parts.specs.{Agree.JobsAgree, declared.slot.OpenJob.OpenJob}
 use Rattle.core_steps.specs.{Issuing.open_job_of}
 use Rattle.core_steps.proofs.Steps.Issue.Parts.{parts_issued}
@@ -33,7 +34,7 @@ returns-clause-agrees c = λ p q agrees issuing.
       free = all.2;
       registers = agrees.registers;
       values = all.3;
-      actors = subst (λ (js : List (Option OpenJob)). length js ≡ 16) (sym jobs) all.4;
+      actors = subst (λ (js : List (Option OpenJob)). length js ≡ most_actors) (sym jobs) all.4;
       jobs = subst (JobsAgree q) (sym jobs) all.5;
       accesses = rw c.from.ensures all.6;
       memory = all.7;

@@ -1,8 +1,7 @@
 use Rattle.std.specs.{Prelude.slice_index_or, Vec.with_item}
 use Rattle.std.proofs.Common.{◌∙◌, sym, ap, subst}
 use Rattle.core_parts.specs.Agree.{PartsAgree}
-use Rattle.core_parts.proofs.Agreement.Queues.{active_op, has_place}
-use Rattle.core_steps.proofs.Steps.Retire.{Memory.is_there, Parts.parts_left, Parts.own_leaves}
+use Rattle.core_steps.proofs.Steps.Retire.{Memory.can_remove, Parts.parts_left, Parts.own_leaves}
 use Rattle.core_steps.proofs.retire.leave.Goals as goal
 
 pub give_back-requires : goal.give_back-requires
@@ -11,28 +10,12 @@ give_back-requires c =
     own_leaves from.before from.after c.args.hart c.args.active.now c.args.status c.args.parts.now.free from.step
     from.agrees.free
 
-pub remove_access-requires-clause-hart : goal.remove_access-requires-clause-hart
-remove_access-requires-clause-hart c =
+pub remove_access-requires : goal.remove_access-requires
+remove_access-requires c =
     let from = c.requires.step in
-    has_place c.args.parts.now.harts.items c.args.parts.now.accesses c.args.hart from.agrees.accesses from.inside
-
-pub remove_access-requires-clause-load : goal.remove_access-requires-clause-load
-remove_access-requires-clause-load c =
-    let from = c.requires.step in
-    let old = c.args.parts.now in
-    let a = c.index_mut.result.now in
-    (is_there from.before c.args.hart c.args.active.now.seq c.args.active.now.op (from.after.flight c.args.hart) old a
-    from.agrees from.inside (c.index_mut.ensures.value ∙ ap (λ i. slice_index_or old.harts.items i a) c.from.ensures)
-    from.step.step.flight (active_op from.before c.args.hart c.args.active.now from.step.is_oldest.is_active)).load
-
-pub remove_access-requires-clause-store : goal.remove_access-requires-clause-store
-remove_access-requires-clause-store c =
-    let from = c.requires.step in
-    let old = c.args.parts.now in
-    let a = c.index_mut.result.now in
-    (is_there from.before c.args.hart c.args.active.now.seq c.args.active.now.op (from.after.flight c.args.hart) old a
-    from.agrees from.inside (c.index_mut.ensures.value ∙ ap (λ i. slice_index_or old.harts.items i a) c.from.ensures)
-    from.step.step.flight (active_op from.before c.args.hart c.args.active.now from.step.is_oldest.is_active)).store
+    let can = can_remove from.before c.args.hart c.args.active.now (from.after.flight c.args.hart) c.args.parts.now
+    c.index_mut.result.now from.agrees from.inside from.step.is_oldest.is_active from.step.step.flight in
+    record { hart = can.hart; load = can.load; store = can.store }
 
 pub returns-clause-agrees : goal.returns-clause-agrees
 returns-clause-agrees c p q agrees leaves =

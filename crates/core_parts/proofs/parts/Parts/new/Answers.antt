@@ -1,6 +1,7 @@
 -- One hart more is new and has its first numbers; and the parts of all of them agree with the empty history.
 use Rattle.std.proofs.Common.{◌≡◌, ◌∙◌, None, length, refl, ap, sym, subst, arith, ◌+◌}
 use Rattle.std.proofs.{lemmas.List.get_or-replicate, lemmas.List.length_push, Math.ListN.replicate}
+use Rattle.numbers.specs.Sizes.{most_actors, most_registers}
 use Rattle.issue_queue.specs.Queue.{Queue}
 use Rattle.core_parts.specs.First.{IsNew}
 use Rattle.core_parts.proofs.Agreement.Beginning.{AreNew, AreFirst, first_start, first_more, new_more, begins}
@@ -12,7 +13,7 @@ loop-hart-init c =
     let none : length c.in_ok-each.each.items ≡ 0 = ap length empty in (
       none,
       λ h d inside. absurd (omega arith),
-      first_start c.args.harts (replicate 512 None) (λ x d inside. get_or-replicate 512 x None d inside),
+      first_start c.args.harts (replicate most_registers None) (λ x d inside. get_or-replicate most_registers x None d inside),
       refl,
     )
 
@@ -40,4 +41,4 @@ returns-clause-begins c =
     (subst (λ e. AreNew e c.loop-hart.each.items) c.entry-entry.ensures.value kept.1)
     (ap (λ (q : Queue). q.entries) c.in_ok-new.ensures) c.new-3.ensures kept.3
     (subst (λ n. AreFirst c.args.harts n c.loop-hart.values) all kept.2) refl
-    (λ k d inside. get_or-replicate 16 k None d inside) c.requires.harts_fit c.new-4.ensures c.in_ok-new-2.ensures
+    (λ k d inside. get_or-replicate most_actors k None d inside) c.requires.harts_fit c.new-4.ensures c.in_ok-new-2.ensures

@@ -58,7 +58,11 @@ returns-then-not-is_same_effect-clause-rule c =
     (c.is_oldest_active.ensures ∙ ap (λ xs. is_first c.args.seq (map (λ (z : Active). z.seq) xs)) c.items.ensures.items)
     (c.if-not-is_oldest_active.false) c.effect-now.result false
     (effect_view c.self.inside c.self.invariant c.args.self.now c.self.view_is c.in-Some.hart c.in-Some.active
-    c.in-Some-outcome_at.outcome c.effect-now.result can c.effect-now.ensures)
+    c.in-Some-outcome_at.outcome c.args.seq c.effect-now.result
+    (hart_inside c.self.inside c.self.invariant c.args.self.now c.self.view_is c.in-Some.hart
+    c.in-Some.ensures.there.inside)
+    c.in-Some.ensures.there.number can
+    (record { first = c.effect-now.ensures.first; now = c.effect-now.ensures.now }))
     (sym (sym c.is_same_effect.ensures ∙ c.if-not-is_same_effect.true)))
 
 pub returns-clause-rule : goal.returns-clause-rule
@@ -78,7 +82,11 @@ returns-clause-rule c =
     (c.is_oldest_active.ensures ∙ ap (λ xs. is_first c.args.seq (map (λ (z : Active). z.seq) xs)) c.items.ensures.items)
     (c.if-not-is_oldest_active.false) c.effect-now.result true
     (effect_view c.self.inside c.self.invariant c.args.self.now c.self.view_is c.in-Some.hart c.in-Some.active
-    c.in-Some-outcome_at.outcome c.effect-now.result can c.effect-now.ensures)
+    c.in-Some-outcome_at.outcome c.args.seq c.effect-now.result
+    (hart_inside c.self.inside c.self.invariant c.args.self.now c.self.view_is c.in-Some.hart
+    c.in-Some.ensures.there.inside)
+    c.in-Some.ensures.there.number can
+    (record { first = c.effect-now.ensures.first; now = c.effect-now.ensures.now }))
     (sym (sym c.is_same_effect.ensures ∙ c.if-not-is_same_effect.false)))
 
 pub returns-clause-there : goal.returns-clause-there

@@ -14,6 +14,7 @@ invariant_of-result c = rw c.in_ok-history.ensures (record {
   agrees = c.in_ok-parts.ensures.begins _ refl refl refl;
   fetched = refl;
   last = refl;
+  looks = refl;
   records = c.in_ok-records.ensures.items;
   output = c.in_ok-output.ensures.items;
   records_fit = grind (arith, common_steps);

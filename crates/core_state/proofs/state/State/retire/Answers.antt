@@ -34,7 +34,7 @@ write_retire-requires-clause-allowed c =
     c.effect-effect.result
     c.has_actor.result c.self.view_is c.has_actor.ensures c.if-not-has_actor.false c.in_ok-active.ensures.inside
     c.in_ok-active.ensures.some c.self.invariant
-    c.effect-effect.ensures))
+    (record { first = c.effect-effect.ensures.first; now = c.effect-effect.ensures.now })))
 
 pub write_retire-requires-clause-active : goal.write_retire-requires-clause-active
 write_retire-requires-clause-active c =
@@ -51,7 +51,7 @@ returns-clause-allowed c =
     c.effect-effect.result
     c.has_actor.result c.self.view_is c.has_actor.ensures c.if-not-has_actor.false c.in_ok-active.ensures.inside
     c.in_ok-active.ensures.some c.self.invariant
-    c.effect-effect.ensures))
+    (record { first = c.effect-effect.ensures.first; now = c.effect-effect.ensures.now })))
 
 pub returns-clause-answer : goal.returns-clause-answer
 returns-clause-answer c =
@@ -64,4 +64,4 @@ returns-clause-answer c =
     c.effect-effect.result
     c.has_actor.result c.self.view_is c.has_actor.ensures c.if-not-has_actor.false c.in_ok-active.ensures.inside
     c.in_ok-active.ensures.some c.self.invariant
-    c.effect-effect.ensures)))
+    (record { first = c.effect-effect.ensures.first; now = c.effect-effect.ensures.now }))))

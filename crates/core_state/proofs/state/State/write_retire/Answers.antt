@@ -1,5 +1,6 @@
 -- The parts make the step, and the state is a core's after it.
 use Rattle.core_state.proofs.Steps.Retire.State.{finds_next, said_outcome, found_from, write_in_core, core_after}
+use Rattle.core_state.proofs.Steps.Retire.State.{few_looks, place_in}
 use Rattle.core_state.proofs.state.State.write_retire.Goals as goal
 
 pub retire_oldest-requires : goal.retire_oldest-requires
@@ -11,15 +12,24 @@ retire_oldest-requires c =
       write = write_in_core c.self.inside c.args.hart c.args.active.now c.args.effect c.self.invariant finds.effect_is;
     }
 
+pub looks_after-requires : goal.looks_after-requires
+looks_after-requires c =
+    let finds = finds_next c.self.inside c.self.invariant c.args.self.now c.self.view_is c.args.actor c.args.hart
+    c.args.active.now c.args.effect c.requires.allowed c.requires.active in
+    record {
+      hart = place_in c.self.inside c.args.hart c.self.invariant finds.inside;
+      few = few_looks c.self.inside c.args.self.now c.self.view_is c.self.invariant c.requires.room;
+    }
+
 pub invariant_of-self : goal.invariant_of-self
 invariant_of-self c =
-    core_after c.self.inside c.retire_oldest.new.parts c.push_reserved.new.self c.put_out.new.output c.append.new.history
+    core_after c.self.inside c.retire_oldest.new.parts c.looks_after.result c.push_reserved.new.self c.put_out.new.output c.append.new.history
     c.args.actor c.args.hart c.args.active.now
     (said_outcome c.self.inside c.self.invariant c.args.self.now c.self.view_is c.args.actor c.args.hart
     c.args.active.now c.args.effect c.requires.allowed c.requires.active)
     c.args.effect c.self.invariant
     (finds_next c.self.inside c.self.invariant c.args.self.now c.self.view_is c.args.actor c.args.hart
     c.args.active.now c.args.effect c.requires.allowed c.requires.active)
-    c.retire_oldest.ensures.agrees c.retire_oldest.ensures.sizes c.push_reserved.ensures.items
+    c.retire_oldest.ensures.agrees c.retire_oldest.ensures.sizes c.looks_after.ensures c.push_reserved.ensures.items
     c.push_reserved.ensures.capacity c.put_out.ensures.items
     c.put_out.ensures.capacity c.append.ensures

@@ -3,7 +3,7 @@ use Rattle.events.specs.declared.effect.Effect.{Effect}
 use Rattle.smt_model.specs.{Bytes.read, Effects.effect_of, Faults.fault, Faults.checked, Reservations.holds_word}
 use Rattle.shared_memory.specs.Contents.{byte_of, reserved_of}
 use Rattle.load_store.proofs.Retiring.{access_of, keeps, does_there, no_fault}
-use Rattle.load_store.proofs.retirements.effect.Goals as goal
+use Rattle.load_store.proofs.retirements.effect_by_memory.Goals as goal
 
 pub returns-in_default : goal.returns-in_default
 returns-in_default c = λ d look is.
