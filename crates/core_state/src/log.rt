@@ -4,6 +4,7 @@ ghost use Rattle.smt_model.specs.Plain.{output_after};
 use events::{Event, History};
 
 /// Writes an event into the history, which has room for it.
+#[inline(always)]
 pub fn append(history: &mut History, event: &Event)
     requires { length history.old.items < history.old.limit }
     ensures { history.new ≡ record history.old { items = history.old.items ++ event.now ∷ [] } }

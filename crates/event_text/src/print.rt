@@ -9,20 +9,22 @@ ghost use Rattle.event_text.specs.Line.{effect_text, step_text, line_of, record_
 
 use arrayvec::ArrayString;
 use events::{Cause, Effect, Event, Next, Outcome, Phys, Record, Seq, Written};
-use text_fields::{push_ascii, push_decimal, push_hex, push_small_number};
+use text_fields::{push_ascii, push_hex, push_number, push_small_number};
 
 /// Room for any line that is printed here, without its newline.
 pub type Line = ArrayString<64>;
 
+#[inline]
 fn push_number_field<const N: usize>(line: &mut ArrayString<N>, value: u32)
     requires { array_string_len line.old + 11 ≤ N }
     ensures spelled { line.new.bytes ≡ line.old.bytes ++ after_space (decimal value) }
     ensures length { array_string_len line.new ≤ array_string_len line.old + 11 }
 {
     push_ascii(line, b' ');
-    push_decimal(line, value);
+    push_number(line, value);
 }
 
+#[inline]
 fn push_small_number_field<const N: usize>(line: &mut ArrayString<N>, value: u8)
     requires { array_string_len line.old + 4 ≤ N }
     ensures spelled { line.new.bytes ≡ line.old.bytes ++ after_space (decimal value) }
@@ -32,6 +34,7 @@ fn push_small_number_field<const N: usize>(line: &mut ArrayString<N>, value: u8)
     push_small_number(line, value);
 }
 
+#[inline]
 fn push_word_field<const N: usize>(line: &mut ArrayString<N>, value: u32)
     requires { array_string_len line.old + 9 ≤ N }
     ensures spelled { line.new.bytes ≡ line.old.bytes ++ after_space (hex 8 value) }
@@ -41,6 +44,7 @@ fn push_word_field<const N: usize>(line: &mut ArrayString<N>, value: u32)
     push_hex(line, value, 8);
 }
 
+#[inline]
 fn push_dash_field<const N: usize>(line: &mut ArrayString<N>)
     requires { array_string_len line.old + 2 ≤ N }
     ensures spelled { line.new.bytes ≡ line.old.bytes ++ after_space dash }
@@ -50,6 +54,7 @@ fn push_dash_field<const N: usize>(line: &mut ArrayString<N>)
     push_ascii(line, b'-');
 }
 
+#[inline]
 fn push_optional_number_field<const N: usize>(line: &mut ArrayString<N>, value: Option<Phys>)
     requires { array_string_len line.old + 11 ≤ N }
     ensures spelled { line.new.bytes ≡ line.old.bytes ++ after_space (optional decimal value) }
@@ -61,6 +66,7 @@ fn push_optional_number_field<const N: usize>(line: &mut ArrayString<N>, value: 
     }
 }
 
+#[inline]
 fn push_optional_word_field<const N: usize>(line: &mut ArrayString<N>, value: Option<u32>)
     requires { array_string_len line.old + 9 ≤ N }
     ensures spelled { line.new.bytes ≡ line.old.bytes ++ after_space (optional (hex 8) value) }
@@ -72,6 +78,7 @@ fn push_optional_word_field<const N: usize>(line: &mut ArrayString<N>, value: Op
     }
 }
 
+#[inline]
 fn push_optional_byte_field<const N: usize>(line: &mut ArrayString<N>, value: Option<u8>)
     requires { array_string_len line.old + 3 ≤ N }
     ensures spelled { line.new.bytes ≡ line.old.bytes ++ after_space (optional (hex 2) value) }
@@ -87,6 +94,7 @@ fn push_optional_byte_field<const N: usize>(line: &mut ArrayString<N>, value: Op
 }
 
 // A letter, and a number behind it.
+#[inline]
 fn push_lettered_word<const N: usize>(line: &mut ArrayString<N>, letter: u8, value: u32)
     requires ascii { letter < 128 }
     requires room { array_string_len line.old + 10 ≤ N }
@@ -108,6 +116,7 @@ fn push_stopped<const N: usize>(line: &mut ArrayString<N>, cause: Cause)
     push_small_number(line, cause);
 }
 
+#[inline]
 fn push_next_field<const N: usize>(line: &mut ArrayString<N>, next: Next)
     requires { array_string_len line.old + 10 ≤ N }
     ensures spelled { line.new.bytes ≡ line.old.bytes ++ after_space (next_text next) }
@@ -120,6 +129,7 @@ fn push_next_field<const N: usize>(line: &mut ArrayString<N>, next: Next)
     }
 }
 
+#[inline]
 fn push_write_fields<const N: usize>(line: &mut ArrayString<N>, write: Option<Written>)
     requires { array_string_len line.old + 18 ≤ N }
     ensures spelled { line.new.bytes ≡ line.old.bytes ++ after_space (address_text write)
@@ -139,6 +149,7 @@ fn push_write_fields<const N: usize>(line: &mut ArrayString<N>, write: Option<Wr
     }
 }
 
+#[inline]
 fn push_outcome<const N: usize>(line: &mut ArrayString<N>, outcome: &Outcome)
     requires { array_string_len line.old + 40 ≤ N }
     ensures spelled { line.new.bytes ≡ line.old.bytes ++ outcome_text outcome.now }
@@ -151,6 +162,7 @@ fn push_outcome<const N: usize>(line: &mut ArrayString<N>, outcome: &Outcome)
     push_optional_byte_field(line, outcome.out);
 }
 
+#[inline]
 fn push_effect<const N: usize>(line: &mut ArrayString<N>, effect: &Effect)
     requires { array_string_len line.old + 40 ≤ N }
     ensures spelled { line.new.bytes ≡ line.old.bytes ++ effect_text effect.now }
@@ -163,6 +175,7 @@ fn push_effect<const N: usize>(line: &mut ArrayString<N>, effect: &Effect)
 }
 
 // A line that begins with the letter of an event, its actor and the instruction that it moves on.
+#[inline]
 fn push_step<const N: usize>(line: &mut ArrayString<N>, letter: u8, actor: u8, seq: Seq)
     requires ascii { letter < 128 }
     requires room { array_string_len line.old + 16 ≤ N }
@@ -174,6 +187,7 @@ fn push_step<const N: usize>(line: &mut ArrayString<N>, letter: u8, actor: u8, s
     push_number_field(line, seq);
 }
 
+#[inline]
 fn push_fetch<const N: usize>(
     line: &mut ArrayString<N>,
     actor: u8,
@@ -197,6 +211,7 @@ fn push_fetch<const N: usize>(
     push_word_field(line, predicted);
 }
 
+#[inline]
 fn push_rename<const N: usize>(line: &mut ArrayString<N>, actor: u8, seq: Seq, phys: Option<Phys>)
     requires { array_string_len line.old + 64 ≤ N }
     ensures spelled { line.new.bytes ≡ line.old.bytes ++ line_of (Event.Rename actor seq phys) }
@@ -206,6 +221,7 @@ fn push_rename<const N: usize>(line: &mut ArrayString<N>, actor: u8, seq: Seq, p
     push_optional_number_field(line, phys);
 }
 
+#[inline]
 fn push_complete<const N: usize>(line: &mut ArrayString<N>, actor: u8, seq: Seq, outcome: &Outcome)
     requires { array_string_len line.old + 64 ≤ N }
     ensures spelled { line.new.bytes ≡ line.old.bytes
@@ -216,6 +232,7 @@ fn push_complete<const N: usize>(line: &mut ArrayString<N>, actor: u8, seq: Seq,
     push_outcome(line, outcome);
 }
 
+#[inline]
 fn push_retire<const N: usize>(line: &mut ArrayString<N>, actor: u8, seq: Seq, effect: &Effect)
     requires { array_string_len line.old + 64 ≤ N }
     ensures spelled { line.new.bytes ≡ line.old.bytes

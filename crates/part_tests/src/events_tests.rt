@@ -101,6 +101,15 @@ fn a_history_takes_events_up_to_its_limit(rt: HostRuntime) {
     assert!(rt; (three.limit, three.events) == (3, 3));
 }
 
+#[test]
+fn tells_the_actor_at_a_place(rt: HostRuntime) {
+    let mut history = History::with_limit(2, rt.alloc()).expect(&rt, "a history");
+    assert!(rt; history.push(Event::Decode { actor: 1, seq: 0 }).is_ok());
+    assert!(rt; history.push(Event::Issue { actor: 15, seq: 0 }).is_ok());
+    assert!(rt; (history.actor_at(0), history.actor_at(1)) == (Some(1), Some(15)));
+    assert!(rt; history.actor_at(2).is_none());
+}
+
 /// The letter of the kind that a letter names.
 fn letter_of(letter: u8) -> Option<u8> {
     let kind = EventKind::from_letter(letter)?;

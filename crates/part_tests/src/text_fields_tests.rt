@@ -4,8 +4,8 @@ use crate::rows::holds;
 use arrayvec::ArrayString;
 use text_fields::{
     FieldError, field_count, first_decimal, first_hex, first_optional_hex, push_ascii,
-    push_decimal, push_hex, push_small_number, read_decimal, read_hex, read_optional_decimal,
-    read_optional_hex, read_signed_decimal, split_field,
+    push_decimal, push_hex, push_number, push_small_number, read_decimal, read_hex,
+    read_optional_decimal, read_optional_hex, read_signed_decimal, split_field,
 };
 
 #[test]
@@ -59,7 +59,7 @@ fn prints_a_space_and_numbers_of_every_length(rt: HostRuntime) {
     for (number, want) in &NUMBERS {
         let mut text = ArrayString::<11>::new();
         push_ascii(&mut text, b' ');
-        push_decimal(&mut text, *number);
+        push_number(&mut text, *number);
         let (before, digits) = split_field(text.as_bytes(), b' ');
         holds(&rt, want, before.is_empty() && digits == want.as_bytes());
     }

@@ -1,9 +1,11 @@
 pub mod DecimalLaws
+pub mod DecimalSteps
 pub mod DigitTable
 pub mod FirstLemmas
 pub mod HexLaws
 pub mod HexLemmas
 pub mod LacksLaws
 pub mod OptionalLaws
+pub mod PairLemmas
 pub mod SignedLaws
 pub mod SplittingLaws

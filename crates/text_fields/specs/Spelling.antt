@@ -1,7 +1,7 @@
 -- How the fields of a text are spelled: each function gives the bytes of one. A decimal number is
 -- spelled `decimal n` and a signed one `signed_decimal z`, as the standard library prints them.
 
-use Rattle.std.specs.Prelude.{ℕ, ◌/◌, ◌%◌, ◌^◌, zero, suc, false, List, [], ◌∷◌}
+use Rattle.std.specs.Prelude.{ℕ, ◌+◌, ◌/◌, ◌%◌, ◌^◌, zero, suc, false, List, [], ◌∷◌}
 use Rattle.std.specs.Prelude.{Option, None, Some}
 use Rattle.std.specs.Fmt.{digit_glyph}
 
@@ -23,3 +23,7 @@ dash = 45 ∷ []
 abbrev pub optional : {A : Type 0} → (A → List ℕ) → Option A → List ℕ
 optional spelling None = dash
 optional spelling (Some value) = spelling value
+
+-- the tens and the ones of a number below 100
+abbrev pub two_digits : ℕ → List ℕ
+two_digits n = (48 + n / 10) ∷ (48 + n % 10) ∷ []

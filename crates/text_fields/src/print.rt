@@ -6,6 +6,7 @@ ghost use Rattle.std.specs.Fmt.{decimal, digit_glyph};
 ghost use Rattle.arrayvec.specs.ArrayString.{array_string_len};
 ghost use Rattle.text_fields.specs.Spelling.{hex, hex_digit};
 
+use crate::pairs::word_digits;
 use arrayvec::ArrayString;
 use itoa::{Buffer, Integer};
 use std::str::from_utf8_unchecked;
@@ -22,6 +23,7 @@ pub fn push_decimal<const N: usize, I: Integer>(text: &mut ArrayString<N>, value
 }
 
 /// Appends a decimal number of one byte as `push_decimal` does, in fewer steps.
+#[inline]
 pub fn push_small_number<const N: usize>(text: &mut ArrayString<N>, value: u8)
     requires { array_string_len text.old + 3 ≤ N }
     ensures spelled { text.new.bytes ≡ text.old.bytes ++ decimal value }
@@ -37,7 +39,7 @@ pub fn push_small_number<const N: usize>(text: &mut ArrayString<N>, value: u8)
 // Appends ASCII characters. One by one, as `char`s, they cost 1,700 of the processor's instructions
 // more for an event's line, where a whole event of `step` costs 2,100 (in the checked program).
 #[inline(always)]
-fn push_bytes<const N: usize>(text: &mut ArrayString<N>, bytes: &[u8])
+pub(crate) fn push_bytes<const N: usize>(text: &mut ArrayString<N>, bytes: &[u8])
     requires ascii { IsAscii bytes.now }
     requires room { array_string_len text.old + length bytes.now ≤ N }
     ensures spelled { text.new.bytes ≡ text.old.bytes ++ bytes.now }
@@ -47,6 +49,7 @@ fn push_bytes<const N: usize>(text: &mut ArrayString<N>, bytes: &[u8])
 }
 
 /// Appends an ASCII character.
+#[inline]
 pub fn push_ascii<const N: usize>(text: &mut ArrayString<N>, byte: u8)
     requires ascii { byte < 128 }
     requires room { array_string_len text.old + 1 ≤ N }
@@ -77,6 +80,7 @@ fn hex_digit(value: u32, place: usize) -> u8
 }
 
 /// Appends the lowest `count` hexadecimal digits of a number, 0 to 8 of them, in lower case.
+#[inline]
 pub fn push_hex<const N: usize>(text: &mut ArrayString<N>, value: u32, count: usize)
     requires places { count ≤ 8 }
     requires room { array_string_len text.old + count ≤ N }
@@ -91,22 +95,13 @@ pub fn push_hex<const N: usize>(text: &mut ArrayString<N>, value: u32, count: us
 }
 
 // Appends the eight digits of a number in one go.
+#[inline]
 fn push_word<const N: usize>(text: &mut ArrayString<N>, value: u32)
     requires { array_string_len text.old + 8 ≤ N }
     ensures spelled { text.new.bytes ≡ text.old.bytes ++ hex 8 value }
     ensures length { array_string_len text.new ≡ array_string_len text.old + 8 }
 {
-    let digits = [
-        hex_digit(value, 7),
-        hex_digit(value, 6),
-        hex_digit(value, 5),
-        hex_digit(value, 4),
-        hex_digit(value, 3),
-        hex_digit(value, 2),
-        hex_digit(value, 1),
-        hex_digit(value, 0),
-    ];
-    push_bytes(text, &digits);
+    push_bytes(text, &word_digits(value));
 }
 
 // Appends the digits one by one.

@@ -2,6 +2,7 @@
 //! So it is smaller than the event that it gives back.
 
 ghost use Rattle.std.specs.Prelude.{◌≡◌};
+ghost use Rattle.events.specs.Event.{actor_of};
 ghost use Rattle.events.specs.Packed.{number_in, next_in, write_in, outcome_in, effect_in, event_in};
 
 use crate::effect::{Cause, Effect, Next, Outcome, Written};
@@ -87,6 +88,7 @@ enum NextKind {
 }
 
 /// Packs an event.
+#[inline(always)]
 pub(super) fn pack(event: Event) -> Packed
     ensures { event_in result ≡ event }
 {
@@ -128,6 +130,22 @@ pub(super) fn pack(event: Event) -> Packed
 }
 
 impl Packed {
+    /// The actor of the event that was packed.
+    #[inline]
+    pub(super) fn actor(&self) -> u8
+        ensures { result ≡ actor_of (event_in self.now) }
+    {
+        match *self {
+            Packed::Fetch { actor, .. }
+            | Packed::Decode { actor, .. }
+            | Packed::Rename { actor, .. }
+            | Packed::Issue { actor, .. }
+            | Packed::Complete { actor, .. }
+            | Packed::Drop { actor, .. }
+            | Packed::Retire { actor, .. } => actor,
+        }
+    }
+
     /// The event that was packed.
     pub(super) fn event(&self) -> Event
         ensures { result ≡ event_in self.now }
@@ -170,6 +188,7 @@ impl Packed {
     }
 }
 
+#[inline]
 fn pack_outcome(outcome: Outcome) -> PackedOutcome
     ensures { outcome_in result ≡ outcome }
 {
@@ -202,6 +221,7 @@ fn outcome_in(packed: PackedOutcome) -> Outcome
     }
 }
 
+#[inline]
 fn pack_effect(effect: Effect) -> PackedEffect
     ensures { effect_in result ≡ effect }
 {
@@ -231,6 +251,7 @@ fn effect_in(packed: PackedEffect) -> Effect
     }
 }
 
+#[inline]
 fn pack_number(number: Option<u32>) -> (bool, u32)
     ensures { number_in result.0 result.1 ≡ number }
 {
@@ -246,6 +267,7 @@ fn number_in(is_there: bool, number: u32) -> Option<u32>
     if is_there { Some(number) } else { None }
 }
 
+#[inline]
 fn pack_next(next: Next) -> (NextKind, u32)
     ensures { next_in result.0 result.1 ≡ next }
 {
@@ -266,6 +288,7 @@ fn next_in(kind: NextKind, number: u32) -> Next
     }
 }
 
+#[inline]
 fn pack_write(write: Option<Written>) -> (Option<u8>, u32, u32)
     ensures { write_in result.0 result.1 result.2 ≡ write }
 {

@@ -1,4 +1,4 @@
-use Rattle.std.proofs.Common.{arith, get_or, sym, ◌∙◌, ap}
+use Rattle.std.proofs.Common.{arith, sym, ◌∙◌, ap}
 use Rattle.std.specs.Char.{is_ascii_digit}
 use Rattle.text_fields.specs.Reading.{decimal_field}
 use Rattle.text_fields.proofs.FirstLemmas.{counts_more, ends_there, no_number, not_same, whole_field}

@@ -1,0 +1,9 @@
+use Rattle.std.proofs.Common.{◌%◌, arith}
+use Rattle.text_fields.proofs.PairLemmas.{low_at, glyph_small}
+use Rattle.text_fields.proofs.pairs.low_digit.Goals as goal
+
+pub returns-clause-spelled : goal.returns-clause-spelled
+returns-clause-spelled c = low_at c.args.byte (omega arith)
+
+pub returns-clause-ascii : goal.returns-clause-ascii
+returns-clause-ascii c = rw (low_at c.args.byte (omega arith)) (glyph_small (c.args.byte % 16) (omega arith))
