@@ -197,7 +197,7 @@ def inputs_of(seed, k):
         "script": some_script(r, config, 0.8 if uses_memory else 0.4).encode(),
     }
     line = ["step", "image.elf", "script", "--config", "config.toml"]
-    line += [option for option in ("--records", "--show") if r.random() < 0.6]
+    line += [option for option in ("--records", "--show", "--looks") if r.random() < 0.6]
     if r.random() < 0.02:
         line = ["list", "image.elf"]
     elif r.random() < 0.25:

@@ -33,18 +33,18 @@ module _ (core : CoreView) (with_records : Bool) (rs : List Record) (events lent
       → IsReported core with_records with_tables with_looks old new exit_status
   reported with_tables with_looks old mid behind new tables bytes looked stand exit_status are same first is_looked then
       next is_stand harts = record {
-    printed = (
-      tables ++ (looked ++ (records_text with_records rs ++ report_text events (length rs) lent statuses put)),
-      record {
-        tables = tables;
-        are_tables = are;
-        whole = ap (λ t. tables ++ (looked ++ t)) same_text
-            ∙ ap (λ l. tables ++ (l ++ (records_text with_records (retired_of core) ++ report_of core))) is_looked;
-      },
-      appends_more old mid new _ _ (subst (Appends old mid) same first) (appends_more mid behind new _ _ then next),
-    );
-    harts = harts ∙ ap status_number (is_stand ∙ is_statuses);
-  }
+        printed = (
+          tables ++ (looked ++ (records_text with_records rs ++ report_text events (length rs) lent statuses put)),
+          record {
+            tables = tables;
+            are_tables = are;
+            whole = ap (λ t. tables ++ (looked ++ t)) same_text
+                ∙ ap (λ l. tables ++ (l ++ (records_text with_records (retired_of core) ++ report_of core))) is_looked;
+          },
+          appends_more old mid new _ _ (subst (Appends old mid) same first) (appends_more mid behind new _ _ then next),
+        );
+        harts = harts ∙ ap status_number (is_stand ∙ is_statuses);
+      }
 
   -- Its report alone was printed.
   pub reported_untabled : (old new : Option (List ℕ)) (stand : List Status) (exit_status : ℕ)

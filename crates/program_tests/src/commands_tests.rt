@@ -1,10 +1,11 @@
 //! Whole lines of the program: what each command prints and how it ends. Beside the modules of the
 //! commands stand what is owed of each ask of a script (`script_lines`), traces that are written
-//! (`trace_files`), inputs that are refused (`refusals`), and actors that work side by side
-//! (`meeting`).
+//! (`trace_files`), which loads look again (`looks`), inputs that are refused (`refusals`), and actors
+//! that work side by side (`meeting`).
 
 mod check;
 mod list;
+mod looks;
 mod meeting;
 mod plain;
 mod refusals;

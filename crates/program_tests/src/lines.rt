@@ -20,8 +20,21 @@ pub fn step_line(records: bool, show: bool, trace: Option<&'static str>) -> Line
         image: "image",
         script: "script",
         trace,
+        looks: false,
         records,
         show,
+    },))
+}
+
+/// A script that is run, to tell how many loads looked again.
+pub fn looks_line() -> Line<'static> {
+    line!(Command::Step(StepCommand {
+        image: "image",
+        script: "script",
+        trace: None,
+        looks: true,
+        records: false,
+        show: false,
     },))
 }
 

@@ -22,7 +22,7 @@ fn words_of(text: &str, alloc: Global) -> Result<Vec<&str>, AllocError> {
 }
 
 /// Words, and what they ask for.
-static LINES: [(&str, Line<'_>); 18] = [
+static LINES: [(&str, Line<'_>); 19] = [
     (
         "smtsim step first.elf first.script",
         Line {
@@ -31,6 +31,7 @@ static LINES: [(&str, Line<'_>); 18] = [
                 image: "first.elf",
                 script: "first.script",
                 trace: None,
+                looks: false,
                 records: false,
                 show: false,
             }),
@@ -44,6 +45,7 @@ static LINES: [(&str, Line<'_>); 18] = [
                 image: "a",
                 script: "b",
                 trace: None,
+                looks: false,
                 records: false,
                 show: false,
             }),
@@ -57,6 +59,7 @@ static LINES: [(&str, Line<'_>); 18] = [
                 image: "a",
                 script: "b",
                 trace: None,
+                looks: false,
                 records: false,
                 show: false,
             }),
@@ -70,6 +73,7 @@ static LINES: [(&str, Line<'_>); 18] = [
                 image: "a",
                 script: "b",
                 trace: None,
+                looks: false,
                 records: true,
                 show: false,
             }),
@@ -83,6 +87,7 @@ static LINES: [(&str, Line<'_>); 18] = [
                 image: "a",
                 script: "b",
                 trace: None,
+                looks: false,
                 records: false,
                 show: true,
             }),
@@ -96,6 +101,7 @@ static LINES: [(&str, Line<'_>); 18] = [
                 image: "a",
                 script: "b",
                 trace: Some("t"),
+                looks: false,
                 records: false,
                 show: false,
             }),
@@ -109,8 +115,23 @@ static LINES: [(&str, Line<'_>); 18] = [
                 image: "a",
                 script: "b",
                 trace: Some("t"),
+                looks: false,
                 records: true,
                 show: true,
+            }),
+        },
+    ),
+    (
+        "smtsim step a --looks b",
+        Line {
+            config: None,
+            command: Command::Step(StepCommand {
+                image: "a",
+                script: "b",
+                trace: None,
+                looks: true,
+                records: false,
+                show: false,
             }),
         },
     ),
@@ -241,15 +262,15 @@ fn files_of<'a>(line: &Line<'a>) -> Named<'a> {
     (files.config, files.image, files.second, files.trace)
 }
 
-/// The command of a line, and its flags: records and tables.
-fn flags_of(line: &Line<'_>) -> (&'static str, bool, bool) {
+/// The command of a line, and its flags: records, tables and looks.
+fn flags_of(line: &Line<'_>) -> (&'static str, [bool; 3]) {
     match line.command {
-        Command::Step(step) => ("step", step.records, step.show),
-        Command::Run(run) => ("run", run.records, false),
-        Command::Check(check) => ("check", check.records, false),
-        Command::Plain(plain) => ("plain", plain.records, false),
-        Command::Schedule(_) => ("schedule", false, false),
-        Command::List(_) => ("list", false, false),
+        Command::Step(step) => ("step", [step.records, step.show, step.looks]),
+        Command::Run(run) => ("run", [run.records, false, false]),
+        Command::Check(check) => ("check", [check.records, false, false]),
+        Command::Plain(plain) => ("plain", [plain.records, false, false]),
+        Command::Schedule(_) => ("schedule", [false; 3]),
+        Command::List(_) => ("list", [false; 3]),
     }
 }
 
@@ -283,6 +304,7 @@ static NAMED: [(Line<'_>, Named<'_>); 6] = [
                 image: "a",
                 script: "b",
                 trace: Some("t"),
+                looks: false,
                 records: true,
                 show: true,
             }),

@@ -32,7 +32,10 @@ pub fn report_looks<W: Write>(looks: u32, records: &[Record], out: &mut W) -> io
 fn count_loads(records: &[Record]) -> usize
     ensures { result ≡ how_many is_load_record records.now }
 {
-    records.iter().filter(|record| is_load_record(record)).count()
+    records
+        .iter()
+        .filter(|record| is_load_record(record))
+        .count()
 }
 
 fn is_load_record(record: &Record) -> bool

@@ -127,7 +127,7 @@ impl State {
         ensures event { result ≡ Retire actor active.now.seq effect }
         ensures made { self.new ≡ grown result self.old }
     {
-        self.looks = looks_after(
+        let looks = looks_after(
             &self.parts.accesses,
             hart,
             active.seq,
@@ -135,6 +135,7 @@ impl State {
             &effect,
             self.looks,
         );
+        self.looks = looks;
         retire_oldest(&mut self.parts, hart, active, effect);
         self.records.push_reserved(Record {
             hart,

@@ -6,7 +6,7 @@ ghost use Rattle.std.specs.Prelude.{◌<◌};
 use crate::rows::holds_at;
 use crate::shared_memory_tests::{first_memory, put};
 use events::{Effect, Next, Outcome, Written};
-use load_store::{LoadStore, completion, effect};
+use load_store::{LoadStore, completion, effect, looks_after};
 use rv_decode::decode_op;
 use shared_memory::Memory;
 use std::test::Fail;
@@ -162,15 +162,36 @@ fn a_completion_says_its_fault_or_its_first_look(rt: HostRuntime) -> Result<(), 
     Ok(())
 }
 
+/// Load 5 of hart 0, 5 and 7 of hart 2 and 7 of hart 3, which have looked at a word; it was written
+/// since.
+fn touched_loads() -> LoadStore {
+    let mut queues = LoadStore::new();
+    queues.add_load(0, 5);
+    queues.looked(0, 5, WORD, 4);
+    queues.add_load(2, 5);
+    queues.looked(2, 5, WORD, 4);
+    queues.add_load(2, 7);
+    queues.looked(2, 7, WORD, 4);
+    queues.add_load(3, 7);
+    queues.looked(3, 7, WORD, 4);
+    queues.touch(&Written {
+        addr: WORD,
+        n: 4,
+        datum: 0,
+    });
+    queues
+}
+
 #[test]
 fn an_instruction_retires_by_memory_as_it_is(rt: HostRuntime) -> Result<(), Fail> {
     let mut memory = first_memory(rt.alloc()).ok_or("refused")?;
     put(&mut memory, WORD, 4, ONES).map_err(|_| "fault")?;
     memory.reserve(0, WORD);
     memory.reserve(1, NEXT_WORD);
+    let queues = touched_loads();
     for (word, addr, datum, value, write) in &EFFECTS {
         let op = decode_op(Some(*word));
-        let came = effect(&memory, 0, op, computed(*addr, *datum));
+        let came = effect(&memory, &queues, 0, 5, op, computed(*addr, *datum));
         holds_at(&rt, *word, came == retired(*value, *write));
     }
     Ok(())
@@ -182,13 +203,16 @@ fn looks(memory: &Memory, queues: &LoadStore, hart: u8, seq: u32) -> (Option<u32
 {
     let op = decode_op(Some(LB));
     let outcome = completion(memory, queues, hart, seq, op, computed(WORD, None));
-    (outcome.value, effect(memory, hart, op, outcome).value)
+    (
+        outcome.value,
+        effect(memory, queues, hart, seq, op, outcome).value,
+    )
 }
 
 #[test]
 fn a_load_sees_a_store_in_flight_at_its_first_look_alone(rt: HostRuntime) -> Result<(), Fail> {
     let memory = first_memory(rt.alloc()).ok_or("refused")?;
-    let mut queues = LoadStore::new();
+    let mut queues = touched_loads();
     queues.add_store(2, 6);
     queues.resolve_store(2, 6, WORD, 1, 0x80);
     let numbers = [
@@ -220,9 +244,33 @@ fn what_touches_no_memory_stays(rt: HostRuntime) -> Result<(), Fail> {
         datum: None,
         out: Some(0x41),
     };
-    let fields = effect(&memory, 0, op, outcome);
+    let fields = effect(&memory, &queues, 0, 5, op, outcome);
     assert!(rt; completion(&memory, &queues, 0, 5, op, outcome) == outcome);
     assert!(rt; (fields.value, fields.out) == (Some(5), Some(0x41)));
     assert!(rt; fields.write.is_none() && fields.next == BEHIND);
+    Ok(())
+}
+
+#[test]
+fn an_untouched_load_keeps_its_first_number(rt: HostRuntime) -> Result<(), Fail> {
+    let mut memory = first_memory(rt.alloc()).ok_or("refused")?;
+    put(&mut memory, WORD, 4, 0x0000_0070).map_err(|_| "fault")?;
+    let mut queues = LoadStore::new();
+    queues.add_load(1, 3);
+    let op = decode_op(Some(LB));
+    let outcome = completion(&memory, &queues, 1, 3, op, computed(WORD, None));
+    queues.looked(1, 3, WORD, 1);
+    put(&mut memory, WORD, 4, ONES).map_err(|_| "fault")?;
+    let kept = effect(&memory, &queues, 1, 3, op, outcome);
+    let fewer = looks_after(&queues, 1, 3, op, &kept, 8);
+    queues.touch(&Written {
+        addr: WORD,
+        n: 4,
+        datum: ONES,
+    });
+    let again = effect(&memory, &queues, 1, 3, op, outcome);
+    let more = looks_after(&queues, 1, 3, op, &again, 8);
+    assert!(rt; (kept.value, again.value) == (Some(0x70), Some(0xffff_ffff)));
+    assert!(rt; (fewer, more) == (8, 9));
     Ok(())
 }

@@ -4,6 +4,7 @@ ghost use Rattle.rv_execute.specs.Access.{IsSize};
 ghost use Rattle.std.specs.Prelude.{◌<◌};
 
 use crate::shared_memory_tests::{first_memory, get, put};
+use events::Written;
 use load_store::LoadStore;
 use shared_memory::{AccessKind, Memory};
 use std::test::Fail;
@@ -86,4 +87,45 @@ fn what_is_added_can_be_taken_out(rt: HostRuntime) {
     queues.drop_store(6);
     assert!(rt; full == [false, false]);
     assert!(rt; !queues.loads_full(5) && !queues.stores_full(6));
+}
+
+/// Whether loads 3 and 4 of hart 1, and 3 of hart 7, have to look again.
+fn needs(queues: &LoadStore) -> [bool; 3] {
+    [
+        queues.needs_look(1, 3),
+        queues.needs_look(1, 4),
+        queues.needs_look(7, 3),
+    ]
+}
+
+#[test]
+fn a_write_touches_the_loads_of_all_harts_that_share_a_byte(rt: HostRuntime) {
+    let mut queues = LoadStore::new();
+    queues.add_load(1, 3);
+    queues.add_load(1, 4);
+    queues.add_load(7, 3);
+    queues.looked(1, 3, 0x8000_0100, 4);
+    queues.looked(1, 4, 0x8000_0104, 2);
+    queues.looked(7, 3, 0x8000_0103, 1);
+    let first = needs(&queues);
+    queues.touch(&Written {
+        addr: 0x8000_0106,
+        n: 2,
+        datum: 0,
+    });
+    let beside = needs(&queues);
+    queues.touch(&Written {
+        addr: 0x8000_0102,
+        n: 2,
+        datum: 0,
+    });
+    let touched = needs(&queues);
+    queues.looked(7, 3, 0x8000_0103, 1);
+    queues.squash(1, 2);
+    queues.add_load(1, 3);
+    let anew = needs(&queues);
+    assert!(rt; first == [false, false, false]);
+    assert!(rt; beside == [false, false, false]);
+    assert!(rt; touched == [true, false, true]);
+    assert!(rt; anew == [false, false, false]);
 }

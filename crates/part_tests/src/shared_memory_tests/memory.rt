@@ -1,6 +1,7 @@
 //! The memory that all harts share, by numbers worked by hand from the manual's byte order.
 
 use super::{first_memory, get, put};
+use shared_memory::touches;
 use std::test::Fail;
 
 #[test]
@@ -71,4 +72,21 @@ fn a_write_ends_the_reservations_on_its_word(rt: HostRuntime) -> Result<(), Fail
     assert!(rt; others == [None, None, Some(0x8000_0104)]);
     assert!(rt; taken == [false, true, false] && !other && memory.reservation(2).is_none());
     Ok(())
+}
+
+#[test]
+fn accesses_touch_where_they_share_a_byte(rt: HostRuntime) {
+    let shared = [
+        touches(0x8000_0100, 4, 0x8000_0103, 1),
+        touches(0x8000_0103, 1, 0x8000_0100, 4),
+        touches(0x8000_0102, 2, 0x8000_0102, 2),
+        touches(0xffff_fffc, 4, 0xffff_ffff, 1),
+    ];
+    let apart = [
+        touches(0x8000_0100, 2, 0x8000_0102, 2),
+        touches(0x8000_0104, 4, 0x8000_0100, 4),
+        touches(0xffff_fffc, 4, 0, 4),
+    ];
+    assert!(rt; shared == [true, true, true, true]);
+    assert!(rt; apart == [false, false, false]);
 }

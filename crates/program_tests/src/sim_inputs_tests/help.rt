@@ -20,8 +20,8 @@ harts|extra|queue|ram|limit|turns|actors",
     ),
     (
         "smtsim step --help",
-        "Usage: smtsim step [OPTIONS] <IMAGE> <SCRIPT>|--config <FILE>|--records|--show|\
---trace <FILE>",
+        "Usage: smtsim step [OPTIONS] <IMAGE> <SCRIPT>|--config <FILE>|--looks|--records|\
+--show|--trace <FILE>",
     ),
     (
         "smtsim run --help",

@@ -14,6 +14,7 @@ smtsim step first.elf first.script more
 smtsim step --fast first.elf first.script
 smtsim step --show --show a b
 smtsim step --show=yes a b
+smtsim step --looks --looks a b
 smtsim step --record a b
 smtsim step a b --config
 smtsim step a b --trace
@@ -22,6 +23,7 @@ smtsim --config c step a b
 smtsim run
 smtsim run a b
 smtsim run --show a
+smtsim run --looks a
 smtsim run a --trace
 smtsim run --trace t --trace u a
 smtsim check

@@ -12,8 +12,8 @@ retire_oldest-requires c =
       write = write_in_core c.self.inside c.args.hart c.args.active.now c.args.effect c.self.invariant finds.effect_is;
     }
 
-pub looks_after-requires : goal.looks_after-requires
-looks_after-requires c =
+pub looks_after-looks-requires : goal.looks_after-looks-requires
+looks_after-looks-requires c =
     let finds = finds_next c.self.inside c.self.invariant c.args.self.now c.self.view_is c.args.actor c.args.hart
     c.args.active.now c.args.effect c.requires.allowed c.requires.active in
     record {
@@ -23,13 +23,13 @@ looks_after-requires c =
 
 pub invariant_of-self : goal.invariant_of-self
 invariant_of-self c =
-    core_after c.self.inside c.retire_oldest.new.parts c.looks_after.result c.push_reserved.new.self c.put_out.new.output c.append.new.history
+    core_after c.self.inside c.retire_oldest.new.parts c.looks_after-looks.result c.push_reserved.new.self c.put_out.new.output c.append.new.history
     c.args.actor c.args.hart c.args.active.now
     (said_outcome c.self.inside c.self.invariant c.args.self.now c.self.view_is c.args.actor c.args.hart
     c.args.active.now c.args.effect c.requires.allowed c.requires.active)
     c.args.effect c.self.invariant
     (finds_next c.self.inside c.self.invariant c.args.self.now c.self.view_is c.args.actor c.args.hart
     c.args.active.now c.args.effect c.requires.allowed c.requires.active)
-    c.retire_oldest.ensures.agrees c.retire_oldest.ensures.sizes c.looks_after.ensures c.push_reserved.ensures.items
+    c.retire_oldest.ensures.agrees c.retire_oldest.ensures.sizes c.looks_after-looks.ensures c.push_reserved.ensures.items
     c.push_reserved.ensures.capacity c.put_out.ensures.items
     c.put_out.ensures.capacity c.append.ensures
