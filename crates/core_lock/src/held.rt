@@ -19,7 +19,7 @@ use crate::origin::Origin;
 use crate::reader::CoreReader;
 use agreement::{are_told, is_told};
 use asking::ask_core;
-use dealing::{counts_of, deal_four, gather, tallies_in};
+use dealing::{counts_of, deal_four, gather, made_of};
 use elf_image::Image;
 use events::Event;
 use numbers::sizes::MOST_ACTORS;
@@ -77,11 +77,11 @@ impl<L: Origin> Held<L> {
     {
         let (mut book, mut rest) = blank.open::<L>();
         book.add(&mut rest, core.history().len() as u64);
-        let tallies = tallies_in(&core);
-        let (a, b, c, d) = deal_four(&core, &tallies, &mut rest, 0);
-        let (e, f, g, h) = deal_four(&core, &tallies, &mut rest, 4);
-        let (i, j, k, l) = deal_four(&core, &tallies, &mut rest, 8);
-        let (m, n, o, p) = deal_four(&core, &tallies, &mut rest, 12);
+        let made = made_of(&core);
+        let (a, b, c, d) = deal_four(&core, &made, &mut rest, 0);
+        let (e, f, g, h) = deal_four(&core, &made, &mut rest, 4);
+        let (i, j, k, l) = deal_four(&core, &made, &mut rest, 8);
+        let (m, n, o, p) = deal_four(&core, &made, &mut rest, 12);
         let passes = [a, b, c, d, e, f, g, h, i, j, k, l, m, n, o, p];
         book.audit(&mut rest);
         (Held { core, book, rest }, passes)

@@ -23,14 +23,14 @@ pub fn first_decimal(text: &[u8], max: u32, separator: u8) -> Result<(u32, &[u8]
     let mut value = 0u64;
     for place in 0..text.len() {
         let byte = text[place];
-        if byte == separator {
+        if !byte.is_ascii_digit() {
+            if byte != separator {
+                return Err(FieldError::Misspelled);
+            }
             return match counted(&text[..place], value, max) {
                 Ok(number) => Ok((number, &text[place + 1..])),
                 Err(error) => Err(error),
             };
-        }
-        if !byte.is_ascii_digit() {
-            return Err(FieldError::Misspelled);
         }
         value = with_digit(value, byte, max);
     }

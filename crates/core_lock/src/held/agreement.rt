@@ -3,7 +3,7 @@ ghost use Rattle.core_lock.specs.Passes.{IsTold};
 ghost use Rattle.smt_core.specs.Shown.{Shown};
 
 use crate::held::Pass;
-use crate::tally::{Tally, tallies_of, tally_of};
+use crate::tally::{Tally, made_in, tally_at, tally_of};
 use numbers::sizes::MOST_ACTORS;
 use smt_core::{Core, show};
 use std::sync::ledger::Ledger;
@@ -33,9 +33,11 @@ pub(super) fn are_told<L: Ledger>(core: &Core, passes: &[Pass<L>; MOST_ACTORS]) 
         → (p.actor ≡ k) × IsTold core.now.past p.actor p.count p.last) }
 {
     show(core);
-    let tallies = tallies_of(core.history());
+    let history = core.history();
+    let made = made_in(history);
     for (place, pass) in passes.iter().enumerate() {
-        if usize::from(pass.actor) != place || !has_counted(pass, tallies[place]) {
+        let tally = tally_at(history, &made, place);
+        if usize::from(pass.actor) != place || !has_counted(pass, tally) {
             return false;
         }
     }

@@ -1,20 +1,20 @@
-ghost use Rattle.std.specs.Prelude.{◌≡◌, ◌<◌, ◌≤◌, ◌+◌, map, sum};
+ghost use Rattle.std.specs.Prelude.{◌≡◌, ◌<◌, ◌≤◌, ◌+◌, map, sum, reverse};
 ghost use Rattle.numbers.specs.Sizes.{most_actors};
 ghost use Rattle.core_lock.specs.Passes.{IsDealt};
-ghost use Rattle.core_lock.specs.Tallies.{AreTallies};
+ghost use Rattle.core_lock.specs.Tallies.{AreMade};
 ghost use Rattle.smt_core.specs.Counts.{made_from};
 
 use crate::held::Pass;
-use crate::tally::{Tally, tallies_of, tally_at};
+use crate::tally::{Made, Tally, made_in, tally_at};
 use numbers::sizes::MOST_ACTORS;
 use smt_core::Core;
 use std::sync::ledger::{Ledger, Share};
 
 /// What the history holds of each actor. It reads the history once.
-pub(super) fn tallies_in(core: &Core) -> [Tally; MOST_ACTORS]
-    ensures { AreTallies core.now.past result }
+pub(super) fn made_of(core: &Core) -> [Made; MOST_ACTORS]
+    ensures { AreMade core.now.past (reverse core.now.past) result }
 {
-    tallies_of(core.history())
+    made_in(core.history())
 }
 
 // `Held::new` writes out the passes of so many.
@@ -24,11 +24,11 @@ const _: () = prove!(MOST_ACTORS == 16);
 /// square of its calls.
 pub(super) fn deal_four<L: Ledger>(
     core: &Core,
-    tallies: &[Tally; MOST_ACTORS],
+    made: &[Made; MOST_ACTORS],
     rest: &mut Share<L>,
     first: u8,
 ) -> (Pass<L>, Pass<L>, Pass<L>, Pass<L>)
-    requires tallies { AreTallies core.now.past tallies.now }
+    requires made { AreMade core.now.past (reverse core.now.past) made.now }
     requires parts { rest.old.parts + first ≡ most_actors }
     requires inside { first + 4 ≤ most_actors }
     requires amount { rest.old.amount ≡ made_from first core.now.past }
@@ -39,21 +39,21 @@ pub(super) fn deal_four<L: Ledger>(
     ensures parts { rest.new.parts + (first + 4) ≡ most_actors }
     ensures amount { rest.new.amount ≡ made_from (first + 4) core.now.past }
 {
-    let a = deal(core, tallies, rest, first);
-    let b = deal(core, tallies, rest, first + 1);
-    let c = deal(core, tallies, rest, first + 2);
-    let d = deal(core, tallies, rest, first + 3);
+    let a = deal(core, made, rest, first);
+    let b = deal(core, made, rest, first + 1);
+    let c = deal(core, made, rest, first + 2);
+    let d = deal(core, made, rest, first + 3);
     (a, b, c, d)
 }
 
 /// The pass of actor `actor`, taken from what is left for it and those of greater numbers.
 fn deal<L: Ledger>(
     core: &Core,
-    tallies: &[Tally; MOST_ACTORS],
+    made: &[Made; MOST_ACTORS],
     rest: &mut Share<L>,
     actor: u8,
 ) -> Pass<L>
-    requires tallies { AreTallies core.now.past tallies.now }
+    requires made { AreMade core.now.past (reverse core.now.past) made.now }
     requires parts { rest.old.parts + actor ≡ most_actors }
     requires inside { actor < most_actors }
     requires amount { rest.old.amount ≡ made_from actor core.now.past }
@@ -62,8 +62,8 @@ fn deal<L: Ledger>(
     ensures amount { rest.new.amount ≡ made_from (actor + 1) core.now.past }
 {
     // The history is legal and of no more actors than there may be: that is a clause of this call.
-    let _events = core.history();
-    let Tally { count, last } = tally_at(tallies, actor);
+    let history = core.history();
+    let Tally { count, last } = tally_at(history, made, usize::from(actor));
     let part = rest.split_off(1, count);
     Pass {
         actor,

@@ -9,27 +9,27 @@ pub returns-in-Err-clause-refused : goal.returns-in-Err-clause-refused
 returns-in-Err-clause-refused c =
     let lacks = Lacks-from_all is_ascii_digit c.args.separator _ c.requires c.loop-place.invariant.here.all in
     let first = ends_there c.args.separator c.loop-place.place c.args.text.now lacks c.loop-place-test.true
-    c.if-byte-separator.true in
+    c.if-byte-separator.false in
     ap (decimal_field c.args.max) first.0 ∙ sym c.in-Err.ensures.field
 
 pub returns-in-Ok-clause-read : goal.returns-in-Ok-clause-read
 returns-in-Ok-clause-read c =
     let lacks = Lacks-from_all is_ascii_digit c.args.separator _ c.requires c.loop-place.invariant.here.all in
     let first = ends_there c.args.separator c.loop-place.place c.args.text.now lacks c.loop-place-test.true
-    c.if-byte-separator.true in
+    c.if-byte-separator.false in
     ap (decimal_field c.args.max) first.0 ∙ sym c.in-Ok.ensures.field
 
 pub returns-in-Ok-clause-others : goal.returns-in-Ok-clause-others
 returns-in-Ok-clause-others c =
     let lacks = Lacks-from_all is_ascii_digit c.args.separator _ c.requires c.loop-place.invariant.here.all in
     (ends_there c.args.separator c.loop-place.place c.args.text.now lacks c.loop-place-test.true
-    c.if-byte-separator.true).1
+    c.if-byte-separator.false).1
 
-pub returns-then-not-is_ascii_digit-clause-refused : goal.returns-then-not-is_ascii_digit-clause-refused
-returns-then-not-is_ascii_digit-clause-refused c =
+pub returns-then-byte-separator-clause-refused : goal.returns-then-byte-separator-clause-refused
+returns-then-byte-separator-clause-refused c =
     let lacks = Lacks-from_all is_ascii_digit c.args.separator _ c.requires c.loop-place.invariant.here.all in
     no_number c.args.separator c.loop-place.place c.args.text.now lacks c.loop-place-test.true c.args.max
-    (not_same _ _ c.if-byte-separator.false) (sym c.is_ascii_digit.ensures.value ∙ c.if-not-is_ascii_digit.true)
+    (not_same _ _ c.if-byte-separator.true) (sym c.is_ascii_digit.ensures.value ∙ c.if-not-is_ascii_digit.true)
 
 pub loop-place-preserved : goal.loop-place-preserved
 loop-place-preserved c = record {

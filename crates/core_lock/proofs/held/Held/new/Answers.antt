@@ -61,17 +61,17 @@ returns-clause-lasts g c =
     (four_more from_8.a.1.ends from_8.b.1.ends from_8.c.1.ends from_8.d.1.ends
     (four_more from_12.a.1.ends from_12.b.1.ends from_12.c.1.ends from_12.d.1.ends refl)))
 
-pub deal_four-a-requires-clause-tallies : goal.deal_four-a-requires-clause-tallies
-deal_four-a-requires-clause-tallies g c = c.tallies_in-tallies.ensures
+pub deal_four-a-requires-clause-made : goal.deal_four-a-requires-clause-made
+deal_four-a-requires-clause-made g c = c.made_of-made.ensures
 
-pub deal_four-e-requires-clause-tallies : goal.deal_four-e-requires-clause-tallies
-deal_four-e-requires-clause-tallies g c = c.tallies_in-tallies.ensures
+pub deal_four-e-requires-clause-made : goal.deal_four-e-requires-clause-made
+deal_four-e-requires-clause-made g c = c.made_of-made.ensures
 
-pub deal_four-i-requires-clause-tallies : goal.deal_four-i-requires-clause-tallies
-deal_four-i-requires-clause-tallies g c = c.tallies_in-tallies.ensures
+pub deal_four-i-requires-clause-made : goal.deal_four-i-requires-clause-made
+deal_four-i-requires-clause-made g c = c.made_of-made.ensures
 
-pub deal_four-m-requires-clause-tallies : goal.deal_four-m-requires-clause-tallies
-deal_four-m-requires-clause-tallies g c = c.tallies_in-tallies.ensures
+pub deal_four-m-requires-clause-made : goal.deal_four-m-requires-clause-made
+deal_four-m-requires-clause-made g c = c.made_of-made.ensures
 
 pub open-book-requires-clause-name : goal.open-book-requires-clause-name
 open-book-requires-clause-name g c = c.requires.name

@@ -1,8 +1,8 @@
 use Rattle.std.proofs.Common.{arith}
 use Rattle.core_lock.proofs.held.dealing.deal_four.Goals as goal
 
-pub deal-a-requires-clause-tallies : goal.deal-a-requires-clause-tallies
-deal-a-requires-clause-tallies g c = c.requires.tallies
+pub deal-a-requires-clause-made : goal.deal-a-requires-clause-made
+deal-a-requires-clause-made g c = c.requires.made
 
 pub deal-a-requires-clause-inside : goal.deal-a-requires-clause-inside
 deal-a-requires-clause-inside g c = omega (arith, c.requires.inside)
@@ -10,8 +10,8 @@ deal-a-requires-clause-inside g c = omega (arith, c.requires.inside)
 pub returns-clause-a : goal.returns-clause-a
 returns-clause-a g c = c.deal-a.ensures.dealt
 
-pub deal-b-requires-clause-tallies : goal.deal-b-requires-clause-tallies
-deal-b-requires-clause-tallies g c = c.requires.tallies
+pub deal-b-requires-clause-made : goal.deal-b-requires-clause-made
+deal-b-requires-clause-made g c = c.requires.made
 
 pub deal-b-requires-clause-inside : goal.deal-b-requires-clause-inside
 deal-b-requires-clause-inside g c = omega (arith, c.requires.inside)
@@ -19,8 +19,8 @@ deal-b-requires-clause-inside g c = omega (arith, c.requires.inside)
 pub returns-clause-b : goal.returns-clause-b
 returns-clause-b g c = c.deal-b.ensures.dealt
 
-pub deal-c-requires-clause-tallies : goal.deal-c-requires-clause-tallies
-deal-c-requires-clause-tallies g c = c.requires.tallies
+pub deal-c-requires-clause-made : goal.deal-c-requires-clause-made
+deal-c-requires-clause-made g c = c.requires.made
 
 pub deal-c-requires-clause-inside : goal.deal-c-requires-clause-inside
 deal-c-requires-clause-inside g c = omega (arith, c.requires.inside)
@@ -28,8 +28,8 @@ deal-c-requires-clause-inside g c = omega (arith, c.requires.inside)
 pub returns-clause-c : goal.returns-clause-c
 returns-clause-c g c = c.deal-c.ensures.dealt
 
-pub deal-d-requires-clause-tallies : goal.deal-d-requires-clause-tallies
-deal-d-requires-clause-tallies g c = c.requires.tallies
+pub deal-d-requires-clause-made : goal.deal-d-requires-clause-made
+deal-d-requires-clause-made g c = c.requires.made
 
 pub deal-d-requires-clause-inside : goal.deal-d-requires-clause-inside
 deal-d-requires-clause-inside g c = omega (arith, c.requires.inside)
