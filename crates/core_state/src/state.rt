@@ -27,8 +27,10 @@ use crate::log::append;
 use crate::refused::CoreRefused;
 use crate::sizes::is_core;
 use core_parts::Parts;
-use core_steps::{FetchPoint, choose, completion_of, fetch_slot, handed_back, in_flight};
-use core_steps::{next_to_decode, next_to_issue, next_to_rename, next_to_retire, unit_of};
+use core_steps::{
+    FetchPoint, choose, completion_of, fetch_slot, handed_back, in_flight, next_to_decode,
+    next_to_issue, next_to_rename, next_to_retire, unit_of,
+};
 use decoded_code::Code;
 use elf_image::Image;
 use events::{Effect, Event, History, Outcome, Record};
