@@ -37,7 +37,8 @@ more_other : (h r x : ℕ) → x ≢ 31 * h + r - 1 → 1 ≤ r
     → (nat_le (31 * h) x && nat_lt (x + 1) (31 * h + (r + 1))) ≡ (nat_le (31 * h) x && nat_lt (x + 1) (31 * h + r))
 more_other h r x other low = grind (arith, nat_tests)
 
-pub values_more : (values old : List (Option ℕ)) (harts h r number : ℕ) → length values ≡ most_registers → 1 ≤ r → r < 32 → h < most_harts
+pub values_more : (values old : List (Option ℕ)) (harts h r number : ℕ) → length values ≡ most_registers → 1 ≤ r
+    → r < 32 → h < most_harts
     → number ≡ first_number harts h r
     → ((x : ℕ) (d : Option ℕ) → x < most_registers
     → slice_index_or values x d ≡ first_values_below r harts h x (slice_index_or old x d))
@@ -78,7 +79,8 @@ first_start harts values none x d inside =
     let low : nat_lt x (31 * 0) ≡ false = grind (arith, nat_tests) in rw low (none x d inside)
 
 pub first_more : (harts h : ℕ) (old new : List (Option ℕ))
-    → ((x : ℕ) (d : Option ℕ) → x < most_registers → slice_index_or new x d ≡ first_values harts h x (slice_index_or old x d))
+    → ((x : ℕ) (d : Option ℕ) → x < most_registers
+    → slice_index_or new x d ≡ first_values harts h x (slice_index_or old x d))
     → AreFirst harts h old → AreFirst harts (h + 1) new
 first_more harts h old new sets before x d inside =
     elim (cases_lt x (31 * h)) [
@@ -187,7 +189,8 @@ first_free setup x =
 pub begins : (harts extra : ℕ) (image : ProgramImage) (x : Parts) → length x.harts.items ≡ harts
     → AreNew image.entry x.harts.items
     → x.queue.entries ≡ []
-    → ((q : ℕ) → holds x.free q ≡ (nat_le (31 * harts) q && nat_lt q (31 * harts + extra))) → length x.values ≡ most_registers
+    → ((q : ℕ) → holds x.free q ≡ (nat_le (31 * harts) q && nat_lt q (31 * harts + extra)))
+    → length x.values ≡ most_registers
     → AreFirst harts harts x.values → length x.jobs ≡ most_actors
     → ((k : ℕ) (d : Option OpenJob) → k < most_actors → slice_index_or x.jobs k d ≡ None)
     → harts ≤ most_harts → ((h : ℕ) → queues_of x.accesses h ≡ empty) → IsStart image x.memory

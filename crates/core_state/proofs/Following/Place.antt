@@ -5,6 +5,7 @@ use Rattle.std.specs.List.{AllByRecursion, list_any}
 use Rattle.std.proofs.Common.{◌∙◌, refl, sym, ap, subst, inl, inr, arith}
 use Rattle.std.proofs.{lemmas.Bool.cases_Bool, lemmas.Bool.cases_lt, lemmas.Bool.false≢true}
 use Rattle.std.proofs.{lemmas.Bool.Decides.nat_tests, lemmas.Option.none-some, lemmas.Option.same_Some}
+use Rattle.numbers.specs.Sizes.{most_harts}
 use Rattle.events.specs.declared.event.Event.{Event}
 use Rattle.retire_squash.specs.declared.active.Active.{Active}
 use Rattle.smt_model.specs.{Basics.holds_of, Setup.Setup, Picture.Picture, Picture.picture, Rules.is_legal}
@@ -183,7 +184,7 @@ new_flight f new = grind (arith, nat_tests)
 -- ---- In the words of callers
 
 module _ (i : Inside) (core : IsCore i) where
-  pub few_harts : length i.parts.harts.items ≤ 8
+  pub few_harts : length i.parts.harts.items ≤ most_harts
   few_harts = let sizes = core.sizes in let harts = core.harts in grind (arith, nat_tests)
 
   module _ (v : CoreView) (shown : view_of i ≡ v) where

@@ -3,6 +3,7 @@ use Rattle.std.specs.Prelude.{◌≡◌, ℕ, ◌||◌, Bool, true, false, not, 
 use Rattle.std.specs.Prelude.{count_by, Option, Some, is_some}
 use Rattle.std.proofs.Common.{◌∙◌, refl, sym, ap}
 use Rattle.std.proofs.{lemmas.List.length-map}
+use Rattle.numbers.specs.Sizes.{most_accesses}
 use Rattle.events.specs.{declared.event.Event.Event, declared.event.Event.TheVariants.Rename}
 use Rattle.smt_model.specs.{Picture.picture, Setup.Setup, Jobs.is_actor, Basics.same_truth, Basics.how_many}
 use Rattle.smt_model.specs.Kinds.{Kind, kind_of, is_loading, is_storing, writes_register}
@@ -56,18 +57,18 @@ module _ (setup : Setup) (past : List Event) (actor s : ℕ) (taken : Option ℕ
   -- The room for one more of a kind.
   room_is : (test : Kind → Bool) (h : ℕ) (x : HartState) (slot : Slot) (b : Bool)
       → HartAgrees (picture setup past) h x → is_of past h s ≡ true → op_at past s ≡ slot.op
-      → b ≡ (not (test (kind_of slot.op)) || nat_lt (count_by (λ a. test (kind_of a.op)) x.active) 16)
+      → b ≡ (not (test (kind_of slot.op)) || nat_lt (count_by (λ a. test (kind_of a.op)) x.active) most_accesses)
       → has_room test past s ≡ b
   room_is test h x slot b agrees of_h op b_is =
       let many = counted (picture setup past) h (λ o. test (kind_of o)) x.active agrees.actives in
       let here : of_fetched past s
-      (λ f. nat_lt (how_many (λ t. test (kind_of (op_at past t))) (flight past f.hart)) 16)
-      ≡ nat_lt (count_by (λ a. test (kind_of a.op)) x.active) 16 =
-      at_hart past (λ g. nat_lt (how_many (λ t. test (kind_of (op_at past t))) (flight past g)) 16) h s of_h
-      ∙ (ap (λ ns. nat_lt (how_many (λ t. test (kind_of (op_at past t))) ns) 16) (sym agrees.active)
-      ∙ ap (λ n. nat_lt n 16) many) in
+      (λ f. nat_lt (how_many (λ t. test (kind_of (op_at past t))) (flight past f.hart)) most_accesses)
+      ≡ nat_lt (count_by (λ a. test (kind_of a.op)) x.active) most_accesses =
+      at_hart past (λ g. nat_lt (how_many (λ t. test (kind_of (op_at past t))) (flight past g)) most_accesses) h s of_h
+      ∙ (ap (λ ns. nat_lt (how_many (λ t. test (kind_of (op_at past t))) ns) most_accesses) (sym agrees.active)
+      ∙ ap (λ n. nat_lt n most_accesses) many) in
       ap (λ o. not (test (kind_of o)) || of_fetched past s
-      (λ f. nat_lt (how_many (λ t. test (kind_of (op_at past t))) (flight past f.hart)) 16)) op
+      (λ f. nat_lt (how_many (λ t. test (kind_of (op_at past t))) (flight past f.hart)) most_accesses)) op
       ∙ (ap (λ r. not (test (kind_of slot.op)) || r) here ∙ sym b_is)
 
   -- The tests of the parts.
@@ -76,9 +77,11 @@ module _ (setup : Setup) (past : List Event) (actor s : ℕ) (taken : Option ℕ
     pub queue_room : b ≡ nat_lt (length parts.queue.entries) parts.queue.size
     pub flight_room : c ≡ nat_lt (length x.active) 64
     pub load_room : d
-        ≡ (not (is_loading (kind_of slot.op)) || nat_lt (count_by (λ z. is_loading (kind_of z.op)) x.active) 16)
+        ≡ (not (is_loading (kind_of slot.op)) || nat_lt (count_by (λ z. is_loading (kind_of z.op)) x.active)
+        most_accesses)
     pub store_room : e
-        ≡ (not (is_storing (kind_of slot.op)) || nat_lt (count_by (λ z. is_storing (kind_of z.op)) x.active) 16)
+        ≡ (not (is_storing (kind_of slot.op)) || nat_lt (count_by (λ z. is_storing (kind_of z.op)) x.active)
+        most_accesses)
     pub named : f ≡ same_truth (is_some taken) (writes_register slot.op)
     pub free : g ≡ is_free_or_none setup past taken
 

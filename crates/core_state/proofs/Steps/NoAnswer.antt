@@ -1,6 +1,7 @@
 -- That no event answers an ask, from what an allowed one would say; and how large a core is.
 use Rattle.std.specs.Prelude.{◌≡◌, ℕ, ◌≤◌, true, List, length, Option, Some, None, is_some}
 use Rattle.std.proofs.{Common.refl, Common.arith, lemmas.Bool.Decides.nat_tests}
+use Rattle.numbers.specs.Sizes.{most_actors, most_registers}
 use Rattle.events.specs.declared.event.Event.{Event}
 use Rattle.smt_model.specs.{Asks.Ask, Asks.answers, Rules.refused, Setup.Setup, Setup.registers_of}
 use Rattle.core_state.specs.{Answers.AllowsNone, State.IsCore, State.setup_in, declared.state.State.TheInside.Inside}
@@ -16,8 +17,8 @@ allows_none setup ask past wrong = λ e asked. some_from (refused setup past e) 
 
 -- What the sizes of a core allow.
 pub record HasSizes (i : Inside) : Type 0 where
-  pub registers : registers_of (setup_in i) ≤ 512
-  pub actors : length i.config.roles.items ≤ 16
+  pub registers : registers_of (setup_in i) ≤ most_registers
+  pub actors : length i.config.roles.items ≤ most_actors
 
 pub core_sizes : (i : Inside) → IsCore i → HasSizes i
 core_sizes i core =

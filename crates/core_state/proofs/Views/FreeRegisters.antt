@@ -3,6 +3,7 @@ use Rattle.std.specs.Prelude.{◌≡◌, ℕ, zero, suc, ◌+◌, ◌<◌, ◌�
 use Rattle.std.specs.Prelude.{◌++◌, filter}
 use Rattle.std.proofs.Common.{◌∙◌, refl, ap, subst, inl, inr, arith}
 use Rattle.std.proofs.{lemmas.Bool.cases_Bool, lemmas.Bool.cases_eq, lemmas.Bool.Decides.nat_tests}
+use Rattle.numbers.specs.Sizes.{most_registers}
 use Rattle.events.specs.declared.event.Event.{Event}
 use Rattle.smt_model.specs.{Basics.below, Basics.how_many, Picture.is_free, Registers.claims, Registers.is_unclaimed}
 use Rattle.smt_model.specs.{Rules.is_legal, Setup.Setup, Setup.registers_of}
@@ -73,24 +74,26 @@ once_or_free : (n : ℕ) → n ≤ 1 → n + one_if (n == 0) ≡ 1
 once_or_free zero few = refl
 once_or_free (suc n) few = grind (arith, nat_tests)
 
-often_listed : (t : ℕ → Bool) (p : ℕ) → how_many (λ x. x == p) (listed t) ≡ one_if (nat_lt p 512 && t p)
+often_listed : (t : ℕ → Bool) (p : ℕ) → how_many (λ x. x == p) (listed t) ≡ one_if (nat_lt p most_registers && t p)
 unfolding listed
-often_listed t p = often_below t p 512
+often_listed t p = often_below t p most_registers
 
-pub exactly_once : (setup : Setup) (past : List Event) → is_legal setup past → registers_of setup ≤ 512 → (p : ℕ)
+pub exactly_once : (setup : Setup) (past : List Event) → is_legal setup past → registers_of setup ≤ most_registers
+    → (p : ℕ)
     → p < registers_of setup
     → claims setup past p + how_many (λ x. x == p) (listed (is_free setup past)) ≡ 1
 unfolding is_unclaimed
 exactly_once setup past legal fit p inside =
-    let often : how_many (λ x. x == p) (listed (is_free setup past)) ≡ one_if (nat_lt p 512 && is_free setup past p) =
+    let often : how_many (λ x. x == p) (listed (is_free setup past)) ≡ one_if (nat_lt p most_registers && is_free
+    setup past p) =
     often_listed (is_free setup past) p in
     let under : nat_lt p (registers_of setup) ≡ true = grind (arith, nat_tests) in
-    let near : nat_lt p 512 ≡ true = grind (arith, nat_tests) in
+    let near : nat_lt p most_registers ≡ true = grind (arith, nat_tests) in
     rw (often, near, under) (once_or_free (claims setup past p) (claims-once setup past legal p))
 
 -- ---- The state's
 
-registers_fit : (i : Inside) → IsCore i → registers_of (setup_in i) ≤ 512
+registers_fit : (i : Inside) → IsCore i → registers_of (setup_in i) ≤ most_registers
 registers_fit i core = let sizes = core.sizes in grind (arith, nat_tests)
 
 pub free_of : (i : Inside) (view : CoreView) → IsCore i → view_of i ≡ view

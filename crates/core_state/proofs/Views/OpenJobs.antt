@@ -4,6 +4,7 @@ use Rattle.std.specs.Prelude.{count_by, length, Option, Some, None, is_some, sli
 use Rattle.std.proofs.Common.{◌∙◌, refl, sym, ap, inl, inr, arith}
 use Rattle.std.proofs.{lemmas.Bool.cases_Bool, lemmas.Bool.cases_lt, lemmas.Bool.Decides.nat_tests}
 use Rattle.std.proofs.{lemmas.List.take_all, lemmas.List.take_more, lemmas.List.Sums.length-filter}
+use Rattle.numbers.specs.Sizes.{most_actors}
 use Rattle.events.specs.declared.event.Event.{Event}
 use Rattle.events.specs.declared.event.Event.TheVariants.{Fetch, Decode, Rename, Issue, Complete, Drop, Retire}
 use Rattle.smt_model.specs.{Account.open_job_count, Basics.below, Basics.how_many, Picture.Picture, Picture.picture}
@@ -97,11 +98,11 @@ lent_now i core =
     let count = core.agrees.actors in
     let sizes = core_sizes i core in
     let actors = sizes.actors in
-    let all : how_many test (below 16) ≡ how_many is_some (take 16 jobs) =
-    counted_upto test jobs 16 (omega arith)
+    let all : how_many test (below most_actors) ≡ how_many is_some (take most_actors jobs) =
+    counted_upto test jobs most_actors (omega arith)
     (λ k under. lent_same p k (slice_index_or jobs k None) (core.agrees.jobs k None under)) in
-    let whole : take 16 jobs ≡ jobs = take_all 16 jobs (omega arith) in
-    let fewer : how_many test (below 16) ≡ how_many test (below (length i.config.roles.items)) =
-    none_above test (length i.config.roles.items) 16 actors
+    let whole : take most_actors jobs ≡ jobs = take_all most_actors jobs (omega arith) in
+    let fewer : how_many test (below most_actors) ≡ how_many test (below (length i.config.roles.items)) =
+    none_above test (length i.config.roles.items) most_actors actors
     (λ k above. ap is_some (job-none (setup_in i) (past_of i) core.legal k above)) in
     sym (length-filter is_some jobs) ∙ (ap (how_many is_some) (sym whole) ∙ (sym all ∙ fewer))

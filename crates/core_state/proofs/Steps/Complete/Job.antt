@@ -6,6 +6,7 @@ use Rattle.std.proofs.Common.{◌∙◌, refl, sym, ap, subst, inl, inr, arith}
 use Rattle.std.proofs.{lemmas.Bool.cases_Bool, lemmas.Bool.cases_lt, lemmas.Bool.false≢true}
 use Rattle.std.proofs.{lemmas.Bool.Decides.nat_tests, lemmas.List.get_or_past, lemmas.Option.none-some}
 use Rattle.std.proofs.{lemmas.Option.same_Some}
+use Rattle.numbers.specs.Sizes.{most_actors}
 use Rattle.rv_instr.specs.Decode.{op_of_word}
 use Rattle.events.specs.declared.event.Event.{Event}
 use Rattle.exec_units.specs.Job.{JobView}
@@ -34,7 +35,8 @@ job_inside jobs k x at = elim (cases_lt k (length jobs)) [
   | inr beyond ↦ absurd (none-some x (sym (get_or_past jobs k None beyond) ∙ at))
 ]
 
-pub open_job : (p : Picture) (jobs : List (Option OpenJob)) (k : ℕ) (x : OpenJob) → length jobs ≡ 16 → JobsAgree p jobs
+pub open_job : (p : Picture) (jobs : List (Option OpenJob)) (k : ℕ) (x : OpenJob) → length jobs ≡ most_actors
+    → JobsAgree p jobs
     → slice_index_or jobs k None ≡ Some x → IsOpenJob p k x
 open_job p jobs k x count agrees at =
     subst (HasOpenJob p k) at (agrees k None (let under = job_inside jobs k x at in omega arith))
@@ -73,13 +75,14 @@ module _ (setup : Setup) (past : List Event) where
   stranger_at k (Some y) view lent other = λ is. other y refl (same_job k y view lent is)
 
   -- A job that no place has isn't the actor's.
-  pub stranger : is_legal setup past → length setup.roles ≤ 16 → (jobs : List (Option OpenJob)) (k : ℕ) (view : JobView)
+  pub stranger : is_legal setup past → length setup.roles ≤ most_actors
+      → (jobs : List (Option OpenJob)) (k : ℕ) (view : JobView)
       → JobsAgree (picture setup past) jobs
       → ((y : OpenJob) → slice_index_or jobs k None ≡ Some y → IsSameJob y view → ⊥)
       → IsStrange setup past k view
   stranger legal actors jobs k view agrees other = λ is.
       let actor = (sound setup past legal).actors k view.seq is.lent in
-      let under : k < 16 = grind (arith, nat_tests) in
+      let under : k < most_actors = grind (arith, nat_tests) in
       stranger_at k (slice_index_or jobs k None) view (agrees k None under) other is
 
   -- ---- Its instruction

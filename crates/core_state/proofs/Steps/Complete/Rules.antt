@@ -3,6 +3,7 @@ use Rattle.std.specs.Prelude.{◌≡◌, ℕ, ◌≤◌, ◌==◌, true, not, Li
 use Rattle.std.proofs.Common.{◌∙◌, refl, sym, ap, subst, inl, inr, arith}
 use Rattle.std.proofs.{lemmas.Bool.cases_Bool, lemmas.Bool.Decides.nat_tests, lemmas.Option.none-some}
 use Rattle.std.proofs.{lemmas.Option.same_Some}
+use Rattle.numbers.specs.Sizes.{most_registers}
 use Rattle.events.specs.{declared.effect.Next.Next, declared.effect.Next.TheVariants.Pc}
 use Rattle.events.specs.{declared.effect.Next.TheVariants.Ended, declared.effect.Next.TheVariants.Stopped}
 use Rattle.events.specs.{declared.effect.Outcome.Outcome, declared.event.Event.Event}
@@ -86,7 +87,7 @@ mispredicts_is : (setup : Setup) (past : List Event) (h : ℕ) (a : Active) (nex
 unfolding mispredicts
 mispredicts_is setup past h a next active = ap (holds_of (λ f. is_some (redirect_pc next f.predicted))) active.fetched
 
-pub finishes : (setup : Setup) (past : List Event) → is_legal setup past → registers_of setup ≤ 512
+pub finishes : (setup : Setup) (past : List Event) → is_legal setup past → registers_of setup ≤ most_registers
     → (h k : ℕ) (a : Active) (o : Outcome)
     → IsActive (picture setup past) h a → refused setup past (Complete k a.seq o) ≡ None
     → IsFinish (picture setup past) (picture setup (Complete k a.seq o ∷ past)) h k a o

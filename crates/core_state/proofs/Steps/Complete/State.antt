@@ -4,6 +4,7 @@ use Rattle.std.specs.Prelude.{None, slice_index_or}
 use Rattle.std.specs.List.{list_any}
 use Rattle.std.proofs.Common.{◌∙◌, sym, ap, subst, arith}
 use Rattle.std.proofs.lemmas.Bool.Decides.{nat_tests}
+use Rattle.numbers.specs.Sizes.{most_actors, most_events, most_harts, most_registers}
 use Rattle.events.specs.{History.EventList, declared.effect.Outcome.Outcome, declared.event.Event.TheVariants.Complete}
 use Rattle.events.specs.{declared.event.Event.TheVariants.Drop}
 use Rattle.exec_units.specs.Job.{JobView, outcome_of_job}
@@ -29,23 +30,23 @@ use Rattle.core_state.proofs.Steps.Complete.Job.{open_job, is_job, stranger, job
 -- ---- The sizes
 
 few_actors : (harts extra queue actors limit : ℕ)
-    → (are_core_sizes harts extra queue actors && nat_le limit 16777216) ≡ true → actors ≤ 16
+    → (are_core_sizes harts extra queue actors && nat_le limit most_events) ≡ true → actors ≤ most_actors
 few_actors harts extra queue actors limit ok = grind (arith, nat_tests)
 
 pub few_registers : (harts extra queue actors limit : ℕ)
-    → (are_core_sizes harts extra queue actors && nat_le limit 16777216) ≡ true
-    → 31 * harts + extra ≤ 512
+    → (are_core_sizes harts extra queue actors && nat_le limit most_events) ≡ true
+    → 31 * harts + extra ≤ most_registers
 few_registers harts extra queue actors limit ok =
-    let h : harts ≤ 8 = grind (arith, nat_tests) in
+    let h : harts ≤ most_harts = grind (arith, nat_tests) in
     let e : extra ≤ 256 = grind (arith, nat_tests) in
     omega arith
 
 module _ (i : Inside) (core : IsCore i) where
-  actors : length (setup_in i).roles ≤ 16
+  actors : length (setup_in i).roles ≤ most_actors
   actors =
       few_actors i.config.harts i.config.extra i.config.queue (length i.config.roles.items) i.history.limit core.sizes
 
-  pub registers : registers_of (setup_in i) ≤ 512
+  pub registers : registers_of (setup_in i) ≤ most_registers
   registers = few_registers i.config.harts i.config.extra i.config.queue
       (length i.config.roles.items) i.history.limit core.sizes
 
@@ -60,7 +61,7 @@ module _ (i : Inside) (core : IsCore i) where
       let under = job_hart_there (setup_in i) (past_of i) core.legal k x (core_job k x at) in
       subst (λ n. x.hart < n) (sym core.harts) under
 
-  pub core_job_place : (k : ℕ) (x : OpenJob) → slice_index_or i.parts.jobs k None ≡ Some x → x.hart < 8
+  pub core_job_place : (k : ℕ) (x : OpenJob) → slice_index_or i.parts.jobs k None ≡ Some x → x.hart < most_harts
   core_job_place k x at =
       has_place i.parts.harts.items i.parts.accesses x.hart core.agrees.accesses (core_job_hart k x at)
 

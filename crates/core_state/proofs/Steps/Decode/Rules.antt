@@ -2,6 +2,7 @@
 use Rattle.std.specs.Prelude.{◌≡◌, ℕ, ◌<◌, true, nat_lt, List, ◌∷◌, length, Some, None}
 use Rattle.std.proofs.Common.{◌∙◌, subst, sym, ap, arith}
 use Rattle.std.proofs.lemmas.Bool.Decides.{nat_tests}
+use Rattle.numbers.specs.Sizes.{latch_room}
 use Rattle.events.specs.declared.event.Event.{Event}
 use Rattle.events.specs.declared.event.Event.TheVariants.{Fetch, Decode, Rename, Issue, Complete, Drop, Retire}
 use Rattle.smt_model.specs.{Asks.AskDecode, Basics.first, Basics.same_number, Flights.numbers, Flights.in_decode}
@@ -42,7 +43,10 @@ decode_can setup past legal actor h s is_one can =
       fated = oldest.fated;
       oldest = at_hart past (λ g. is_first s (in_decode past g)) h s oldest.of_hart
           ∙ (ap (λ o. same_number o (Some s)) can.oldest ∙ same_self (Some s));
-      room = at_hart past (λ g. nat_lt (length (in_rename past g)) 8) h s oldest.of_hart ∙ grind (arith, nat_tests);
+      room = at_hart past (λ g. nat_lt (length (in_rename past g)) latch_room) h s oldest.of_hart ∙ grind (
+        arith,
+        nat_tests,
+      );
     })
 
 pub can_decode : (setup : Setup) (past : List Event) (actor h s : ℕ) → is_of past h s ≡ true
@@ -50,8 +54,8 @@ pub can_decode : (setup : Setup) (past : List Event) (actor h s : ℕ) → is_of
     → CanDecode (picture setup past) h s
 can_decode setup past actor h s of_hart ok =
     let allowed = decode_allowed setup past actor s ok in
-    let room : nat_lt (length (in_rename past h)) 8 ≡ true =
-    sym (at_hart past (λ g. nat_lt (length (in_rename past g)) 8) h s of_hart) ∙ allowed.room in
+    let room : nat_lt (length (in_rename past h)) latch_room ≡ true =
+    sym (at_hart past (λ g. nat_lt (length (in_rename past g)) latch_room) h s of_hart) ∙ allowed.room in
     record {
       oldest = same_number-is (first (in_decode past h)) (Some s)
           (sym (at_hart past (λ g. is_first s (in_decode past g)) h s of_hart) ∙ allowed.oldest);

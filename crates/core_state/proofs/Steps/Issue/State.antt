@@ -4,6 +4,7 @@ use Rattle.std.specs.Prelude.{◌≡◌, ℕ, ◌<◌, ◌≤◌, ◌==◌, true
 use Rattle.std.specs.Prelude.{slice_index_or, option_and_then, IfSome, IfNone}
 use Rattle.std.proofs.Common.{◌∙◌, refl, sym, ap, subst, arith}
 use Rattle.std.proofs.{lemmas.Bool.Decides.nat_tests, lemmas.Option.slice_get_past, lemmas.Option.slice_get_read}
+use Rattle.numbers.specs.Sizes.{most_actors}
 use Rattle.rv_instr.specs.declared.op.UnitKind.{UnitKind}
 use Rattle.events.specs.{History.EventList, declared.event.Event.Event}
 use Rattle.events.specs.declared.event.Event.TheVariants.{Fetch, Decode, Rename, Issue, Complete, Drop, Retire}
@@ -79,7 +80,7 @@ module _ (i : Inside) (core : IsCore i) (v : CoreView) (at : view_of i ≡ v) (a
   entry_now : IsEntry (picture (setup_in i) (past_of i)) e
   entry_now = subst (λ u. IsEntry (picture u.setup u.past) e) (sym at) entry
 
-  pub issue_actor : actor < 16
+  pub issue_actor : actor < most_actors
   issue_actor =
       let is_one = (issue_allowed (setup_in i) (past_of i) actor e.seq allowed).actor_is in
       let few = (core_sizes i core).actors in

@@ -4,6 +4,7 @@ use Rattle.std.specs.Prelude.{Option, Some, None, is_some}
 use Rattle.std.specs.List.{AllByRecursion}
 use Rattle.std.proofs.Common.{◌∙◌, refl, sym, ap, subst, inl, inr, arith}
 use Rattle.std.proofs.{lemmas.Bool.cases_lt, lemmas.Bool.Decides.nat_tests}
+use Rattle.numbers.specs.Sizes.{most_accesses, most_registers}
 use Rattle.events.specs.{declared.event.Event.Event, declared.event.Event.TheVariants.Rename}
 use Rattle.smt_model.specs.Basics.{first, same_number, same_truth, or_zero, holds_of, how_many}
 use Rattle.smt_model.specs.{Setup.Setup, Setup.registers_of, Jobs.is_actor, Picture.picture, Picture.is_free}
@@ -81,17 +82,17 @@ rename_may setup past legal actor h n register is_one can =
           (below_test (length (flight past h)) 64 can.flight_room);
       load_room = needed (is_loading (kind_of (op_at past n)))
           (of_fetched past n
-          (λ f. nat_lt (how_many (λ s. is_loading (kind_of (op_at past s))) (flight past f.hart)) 16))
+          (λ f. nat_lt (how_many (λ s. is_loading (kind_of (op_at past s))) (flight past f.hart)) most_accesses))
           (λ loading. room_test past
-          (λ g. nat_lt (how_many (λ s. is_loading (kind_of (op_at past s))) (flight past g)) 16) h n of_n
-          (below_test (how_many (λ s. is_loading (kind_of (op_at past s))) (flight past h)) 16
+          (λ g. nat_lt (how_many (λ s. is_loading (kind_of (op_at past s))) (flight past g)) most_accesses) h n of_n
+          (below_test (how_many (λ s. is_loading (kind_of (op_at past s))) (flight past h)) most_accesses
           (can.load_room loading)));
       store_room = needed (is_storing (kind_of (op_at past n)))
           (of_fetched past n
-          (λ f. nat_lt (how_many (λ s. is_storing (kind_of (op_at past s))) (flight past f.hart)) 16))
+          (λ f. nat_lt (how_many (λ s. is_storing (kind_of (op_at past s))) (flight past f.hart)) most_accesses))
           (λ storing. room_test past
-          (λ g. nat_lt (how_many (λ s. is_storing (kind_of (op_at past s))) (flight past g)) 16) h n of_n
-          (below_test (how_many (λ s. is_storing (kind_of (op_at past s))) (flight past h)) 16
+          (λ g. nat_lt (how_many (λ s. is_storing (kind_of (op_at past s))) (flight past g)) most_accesses) h n of_n
+          (below_test (how_many (λ s. is_storing (kind_of (op_at past s))) (flight past h)) most_accesses
           (can.store_room storing)));
       named = same_truth-self (is_some register) (writes_register (op_at past n)) can.fits;
       unclaimed = unclaimed_test setup past register can.free;
@@ -121,20 +122,22 @@ rename_can setup past actor h n register ok of_n =
       flight_room = test_below (length (flight past h)) 64
           (sym (at_hart past (λ g. nat_lt (length (flight past g)) 64) h n of_n) ∙ rule.flight_room);
       load_room = λ loading.
-          test_below (how_many (λ s. is_loading (kind_of (op_at past s))) (flight past h)) 16
-          (sym (at_hart past (λ g. nat_lt (how_many (λ s. is_loading (kind_of (op_at past s))) (flight past g)) 16) h n
+          test_below (how_many (λ s. is_loading (kind_of (op_at past s))) (flight past h)) most_accesses
+          (sym (at_hart past (λ g. nat_lt (how_many (λ s. is_loading (kind_of (op_at past s))) (flight past g))
+          most_accesses) h n
           of_n)
           ∙ needs (is_loading (kind_of (op_at past n)))
           (of_fetched past n
-          (λ f. nat_lt (how_many (λ s. is_loading (kind_of (op_at past s))) (flight past f.hart)) 16))
+          (λ f. nat_lt (how_many (λ s. is_loading (kind_of (op_at past s))) (flight past f.hart)) most_accesses))
           rule.load_room loading);
       store_room = λ storing.
-          test_below (how_many (λ s. is_storing (kind_of (op_at past s))) (flight past h)) 16
-          (sym (at_hart past (λ g. nat_lt (how_many (λ s. is_storing (kind_of (op_at past s))) (flight past g)) 16) h n
+          test_below (how_many (λ s. is_storing (kind_of (op_at past s))) (flight past h)) most_accesses
+          (sym (at_hart past (λ g. nat_lt (how_many (λ s. is_storing (kind_of (op_at past s))) (flight past g))
+          most_accesses) h n
           of_n)
           ∙ needs (is_storing (kind_of (op_at past n)))
           (of_fetched past n
-          (λ f. nat_lt (how_many (λ s. is_storing (kind_of (op_at past s))) (flight past f.hart)) 16))
+          (λ f. nat_lt (how_many (λ s. is_storing (kind_of (op_at past s))) (flight past f.hart)) most_accesses))
           rule.store_room storing);
       fits = same_truth-is (is_some register) (writes_register (op_at past n)) rule.named;
       free = was_free setup past actor n register ok;
@@ -174,7 +177,7 @@ mapped-range setup past legal h r there above under (Some w) =
 
 taken_range : (setup : Setup) (past : List Event) (actor n : ℕ) (register : Option ℕ)
     → refused setup past (Rename actor n register) ≡ None
-    → registers_of setup ≤ 512 → (x : ℕ) → register ≡ Some x → x < 512
+    → registers_of setup ≤ most_registers → (x : ℕ) → register ≡ Some x → x < most_registers
 taken_range setup past actor n None ok fit x same = absurd (grind arith)
 taken_range setup past actor n (Some p) ok fit x same =
     let at : p ≡ x = grind arith in
@@ -185,7 +188,7 @@ claimed_one : (setup : Setup) (past : List Event) (x : ℕ) → is_unclaimed set
     → is_free setup past x ≡ false
 claimed_one setup past x claimed = grind (arith, nat_tests)
 
-pub renaming : (setup : Setup) (past : List Event) → is_legal setup past → registers_of setup ≤ 512
+pub renaming : (setup : Setup) (past : List Event) → is_legal setup past → registers_of setup ≤ most_registers
     → (actor h n : ℕ) (register : Option ℕ)
     → refused setup past (Rename actor n register) ≡ None → is_of past h n ≡ true
     → IsRenaming (picture setup past) (picture setup (Rename actor n register ∷ past)) setup.queue h register

@@ -4,6 +4,7 @@ use Rattle.std.specs.Prelude.{◌≡◌, ℕ, ◌≤◌, Bool, true, false, List
 use Rattle.std.specs.Prelude.{◌*◌, ◌^◌}
 use Rattle.std.proofs.Common.{◌∙◌, refl, sym, ap, arith}
 use Rattle.std.proofs.{lemmas.Bool.Decides.nat_tests}
+use Rattle.numbers.specs.Sizes.{most_registers}
 use Rattle.rv_instr.specs.declared.op.Op.{Op}
 use Rattle.events.specs.{declared.effect.Next.Next, declared.effect.Next.TheVariants.Pc}
 use Rattle.events.specs.{declared.effect.Next.TheVariants.Ended, declared.effect.Next.TheVariants.Stopped}
@@ -106,7 +107,7 @@ pub record RetiresBy (setup : Setup) (past : List Event) (actor h n : ℕ) (x : 
   pub ends : is_last x.next ≡ true
       → IsEnd (picture setup past) (picture setup (Retire actor n x ∷ past)) h n x
 
-pub retires_by_tests : (setup : Setup) (past : List Event) → is_legal setup past → registers_of setup ≤ 512
+pub retires_by_tests : (setup : Setup) (past : List Event) → is_legal setup past → registers_of setup ≤ most_registers
     → (actor h n : ℕ) (x : Effect) → refused setup past (Retire actor n x) ≡ None → is_of past h n ≡ true
     → RetiresBy setup past actor h n x
 retires_by_tests setup past legal fit actor h n x ok of_h = record {

@@ -6,6 +6,7 @@ use Rattle.std.specs.Prelude.{is_some}
 use Rattle.std.specs.List.{AllByRecursion}
 use Rattle.std.proofs.Common.{◌∙◌, refl, sym, ap, subst, arith}
 use Rattle.std.proofs.lemmas.Bool.Decides.{nat_tests}
+use Rattle.numbers.specs.Sizes.{most_registers}
 use Rattle.events.specs.{declared.effect.Effect.Effect, declared.effect.Outcome.Outcome}
 use Rattle.events.specs.{declared.event.Event.Event}
 use Rattle.events.specs.declared.effect.Next.TheVariants as nexts
@@ -101,7 +102,7 @@ replays_by setup past actor h n effect pc by at other =
 
 -- Which of the three it is.
 pub retires_by : (setup : Setup) (past : List Event) → is_legal setup past
-    → registers_of setup ≤ 512 → (actor h : ℕ)
+    → registers_of setup ≤ most_registers → (actor h : ℕ)
     → is_actor setup actor ≡ true → (x : Active) (o : Outcome) (effect : Effect) → CanRetire (picture setup past) h x o
     → effect ≡ effect_now setup past x.seq (fetched_of h x)
     → Retires (picture setup past) (picture setup (Retire actor x.seq effect ∷ past)) h x effect

@@ -166,7 +166,8 @@ found_ready kind xs None is = tt
 found_ready kind xs (Some e) is =
     (and_parts (same_unit kind (op_unit e.op)) (has_values e) (found_passes (can_issue kind) e xs (sym is))).1
 
-pub found_can : (x : Parts) (k : ℕ) (kind : UnitKind) (r : Option Entry) → k < most_actors → slice_index_or x.jobs k None ≡ None
+pub found_can : (x : Parts) (k : ℕ) (kind : UnitKind) (r : Option Entry) → k < most_actors
+    → slice_index_or x.jobs k None ≡ None
     → IfSome r (IsOldestReady kind x.queue.entries)
     → r ≡ first_ready kind x.queue.entries
     → IfSome r (λ e. (p : Picture) → PartsAgree p x → IsEntry p e × CanIssue p k kind e.seq)

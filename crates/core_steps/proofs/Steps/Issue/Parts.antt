@@ -187,7 +187,8 @@ renamed_completed same = omega (arith, ap stage_number same)
 
 pub parts_issued : (p q : Picture) (x : Parts) (k : ℕ) (e : Entry) (state new : HartState) (queue : Queue)
     → IsIssuing p q k e → has_values e ≡ true
-    → k < most_actors → PartsAgree p x → e.hart < length x.harts.items → state ≡ slice_index_or x.harts.items e.hart state
+    → k < most_actors → PartsAgree p x → e.hart < length x.harts.items
+    → state ≡ slice_index_or x.harts.items e.hart state
     → new.active ≡ with_stage e.seq stage.Issued state.active → new.icount + 1 ≡ state.icount
     → new ≡ record state { active = new.active; icount = new.icount }
     → queue ≡ record x.queue { entries = filter (is_other e.seq) x.queue.entries }

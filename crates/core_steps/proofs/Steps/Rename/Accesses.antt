@@ -81,5 +81,6 @@ room_at x h taken i state slots d from same at read =
     (room_in p from.after x.queue.size h taken from.step slot.op op)))
 
 -- A hart that renames has a place among the queues.
-pub place_at : (x : Parts) (h : ℕ) (taken : Option ℕ) → From x h (λ p q. IsRenaming p q x.queue.size h taken) → h < most_harts
+pub place_at : (x : Parts) (h : ℕ) (taken : Option ℕ) → From x h (λ p q. IsRenaming p q x.queue.size h taken)
+    → h < most_harts
 place_at x h taken from = has_place x.harts.items x.accesses h from.agrees.accesses from.inside

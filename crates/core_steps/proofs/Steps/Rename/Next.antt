@@ -80,7 +80,9 @@ can_rename p x h state slot taken agrees inside at enters room fits free =
     let is = first_is p h state.rename_latch.items slot enters.oldest hart.rename_slots in
     let op : op_in p slot.seq ≡ slot.op = slot_op p h slot.seq slot refl is in
     let memory =
-    or_parts (is_loading (kind_of slot.op) && nat_le most_accesses (count_by (λ a. is_loading (kind_of a.op)) state.active))
+    or_parts
+    (is_loading (kind_of slot.op)
+    && nat_le most_accesses (count_by (λ a. is_loading (kind_of a.op)) state.active))
     (is_storing (kind_of slot.op) && nat_le most_accesses (count_by (λ a. is_storing (kind_of a.op)) state.active))
     enters.memory_room in
     let loads = counted p h (λ o. is_loading (kind_of o)) state.active hart.actives in

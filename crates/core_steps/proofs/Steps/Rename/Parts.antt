@@ -55,7 +55,8 @@ pub parts_renamed : (p q : Picture) (x : Parts) (size h : ℕ) (taken : Option �
     (values : List (Option ℕ)) (accesses : List Queues) → IsRenaming p q size h taken → PartsAgree p x
     → h < length x.harts.items → state ≡ slice_index_or x.harts.items h state
     → HasMade x h taken (slice_index_or state.rename_latch.items 0 d) state new queue free values accesses
-    → EachAgrees q (slice_set x.harts.items h new) × QueueAgrees q queue × FreeAgrees q free × (length values ≡ most_registers)
+    → EachAgrees q (slice_set x.harts.items h new) × QueueAgrees q queue × FreeAgrees q free
+    × (length values ≡ most_registers)
     × ValuesAgree q values × JobsAgree q x.jobs × AccessesAgree q.touched (slice_set x.harts.items h new) accesses
     × MemoryAgrees q x.memory × CheckpointsAgree (slice_set x.harts.items h new)
 parts_renamed p q x size h taken d state new queue free values accesses renaming agrees inside at made =

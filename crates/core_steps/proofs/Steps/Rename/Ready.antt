@@ -70,6 +70,7 @@ ready_at x h taken i state slots d from same at read =
     subst (λ xs. IsReady x taken state (slice_index_or xs 0 d)) (sym read)
     (ready_to_rename from.before from.after x x.queue.size h taken state d from.step from.agrees from.inside here)
 
-pub known_range : (taken : Option ℕ) → ((x : ℕ) → taken ≡ Some x → x < most_registers) → IfSome taken (λ x. x < most_registers)
+pub known_range : (taken : Option ℕ) → ((x : ℕ) → taken ≡ Some x → x < most_registers)
+    → IfSome taken (λ x. x < most_registers)
 known_range None known = tt
 known_range (Some x) known = known x refl

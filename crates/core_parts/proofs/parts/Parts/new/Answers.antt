@@ -13,7 +13,8 @@ loop-hart-init c =
     let none : length c.in_ok-each.each.items ≡ 0 = ap length empty in (
       none,
       λ h d inside. absurd (omega arith),
-      first_start c.args.harts (replicate most_registers None) (λ x d inside. get_or-replicate most_registers x None d inside),
+      first_start c.args.harts (replicate most_registers None) (λ x d inside. get_or-replicate most_registers x None d
+          inside),
       refl,
     )
 
@@ -41,4 +42,5 @@ returns-clause-begins c =
     (subst (λ e. AreNew e c.loop-hart.each.items) c.entry-entry.ensures.value kept.1)
     (ap (λ (q : Queue). q.entries) c.in_ok-new.ensures) c.new-3.ensures kept.3
     (subst (λ n. AreFirst c.args.harts n c.loop-hart.values) all kept.2) refl
-    (λ k d inside. get_or-replicate most_actors k None d inside) c.requires.harts_fit c.new-4.ensures c.in_ok-new-2.ensures
+    (λ k d inside. get_or-replicate most_actors k None d inside) c.requires.harts_fit c.new-4.ensures
+    c.in_ok-new-2.ensures

@@ -1,5 +1,6 @@
 -- The tests of the parts are the rules of a decode.
 use Rattle.std.proofs.Common.{◌≡◌, ◌∙◌, sym, ap, map, nat_lt}
+use Rattle.numbers.specs.Sizes.{latch_room}
 use Rattle.events.specs.declared.event.Event.TheVariants.{Decode}
 use Rattle.smt_model.specs.Rules.{is_first, refused}
 use Rattle.core_parts.specs.declared.slot.Slot.{Slot}
@@ -22,10 +23,10 @@ told : (c : After-first_failing-broken)
 told c =
     c.first_failing-broken.ensures
     ∙ sym (there c.args.self.now.setup c.args.self.now.past c.args.actor c.args.seq c.in-Some.hart
-    c.hart-state.result.now c.is_oldest.result (nat_lt c.len.result 8)
+    c.hart-state.result.now c.is_oldest.result (nat_lt c.len.result latch_room)
     (sym c.has_actor.ensures ∙ c.if-not-has_actor.false) c.in-Some.ensures.there c.hart-state.ensures
     (c.is_oldest.ensures ∙ ap (λ xs. is_first c.args.seq (map (λ (x : Slot). x.seq) xs)) c.deref.ensures.0)
-    (ap (λ n. nat_lt n 8) c.len.ensures.value))
+    (ap (λ n. nat_lt n latch_room) c.len.ensures.value))
 
 pub returns-in-Some-broken-clause-rule : goal.returns-in-Some-broken-clause-rule
 returns-in-Some-broken-clause-rule c = sym c.in-Some-broken.is ∙ told c.before

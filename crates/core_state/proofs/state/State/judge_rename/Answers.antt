@@ -1,5 +1,6 @@
 -- The tests of the parts are the rules of a rename.
 use Rattle.std.proofs.Common.{◌≡◌, ◌∙◌, ◌||◌, count_by, sym, ap, map, nat_lt, not}
+use Rattle.numbers.specs.Sizes.{most_accesses}
 use Rattle.retire_squash.specs.declared.active.Active.{Active}
 use Rattle.smt_model.specs.{Rules.is_first, Rules.refused, Kinds.kind_of, Kinds.is_loading, Kinds.is_storing}
 use Rattle.core_parts.specs.declared.slot.Slot.{Slot}
@@ -38,10 +39,10 @@ told c =
       flight_room = ap not c.is_full-2.ensures.value ∙ not_full _ _ c.is_full-2.ensures.bound;
       load_room = c.has_load_room.ensures
           ∙ ap (λ xs. not (is_loading (kind_of slot.op))
-          || nat_lt (count_by (λ (z : Active). is_loading (kind_of z.op)) xs) 16) c.items.ensures.items;
+          || nat_lt (count_by (λ (z : Active). is_loading (kind_of z.op)) xs) most_accesses) c.items.ensures.items;
       store_room = c.has_store_room.ensures
           ∙ ap (λ xs. not (is_storing (kind_of slot.op))
-          || nat_lt (count_by (λ (z : Active). is_storing (kind_of z.op)) xs) 16) c.items-2.ensures.items;
+          || nat_lt (count_by (λ (z : Active). is_storing (kind_of z.op)) xs) most_accesses) c.items-2.ensures.items;
       named = c.is_fitting.ensures;
       free = c.may_take.ensures;
     }))
