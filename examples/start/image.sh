@@ -1,7 +1,8 @@
 #!/bin/sh
-# image.sh SOURCE.. IMAGE: makes an image for smtsim of C and assembly sources, by GNU's compiler for RISC-V where there is one, else
-# by LLVM's. One C source at the least: start.s is linked, which gives each hart a stack and calls `run_hart` (hart.h). Assembly alone:
-# it has its own `_start`. TOOLS=gnu or TOOLS=llvm before the command takes these. Flags of your own for C go into CFLAGS.
+# image.sh SOURCE.. IMAGE: makes an image for smtsim of C and assembly sources, by GNU's compiler for RISC-V where
+# there is one, else by LLVM's. One C source at the least: start.s is linked, which gives each hart a stack and calls
+# `run_hart` (hart.h). Assembly alone: it has its own `_start`. TOOLS=gnu or TOOLS=llvm before the command takes
+# these. Flags of your own for C go into CFLAGS.
 set -eu
 here=$(cd "$(dirname "$0")" && pwd)
 if [ $# -lt 2 ]; then

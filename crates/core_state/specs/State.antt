@@ -18,10 +18,10 @@ setup_in i = setup_of i.image i.config
 abbrev pub view_of : Inside → CoreView
 view_of i = record { setup = setup_in i; limit = i.history.limit; past = past_of i }
 
--- The sizes are a core's, and the code that was decoded is the image's. The history is legal, and every part agrees with it: the parts that
--- instructions move through, how many were fetched and which hart last, how many loads looked again,
--- the records and the output.
--- There is room for a record and a byte of output for each event to come.
+-- The sizes are a core's, and the code that was decoded is the image's. The history is legal, and
+-- every part agrees with it: the parts that instructions move through, how many were fetched and
+-- which hart last, how many loads looked again, the records and the output. There is room for a
+-- record and a byte of output for each event to come.
 pub record IsCore (i : Inside) : Type 0 where
   pub sizes : accepts i.config i.history.limit ≡ true
   pub limit : i.history.limit ≤ most_events

@@ -1,5 +1,5 @@
--- What the loads in flight know of the writes that touched them is what the history says: one that keeps its first number
--- retires as the rules want, and the loads that look again are counted.
+-- What the loads in flight know of the writes that touched them is what the history says: one that
+-- keeps its first number retires as the rules want, and the loads that look again are counted.
 use Rattle.std.specs.Prelude.{◌≡◌, ℕ, ◌<◌, ◌==◌, Bool, true, false, not, ◌&&◌, List, [], ◌∷◌, length, map, filter, Option}
 use Rattle.std.specs.Prelude.{Some, None, slice_index_or, if◌then◌else◌}
 use Rattle.std.proofs.Common.{◌∙◌, refl, sym, ap, subst, inl, inr, arith}
