@@ -16,7 +16,7 @@ use Rattle.smt_core.specs.{Answers.IsGuess, Following.IsFollowed, declared.follo
 use Rattle.smt_core.specs.declared.follow.Followed.TheVariants as followed
 use Rattle.schedules.specs.Replies.{IsFunction, predictor_of}
 use Rattle.history_scripts.specs.Deciding.{AreGuessedBy, IsOtherwise, IsFirstOther, OfItsGuesses}
-use Rattle.history_scripts.proofs.Harts.{past_next}
+use Rattle.history_scripts.proofs.Numbered.{past_next}
 
 -- ---- The least free register
 

@@ -1,7 +1,7 @@
 pub mod Jobs
 pub mod Following
 pub mod Acting
-pub mod Making
-pub mod Harts
+pub mod Repeating
+pub mod Numbered
 pub mod Worded
 pub mod Judging

@@ -22,7 +22,7 @@ use Rattle.scripts.specs.Lines.{IsWord, LinesAreScripts, words_in, line_text}
 use Rattle.schedules.specs.Asks.{asks_of_word, asks_of}
 use Rattle.history_scripts.specs.Asked.{AreAnswered, AsksFor}
 use Rattle.history_scripts.specs.Lines.{harts_in, action_for, word_for, line_for, lines_for, text_for}
-use Rattle.history_scripts.proofs.Harts.{HaveHarts, have_harts, have_before}
+use Rattle.history_scripts.proofs.Numbered.{HaveHarts, have_harts, have_before}
 
 -- ---- One event
 

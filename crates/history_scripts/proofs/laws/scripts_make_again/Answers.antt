@@ -1,4 +1,4 @@
-use Rattle.history_scripts.proofs.Making.{again}
+use Rattle.history_scripts.proofs.Repeating.{again}
 use Rattle.history_scripts.proofs.laws.scripts_make_again.Goals as goal
 
 pub returns : goal.returns
