@@ -39,24 +39,24 @@ never_idle setup past asked e allowed suits none =
     false≢true (sym (ap is_some allowed) ∙ none e suits)
 
 module _ (law : AsksHaveOneAnswer) (setup : Setup) (limit : ℕ) (guess : ℕ → ℕ → ℕ → ℕ) where
-  abbrev core_of : List Event → CoreView
+  abbrev pub core_of : List Event → CoreView
   core_of past = record { setup = setup; limit = limit; past = past }
 
-  abbrev by_guess : Predictor
+  abbrev pub by_guess : Predictor
   by_guess = predictor_of guess
 
   -- What an actor holds is the job that it has open.
-  record HoldsJob (past : List Event) (held : Holding) (k : ℕ) : Type 0 where
-    done : DoneView
-    slot : slice_index_or held k None ≡ Some done
-    lent : IsJobOf setup past k done.job
+  pub record HoldsJob (past : List Event) (held : Holding) (k : ℕ) : Type 0 where
+    pub done : DoneView
+    pub slot : slice_index_or held k None ≡ Some done
+    pub lent : IsJobOf setup past k done.job
 
   -- Between two actions: the core has this history, and each open job is held.
-  record Stands (past : List Event) (core : CoreView) (held : Holding) : Type 0 where
+  pub record Stands (past : List Event) (core : CoreView) (held : Holding) : Type 0 where
     pub legal : is_legal setup past
     pub core_is : core ≡ core_of past
-    places : length held ≡ 16
-    holds : (k seq : ℕ) → job past k ≡ Some seq → HoldsJob past held k
+    pub places : length held ≡ 16
+    pub holds : (k seq : ℕ) → job past k ≡ Some seq → HoldsJob past held k
 
   -- ---- What is answered is the event that follows
 

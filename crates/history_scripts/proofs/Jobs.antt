@@ -1,5 +1,5 @@
 -- The job that an actor has open stays what it is, until the actor hands it back.
-use Rattle.std.specs.Prelude.{◌≡◌, ◌<◌, ◌==◌, ℕ, true, false, List, ◌∷◌, Option, Some, None}
+use Rattle.std.specs.Prelude.{◌≡◌, ◌≢◌, ◌<◌, ◌≤◌, ◌==◌, ℕ, true, false, List, ◌∷◌, Option, Some, None}
 use Rattle.std.proofs.Common.{◌∙◌, refl, arith}
 use Rattle.std.proofs.{lemmas.Bool.Decides.nat_tests}
 use Rattle.events.specs.declared.event.Event.{Event}

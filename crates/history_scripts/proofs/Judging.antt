@@ -4,7 +4,7 @@ use Rattle.std.specs.Prelude.{slice_index_or, Option, Some, None, is_some}
 use Rattle.std.proofs.Common.{◌∙◌, refl, sym, ap, subst, inl, inr, arith}
 use Rattle.std.proofs.{lemmas.Bool.cases_lt, lemmas.Bool.true≢false, lemmas.Bool.Decides.nat_tests}
 use Rattle.std.proofs.{lemmas.Option.none-some, lemmas.List.reverse-append, lemmas.List.take-append-drop}
-use Rattle.std.proofs.lemmas.List.{get_or_default}
+use Rattle.std.proofs.lemmas.List.{get_or_default, length-reverse, length-take-le, take_all}
 use Rattle.free_list.specs.Flags.{holds, IsLeast}
 use Rattle.events.specs.declared.event.Event.{Event}
 use Rattle.smt_model.specs.{Setup.Setup, Picture.is_free, Picture.picture, Rules.refused, Rules.is_legal}
@@ -73,6 +73,19 @@ followed_on old e followed.Done new is room ok = is.grows
 followed_on old e (followed.Refused rule) new is room ok = absurd (none-some rule (sym ok ∙ is.breaks))
 followed_on old e followed.Full new is room ok = let full = is.full in absurd (omega (arith, full, room))
 
+-- A core that has followed some of the events follows the next.
+pub follow_next : (events : List Event) (i : ℕ) (d : Event) (start old new : CoreView) (said : Followed)
+    → old ≡ record start { past = past_at events i } → i < length events → length events ≤ start.limit
+    → is_legal start.setup (reverse events) → IsFollowed old (slice_index_or events i d) said new
+    → new ≡ record start { past = past_at events (i + 1) }
+follow_next events i d start old new said same inside room legal is =
+    let count : length (past_at events i) ≡ i =
+    length-reverse (take i events) ∙ length-take-le i events (omega arith) in
+    let here = subst (λ c. IsFollowed c (slice_index_or events i d) said new) same is in
+    followed_on (record start { past = past_at events i }) (slice_index_or events i d) said new here (omega arith)
+    (may_come start.setup events i d inside legal)
+    ∙ ap (λ (p : List Event). record start { past = p }) (sym (past_next events i d inside))
+
 -- ---- All events so far
 
 module _ {P : Type 0} (predicts : P → ℕ → ℕ → ℕ → ℕ → P → Type 0) (setup : Setup) (events : List Event) where
@@ -96,3 +109,19 @@ module _ {P : Type 0} (predicts : P → ℕ → ℕ → ℕ → ℕ → P → Ty
     before = before;
     other = other;
   }
+
+  pub guessed_next : (i : ℕ) (d : Event) (start old : CoreView) → old ≡ record start { past = past_at events i }
+      → start.setup ≡ setup → i < length events → AreGuessedBy predicts setup (past_at events i)
+      → OfItsGuesses predicts
+      (λ guess. IsDecided old.setup (predictor_of guess) old.past (slice_index_or events i d))
+      → AreGuessedBy predicts setup (past_at events (i + 1))
+  guessed_next i d start old same own inside before next =
+      guessed_more i d inside before
+      (subst (λ s. OfItsGuesses predicts
+      (λ guess. IsDecided s (predictor_of guess) (past_at events i) (slice_index_or events i d))) own
+      (subst (λ (c : CoreView). OfItsGuesses predicts
+      (λ guess. IsDecided c.setup (predictor_of guess) c.past (slice_index_or events i d))) same next))
+
+  pub all_guessed : (i : ℕ) → length events ≤ i → AreGuessedBy predicts setup (past_at events i)
+      → AreGuessedBy predicts setup (reverse events)
+  all_guessed i end before = subst (AreGuessedBy predicts setup) (ap reverse (take_all i events end)) before

@@ -69,7 +69,7 @@ have_fetched setup past legal actor hart seq pc word predicted ok before s f fou
     ]
 
 pub have_harts : (setup : Setup) (past : List Event) → is_legal setup past → HaveHarts (harts_in past) past
-have_harts setup [] legal s f found = absurd (none-some f found)
+have_harts setup [] legal = λ s f found. absurd (none-some f found)
 have_harts setup (Fetch actor hart seq pc word predicted ∷ past) legal =
     have_fetched setup past legal.1 actor hart seq pc word predicted legal.0 (have_harts setup past legal.1)
 have_harts setup (Decode actor seq ∷ past) legal =

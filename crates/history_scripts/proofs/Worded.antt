@@ -1,5 +1,5 @@
 -- The lines of a history's script are words, and ask for its events.
-use Rattle.std.specs.Prelude.{◌≡◌, ◌<◌, ◌≤◌, ◌==◌, ◌&&◌, ℕ, true, List, [], ◌∷◌, ◌++◌, length, map, reverse, flat_map}
+use Rattle.std.specs.Prelude.{◌≡◌, ◌<◌, ◌≤◌, ◌==◌, ◌&&◌, ℕ, Bool, true, List, [], ◌∷◌, ◌++◌, length, map, reverse, flat_map}
 use Rattle.std.specs.Prelude.{slice_index_or, Option, Some, None}
 use Rattle.std.specs.List.{AllByRecursion}
 use Rattle.std.proofs.Common.{◌∙◌, refl, sym, ap, subst, append-nil, arith}
@@ -21,6 +21,7 @@ use Rattle.scripts.specs.{declared.actions.ScriptWord.ScriptWord, Script.IsInRan
 use Rattle.scripts.specs.Lines.{IsWord, LinesAreScripts, words_in, line_text}
 use Rattle.schedules.specs.Asks.{asks_of_word, asks_of}
 use Rattle.history_scripts.specs.Asked.{AreAnswered, AsksFor}
+use Rattle.history_scripts.specs.{Again.IsScriptOf, Again.ScriptsMakeAgain, Deciding.AreGuessedBy, Refusals.IsHistory}
 use Rattle.history_scripts.specs.Lines.{harts_in, action_for, word_for, line_for, lines_for, text_for}
 use Rattle.history_scripts.proofs.Numbered.{HaveHarts, have_harts, have_before}
 
@@ -186,4 +187,20 @@ asks_for setup limit events harts accepted legal are law =
       is_script = law (lines_for harts events) in_lines;
       asks = subst (λ l. AreAnswered l (reverse events)) (sym asks)
           (all_suit setup few_actors few_harts harts (reverse events) legal have);
+    }
+
+-- ---- Together
+
+pub script_of : {P : Type 0} (predicts : P → ℕ → ℕ → ℕ → ℕ → P → Type 0) (setup : Setup) (events : List Event)
+    (harts : List ℕ) → IsHistory setup events → harts ≡ harts_in (reverse events)
+    → AreGuessedBy predicts setup (reverse events) → LinesAreScripts → ScriptsMakeAgain predicts
+    → IsScriptOf predicts setup (reverse events) (text_for harts events)
+script_of predicts setup events harts history are guessed lines again =
+    let asks = asks_for setup (length events) events harts history.0 history.1 are lines in
+    record {
+      legal = history.1;
+      asks = asks;
+      guessed = guessed;
+      again = λ guess function.
+          again guess function setup (reverse events) (text_for harts events) history.1 asks guessed;
     }

@@ -8,7 +8,7 @@ mod refused_words;
 use crate::rows::holds;
 use sim_inputs::{
     CheckCommand, Command, Line, ListCommand, PlainCommand, RunCommand, ScheduleCommand,
-    StepCommand, read_words,
+    ScriptCommand, StepCommand, read_words,
 };
 use std::alloc::{AllocError, Global};
 
@@ -22,7 +22,7 @@ fn words_of(text: &str, alloc: Global) -> Result<Vec<&str>, AllocError> {
 }
 
 /// Words, and what they ask for.
-static LINES: [(&str, Line<'_>); 18] = [
+static LINES: [(&str, Line<'_>); 20] = [
     (
         "smtsim step first.elf first.script",
         Line {
@@ -212,6 +212,26 @@ static LINES: [(&str, Line<'_>); 18] = [
         },
     ),
     (
+        "smtsim script a t",
+        Line {
+            config: None,
+            command: Command::Script(ScriptCommand {
+                image: "a",
+                trace: "t",
+            }),
+        },
+    ),
+    (
+        "smtsim script a --config c t",
+        Line {
+            config: Some("c"),
+            command: Command::Script(ScriptCommand {
+                image: "a",
+                trace: "t",
+            }),
+        },
+    ),
+    (
         "smtsim list list.elf",
         Line {
             config: None,
@@ -249,6 +269,7 @@ fn flags_of(line: &Line<'_>) -> (&'static str, bool, bool) {
         Command::Check(check) => ("check", check.records, false),
         Command::Plain(plain) => ("plain", plain.records, false),
         Command::Schedule(_) => ("schedule", false, false),
+        Command::Script(_) => ("script", false, false),
         Command::List(_) => ("list", false, false),
     }
 }
@@ -275,7 +296,7 @@ fn each_line_is_read_with_its_files_and_options(rt: HostRuntime) {
 }
 
 /// A line of each command, and its files.
-static NAMED: [(Line<'_>, Named<'_>); 6] = [
+static NAMED: [(Line<'_>, Named<'_>); 7] = [
     (
         Line {
             config: Some("c"),
@@ -331,6 +352,16 @@ static NAMED: [(Line<'_>, Named<'_>); 6] = [
             }),
         },
         (Some("c"), Some("a"), Some("b"), None),
+    ),
+    (
+        Line {
+            config: Some("c"),
+            command: Command::Script(ScriptCommand {
+                image: "a",
+                trace: "t",
+            }),
+        },
+        (Some("c"), Some("a"), Some("t"), None),
     ),
     (
         Line {
