@@ -6,6 +6,7 @@ pub mod OfRun
 pub mod OfCheck
 pub mod OfPlain
 pub mod OfSchedule
+pub mod OfScript
 pub mod Sound
 pub mod SoundCommands
 pub mod OfLine

@@ -14,6 +14,7 @@ use Rattle.reports.specs.Statuses.{says_harts}
 use Rattle.commands.specs.declared.refused.Refused.{Refused}
 use Rattle.commands.specs.declared.refused.Refused.TheVariants.{Image, Config, Script, Order, Step, Memory, File}
 use Rattle.commands.specs.declared.refused.Refused.TheVariants.{Output, Thread, Trace, Event, NoUnit, Limit}
+use Rattle.commands.specs.declared.refused.Refused.TheVariants.{Prediction, Register}
 use Rattle.commands.specs.declared.refused.Unread.{Unread}
 use Rattle.commands.specs.declared.refused.Unread.TheVariants as unread
 use Rattle.commands.specs.Refused.{exit_status_of, refusal_of, AreAccepted, PassesAll}
@@ -43,6 +44,8 @@ module _ (command : Command) (text : List ℕ) (settings : Settings) (file : Lis
   command_refusal (Step index why) is = (settings, configured, (passes, program, loaded, is))
   command_refusal (Trace line rule) is = (settings, configured, (passes, program, loaded, is))
   command_refusal (Event index rule) is = (settings, configured, (passes, program, loaded, is))
+  command_refusal (Prediction index) is = (settings, configured, (passes, program, loaded, is))
+  command_refusal (Register index) is = (settings, configured, (passes, program, loaded, is))
   command_refusal (NoUnit kind) is = (settings, configured, (passes, program, loaded, is))
   command_refusal (Limit least) is = (settings, configured, (passes, program, loaded, is))
   command_refusal Memory is = tt
@@ -95,6 +98,8 @@ known_refusal (Order index) status is = inr (inl is)
 known_refusal (Step index why) status is = inr (inl is)
 known_refusal (Trace line rule) status is = inr (inr (inl is))
 known_refusal (Event index rule) status is = inr (inr (inl is))
+known_refusal (Prediction index) status is = inr (inr (inl is))
+known_refusal (Register index) status is = inr (inr (inl is))
 known_refusal (NoUnit kind) status is = inr (inl is)
 known_refusal (Limit least) status is = inr (inl is)
 known_refusal Memory status is = inr (inr (inr is))
@@ -110,6 +115,8 @@ never_says (Order index) = refl
 never_says (Step index why) = refl
 never_says (Trace line rule) = refl
 never_says (Event index rule) = refl
+never_says (Prediction index) = refl
+never_says (Register index) = refl
 never_says (NoUnit kind) = refl
 never_says (Limit least) = refl
 never_says Memory = refl

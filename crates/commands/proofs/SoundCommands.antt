@@ -14,6 +14,7 @@ use Rattle.sim_inputs.specs.declared.line.RunCommand.{RunCommand}
 use Rattle.sim_inputs.specs.declared.line.CheckCommand.{CheckCommand}
 use Rattle.sim_inputs.specs.declared.line.PlainCommand.{PlainCommand}
 use Rattle.sim_inputs.specs.declared.line.ScheduleCommand.{ScheduleCommand}
+use Rattle.sim_inputs.specs.declared.line.ScriptCommand.{ScriptCommand}
 use Rattle.sim_inputs.specs.declared.line.ListCommand.{ListCommand}
 use Rattle.commands.specs.Refused.{AreAccepted, AreRefused}
 use Rattle.commands.specs.Inputs.{Read}
@@ -161,6 +162,24 @@ of_schedule schedule settings program (Err why) = record {
   says = λ Traced old new status is. absurd is;
 }
 
+of_script : (script : ScriptCommand) (settings : Settings) (program : ProgramImage) (second : Read)
+    → IsSound (commands.Script script) settings program second
+of_script script settings program (Ok trace) = record {
+  no_image = λ number is. is;
+  unfit = λ accepted is. is;
+  output = λ Traced old new status is. (is.printed.0, is.printed.1);
+  flushed = λ Traced old mid new status flushed is.
+      record { printed = prints_kept old mid new _ is.printed flushed; zero = is.zero };
+  says = λ Traced old new status is. zero_says status is.zero;
+}
+of_script script settings program (Err why) = record {
+  no_image = λ number is. no_unread_image number why is;
+  unfit = λ accepted is. no_unread_config why is;
+  output = λ Traced old new status is. absurd is;
+  flushed = λ Traced old mid new status flushed is. absurd is;
+  says = λ Traced old new status is. absurd is;
+}
+
 of_list : (list : ListCommand) (settings : Settings) (program : ProgramImage) (second : Read)
     → IsSound (commands.List list) settings program second
 of_list list settings program second = record {
@@ -179,4 +198,5 @@ sound (commands.Run run) settings program second = of_run run settings program s
 sound (commands.Check check) settings program second = of_check check settings program second
 sound (commands.Plain plain) settings program second = of_plain plain settings program second
 sound (commands.Schedule schedule) settings program second = of_schedule schedule settings program second
+sound (commands.Script script) settings program second = of_script script settings program second
 sound (commands.List list) settings program second = of_list list settings program second

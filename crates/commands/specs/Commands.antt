@@ -14,6 +14,7 @@ use Rattle.commands.specs.Run.{IsRunRefusal, RunComesTo, LackARole}
 use Rattle.commands.specs.Check.{IsCheckRefusal, CheckComesTo, OfEvents, AreTooMany}
 use Rattle.commands.specs.Plain.{IsPlainRefusal, PlainComesTo}
 use Rattle.commands.specs.Schedule.{IsScheduleRefusal, ScheduleComesTo}
+use Rattle.commands.specs.Script.{IsScriptingRefusal, ScriptComesTo}
 use Rattle.commands.specs.List.{IsListRefusal, ListComesTo}
 
 -- When each refusal of a command comes. One that has a second file is refused where that is unread.
@@ -27,6 +28,8 @@ IsCommandRefusal (commands.Plain plain) settings image second reason =
     BehindFile second (IsPlainRefusal settings image) reason
 IsCommandRefusal (commands.Schedule schedule) settings image second reason =
     BehindFile second (IsScheduleRefusal settings image) reason
+IsCommandRefusal (commands.Script script) settings image second reason =
+    BehindFile second (IsScriptingRefusal settings image) reason
 IsCommandRefusal (commands.List list) settings image second reason = IsListRefusal reason
 
 -- What a command comes to. `Traced` says of a core whether its trace is written where that is
@@ -44,14 +47,19 @@ CommandComesTo (commands.Plain plain) settings image second Traced old new statu
     OfFile second (λ order. PlainComesTo settings image order plain.records old new status)
 CommandComesTo (commands.Schedule schedule) settings image second Traced old new status =
     OfFile second (λ order. ScheduleComesTo settings image order old new status)
+CommandComesTo (commands.Script script) settings image second Traced old new status =
+    OfFile second (λ trace. ScriptComesTo settings image trace old new status)
 CommandComesTo (commands.List list) settings image second Traced old new status =
     ListComesTo image old new status
 
 -- What a command may refuse of settings that are a configuration's: a run of threads needs an actor
--- of each role, and a trace may have no more events than a core. No other command refuses any.
+-- of each role, and a trace that is read may have no more events than a core. No other command
+-- refuses any.
 abbrev pub AreUnfit : Command → Settings → ProgramImage → Read → Type 0
 AreUnfit (commands.Run run) settings image second = LackARole settings
 AreUnfit (commands.Check check) settings image second =
+    OfFile second (λ trace. OfEvents settings image trace AreTooMany)
+AreUnfit (commands.Script script) settings image second =
     OfFile second (λ trace. OfEvents settings image trace AreTooMany)
 AreUnfit _ settings image second = ⊥
 

@@ -6,6 +6,7 @@ pub mod Run
 pub mod Check
 pub mod Plain
 pub mod Schedule
+pub mod Script
 pub mod List
 pub mod Commands
 pub mod Perform

@@ -9,7 +9,8 @@ use Rattle.smt_model.specs.Setup.{is_accepted}
 use Rattle.sim_inputs.specs.{declared.settings.Settings.Settings}
 use Rattle.commands.specs.{declared.refused.Refused.Refused, declared.refused.Unread.Unread}
 use Rattle.commands.specs.declared.refused.Refused.TheVariants.{Image, Config, Script, Order}
-use Rattle.commands.specs.declared.refused.Refused.TheVariants.{Step, Trace, Event, NoUnit, Limit}
+use Rattle.commands.specs.declared.refused.Refused.TheVariants.{Step, Trace, Event, Prediction}
+use Rattle.commands.specs.declared.refused.Refused.TheVariants.{Register, NoUnit, Limit}
 use Rattle.commands.specs.declared.refused.Refused.TheVariants.{Memory, Thread, File, Output}
 use Rattle.commands.specs.declared.refused.Unread.TheVariants as unread
 
@@ -23,6 +24,8 @@ exit_status_of (Order index) = 2
 exit_status_of (Step index why) = 2
 exit_status_of (Trace line rule) = 4
 exit_status_of (Event index rule) = 4
+exit_status_of (Prediction index) = 4
+exit_status_of (Register index) = 4
 exit_status_of (NoUnit kind) = 2
 exit_status_of (Limit least) = 2
 exit_status_of Memory = 5

@@ -46,7 +46,7 @@ pub fn perform_check<W: Write>(
 }
 
 /// The events of a trace's text.
-fn read_events(text: &[u8], alloc: Global) -> Result<Trace, Refused>
+pub(crate) fn read_events(text: &[u8], alloc: Global) -> Result<Trace, Refused>
     ensures trace { IfOk result (IsTraceOf text.now) }
     ensures refused { IfErr result (IsTraceRefusal text.now) }
 {

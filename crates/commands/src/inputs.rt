@@ -17,7 +17,7 @@ pub struct Inputs<'a> {
     /// The configuration; empty where the line names none.
     pub config: Result<&'a [u8], Unread>,
     pub image: Result<&'a [u8], Unread>,
-    /// The script, the trace that is checked, or the order; empty where the line names none.
+    /// The script, the trace that is read, or the order; empty where the line names none.
     pub second: Result<&'a [u8], Unread>,
 }
 

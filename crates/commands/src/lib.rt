@@ -2,7 +2,8 @@
 //!
 //! Read in this order: `refused` (why there is no report), `inputs` (the files of a line as they were
 //! read, and what is made of the first two), `account` (what is reported of a core), then a module a
-//! command: `step`, `run`, `check`, `plain`, `schedule`, `list`; and `performing` (all of it: the
+//! command: `step`, `run`, `check`, `plain`, `schedule`, `script`,
+//! `list`; and `performing` (all of it: the
 //! files taken in their order, the command, the exit status).
 //! `retiring` has the law that a printed schedule is retired.
 //! What each command comes to, and when each of its refusals comes, stands in `specs` under the
@@ -19,6 +20,7 @@ mod refused;
 pub mod retiring;
 mod run;
 mod schedule;
+mod script;
 mod step;
 
 pub use account::Wanted;
@@ -30,4 +32,5 @@ pub use plain::perform_plain;
 pub use refused::{Refused, Unread, refuse};
 pub use run::{perform_run, run_bytes};
 pub use schedule::perform_schedule;
+pub use script::perform_script;
 pub use step::{perform_step, step_bytes};

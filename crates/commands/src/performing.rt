@@ -17,6 +17,7 @@ use crate::plain::perform_plain;
 use crate::refused::{Refused, Unread, refuse};
 use crate::run::perform_run;
 use crate::schedule::perform_schedule;
+use crate::script::perform_script;
 use crate::step::perform_step;
 use actors::Gate;
 use elf_image::Image;
@@ -29,7 +30,7 @@ use std::sync::Wait;
 use std::thread::Threads;
 
 /// Does all that the program does once its files are read, and answers its exit status: how the
-/// harts stand, 0 for a listing and a schedule, 2 for a refused input, 4 for a refused trace, 5
+/// harts stand, 0 for a listing, a schedule and a script, 2 for a refused input, 4 for a refused trace, 5
 /// where memory, a thread or a file failed. A refusal is one line on `err`. The configuration is
 /// looked at first, then the image, then the script, the order or the trace; a file that couldn't
 /// be read is refused where it is looked at. All that is printed is flushed.
@@ -168,6 +169,10 @@ fn perform_command<
         Command::Schedule(_) => {
             let order = second?;
             perform_schedule(image, settings, order, out, alloc)
+        }
+        Command::Script(_) => {
+            let text = second?;
+            perform_script(image, settings, text, out, alloc)
         }
         Command::List(_) => perform_list(image, out),
     }

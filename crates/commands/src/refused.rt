@@ -36,6 +36,12 @@ pub enum Refused {
     /// that it breaks.
     #[error("event {index} refused rule {rule}")]
     Event { index: u32, rule: u8 },
+    /// The fetch at this place of the trace, from 0, predicts something else than the predictor.
+    #[error("event {0} predicted otherwise")]
+    Prediction(u32),
+    /// The rename at this place of the trace, from 0, takes a register that isn't the least free one.
+    #[error("event {0} not the least register")]
+    Register(u32),
     /// No actor is a unit of this kind, and a schedule needs one.
     #[error("no {} unit", unit_name(.0))]
     NoUnit(UnitKind),
@@ -68,6 +74,7 @@ impl Refused {
             Refused::Script(_) | Refused::Order(_) | Refused::Step { .. } => 2,
             Refused::NoUnit(_) | Refused::Limit(_) => 2,
             Refused::Trace { .. } | Refused::Event { .. } => 4,
+            Refused::Prediction(_) | Refused::Register(_) => 4,
             Refused::Memory | Refused::Thread | Refused::File | Refused::Output => 5,
         }
     }

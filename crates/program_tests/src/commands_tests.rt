@@ -11,6 +11,7 @@ mod plain;
 mod refusals;
 mod run;
 mod schedule;
+mod script;
 mod script_lines;
 mod script_rows;
 mod step;

@@ -1,4 +1,5 @@
-//! The tests of the program: scripts, schedules, the words of a line and its configuration, reports,
+//! The tests of the program: scripts, schedules, the scripts of
+//! histories, the words of a line and its configuration, reports,
 //! whole lines performed, and what a terminal shows of a run. They stand in one crate, since a crate
 //! with tests of its own is proved twice by the gate. Each module whose name ends in `_tests` has the
 //! tests of the crate that it is named after, through its public calls alone; `progress_tests` has
@@ -9,6 +10,8 @@
 mod commands_tests;
 #[cfg(test)]
 mod failing;
+#[cfg(test)]
+mod history_scripts_tests;
 #[cfg(test)]
 mod lines;
 #[cfg(test)]

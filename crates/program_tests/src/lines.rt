@@ -2,7 +2,7 @@
 
 use sim_inputs::{
     CheckCommand, Command, Line, ListCommand, PlainCommand, RunCommand, ScheduleCommand,
-    StepCommand,
+    ScriptCommand, StepCommand,
 };
 
 macro_rules! line {
@@ -69,6 +69,12 @@ pub fn plain_line(records: bool) -> Line<'static> {
 pub const SCHEDULE: Line<'static> = line!(Command::Schedule(ScheduleCommand {
     image: "image",
     order: "order",
+},));
+
+/// The script of a trace's history.
+pub const SCRIPT: Line<'static> = line!(Command::Script(ScriptCommand {
+    image: "image",
+    trace: "trace",
 },));
 
 /// The listing of an image's code.

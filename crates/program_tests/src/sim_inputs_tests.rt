@@ -8,7 +8,7 @@ mod refused_words;
 use crate::rows::holds;
 use sim_inputs::{
     CheckCommand, Command, Line, ListCommand, PlainCommand, RunCommand, ScheduleCommand,
-    StepCommand, read_words,
+    ScriptCommand, StepCommand, read_words,
 };
 use std::alloc::{AllocError, Global};
 
@@ -22,7 +22,7 @@ fn words_of(text: &str, alloc: Global) -> Result<Vec<&str>, AllocError> {
 }
 
 /// Words, and what they ask for.
-static LINES: [(&str, Line<'_>); 19] = [
+static LINES: [(&str, Line<'_>); 20] = [
     (
         "smtsim step first.elf first.script",
         Line {
@@ -233,6 +233,26 @@ static LINES: [(&str, Line<'_>); 19] = [
         },
     ),
     (
+        "smtsim script a t",
+        Line {
+            config: None,
+            command: Command::Script(ScriptCommand {
+                image: "a",
+                trace: "t",
+            }),
+        },
+    ),
+    (
+        "smtsim script a --config c t",
+        Line {
+            config: Some("c"),
+            command: Command::Script(ScriptCommand {
+                image: "a",
+                trace: "t",
+            }),
+        },
+    ),
+    (
         "smtsim list list.elf",
         Line {
             config: None,
@@ -270,6 +290,7 @@ fn flags_of(line: &Line<'_>) -> (&'static str, [bool; 3]) {
         Command::Check(check) => ("check", [check.records, false, false]),
         Command::Plain(plain) => ("plain", [plain.records, false, false]),
         Command::Schedule(_) => ("schedule", [false; 3]),
+        Command::Script(_) => ("script", [false; 3]),
         Command::List(_) => ("list", [false; 3]),
     }
 }
@@ -296,7 +317,7 @@ fn each_line_is_read_with_its_files_and_options(rt: HostRuntime) {
 }
 
 /// A line of each command, and its files.
-static NAMED: [(Line<'_>, Named<'_>); 6] = [
+static NAMED: [(Line<'_>, Named<'_>); 7] = [
     (
         Line {
             config: Some("c"),
@@ -353,6 +374,16 @@ static NAMED: [(Line<'_>, Named<'_>); 6] = [
             }),
         },
         (Some("c"), Some("a"), Some("b"), None),
+    ),
+    (
+        Line {
+            config: Some("c"),
+            command: Command::Script(ScriptCommand {
+                image: "a",
+                trace: "t",
+            }),
+        },
+        (Some("c"), Some("a"), Some("t"), None),
     ),
     (
         Line {

@@ -66,7 +66,7 @@ filled-here (x ∷ held) zero d empty (suc j) = empty (suc j)
 filled-here (x ∷ held) (suc k) d empty zero = empty zero
 filled-here (x ∷ held) (suc k) d empty (suc j) = filled-here held k d (λ i. empty (suc i)) j
 
-held-there : (held : Holding) (k : ℕ) (done : DoneView) → k < length held
+pub held-there : (held : Holding) (k : ℕ) (done : DoneView) → k < length held
     → slice_index_or (slice_set held k (Some done)) k None ≡ Some done
 held-there held k done inside = get_or-set_same held k (Some done) None inside
 
@@ -75,7 +75,7 @@ replicated d zero k = refl
 replicated d (suc n) zero = refl
 replicated d (suc n) (suc k) = replicated d n k
 
-nobody-empty : (k : ℕ) → slice_index_or nobody k None ≡ None
+pub nobody-empty : (k : ℕ) → slice_index_or nobody k None ≡ None
 nobody-empty k = replicated None 16 k
 
 -- ---- An ask that lends and takes no job
@@ -100,7 +100,7 @@ plain_stands ask core said.Full next held replied leaves so =
     let full = replied.full in
     inr (subst (λ c. c.limit ≤ length c.past) (sym replied.unchanged) (omega (arith, full)))
 
-leaves_decided : (predict : Predictor) (ask : Ask) (core : CoreView) (s : Said) (next : CoreView)
+pub leaves_decided : (predict : Predictor) (ask : Ask) (core : CoreView) (s : Said) (next : CoreView)
     → PlainlyReplied ask core s next → LeavesNothing predict ask → IsDecidedIn predict core s
 leaves_decided predict ask core (said.Event e) next replied leaves = leaves core.setup core.past e replied.asked
 leaves_decided predict ask core (said.Job job e) next replied leaves = tt
@@ -108,7 +108,7 @@ leaves_decided predict ask core said.Idle next replied leaves = tt
 leaves_decided predict ask core said.Stranger next replied leaves = tt
 leaves_decided predict ask core said.Full next replied leaves = tt
 
-rename_replied : (predict : Predictor) (k h : ℕ) (core : CoreView) (s : Said) (next : CoreView)
+pub rename_replied : (predict : Predictor) (k h : ℕ) (core : CoreView) (s : Said) (next : CoreView)
     → PlainlyReplied (AskRename k h) core s next → IsDecidedIn predict core s
 rename_replied predict k h core (said.Event e) next replied = rename_decided predict k h core e next replied
 rename_replied predict k h core (said.Job job e) next replied = tt
@@ -117,7 +117,7 @@ rename_replied predict k h core said.Stranger next replied = tt
 rename_replied predict k h core said.Full next replied = tt
 
 -- Of a fetch, where all fetches of the history that it leaves go on where the function guesses.
-fetch_replied : (guess : ℕ → ℕ → ℕ → ℕ) (k : ℕ) (core : CoreView) (s : Said) (next : CoreView)
+pub fetch_replied : (guess : ℕ → ℕ → ℕ → ℕ) (k : ℕ) (core : CoreView) (s : Said) (next : CoreView)
     → PlainlyReplied (AskFetch k) core s next → AllFollow guess next.past → IsDecidedIn (predictor_of guess) core s
 fetch_replied guess k core (said.Event e) next replied all =
     let grown = subst (λ c. AllFollow guess c.past) replied.grows all in
@@ -316,10 +316,10 @@ module _ (guess : ℕ → ℕ → ℕ → ℕ) where
 -- ---- All actions
 
 -- A history has grown by what came after it. Where there was no room, the core is as it was.
-record HasGrown (core now : CoreView) : Type 0 where
-  newer : List Event
-  grown : now.past ≡ newer ++ core.past
-  full : core.limit ≤ length core.past → now ≡ core
+pub record HasGrown (core now : CoreView) : Type 0 where
+  pub newer : List Event
+  pub grown : now.past ≡ newer ++ core.past
+  pub full : core.limit ≤ length core.past → now ≡ core
 
 stands_grown : (core now : CoreView) → now ≡ core → HasGrown core now
 stands_grown core now same = record { newer = []; grown = ap (λ c. c.past) same; full = λ none. same }
@@ -394,7 +394,7 @@ acts_grown (action.Unit k) held after core now text acts =
     grown_on core acts.mid now (issue_grown k core acts.said acts.mid acts.issue.asked.replied)
     (where_grown (job_in acts.said) k acts.between after acts.mid now acts.second acts.back)
 
-all_grown : (actions : List Action) (held after : Holding) (core now : CoreView) (text : List ℕ)
+pub all_grown : (actions : List Action) (held after : Holding) (core now : CoreView) (text : List ℕ)
     → AllAct actions held after core now text → HasGrown core now
 all_grown [] held after core now text acts = stands_grown core now acts.1
 all_grown (x ∷ others) held after core now text acts =
@@ -443,7 +443,7 @@ all_good (text ∷ texts) (word ∷ words) spelled alone =
     (all_good texts words spelled.1 alone.1)
 
 -- Their asks are those of the words.
-asks_are : (words : List ScriptWord) → flat_map asks_of_action (actions_of words) ≡ asks_of words
+pub asks_are : (words : List ScriptWord) → flat_map asks_of_action (actions_of words) ≡ asks_of words
 asks_are [] = refl
 asks_are (word ∷ words) =
     flat_map-append asks_of_action (repeated word) (actions_of words)

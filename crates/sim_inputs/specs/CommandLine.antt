@@ -16,7 +16,7 @@ use Rattle.sim_inputs.specs.declared.line.Command.TheVariants as commands
 use Rattle.sim_inputs.specs.declared.line.{StepCommand.StepCommand, RunCommand.RunCommand}
 use Rattle.sim_inputs.specs.declared.line.{CheckCommand.CheckCommand, PlainCommand.PlainCommand}
 use Rattle.sim_inputs.specs.declared.line.{ScheduleCommand.ScheduleCommand}
-use Rattle.sim_inputs.specs.declared.line.{ListCommand.ListCommand}
+use Rattle.sim_inputs.specs.declared.line.{ScriptCommand.ScriptCommand, ListCommand.ListCommand}
 use Rattle.sim_inputs.specs.{declared.line.WordsRefused.TheVariants.Help}
 use Rattle.sim_inputs.specs.{declared.line.WordsRefused.TheVariants.Refused}
 use Rattle.sim_inputs.specs.{declared.line.WordsRefused.TheVariants.Memory}
@@ -84,11 +84,15 @@ plain_command = subcommand (codes "plain") (image_rule ∷ order_rule ∷ config
 abbrev pub schedule_command : App
 schedule_command = subcommand (codes "schedule") (image_rule ∷ order_rule ∷ config_rule ∷ [])
 
+-- `script IMAGE TRACE`, with `--config FILE`.
+abbrev pub script_command : App
+script_command = subcommand (codes "script") (image_rule ∷ trace_rule ∷ config_rule ∷ [])
+
 -- `list IMAGE`, with `--config FILE`.
 abbrev pub list_command : App
 list_command = subcommand (codes "list") (image_rule ∷ config_rule ∷ [])
 
--- The whole command line: one of the six subcommands must be there. `clap` adds `--help` and
+-- The whole command line: one of the seven subcommands must be there. `clap` adds `--help` and
 -- `help`.
 abbrev pub top : App
 top = let app =
@@ -96,7 +100,8 @@ top = let app =
 
 abbrev pub smtsim : App
 smtsim = fold (λ app sub. with_subcommand app sub.top) top (step_command ∷ run_command
-    ∷ check_command ∷ plain_command ∷ schedule_command ∷ list_command ∷ [])
+    ∷ check_command ∷ plain_command ∷ schedule_command ∷ script_command
+    ∷ list_command ∷ [])
 
 -- What `clap` is given: an argument and a command as data, neither of them for the commands below
 -- too.
@@ -157,6 +162,10 @@ pub record IsSchedule (rows : List Row) (schedule : ScheduleCommand) : Type 0 wh
   pub image : IsFile rows (codes "IMAGE") schedule.image
   pub order : IsFile rows (codes "ORDER") schedule.order
 
+pub record IsScript (rows : List Row) (script : ScriptCommand) : Type 0 where
+  pub image : IsFile rows (codes "IMAGE") script.image
+  pub trace : IsFile rows (codes "TRACE") script.trace
+
 pub record IsList (rows : List Row) (list : ListCommand) : Type 0 where
   pub image : IsFile rows (codes "IMAGE") list.image
 
@@ -168,6 +177,7 @@ IsCommandOf name rows (commands.Check check) = (name ≡ codes "check") × IsChe
 IsCommandOf name rows (commands.Plain plain) = (name ≡ codes "plain") × IsPlain rows plain
 IsCommandOf name rows (commands.Schedule schedule) =
     (name ≡ codes "schedule") × IsSchedule rows schedule
+IsCommandOf name rows (commands.Script script) = (name ≡ codes "script") × IsScript rows script
 IsCommandOf name rows (commands.List list) = (name ≡ codes "list") × IsList rows list
 
 -- A subcommand of this name, with what was found for it, is the line: its command, and the

@@ -37,6 +37,12 @@ files_with config (commands.Schedule schedule) = record {
   second = Some schedule.order;
   trace = None;
 }
+files_with config (commands.Script script) = record {
+  config = config;
+  image = Some script.image;
+  second = Some script.trace;
+  trace = None;
+}
 files_with config (commands.List list) = record {
   config = config;
   image = Some list.image;
@@ -45,6 +51,6 @@ files_with config (commands.List list) = record {
 }
 
 -- The configuration, the image, the file that is read beside them (the script, the trace that is
--- checked, or the order), and the file that the trace of a core is written to.
+-- read, or the order), and the file that the trace of a core is written to.
 abbrev pub files_of : Line → Files
 files_of line = files_with line.config line.command

@@ -47,7 +47,7 @@ A script has words apart by spaces or newlines, each an ask of an actor:
 Actors are 0 to {LAST_ACTOR}, and harts 0 to {LAST_HART}. Where *n stands behind a word, n from 1
 to 100000, the word is asked n times, as in F0*4.";
 
-/// How a trace is written, for the help of `check`.
+/// How a trace is written, for the help of `check` and of `script`.
 const TRACE_FORM: &str = "\
 A trace has the line smt-trace 1, then one for each event, the oldest first:
   F actor hart number pc word predicted       fetch
@@ -136,7 +136,7 @@ const WRITTEN_TRACE: Argument = Argument {
 };
 
 /// The subcommands, in the order in which help lists them.
-static SUBCOMMANDS: [Subcommand; 6] = [
+static SUBCOMMANDS: [Subcommand; 7] = [
     Subcommand {
         name: "step",
         about: "Make a script's asks of the core in order, and print a report",
@@ -166,6 +166,12 @@ static SUBCOMMANDS: [Subcommand; 6] = [
         about: "Print the script that makes the core retire in an order of harts",
         arguments: &[IMAGE, ORDER, CONFIG],
         form: ORDER_FORM,
+    },
+    Subcommand {
+        name: "script",
+        about: "Print the script that makes the core have a trace's history again",
+        arguments: &[IMAGE, TRACE, CONFIG],
+        form: TRACE_FORM,
     },
     Subcommand {
         name: "list",

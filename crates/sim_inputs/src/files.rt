@@ -10,7 +10,7 @@ pub struct Files<'a> {
     pub config: Option<&'a str>,
     /// The program that the harts run.
     pub image: Option<&'a str>,
-    /// The script, the trace that is checked, or the order.
+    /// The script, the trace that is read, or the order.
     pub second: Option<&'a str>,
     /// The file that the trace of a core is written to.
     pub trace: Option<&'a str>,
@@ -27,6 +27,7 @@ impl<'a> Line<'a> {
             Command::Check(check) => (Some(check.image), Some(check.trace), None),
             Command::Plain(plain) => (Some(plain.image), Some(plain.order), None),
             Command::Schedule(schedule) => (Some(schedule.image), Some(schedule.order), None),
+            Command::Script(script) => (Some(script.image), Some(script.trace), None),
             Command::List(list) => (Some(list.image), None, None),
         };
         Files {

@@ -21,7 +21,7 @@ pub use configuration::{ConfigRefused, read_config};
 pub use files::Files;
 pub use line::{
     CheckCommand, Command, Line, ListCommand, PlainCommand, RunCommand, ScheduleCommand,
-    StepCommand, WordsRefused,
+    ScriptCommand, StepCommand, WordsRefused,
 };
 pub use settings::Settings;
 pub use words::read_words;

@@ -16,6 +16,7 @@ pub enum Command<'a> {
     Check(CheckCommand<'a>),
     Plain(PlainCommand<'a>),
     Schedule(ScheduleCommand<'a>),
+    Script(ScriptCommand<'a>),
     List(ListCommand<'a>),
 }
 
@@ -68,6 +69,14 @@ pub struct PlainCommand<'a> {
 pub struct ScheduleCommand<'a> {
     pub image: &'a str,
     pub order: &'a str,
+}
+
+/// `script IMAGE TRACE`: the script that makes the core have the trace's history again is printed.
+#[derive(Clone, Copy, Drop)]
+pub struct ScriptCommand<'a> {
+    pub image: &'a str,
+    /// The file of the trace, which is read.
+    pub trace: &'a str,
 }
 
 /// `list IMAGE`: each word of the image's code is printed.

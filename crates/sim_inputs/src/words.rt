@@ -1,14 +1,15 @@
 ghost use Rattle.std.specs.Prelude.{◌≡◌, map, option_map, IfOk, IfErr};
 ghost use Rattle.clap.specs.Words.{first_of, found_of, kind_of, rows_of, subcommand_rows_of};
 ghost use Rattle.sim_inputs.specs.CommandLine.{is_flag_set, Finds, IsCommandOf, Names, Asks};
-ghost use Rattle.sim_inputs.specs.CommandLine.{IsStep, IsRun, IsCheck, IsPlain, IsSchedule, IsList};
+ghost use Rattle.sim_inputs.specs.CommandLine.{IsStep, IsRun, IsCheck, IsPlain, IsSchedule, IsScript};
+ghost use Rattle.sim_inputs.specs.CommandLine.{IsList};
 ghost use Rattle.sim_inputs.specs.CommandLine.{AreWordsRefusedFor, IsRefusalOf};
 
 use crate::description::describe;
 use crate::limits::with_limits;
 use crate::line::{
     CheckCommand, Command, Line, ListCommand, PlainCommand, RunCommand, ScheduleCommand,
-    StepCommand, WordsRefused,
+    ScriptCommand, StepCommand, WordsRefused,
 };
 use clap::error::ErrorKind;
 use clap::{ArgMatches, Error};
@@ -50,12 +51,13 @@ fn command_named<'a>(name: &str, found: &ArgMatches<'a>) -> Option<Command<'a>>
         "check" => Some(Command::Check(check_in(found)?)),
         "plain" => Some(Command::Plain(plain_in(found)?)),
         "schedule" => Some(Command::Schedule(schedule_in(found)?)),
+        "script" => Some(Command::Script(script_in(found)?)),
         "list" => Some(Command::List(list_in(found)?)),
         _ => None,
     }
 }
 
-/// The command `step` of what was found; none where a file is missing that it must have. The five
+/// The command `step` of what was found; none where a file is missing that it must have. The six
 /// below answer for their commands.
 fn step_in<'a>(found: &ArgMatches<'a>) -> Option<StepCommand<'a>>
     ensures { Finds (IsStep (rows_of (found_of found.now))) result }
@@ -106,6 +108,15 @@ fn schedule_in<'a>(found: &ArgMatches<'a>) -> Option<ScheduleCommand<'a>>
     Some(ScheduleCommand {
         image: file(found, "IMAGE")?,
         order: file(found, "ORDER")?,
+    })
+}
+
+fn script_in<'a>(found: &ArgMatches<'a>) -> Option<ScriptCommand<'a>>
+    ensures { Finds (IsScript (rows_of (found_of found.now))) result }
+{
+    Some(ScriptCommand {
+        image: file(found, "IMAGE")?,
+        trace: file(found, "TRACE")?,
     })
 }
 

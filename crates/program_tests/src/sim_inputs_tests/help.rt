@@ -12,10 +12,10 @@ use std::test::Fail;
 const COLUMNS: usize = 80;
 
 /// The words that ask for help, and what it tells; a bar stands between two of those.
-static HELPS: [(&str, &str); 7] = [
+static HELPS: [(&str, &str); 8] = [
     (
         "smtsim --help",
-        "Usage: smtsim <COMMAND>|step|run|check|plain|schedule|list|\
+        "Usage: smtsim <COMMAND>|step|run|check|plain|schedule|script|list|\
 harts|extra|queue|ram|limit|turns|actors",
     ),
     (
@@ -39,6 +39,10 @@ F actor hart number pc word predicted|T actor number value next address data out
     (
         "smtsim schedule --help",
         "Usage: smtsim schedule [OPTIONS] <IMAGE> <ORDER>|--config <FILE>|0 to 255",
+    ),
+    (
+        "smtsim script --help",
+        "Usage: smtsim script [OPTIONS] <IMAGE> <TRACE>|--config <FILE>|smt-trace 1",
     ),
     (
         "smtsim list --help",

@@ -40,6 +40,11 @@ smtsim schedule a b c
 smtsim schedule --records a b
 smtsim schedule --show a b
 smtsim schedule --trace t a b
+smtsim script a
+smtsim script a b c
+smtsim script --records a b
+smtsim script --show a b
+smtsim script --trace t a b
 smtsim list
 smtsim list first.elf first.script
 smtsim list --records first.elf
@@ -64,6 +69,6 @@ fn other_words_are_refused(rt: HostRuntime) {
         holds(&rt, text, are_refused(text, rt.alloc()) == Ok(true));
         rows = rows.wrapping_add(1);
     }
-    assert!(rt; rows == 38);
+    assert!(rt; rows == 43);
     assert!(rt; is_refusal(read_words(&[], rt.alloc())));
 }

@@ -1,0 +1,5 @@
+pub mod Asked
+pub mod Deciding
+pub mod Lines
+pub mod Refusals
+pub mod Again
