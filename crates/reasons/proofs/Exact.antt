@@ -4,10 +4,10 @@ use Rattle.events.specs.declared.event.Event.{Event}
 use Rattle.smt_model.specs.{Asks.Ask, Asks.AskFetch, Asks.AskDecode, Asks.AskRename, Asks.AskIssue}
 use Rattle.smt_model.specs.{Asks.AskComplete, Asks.AskRetire, Setup.Setup, Rules.is_legal}
 use Rattle.reasons.specs.{Reasons.first_named, Reasons.reasons, Exact.MayCome, Exact.ReasonsAreExact}
-use Rattle.reasons.proofs.Fetching.{fetch_may, fetch_by}
-use Rattle.reasons.proofs.Harts.{decode_may, decode_by, retire_may, retire_by}
-use Rattle.reasons.proofs.Renaming.{rename_may, rename_by}
-use Rattle.reasons.proofs.Units.{issue_may, issue_by, complete_may, complete_by}
+use Rattle.reasons.proofs.FetchLaw.{fetch_may, fetch_by}
+use Rattle.reasons.proofs.HartLaws.{decode_may, decode_by, retire_may, retire_by}
+use Rattle.reasons.proofs.RenameLaw.{rename_may, rename_by}
+use Rattle.reasons.proofs.UnitLaws.{issue_may, issue_by, complete_may, complete_by}
 
 may_come : (setup : Setup) (past : List Event) → is_legal setup past → (ask : Ask)
     → first_named (reasons setup past ask) ≡ None → MayCome setup past ask

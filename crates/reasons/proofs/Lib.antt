@@ -1,6 +1,7 @@
 pub mod Naming
-pub mod Fetching
-pub mod Harts
-pub mod Renaming
-pub mod Units
+pub mod FetchLaw
+pub mod HartLaws
+pub mod RenameLaw
+pub mod UnitLaws
 pub mod Exact
+pub mod Waiting

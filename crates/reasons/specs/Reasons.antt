@@ -49,8 +49,8 @@ no_unit setup k = named (is_none (unit_of_actor setup k)) (reason.NoUnit k)
 abbrev pub fetch_reasons : Setup → List Event → ℕ → List (Option Reason)
 fetch_reasons setup past k =
     no_actor setup k
-    ∷ named (list_all (λ h. not (is_going past h)) (below setup.harts)) reason.NoHartGoes
-    ∷ named (list_all (λ h. not (may_fetch past h)) (below setup.harts)) reason.DecodeLatchesFull
+    ∷ named (how_many (is_going past) (below setup.harts) == 0) reason.NoHartGoes
+    ∷ named (how_many (may_fetch past) (below setup.harts) == 0) reason.DecodeLatchesFull
     ∷ []
 
 -- ---- A step of one hart

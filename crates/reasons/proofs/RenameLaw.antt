@@ -25,7 +25,7 @@ use Rattle.reasons.specs.{declared.reason.Reason.Reason, Exact.MayCome}
 use Rattle.reasons.specs.declared.reason.Reason.TheVariants as reason
 use Rattle.reasons.proofs.Naming.{none_named, named_none, unnamed, fails, not_false, not_true, not_empty}
 use Rattle.reasons.proofs.Naming.{first_of, not_all, one_fails}
-use Rattle.reasons.proofs.Harts.{hart_none, asked_both, first_is, at_place, from_place, is_the_first}
+use Rattle.reasons.proofs.HartLaws.{hart_none, asked_both, first_is, at_place, from_place, is_the_first}
 
 -- ---- Tests of those of one kind alone
 

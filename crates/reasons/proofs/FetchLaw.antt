@@ -1,7 +1,6 @@
 -- A fetch: some hart may be fetched exactly where one is chosen.
 use Rattle.std.specs.Prelude.{◌≡◌, ℕ, ◌<◌, Bool, true, false, not, ◌==◌, ◌&&◌, ◌||◌, nat_lt, List, [], ◌∷◌, ◌++◌, filter}
 use Rattle.std.specs.Prelude.{length, Option, Some, None}
-use Rattle.std.specs.List.{list_all}
 use Rattle.std.proofs.Common.{◌∙◌, refl, sym, ap, subst, inl, inr, arith}
 use Rattle.std.proofs.{lemmas.Bool.cases_Bool, lemmas.Bool.Decides.nat_tests}
 use Rattle.numbers.specs.Sizes.{latch_room}
@@ -10,17 +9,17 @@ use Rattle.events.specs.declared.event.Event.{Event}
 use Rattle.events.specs.declared.event.Event.TheVariants.{Fetch, Decode, Rename, Issue, Complete, Drop, Retire}
 use Rattle.smt_model.specs.{Asks.AskFetch, Asks.answers, Setup.Setup, Jobs.is_actor, Memory.is_going}
 use Rattle.smt_model.specs.{Fates.fetches, Flights.in_decode, Flights.icount, Rules.refused, Rules.is_legal}
-use Rattle.smt_model.specs.Basics.{below, first_least, least_from, same_number}
+use Rattle.smt_model.specs.Basics.{below, first_least, how_many, least_from, same_number}
 use Rattle.smt_model.specs.Fetching.{is_after, turn, may_fetch, last_fetched, choice, fetch_pc}
 use Rattle.smt_model.proofs.Allowed.{fetch_allowed, fetch_allows}
 use Rattle.smt_model.proofs.Lists.{member, member-append, filter-member}
 use Rattle.smt_model.proofs.{Fates.Moves.same_number-self, Registers.Claims.member-below}
-use Rattle.smt_model.proofs.Registers.Claims.{below-member}
+use Rattle.smt_model.proofs.Registers.Claims.{below-member, counted, who_counts}
 use Rattle.smt_laws.proofs.Fates.Choosing.{IsChosen, fetch_chosen}
 use Rattle.reasons.specs.Reasons.{first_named, fetch_reasons, no_actor}
 use Rattle.reasons.specs.{declared.reason.Reason.Reason, Exact.MayCome}
 use Rattle.reasons.specs.declared.reason.Reason.TheVariants as reason
-use Rattle.reasons.proofs.Naming.{none_named, named_none, unnamed, fails, not_false, not_true, not_all, one_fails}
+use Rattle.reasons.proofs.Naming.{none_named, named_none, unnamed, fails, not_false, not_true}
 
 -- ---- Where one may be fetched, one is chosen
 
@@ -86,10 +85,9 @@ pub fetch_may : (setup : Setup) (past : List Event) (k : ℕ) → first_named (f
 fetch_may setup past k none =
     let each = named_none (fetch_reasons setup past k) none in
     let is_one = not_true (is_actor setup k) (fails (not (is_actor setup k)) (reason.NoActor k) each.0) in
-    let one = not_all (λ h. not (may_fetch past h)) (below setup.harts)
-    (fails (list_all (λ h. not (may_fetch past h)) (below setup.harts)) reason.DecodeLatchesFull each.1.1.0) in
-    let found = chooses setup past one.number (member-below setup.harts one.number one.there)
-    (not_true (may_fetch past one.number) one.failed) in
+    let some = fails (how_many (may_fetch past) (below setup.harts) == 0) reason.DecodeLatchesFull each.1.1.0 in
+    let one = who_counts (may_fetch past) (below setup.harts) (grind (arith, nat_tests)) in
+    let found = chooses setup past one.one (member-below setup.harts one.one one.inside) one.passes in
     fetch_of setup past k found.hart is_one found.chosen
 
 -- ---- Where an event may come, none is named
@@ -100,6 +98,10 @@ may_both past h going room =
     let fits : nat_lt (length (in_decode past h)) latch_room ≡ true = grind (arith, nat_tests) in
     rw (going, fits) refl
 
+some_counted : (test : ℕ → Bool) (xs : List ℕ) (n : ℕ) → member n xs ≡ true → test n ≡ true
+    → (how_many test xs == 0) ≡ false
+some_counted test xs n there passes = let some = counted test xs n there passes in grind (arith, nat_tests)
+
 fetch_none : (setup : Setup) (past : List Event) (k h s pc : ℕ) (word : Option ℕ) (predicted : ℕ)
     → refused setup past (Fetch k h s pc word predicted) ≡ None → first_named (fetch_reasons setup past k) ≡ None
 fetch_none setup past k h s pc word predicted ok =
@@ -109,13 +111,12 @@ fetch_none setup past k h s pc word predicted ok =
     none_named (fetch_reasons setup past k) (
       unnamed (not (is_actor setup k)) (reason.NoActor k) (not_false (is_actor setup k) rule.actor_is),
       (
-        unnamed (list_all (λ g. not (is_going past g)) (below setup.harts)) reason.NoHartGoes
-            (one_fails (λ g. not (is_going past g)) (below setup.harts) h there
-            (not_false (is_going past h) is_chosen.going)),
+        unnamed (how_many (is_going past) (below setup.harts) == 0) reason.NoHartGoes
+            (some_counted (is_going past) (below setup.harts) h there is_chosen.going),
         (
-          unnamed (list_all (λ g. not (may_fetch past g)) (below setup.harts)) reason.DecodeLatchesFull
-              (one_fails (λ g. not (may_fetch past g)) (below setup.harts) h there
-              (not_false (may_fetch past h) (may_both past h is_chosen.going is_chosen.room))),
+          unnamed (how_many (may_fetch past) (below setup.harts) == 0) reason.DecodeLatchesFull
+              (some_counted (may_fetch past) (below setup.harts) h there
+              (may_both past h is_chosen.going is_chosen.room)),
           tt,
         ),
       ),
