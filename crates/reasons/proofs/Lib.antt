@@ -5,3 +5,4 @@ pub mod RenameLaw
 pub mod UnitLaws
 pub mod Exact
 pub mod Waiting
+pub mod Named

@@ -56,7 +56,7 @@ pub(crate) fn no_rename(core: &Core, actor: u8, hart: u8) -> Option<Reason>
     no_room_for(core, hart, slot.op)
 }
 
-/// Why an instruction of this hart can't be in flight: as many loads are, as may be, and it is one,
+/// Why an instruction of this hart can't be in flight: as many loads are as may be, and it is one,
 /// or stores; or it writes a register, and none is free.
 fn no_room_for(core: &Core, hart: u8, op: Op) -> Option<Reason>
     requires { hart < core.now.setup.harts }
@@ -66,17 +66,39 @@ fn no_room_for(core: &Core, hart: u8, op: Op) -> Option<Reason>
         ∷ named (writes_register op && no_register core.now.setup core.now.past) reason.NoFreeRegister
         ∷ []) }
 {
-    let active = hart_of(core, hart).active.items();
-    if op.kind().is_loading() && loads(active) >= MOST_ACCESSES {
+    if has_full_loads(core, hart, op) {
         return Some(Reason::LoadsFull { hart });
     }
-    if op.kind().is_storing() && stores(active) >= MOST_ACCESSES {
+    if has_full_stores(core, hart, op) {
         return Some(Reason::StoresFull { hart });
     }
-    if op.writes_register() && core.free_registers().is_empty() {
+    if lacks_register(core, op) {
         return Some(Reason::NoFreeRegister);
     }
     None
+}
+
+/// Whether it is a load, and as many loads of its hart are in flight as may be.
+fn has_full_loads(core: &Core, hart: u8, op: Op) -> bool
+    requires { hart < core.now.setup.harts }
+    ensures { result ≡ (is_load op && is_crowded is_load core.now.past hart) }
+{
+    op.kind().is_loading() && loads(hart_of(core, hart).active.items()) >= MOST_ACCESSES
+}
+
+/// Whether it is a store, and as many stores of its hart are in flight as may be.
+fn has_full_stores(core: &Core, hart: u8, op: Op) -> bool
+    requires { hart < core.now.setup.harts }
+    ensures { result ≡ (is_store op && is_crowded is_store core.now.past hart) }
+{
+    op.kind().is_storing() && stores(hart_of(core, hart).active.items()) >= MOST_ACCESSES
+}
+
+/// Whether it writes a register, and none is free.
+fn lacks_register(core: &Core, op: Op) -> bool
+    ensures { result ≡ (writes_register op && no_register core.now.setup core.now.past) }
+{
+    op.writes_register() && core.free_registers().is_empty()
 }
 
 /// How many of these are loads.

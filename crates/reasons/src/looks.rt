@@ -1,7 +1,7 @@
 //! What a core has of an actor and of a hart.
 
 ghost use Rattle.std.specs.Prelude.{◌≡◌, ◌<◌, true};
-ghost use Rattle.core_parts.specs.Agree.{HartAgrees};
+ghost use Rattle.core_parts.specs.Agree.{HartAgrees, HasOpenJob};
 ghost use Rattle.smt_model.specs.Basics.{below, how_many};
 ghost use Rattle.smt_model.specs.Fetching.{may_fetch};
 ghost use Rattle.smt_model.specs.Jobs.{is_actor, job, unit_of_actor};
@@ -10,7 +10,7 @@ ghost use Rattle.smt_model.specs.Setup.{unit_of_role};
 ghost use Rattle.reasons.specs.Reasons.{no_actor, no_unit};
 
 use crate::reason::Reason;
-use core_parts::HartState;
+use core_parts::{HartState, OpenJob};
 use numbers::Seq;
 use rv_instr::UnitKind;
 use smt_core::Core;
@@ -65,8 +65,19 @@ pub(crate) fn job_of(core: &Core, actor: u8) -> Option<Seq>
     requires { is_actor core.now.setup actor ≡ true }
     ensures { result ≡ job core.now.past actor }
 {
-    let job = core.parts().0.jobs[usize::from(actor)]?;
-    Some(job.seq)
+    match open_job(core, actor) {
+        Some(job) => Some(job.seq),
+        None => None,
+    }
+}
+
+fn open_job(core: &Core, actor: u8) -> Option<OpenJob>
+    requires { is_actor core.now.setup actor ≡ true }
+    ensures { HasOpenJob (picture core.now.setup core.now.past) actor result }
+{
+    // A core has 16 actors at the most: that is a clause of this call.
+    let _events = core.history().len();
+    core.parts().0.jobs[usize::from(actor)]
 }
 
 /// What hart `hart` has of its own.

@@ -6,7 +6,7 @@ ghost use Rattle.core_parts.specs.Agree.{IsEntry, IsStage};
 ghost use Rattle.rv_instr.specs.Registers.{op_unit};
 ghost use Rattle.smt_model.specs.Basics.{same_number};
 ghost use Rattle.smt_model.specs.Fates.{fetching};
-ghost use Rattle.smt_model.specs.Kinds.{same_unit};
+ghost use Rattle.smt_model.specs.Kinds.{first_source, same_unit, second_source};
 ghost use Rattle.smt_model.specs.Picture.{picture};
 ghost use Rattle.reasons.specs.Reasons.{complete_reasons, first_named, issue_reasons, oldest_waits};
 ghost use Rattle.reasons.specs.Reasons.{unready, writer_for};
@@ -18,7 +18,7 @@ use crate::reason::Reason;
 use issue_queue::{Entry, Source};
 use numbers::{Phys, Reg};
 use retire_squash::Active;
-use rv_instr::UnitKind;
+use rv_instr::{Op, UnitKind};
 use smt_core::Core;
 
 /// Why actor `actor` can't issue.
@@ -107,9 +107,23 @@ fn register_waited(entry: &Entry) -> Reg
 {
     let [first, _] = entry.sources;
     match first {
-        Source::Value(_) => entry.op.rs2().unwrap_or(0),
-        Source::Waits(_) => entry.op.rs1().unwrap_or(0),
+        Source::Value(_) => second_source(entry.op),
+        Source::Waits(_) => first_source(entry.op),
     }
+}
+
+#[tactic(auto, unfolding(rv_instr::specs::Kinds::first_source))]
+fn first_source(op: Op) -> Reg
+    ensures { result ≡ first_source op }
+{
+    op.rs1().unwrap_or(0)
+}
+
+#[tactic(auto, unfolding(rv_instr::specs::Kinds::second_source))]
+fn second_source(op: Op) -> Reg
+    ensures { result ≡ second_source op }
+{
+    op.rs2().unwrap_or(0)
 }
 
 /// The physical register that the first source without a number waits for; 0 where both have one.
