@@ -127,9 +127,9 @@ decode_none setup past legal k h s of_h ok =
     let lives : is_live (fate past s) ≡ true = grind (arith, nat_tests) in
     none_named (decode_reasons setup past k h) (hart_none setup past legal k h s rule.actor_is of_h lives
     (
-      named (length (in_decode past h) == 0) (reason.NothingFetched h)
-      ∷ named (not (nat_lt (length (in_rename past h)) latch_room)) (reason.RenameLatchFull h)
-      ∷ []
+    named (length (in_decode past h) == 0) (reason.NothingFetched h)
+    ∷ named (not (nat_lt (length (in_rename past h)) latch_room)) (reason.RenameLatchFull h)
+    ∷ []
     ) (
       unnamed (length (in_decode past h) == 0) (reason.NothingFetched h) (not_empty (in_decode past h) s oldest),
       (
@@ -214,9 +214,9 @@ retire_none setup past legal k h s effect of_h ok =
     let lives : is_live (fate past s) ≡ true = grind (arith, nat_tests) in
     none_named (retire_reasons setup past k h) (hart_none setup past legal k h s rule.actor_is of_h lives
     (
-      named (length (flight past h) == 0) (reason.NothingInFlight h)
-      ∷ not_completed past (first (flight past h))
-      ∷ []
+    named (length (flight past h) == 0) (reason.NothingInFlight h)
+    ∷ not_completed past (first (flight past h))
+    ∷ []
     ) (
       unnamed (length (flight past h) == 0) (reason.NothingInFlight h) (not_empty (flight past h) s oldest),
       (completed_none past (first (flight past h)) s oldest fated, tt),

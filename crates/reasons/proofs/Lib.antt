@@ -6,3 +6,4 @@ pub mod UnitLaws
 pub mod Exact
 pub mod Waiting
 pub mod Named
+pub mod InParts

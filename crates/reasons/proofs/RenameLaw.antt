@@ -165,13 +165,13 @@ rename_none setup past legal k h s phys of_h ok =
     let lives : is_live (fate past s) ≡ true = grind (arith, nat_tests) in
     none_named (rename_reasons setup past k h) (hart_none setup past legal k h s rule.actor_is of_h lives
     (
-      named (length (in_rename past h) == 0) (reason.NothingDecoded h)
-      ∷ named (not (nat_lt (length (queue past)) setup.queue)) reason.QueueFull
-      ∷ named (not (nat_lt (length (flight past h)) most_in_flight)) (reason.FlightFull h)
-      ∷ named (oldest_decoded is_load past h && is_crowded is_load past h) (reason.LoadsFull h)
-      ∷ named (oldest_decoded is_store past h && is_crowded is_store past h) (reason.StoresFull h)
-      ∷ named (oldest_decoded writes_register past h && no_register setup past) reason.NoFreeRegister
-      ∷ []
+    named (length (in_rename past h) == 0) (reason.NothingDecoded h)
+    ∷ named (not (nat_lt (length (queue past)) setup.queue)) reason.QueueFull
+    ∷ named (not (nat_lt (length (flight past h)) most_in_flight)) (reason.FlightFull h)
+    ∷ named (oldest_decoded is_load past h && is_crowded is_load past h) (reason.LoadsFull h)
+    ∷ named (oldest_decoded is_store past h && is_crowded is_store past h) (reason.StoresFull h)
+    ∷ named (oldest_decoded writes_register past h && no_register setup past) reason.NoFreeRegister
+    ∷ []
     ) (
       unnamed (length (in_rename past h) == 0) (reason.NothingDecoded h) (not_empty (in_rename past h) s oldest),
       (

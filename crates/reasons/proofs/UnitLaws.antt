@@ -218,10 +218,10 @@ complete_of setup past legal k s is_one at =
     ap (λ o. same_number o (Some s)) at ∙ same_number-self (Some s) in
     elim (cases_Bool (is (fate past s) Squashed)) [
       | inl gone ↦ record {
-          event = Drop k s;
-          answer = same_self k;
-          allowed = drop_allows setup past k s (record { actor_is = is_one; lent = lent; fated = gone });
-        }
+        event = Drop k s;
+        answer = same_self k;
+        allowed = drop_allows setup past k s (record { actor_is = is_one; lent = lent; fated = gone });
+      }
       | inr spared ↦
           let open_one = (sound setup past legal).jobs k s at in
           let found = known_fetched setup past legal s (grind (arith, nat_tests)) in

@@ -16,7 +16,7 @@ use Rattle.smt_model.specs.Kinds.{first_source, second_source}
 use Rattle.smt_model.specs.Fates.{Fetched, fate, fetching, is_in_flight, is_of, op_at, op_of_fetched, stage}
 use Rattle.smt_model.specs.{Flights.numbers, Flights.flight, Picture.Picture, Picture.picture, Picture.source_register_in}
 use Rattle.smt_model.specs.Registers.{phys, source, source_register, committer, committed, register_by}
-use Rattle.smt_model.specs.Registers.{first_register, value, reading, reads}
+use Rattle.smt_model.specs.Registers.{first_register, is_ready, value, reading, reads}
 use Rattle.smt_model.proofs.Lists.{member, filter-member}
 use Rattle.smt_model.proofs.Fates.Moves.{same_number-is, same_number-self}
 use Rattle.smt_model.proofs.Fates.Numbers.{numbers-member}
@@ -25,7 +25,8 @@ use Rattle.smt_laws.proofs.{Registers.Operands.IsSourceName, Registers.Operands.
 use Rattle.smt_laws.proofs.Registers.Below.{first_source-below, second_source-below}
 use Rattle.smt_laws.proofs.Registers.Sources.{source-is, source-committed, source-none}
 use Rattle.smt_laws.proofs.{Registers.Held.writer_named, Registers.Held.some_is, Registers.Counts.flights-once}
-use Rattle.core_parts.specs.Agree.{IsEntry, IsActive, IsStage, source_at, source_of}
+use Rattle.core_parts.specs.Agree.{HartAgrees, IsEntry, IsActive, IsStage, source_at, source_of}
+use Rattle.core_parts.specs.declared.hart.HartState.{HartState}
 use Rattle.reasons.specs.Reasons.{waited_register, writer_for}
 use Rattle.reasons.specs.Waiting.{register_waited, first_waiting}
 
@@ -242,13 +243,13 @@ find_writer setup past legal h w p flies names (x ∷ xs) all there =
     let own : x.phys ≡ phys past x.seq = all.0.phys in
     elim (cases_Bool (same_number x.phys (Some p))) [
       | inl here ↦ record {
-          active = x;
-          found = rw here refl;
-          number =
-              flights-once setup past legal x.seq w p (stage_flies (picture setup past) x.seq x.stage all.0.stage) flies
-              (sym own ∙ same_number-is x.phys (Some p) here) names;
-          is = all.0;
-        }
+        active = x;
+        found = rw here refl;
+        number =
+            flights-once setup past legal x.seq w p (stage_flies (picture setup past) x.seq x.stage all.0.stage) flies
+            (sym own ∙ same_number-is x.phys (Some p) here) names;
+        is = all.0;
+      }
       | inr other ↦
           let apart : (x.seq == w) ≡ false =
           elim (cases_Bool (x.seq == w)) [
@@ -269,3 +270,77 @@ pub in_flight_list : (setup : Setup) (past : List Event) → is_legal setup past
 in_flight_list setup past legal h w of_h flies =
     filter-member (λ s. is_in_flight (fate past s)) w (numbers past h)
     (numbers-member setup past legal h w of_h) flies
+
+both_tests : (a b c d : Bool) → a ≡ c → b ≡ d → (a && (b && true)) ≡ (c && d)
+both_tests a b true true one two = rw (one, two) refl
+both_tests a b true false one two = rw (one, two) refl
+both_tests a b false d one two = rw one refl
+
+pub is_valued : (setup : Setup) (past : List Event) (e : Entry) → IsEntry (picture setup past) e
+    → has_values e ≡ is_ready setup past e.seq
+is_valued setup past e is =
+    ap (λ xs. list_all is_value xs) is.sources
+    ∙ both_tests (is_value (source_at (picture setup past) first_source e.seq))
+    (is_value (source_at (picture setup past) second_source e.seq))
+    (is_some (reads setup first_source past e.seq)) (is_some (reads setup second_source past e.seq))
+    (value_known (reads setup first_source past e.seq) ((picture setup past).seen first_source e.seq))
+    (value_known (reads setup second_source past e.seq) ((picture setup past).seen second_source e.seq))
+
+-- What is found in the active list of an entry's hart.
+pub record IsAwaitedOne (setup : Setup) (past : List Event) (e : Entry) (r : Option Active) : Type 0 where
+  pub active : Active
+  pub is : r ≡ Some active
+  pub stage : IsStage (picture setup past) active.seq active.stage
+  pub number : active.seq ≡ writer_for past (fetching past e.seq) (register_waited e) e.seq
+
+module _ (setup : Setup) (past : List Event) (legal : is_legal setup past) (e : Entry)
+    (is : IsEntry (picture setup past) e) where
+  pub entry_there : e.hart < setup.harts
+  entry_there = hart_there setup past legal e.hart e.seq (own setup past legal e is)
+
+  pub awaited_in : has_values e ≡ false → (x : HartState) → HartAgrees (picture setup past) e.hart x
+      → (ys : List Active) → ys ≡ x.active → (q : ℕ) → q ≡ first_waiting e.sources → (r : Option Active)
+      → r ≡ find (λ (a : Active). same_number a.phys (Some q)) ys → IsAwaitedOne setup past e r
+  awaited_in waits x agrees ys same q at r looked =
+      let one = is_awaited setup past legal e is waits in
+      let w = one.writer.writer in
+      let p = source_register past e.hart (register_waited e) e.seq in
+      let there : member w (map (λ a. a.seq) x.active) ≡ true =
+      subst (λ ns. member w ns ≡ true) (sym agrees.active)
+      (in_flight_list setup past legal e.hart w one.writer.of_hart one.writer.flies) in
+      let found = find_writer setup past legal e.hart w p one.writer.flies one.writer.named x.active agrees.actives
+      there in
+      record {
+        active = found.active;
+        is =
+            looked ∙ (ap (find (λ (a : Active). same_number a.phys (Some q))) same
+            ∙ (ap (λ z. find (λ (a : Active). same_number a.phys (Some z)) x.active) (at ∙ one.awaits) ∙ found.found));
+        stage = found.is.stage;
+        number =
+            found.number ∙ sym (ap (λ o. writer_for past o (register_waited e) e.seq) is.fetched
+            ∙ (ap (λ h. or_zero (source past h (register_waited e) e.seq)) is.hart
+            ∙ ap or_zero one.writer.is));
+      }
+
+some_inner : {A : Type 0} → (a b : A) → Some a ≡ Some b → a ≡ b
+some_inner a b same = cc
+
+none_some : {A : Type 0} → (a : A) → None ≡ Some a → ⊥
+none_some a same = absurd cc
+
+-- The same of what the code found.
+pub one_found : (setup : Setup) (past : List Event) (e : Entry) (r : Option Active) → IsAwaitedOne setup past e r
+    → r ≡ None → ⊥
+one_found setup past e r one none = none_some one.active (sym none ∙ one.is)
+
+pub stage_of : (setup : Setup) (past : List Event) (e : Entry) (r : Option Active) → IsAwaitedOne setup past e r
+    → (a : Active) → r ≡ Some a → IsStage (picture setup past) a.seq a.stage
+stage_of setup past e r one a at =
+    subst (λ (x : Active). IsStage (picture setup past) x.seq x.stage) (some_inner one.active a (sym one.is ∙ at))
+    one.stage
+
+pub number_of : (setup : Setup) (past : List Event) (e : Entry) (r : Option Active) → IsAwaitedOne setup past e r
+    → (a : Active) → r ≡ Some a
+    → a.seq ≡ writer_for past (fetching past e.seq) (register_waited e) e.seq
+number_of setup past e r one a at =
+    ap (λ (x : Active). x.seq) (sym (some_inner one.active a (sym one.is ∙ at))) ∙ one.number

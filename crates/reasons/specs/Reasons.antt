@@ -71,9 +71,9 @@ of_hart setup past k h others =
 abbrev pub decode_reasons : Setup → List Event → ℕ → ℕ → List (Option Reason)
 decode_reasons setup past k h =
     of_hart setup past k h (
-      named (length (in_decode past h) == 0) (reason.NothingFetched h)
-      ∷ named (not (nat_lt (length (in_rename past h)) latch_room)) (reason.RenameLatchFull h)
-      ∷ []
+    named (length (in_decode past h) == 0) (reason.NothingFetched h)
+    ∷ named (not (nat_lt (length (in_rename past h)) latch_room)) (reason.RenameLatchFull h)
+    ∷ []
     )
 
 -- The hart's oldest decoded instruction passes the test.
@@ -97,14 +97,14 @@ no_register setup past = list_all (λ p. not (is_free setup past p)) (below (reg
 abbrev pub rename_reasons : Setup → List Event → ℕ → ℕ → List (Option Reason)
 rename_reasons setup past k h =
     of_hart setup past k h (
-      named (length (in_rename past h) == 0) (reason.NothingDecoded h)
-      ∷ named (not (nat_lt (length (queue past)) setup.queue)) reason.QueueFull
-      ∷ named (not (nat_lt (length (flight past h)) most_in_flight)) (reason.FlightFull h)
-      ∷ named (oldest_decoded is_load past h && is_crowded is_load past h) (reason.LoadsFull h)
-      ∷ named (oldest_decoded is_store past h && is_crowded is_store past h) (reason.StoresFull h)
-      ∷ named (oldest_decoded writes_register past h && no_register setup past)
-          reason.NoFreeRegister
-      ∷ []
+    named (length (in_rename past h) == 0) (reason.NothingDecoded h)
+    ∷ named (not (nat_lt (length (queue past)) setup.queue)) reason.QueueFull
+    ∷ named (not (nat_lt (length (flight past h)) most_in_flight)) (reason.FlightFull h)
+    ∷ named (oldest_decoded is_load past h && is_crowded is_load past h) (reason.LoadsFull h)
+    ∷ named (oldest_decoded is_store past h && is_crowded is_store past h) (reason.StoresFull h)
+    ∷ named (oldest_decoded writes_register past h && no_register setup past)
+    reason.NoFreeRegister
+    ∷ []
     )
 
 -- The oldest in flight, where there is one and it hasn't completed.
@@ -116,9 +116,9 @@ not_completed past (Some s) =
 abbrev pub retire_reasons : Setup → List Event → ℕ → ℕ → List (Option Reason)
 retire_reasons setup past k h =
     of_hart setup past k h (
-      named (length (flight past h) == 0) (reason.NothingInFlight h)
-      ∷ not_completed past (first (flight past h))
-      ∷ []
+    named (length (flight past h) == 0) (reason.NothingInFlight h)
+    ∷ not_completed past (first (flight past h))
+    ∷ []
     )
 
 -- ---- A step of a unit

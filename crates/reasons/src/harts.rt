@@ -83,7 +83,14 @@ fn has_full_loads(core: &Core, hart: u8, op: Op) -> bool
     requires { hart < core.now.setup.harts }
     ensures { result ≡ (is_load op && is_crowded is_load core.now.past hart) }
 {
-    op.kind().is_loading() && loads(hart_of(core, hart).active.items()) >= MOST_ACCESSES
+    op.kind().is_loading() && are_loads_full(core, hart)
+}
+
+fn are_loads_full(core: &Core, hart: u8) -> bool
+    requires { hart < core.now.setup.harts }
+    ensures { result ≡ is_crowded is_load core.now.past hart }
+{
+    loads(hart_of(core, hart).active.items()) >= MOST_ACCESSES
 }
 
 /// Whether it is a store, and as many stores of its hart are in flight as may be.
@@ -91,14 +98,27 @@ fn has_full_stores(core: &Core, hart: u8, op: Op) -> bool
     requires { hart < core.now.setup.harts }
     ensures { result ≡ (is_store op && is_crowded is_store core.now.past hart) }
 {
-    op.kind().is_storing() && stores(hart_of(core, hart).active.items()) >= MOST_ACCESSES
+    op.kind().is_storing() && are_stores_full(core, hart)
+}
+
+fn are_stores_full(core: &Core, hart: u8) -> bool
+    requires { hart < core.now.setup.harts }
+    ensures { result ≡ is_crowded is_store core.now.past hart }
+{
+    stores(hart_of(core, hart).active.items()) >= MOST_ACCESSES
 }
 
 /// Whether it writes a register, and none is free.
 fn lacks_register(core: &Core, op: Op) -> bool
     ensures { result ≡ (writes_register op && no_register core.now.setup core.now.past) }
 {
-    op.writes_register() && core.free_registers().is_empty()
+    op.writes_register() && no_register(core)
+}
+
+fn no_register(core: &Core) -> bool
+    ensures { result ≡ no_register core.now.setup core.now.past }
+{
+    core.free_registers().is_empty()
 }
 
 /// How many of these are loads.

@@ -94,6 +94,8 @@ fn writer_for(core: &Core, entry: &Entry) -> Active
         ≡ writer_for core.now.past (fetching core.now.past entry.now.seq)
         (register_waited entry.now) entry.now.seq }
 {
+    // The history is legal: that is a clause of this call.
+    let _events = core.history().len();
     let active = hart_of(core, entry.hart).active.items();
     match holder_of(active, first_waiting(entry)) {
         Some(writer) => writer,
