@@ -53,6 +53,9 @@ records_rule = flag_rule (codes "records")
 abbrev pub show_rule : Rule
 show_rule = flag_rule (codes "show")
 
+abbrev pub why_rule : Rule
+why_rule = flag_rule (codes "why")
+
 abbrev pub written_trace_rule : Rule
 written_trace_rule = file_option_rule (codes "trace")
 
@@ -60,10 +63,11 @@ written_trace_rule = file_option_rule (codes "trace")
 abbrev pub subcommand : Text → List Rule → App
 subcommand name rules = fold with_rule (new_app name) rules
 
--- `step IMAGE SCRIPT`, with `--config FILE`, `--records`, `--show` and `--trace FILE`.
+-- `step IMAGE SCRIPT`, with `--config FILE`, `--records`, `--show`, `--why` and
+-- `--trace FILE`.
 abbrev pub step_command : App
 step_command = subcommand (codes "step") (image_rule ∷ script_rule ∷ config_rule ∷ records_rule
-    ∷ show_rule ∷ written_trace_rule ∷ [])
+    ∷ show_rule ∷ why_rule ∷ written_trace_rule ∷ [])
 
 -- `run IMAGE`, with `--config FILE`, `--records` and `--trace FILE`.
 abbrev pub run_command : App
@@ -133,6 +137,7 @@ pub record IsStep (rows : List Row) (step : StepCommand) : Type 0 where
   pub trace : IsFileOption rows (codes "trace") step.trace
   pub records : IsFlag rows (codes "records") step.records
   pub show : IsFlag rows (codes "show") step.show
+  pub why : IsFlag rows (codes "why") step.why
 
 pub record IsRun (rows : List Row) (run : RunCommand) : Type 0 where
   pub image : IsFile rows (codes "IMAGE") run.image

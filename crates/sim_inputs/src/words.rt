@@ -66,6 +66,7 @@ fn step_in<'a>(found: &ArgMatches<'a>) -> Option<StepCommand<'a>>
         trace: file(found, "trace"),
         records: is_set(found, "records"),
         show: is_set(found, "show"),
+        why: is_set(found, "why"),
     })
 }
 
