@@ -20,7 +20,7 @@ use crate::inputs::image_of;
 use crate::refused::Refused;
 use elf_image::Image;
 use event_text::Sink;
-use explanations::explain;
+use explained_asks::explain;
 use scripts::{ScriptRefused, ScriptWord, Unwritten, ask_core, read_script};
 use sim_inputs::Settings;
 use smt_core::{Core, CoreRefused, Finished, Predict};

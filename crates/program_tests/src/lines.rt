@@ -22,6 +22,7 @@ pub fn step_line(records: bool, show: bool, trace: Option<&'static str>) -> Line
         trace,
         records,
         show,
+        why: false,
     },))
 }
 

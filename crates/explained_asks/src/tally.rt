@@ -36,10 +36,10 @@ fn names() -> [&'static str; KINDS] {
         "the actor has no job",
         "nothing in the queue for the unit",
         "nothing ready for the unit",
-        "mispredicted",
-        "replayed",
-        "hart ended",
-        "hart stopped",
+        "squash: mispredicted",
+        "squash: replayed",
+        "squash: hart ended",
+        "squash: hart stopped",
     ]
 }
 
