@@ -1,4 +1,4 @@
-//! The tests of the program: scripts, schedules, the words of a line and its configuration, reports,
+//! The tests of the program: scripts, schedules, the words of a line and its configuration, reports, asks explained,
 //! whole lines performed, and what a terminal shows of a run. They stand in one crate, since a crate
 //! with tests of its own is proved twice by the gate. Each module whose name ends in `_tests` has the
 //! tests of the crate that it is named after, through its public calls alone; `progress_tests` has
@@ -7,6 +7,8 @@
 
 #[cfg(test)]
 mod commands_tests;
+#[cfg(test)]
+mod explained_asks_tests;
 #[cfg(test)]
 mod failing;
 #[cfg(test)]
