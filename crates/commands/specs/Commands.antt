@@ -4,12 +4,11 @@ use Rattle.std.specs.Prelude.{◌≡◌, ℕ, Bool, false, List, Option, is_some
 use Rattle.elf_image.specs.Image.{ProgramImage}
 use Rattle.core_state.specs.View.{CoreView}
 use Rattle.text_fields.specs.{Printing.Prints}
-use Rattle.scripts.specs.{Session.AreAsked}
 use Rattle.sim_inputs.specs.{declared.line.Command.Command, declared.settings.Settings.Settings}
 use Rattle.sim_inputs.specs.declared.line.Command.TheVariants as commands
 use Rattle.commands.specs.{declared.refused.Refused.Refused}
 use Rattle.commands.specs.Inputs.{Read, OfFile, BehindFile}
-use Rattle.commands.specs.Step.{IsStepRefusal, StepComesTo}
+use Rattle.commands.specs.Step.{IsStepRefusal, StepComesTo, ArePrinted}
 use Rattle.commands.specs.Run.{IsRunRefusal, RunComesTo, LackARole}
 use Rattle.commands.specs.Check.{IsCheckRefusal, CheckComesTo, OfEvents, AreTooMany}
 use Rattle.commands.specs.Plain.{IsPlainRefusal, PlainComesTo}
@@ -37,7 +36,7 @@ IsCommandRefusal (commands.List list) settings image second reason = IsListRefus
 abbrev pub CommandComesTo : Command → Settings → ProgramImage → Read → (Bool → CoreView → Type 0)
     → Option (List ℕ) → Option (List ℕ) → ℕ → Type 0
 CommandComesTo (commands.Step step) settings image second Traced old new status =
-    OfFile second (λ script. StepComesTo settings image script step.records step.show
+    OfFile second (λ script. StepComesTo settings image script step.why step.records step.show
     step.looks (Traced (is_some step.trace)) old new status)
 CommandComesTo (commands.Run run) settings image second Traced old new status =
     RunComesTo settings image run.records (Traced (is_some run.trace)) old new status
@@ -64,12 +63,12 @@ AreUnfit (commands.Script script) settings image second =
 AreUnfit _ settings image second = ⊥
 
 -- What a command prints that doesn't come to its report since its trace couldn't be written: a
--- core's answers to the asks, where it makes steps; nothing, where it runs threads. No other command
+-- core's answers to the asks, or what explains them, where it makes steps; nothing, where it runs threads. No other command
 -- writes a trace.
 abbrev pub IsUnreported : Command → Read → Option (List ℕ) → Option (List ℕ) → Type 0
 IsUnreported (commands.Step step) second old new =
     (core : CoreView)
-    × Prints old new (λ text. OfFile second (λ script. AreAsked script core text))
+    × Prints old new (λ text. OfFile second (λ script. ArePrinted step.why script core text))
 IsUnreported (commands.Run run) second old new = new ≡ old
 IsUnreported _ second old new = ⊥
 

@@ -1,5 +1,5 @@
 -- The command `step`: a script's asks, made of a core. (This project's own choice.)
-use Rattle.std.specs.Prelude.{◌≡◌, ℕ, Bool, List, ◌++◌, Option}
+use Rattle.std.specs.Prelude.{◌≡◌, ℕ, Bool, true, false, List, ◌++◌, Option}
 use Rattle.elf_image.specs.Image.{ProgramImage}
 use Rattle.core_state.specs.{Setup.setup_of, View.CoreView}
 use Rattle.smt_core.specs.Shown.{Shown}
@@ -33,21 +33,28 @@ IsScriptRefusal script (Script number) = IsFirstMisspelled script number
 IsScriptRefusal script Memory = Unit {0}
 IsScriptRefusal script _ = ⊥
 
+-- The lines of all that a script has asked of a core; where they are to be explained, some text in
+-- place of these lines, which the core has replied.
+abbrev pub ArePrinted : Bool → List ℕ → CoreView → List ℕ → Type 0
+ArePrinted false script core text = AreAsked script core text
+ArePrinted true script core text = (lines : List ℕ) × AreAsked script core lines
+
 -- The lines of all that a script has asked of a core, and then what is printed of it.
 pub record AreAsksAndAccount (core : CoreView) (script : List ℕ)
-    (with_records with_tables with_looks : Bool) (text : List ℕ) : Type 0 where
+    (with_why with_records with_tables with_looks : Bool) (text : List ℕ) : Type 0 where
   pub asks : List ℕ
   pub account : List ℕ
-  pub are_asked : AreAsked script core asks
+  pub are_printed : ArePrinted with_why script core asks
   pub is_account : IsAccount core with_records with_tables with_looks account
   pub both : text ≡ asks ++ account
 
 -- What the command comes to. There is a core of this image and these settings, one of those that
 -- may be shown. Its trace is written where that is wanted (`Traced`). What was printed are its own
--- answers to the script's asks, and then what is printed of it; the exit status is that of its
+-- answers to the script's asks, or what explains them, and then what is printed of it; the exit status is that of its
 -- harts.
 pub record StepComesTo (settings : Settings) (image : ProgramImage) (script : List ℕ)
-    (with_records with_tables with_looks : Bool) (Traced : CoreView → Type 0) (old new : Option (List ℕ))
+    (with_why with_records with_tables with_looks : Bool) (Traced : CoreView → Type 0)
+    (old new : Option (List ℕ))
     (exit_status : ℕ) : Type 0 where
   pub accepted : AreAccepted settings
   pub is_asking : IsAsking script
@@ -56,6 +63,6 @@ pub record StepComesTo (settings : Settings) (image : ProgramImage) (script : Li
   pub limit : core.limit ≡ settings.limit
   pub shown : Shown core
   pub traced : Traced core
-  pub printed : Prints old new (AreAsksAndAccount core script with_records with_tables
+  pub printed : Prints old new (AreAsksAndAccount core script with_why with_records with_tables
       with_looks)
   pub harts : exit_status ≡ status_number (statuses_of core)

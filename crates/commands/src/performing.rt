@@ -150,7 +150,9 @@ fn perform_command<
         Command::Step(step) => {
             let wanted = Wanted::new(step.records, step.show, step.looks, step.trace);
             let script = second?;
-            perform_step(image, settings, script, wanted, predict, trace, out, alloc)
+            perform_step(
+                image, settings, script, step.why, wanted, predict, trace, out, alloc,
+            )
         }
         Command::Run(run) => {
             let wanted = Wanted::new(run.records, false, false, run.trace);

@@ -9,9 +9,10 @@ ghost use Rattle.smt_core.specs.Shown.{Shown};
 ghost use Rattle.smt_core.specs.Counts.{AreCounts};
 ghost use Rattle.text_fields.specs.Printing.{Prints};
 ghost use Rattle.scripts.specs.Script.{IsScript, IsInRange};
-ghost use Rattle.scripts.specs.Session.{AreAsked, AreAskedWith};
+ghost use Rattle.scripts.specs.Session.{AreAskedWith};
 ghost use Rattle.commands.specs.Refused.{PassesAll, AreAccepted, BehindImage, IsCoreRefusal};
 ghost use Rattle.commands.specs.Step.{IsStepRefusal, StepComesTo, IsAsking, IsScriptRefusal};
+ghost use Rattle.commands.specs.Step.{ArePrinted};
 ghost use Rattle.commands.specs.Account.{IsTraceWritten};
 
 use crate::account::{Wanted, write_account};
@@ -19,10 +20,11 @@ use crate::inputs::image_of;
 use crate::refused::Refused;
 use elf_image::Image;
 use event_text::Sink;
+use explained_asks::explain;
 use scripts::{ScriptRefused, ScriptWord, Unwritten, ask_core, read_script};
 use sim_inputs::Settings;
 use smt_core::{Core, CoreRefused, Finished, Predict};
-use std::alloc::Global;
+use std::alloc::{AllocError, Global};
 use std::io::Write;
 
 /// Makes the asks of a script in order, each of them of one core of an image's file, and prints a
@@ -129,6 +131,88 @@ fn words_of(script: &[u8], alloc: Global) -> Result<Vec<ScriptWord>, Refused>
     }
 }
 
+/// Makes the asks of a script of one core of an image, and prints their lines, explained where that
+/// is wanted.
+fn print_asks<P: Predict, W: Write>(
+    image: &Image,
+    settings: &Settings,
+    script: &[u8],
+    why: bool,
+    predict: &mut P,
+    out: &mut W,
+    alloc: Global,
+) -> Result<Finished, Refused>
+    ensures refused { IfErr result (IsStepRefusal settings.now script.now) }
+    ensures accepted { OnOk result (AreAccepted settings.now) }
+    ensures script { OnOk result (IsAsking script.now) }
+    ensures setup { IfOk result
+        (λ finished. finished.core.setup ≡ setup_of image.now settings.now.config) }
+    ensures limit { IfOk result (λ finished. finished.core.limit ≡ settings.now.limit) }
+    ensures shown { IfOk result (λ finished. Shown finished.core) }
+    ensures printed { IfOk result
+        (λ finished. Prints (W.contents out.old) (W.contents out.new)
+        (ArePrinted why script.now finished.core)) }
+{
+    if why {
+        explain_asks(image, settings, script, predict, out, alloc)
+    } else {
+        step_image(image, settings, script, predict, out, alloc)
+    }
+}
+
+/// Makes the asks, and prints what explains them.
+fn explain_asks<P: Predict, W: Write>(
+    image: &Image,
+    settings: &Settings,
+    script: &[u8],
+    predict: &mut P,
+    out: &mut W,
+    alloc: Global,
+) -> Result<Finished, Refused>
+    ensures refused { IfErr result (IsStepRefusal settings.now script.now) }
+    ensures accepted { OnOk result (AreAccepted settings.now) }
+    ensures script { OnOk result (IsAsking script.now) }
+    ensures setup { IfOk result
+        (λ finished. finished.core.setup ≡ setup_of image.now settings.now.config) }
+    ensures limit { IfOk result (λ finished. finished.core.limit ≡ settings.now.limit) }
+    ensures shown { IfOk result (λ finished. Shown finished.core) }
+    ensures printed { IfOk result
+        (λ finished. Prints (W.contents out.old) (W.contents out.new)
+        (ArePrinted true script.now finished.core)) }
+{
+    let mut lines = Vec::new(alloc);
+    let finished = match step_image(image, settings, script, predict, &mut lines, alloc) {
+        Ok(finished) => finished,
+        // What holds the lines fails for want of memory alone.
+        Err(Refused::Output) => return Err(Refused::Memory),
+        Err(refused) => return Err(refused),
+    };
+    let text = explained(image, settings, script, lines.as_slice(), &finished.core, alloc)?;
+    match out.write_all(text.as_slice()) {
+        Ok(()) => Ok(finished),
+        Err(_) => Err(Refused::Output),
+    }
+}
+
+/// What explains the lines of a script's asks, which have left this core.
+fn explained(
+    image: &Image,
+    settings: &Settings,
+    script: &[u8],
+    lines: &[u8],
+    core: &Core,
+    alloc: Global,
+) -> Result<Vec<u8>, Refused>
+    ensures refused { IfErr result (IsStepRefusal settings.now script.now) }
+{
+    let unasked = new_core(image, settings, alloc)?;
+    let words = words_of(script, alloc)?;
+    match explain(words.as_slice(), lines, core.history(), unasked, alloc) {
+        Ok(text) => Ok(text),
+        Err(AllocError) => Err(Refused::Memory),
+    }
+}
+
 /// Makes the asks of a script, writes the core's trace where it is wanted, and then what else is
 /// wanted of it and its report. Answers the exit status: how the harts stand.
 #[inline(never)]
@@ -136,6 +220,7 @@ pub fn perform_step<P: Predict + Copy, S: Sink, W: Write>(
     image: &Image,
     settings: &Settings,
     script: &[u8],
+    why: bool,
     wanted: Wanted,
     predict: P,
     trace: &mut S,
@@ -144,15 +229,15 @@ pub fn perform_step<P: Predict + Copy, S: Sink, W: Write>(
 ) -> Result<u8, Refused>
     requires works { S.has_failed trace.old ≡ false }
     ensures refused { IfErr result (IsStepRefusal settings.now script.now) }
-    ensures ended { IfOk result (StepComesTo settings.now image.now script.now wanted.records
+    ensures ended { IfOk result (StepComesTo settings.now image.now script.now why wanted.records
         wanted.tables wanted.looks (IsTraceWritten S.written S.has_failed trace.old trace.new wanted.trace)
         (W.contents out.old) (W.contents out.new)) }
     ensures unwanted { wanted.trace ≡ false → trace.new ≡ trace.old }
     ensures unbroken { OnOk result (S.has_failed trace.new ≡ false) }
     ensures unreported { S.has_failed trace.new ≡ true → (core : CoreView)
-        × Prints (W.contents out.old) (W.contents out.new) (AreAsked script.now core) }
+        × Prints (W.contents out.old) (W.contents out.new) (ArePrinted why script.now core) }
 {
     let mut predict = predict;
-    let finished = step_image(image, settings, script, &mut predict, out, alloc)?;
+    let finished = print_asks(image, settings, script, why, &mut predict, out, alloc)?;
     write_account(&finished.core, wanted, trace, out, alloc)
 }

@@ -21,6 +21,8 @@ mod history_check_tests;
 #[cfg(test)]
 mod plain_run_tests;
 #[cfg(test)]
+mod reasons_tests;
+#[cfg(test)]
 mod rows;
 #[cfg(test)]
 mod sc_machine_tests;

@@ -23,6 +23,7 @@ pub fn step_line(records: bool, show: bool, trace: Option<&'static str>) -> Line
         looks: false,
         records,
         show,
+        why: false,
     },))
 }
 

@@ -56,6 +56,9 @@ records_rule = flag_rule (codes "records")
 abbrev pub show_rule : Rule
 show_rule = flag_rule (codes "show")
 
+abbrev pub why_rule : Rule
+why_rule = flag_rule (codes "why")
+
 abbrev pub written_trace_rule : Rule
 written_trace_rule = file_option_rule (codes "trace")
 
@@ -63,10 +66,11 @@ written_trace_rule = file_option_rule (codes "trace")
 abbrev pub subcommand : Text → List Rule → App
 subcommand name rules = fold with_rule (new_app name) rules
 
--- `step IMAGE SCRIPT`, with `--config FILE`, `--looks`, `--records`, `--show` and `--trace FILE`.
+-- `step IMAGE SCRIPT`, with `--config FILE`, `--looks`, `--records`, `--show`, `--why` and
+-- `--trace FILE`.
 abbrev pub step_command : App
 step_command = subcommand (codes "step") (image_rule ∷ script_rule ∷ config_rule ∷ looks_rule
-    ∷ records_rule ∷ show_rule ∷ written_trace_rule ∷ [])
+    ∷ records_rule ∷ show_rule ∷ why_rule ∷ written_trace_rule ∷ [])
 
 -- `run IMAGE`, with `--config FILE`, `--records` and `--trace FILE`.
 abbrev pub run_command : App
@@ -142,6 +146,7 @@ pub record IsStep (rows : List Row) (step : StepCommand) : Type 0 where
   pub looks : IsFlag rows (codes "looks") step.looks
   pub records : IsFlag rows (codes "records") step.records
   pub show : IsFlag rows (codes "show") step.show
+  pub why : IsFlag rows (codes "why") step.why
 
 pub record IsRun (rows : List Row) (run : RunCommand) : Type 0 where
   pub image : IsFile rows (codes "IMAGE") run.image

@@ -129,6 +129,12 @@ const SHOW: Argument = Argument {
     help: "Print the core's tables, after the asks",
 };
 
+const WHY: Argument = Argument {
+    kind: Kind::Flag,
+    name: "why",
+    help: "Explain each ask: why no step was made, or what it squashed",
+};
+
 const WRITTEN_TRACE: Argument = Argument {
     kind: Kind::Option,
     name: "trace",
@@ -140,7 +146,7 @@ static SUBCOMMANDS: [Subcommand; 7] = [
     Subcommand {
         name: "step",
         about: "Make a script's asks of the core in order, and print a report",
-        arguments: &[IMAGE, SCRIPT, CONFIG, LOOKS, RECORDS, SHOW, WRITTEN_TRACE],
+        arguments: &[IMAGE, SCRIPT, CONFIG, LOOKS, RECORDS, SHOW, WHY, WRITTEN_TRACE],
         form: SCRIPT_FORM,
     },
     Subcommand {

@@ -33,6 +33,8 @@ pub struct StepCommand<'a> {
     pub records: bool,
     /// `--show`: the core's tables are printed between the asks and the report.
     pub show: bool,
+    /// `--why`: each ask's line is explained, and a tally of the reasons comes behind them.
+    pub why: bool,
 }
 
 /// `run IMAGE`: each actor is a thread, until no hart is going.

@@ -69,6 +69,7 @@ fn step_in<'a>(found: &ArgMatches<'a>) -> Option<StepCommand<'a>>
         looks: is_set(found, "looks"),
         records: is_set(found, "records"),
         show: is_set(found, "show"),
+        why: is_set(found, "why"),
     })
 }
 

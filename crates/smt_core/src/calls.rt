@@ -319,8 +319,25 @@ impl Core {
     pub fn parts(&self) -> (&Parts, u32)
         ensures agrees { PartsAgree (picture self.now.setup self.now.past) result.0.now }
         ensures registers { result.1 ≡ registers_of self.now.setup }
+        ensures harts { length result.0.now.harts.items ≡ self.now.setup.harts }
+        ensures queue { result.0.now.queue.size ≡ self.now.setup.queue }
     {
         self.state.parts()
+    }
+
+    /// What the core was made from, beside its image.
+    pub fn config(&self) -> &Config
+        ensures { self.now.setup ≡ setup_of self.now.setup.image result.now }
+    {
+        self.state.config()
+    }
+
+    /// Whether the history has as many events as it may have.
+    pub fn is_full(&self) -> bool
+        ensures full { IsTrue result → length self.now.past ≡ self.now.limit }
+        ensures room { result ≡ false → length self.now.past < self.now.limit }
+    {
+        self.state.is_full()
     }
 
     /// Whether the core was made from this image and this configuration.

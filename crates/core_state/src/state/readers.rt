@@ -58,6 +58,8 @@ impl State {
     pub fn parts(&self) -> (&Parts, u32)
         ensures agrees { PartsAgree (picture self.now.setup self.now.past) result.0.now }
         ensures registers { result.1 ≡ registers_of self.now.setup }
+        ensures harts { length result.0.now.harts.items ≡ self.now.setup.harts }
+        ensures queue { result.0.now.queue.size ≡ self.now.setup.queue }
     {
         let registers = u32::from(first_extra(self.config.harts)) + u32::from(self.config.extra);
         (&self.parts, registers)
@@ -117,6 +119,13 @@ impl State {
         let _actors = self.config.roles.len();
         let _events = self.history.len();
         &self.history
+    }
+
+    /// What the core was made from, beside its image.
+    pub fn config(&self) -> &Config
+        ensures { self.now.setup ≡ setup_of self.now.setup.image result.now }
+    {
+        &self.config
     }
 
     /// How many harts there are, 1 to `MOST_HARTS`.

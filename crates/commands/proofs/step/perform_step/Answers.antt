@@ -15,12 +15,12 @@ returns g c =
           account.refused;
       ended =
           with_both answer _ _ _ account.traced account.reported
-          (λ traced status reported. comes_to g.P.Predict.predicts _ _ c.args.settings.now c.args.image.now
-          c.args.script.now c.args.wanted.records c.args.wanted.tables c.args.wanted.looks c.in_ok-finished.finished.core _ _ _ _ status
+          (λ traced status reported. comes_to c.args.settings.now c.args.image.now c.args.script.now c.args.why
+          c.args.wanted.records c.args.wanted.tables c.args.wanted.looks c.in_ok-finished.finished.core _ _ _ _ status
           asked.accepted asked.script asked.setup asked.limit asked.shown asked.asked traced reported);
       unwanted = account.unwanted;
       unbroken = account.unbroken;
       unreported = λ failed.
-          unreported g.P.Predict.predicts _ _ c.args.script.now c.in_ok-finished.finished.core _ _ _ asked.asked
+          unreported c.args.why c.args.script.now c.in_ok-finished.finished.core _ _ _ asked.asked
           (account.unreported failed);
     }

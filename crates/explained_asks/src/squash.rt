@@ -1,0 +1,183 @@
+//! What an event squashes, and why.
+
+ghost use Rattle.std.specs.Prelude.{◌≤◌};
+
+use events::{Effect, Event, History, Next, Outcome, Written};
+use numbers::Seq;
+use retire_squash::{Active, Stage};
+use rv_instr::{Instr, LoadOp, Op};
+use std::io;
+use std::io::Write;
+
+/// Why an event squashes the younger instructions of its hart.
+#[derive(Clone, Copy, PartialEq, Eq, Drop)]
+pub(crate) enum Cause {
+    /// It goes on elsewhere than here.
+    Mispredicted { predicted: u32 },
+    /// A load whose value was this as it completed, and is another as it retires; the retired write
+    /// that was the last to touch its bytes.
+    Replayed {
+        was: Option<u32>,
+        is: Option<u32>,
+        writer: Option<Writer>,
+    },
+    HartEnded,
+    HartStopped,
+}
+
+/// Who wrote: the number of an instruction, and its hart.
+#[derive(Clone, Copy, PartialEq, Eq, Drop)]
+pub(crate) struct Writer {
+    seq: Seq,
+    hart: u8,
+}
+
+/// Why this event squashes, if it does: `active` is how its instruction stands before it, and
+/// `made` are the events, of which `before` came before it.
+pub(crate) fn cause_of(
+    event: &Event,
+    active: &Active,
+    made: &History,
+    before: usize,
+) -> Option<Cause> {
+    match *event {
+        Event::Complete { outcome, .. } => misprediction(outcome, active.predicted),
+        Event::Retire { effect, .. } => retirement(effect, active, made, before),
+        _ => None,
+    }
+}
+
+fn misprediction(outcome: Outcome, predicted: u32) -> Option<Cause> {
+    match outcome.next {
+        Next::Pc(pc) if pc != predicted => Some(Cause::Mispredicted { predicted }),
+        Next::Pc(_) | Next::Ended(_) | Next::Stopped(_) => None,
+    }
+}
+
+fn retirement(effect: Effect, active: &Active, made: &History, before: usize) -> Option<Cause> {
+    match effect.next {
+        Next::Ended(_) => Some(Cause::HartEnded),
+        Next::Stopped(_) => Some(Cause::HartStopped),
+        Next::Pc(_) => replay(effect, active, made, before),
+    }
+}
+
+fn replay(effect: Effect, active: &Active, made: &History, before: usize) -> Option<Cause> {
+    let size = load_size(active.op)?;
+    let Stage::Completed(outcome) = active.stage else {
+        return None;
+    };
+    if outcome.value == effect.value {
+        return None;
+    }
+    Some(Cause::Replayed {
+        was: outcome.value,
+        is: effect.value,
+        writer: writer_of(outcome.addr.unwrap_or(0), size, made, before),
+    })
+}
+
+/// How many bytes a load reads; none for what is no load.
+fn load_size(op: Op) -> Option<u8> {
+    match op {
+        Op::Known(Instr::Load { op, .. }) => Some(bytes_of(op)),
+        _ => None,
+    }
+}
+
+fn bytes_of(op: LoadOp) -> u8
+    ensures { result ≤ 4 }
+{
+    match op {
+        LoadOp::Lb | LoadOp::Lbu => 1,
+        LoadOp::Lh | LoadOp::Lhu => 2,
+        LoadOp::Lw => 4,
+    }
+}
+
+/// The last of the first `before` events that wrote one of these bytes.
+fn writer_of(addr: u32, size: u8, made: &History, before: usize) -> Option<Writer> {
+    let mut writer = None;
+    for place in 0..before {
+        if let Some(seq) = writes_at(made.get(place), addr, size) {
+            writer = Some(seq);
+        }
+    }
+    let seq = writer?;
+    Some(Writer {
+        seq,
+        hart: hart_of(seq, made)?,
+    })
+}
+
+/// The instruction of a retirement that wrote one of these bytes.
+fn writes_at(event: Option<Event>, addr: u32, size: u8) -> Option<Seq> {
+    match event {
+        Some(Event::Retire { seq, effect, .. }) if overlaps(effect.write, addr, size) => Some(seq),
+        _ => None,
+    }
+}
+
+fn overlaps(write: Option<Written>, addr: u32, size: u8) -> bool {
+    let Some(write) = write else {
+        return false;
+    };
+    u64::from(write.addr) < u64::from(addr) + u64::from(size)
+        && u64::from(addr) < u64::from(write.addr) + u64::from(write.n)
+}
+
+/// The hart of an instruction: that of its fetch.
+fn hart_of(number: Seq, made: &History) -> Option<u8> {
+    for place in 0..made.len() {
+        if let Some(hart) = fetches(made.get(place), number) {
+            return Some(hart);
+        }
+    }
+    None
+}
+
+fn fetches(event: Option<Event>, number: Seq) -> Option<u8> {
+    match event {
+        Some(Event::Fetch { hart, seq, .. }) if seq == number => Some(hart),
+        _ => None,
+    }
+}
+
+/// Writes the words of a cause.
+pub(crate) fn write_cause<W: Write>(cause: Cause, out: &mut W) -> io::Result<()> {
+    match cause {
+        Cause::Mispredicted { predicted } => {
+            write!(out, "mispredicted: predicted {predicted:08x}")
+        }
+        Cause::Replayed { was, is, writer } => write_replay(was, is, writer, out),
+        Cause::HartEnded => out.write_all(b"hart ended"),
+        Cause::HartStopped => out.write_all(b"hart stopped"),
+    }
+}
+
+fn write_replay<W: Write>(
+    was: Option<u32>,
+    is: Option<u32>,
+    writer: Option<Writer>,
+    out: &mut W,
+) -> io::Result<()> {
+    write_value("replayed: was ", was, out)?;
+    write_value(", is ", is, out)?;
+    match writer {
+        Some(writer) => write_writer(writer, out),
+        None => Ok(()),
+    }
+}
+
+fn write_value<W: Write>(before: &str, value: Option<u32>, out: &mut W) -> io::Result<()> {
+    out.write_all(before.as_bytes())?;
+    match value {
+        Some(value) => write!(out, "{value:08x}"),
+        None => out.write_all(b"-"),
+    }
+}
+
+fn write_writer<W: Write>(writer: Writer, out: &mut W) -> io::Result<()> {
+    let Writer { seq, hart } = writer;
+    write!(out, ", written by number {seq} of hart {hart}")
+}

@@ -1,0 +1,99 @@
+//! A core that is led through the history of another.
+
+use crate::squash::{Cause, cause_of};
+use events::{Event, History};
+use numbers::Seq;
+use reasons::{
+    Reason, complete_reason, decode_reason, fetch_reason, issue_reason, rename_reason,
+    retire_reason,
+};
+use retire_squash::Active;
+use scripts::Action;
+use smt_core::Core;
+
+/// A core that has followed the first `followed` of these events.
+#[derive(Drop)]
+pub(crate) struct Walk<'a> {
+    core: Core,
+    made: &'a History,
+    followed: usize,
+}
+
+/// How many instructions of which hart an event squashes, and why.
+#[derive(Clone, Copy, PartialEq, Eq, Drop)]
+pub(crate) struct Squash {
+    pub(crate) count: usize,
+    pub(crate) hart: u8,
+    pub(crate) cause: Cause,
+}
+
+impl<'a> Walk<'a> {
+    /// A walk from a core without a history.
+    pub(crate) fn new(core: Core, made: &'a History) -> Self {
+        Walk {
+            core,
+            made,
+            followed: 0,
+        }
+    }
+
+    /// Why what an action asks can't be made now.
+    pub(crate) fn reason_of(&self, action: Action) -> Option<Reason> {
+        match action {
+            Action::Fetch { actor } => fetch_reason(&self.core, actor),
+            Action::Decode { actor, hart } => decode_reason(&self.core, actor, hart),
+            Action::Rename { actor, hart } => rename_reason(&self.core, actor, hart),
+            Action::Retire { actor, hart } => retire_reason(&self.core, actor, hart),
+            Action::Issue { actor } | Action::Unit { actor } => issue_reason(&self.core, actor),
+            Action::Complete { actor } => complete_reason(&self.core, actor),
+        }
+    }
+
+    /// Follows the next event, if there is one, and tells what it squashes.
+    pub(crate) fn follow(&mut self) -> Option<Squash> {
+        let event = self.made.get(self.followed)?;
+        let squash = self.squash_of(&event);
+        self.core.follow(&event);
+        self.followed += 1;
+        let (hart, cause, before) = squash?;
+        Some(Squash {
+            count: before.saturating_sub(self.live(hart)),
+            hart,
+            cause,
+        })
+    }
+
+    /// The hart of which an event squashes, why, and how many of its instructions there are beside
+    /// the ones that stay or retire.
+    fn squash_of(&self, event: &Event) -> Option<(u8, Cause, usize)> {
+        let (hart, active) = self.in_flight(event.seq())?;
+        let cause = cause_of(event, &active, self.made, self.followed)?;
+        let leaves = matches!(event, Event::Retire { .. });
+        Some((hart, cause, self.live(hart).saturating_sub(usize::from(leaves))))
+    }
+
+    /// The hart that has an instruction in flight, and how it stands there.
+    fn in_flight(&self, seq: Seq) -> Option<(u8, Active)> {
+        for hart in 0..self.core.harts() {
+            if let Some(active) = self.active_of(hart, seq) {
+                return Some((hart, active));
+            }
+        }
+        None
+    }
+
+    fn active_of(&self, hart: u8, seq: Seq) -> Option<Active> {
+        let state = self.core.parts().0.harts.as_slice().get(usize::from(hart))?;
+        state.active.find(seq)
+    }
+
+    /// How many instructions of a hart are fetched, and neither retired nor squashed.
+    fn live(&self, hart: u8) -> usize {
+        match self.core.parts().0.harts.as_slice().get(usize::from(hart)) {
+            Some(state) => {
+                state.decode_latch.len() + state.rename_latch.len() + state.active.len()
+            }
+            None => 0,
+        }
+    }
+}
