@@ -50,8 +50,8 @@ pub record AreAsksAndAccount (core : CoreView) (script : List ℕ)
 
 -- What the command comes to. There is a core of this image and these settings, one of those that
 -- may be shown. Its trace is written where that is wanted (`Traced`). What was printed are its own
--- answers to the script's asks, or what explains them, and then what is printed of it; the exit status is that of its
--- harts.
+-- answers to the script's asks, or what explains them, and then what is printed of it; the exit
+-- status is that of its harts.
 pub record StepComesTo (settings : Settings) (image : ProgramImage) (script : List ℕ)
     (with_why with_records with_tables with_looks : Bool) (Traced : CoreView → Type 0)
     (old new : Option (List ℕ))

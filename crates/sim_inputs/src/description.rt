@@ -146,7 +146,16 @@ static SUBCOMMANDS: [Subcommand; 7] = [
     Subcommand {
         name: "step",
         about: "Make a script's asks of the core in order, and print a report",
-        arguments: &[IMAGE, SCRIPT, CONFIG, LOOKS, RECORDS, SHOW, WHY, WRITTEN_TRACE],
+        arguments: &[
+            IMAGE,
+            SCRIPT,
+            CONFIG,
+            LOOKS,
+            RECORDS,
+            SHOW,
+            WHY,
+            WRITTEN_TRACE,
+        ],
         form: SCRIPT_FORM,
     },
     Subcommand {
