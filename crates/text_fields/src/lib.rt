@@ -1,7 +1,8 @@
 //! Fields of text: decimal and hexadecimal numbers, printed and read, and a text split into its
 //! fields.
 //!
-//! Read in this order: `print`, `pairs` and `numbers` (its quick parts), `split`, `read`, `first`, `laws` (printing and reading are each other's inverse).
+//! Read in this order: `print`, `pairs` and `numbers` (its quick parts), `split`, `read`, `first`, `laws` (printing and
+//! reading are each other's inverse).
 #![tactic(auto)]
 
 pub mod first;

@@ -1,5 +1,5 @@
-//! Printing a decimal number as most events have them, of at most eight digits: its digits are appended two by two. By
-//! `push_decimal`, which makes any text elsewhere and copies it, an event of `step` took 40 instructions more, of some 900.
+//! Printing a decimal number as most events have them, of at most eight digits: its digits are appended two by two,
+//! where `push_decimal` makes any text elsewhere and copies it. `pairs` says what both are worth.
 
 ghost use Rattle.std.specs.Prelude.{◌≡◌, ◌+◌, ◌≤◌, ◌<◌, ◌++◌};
 ghost use Rattle.std.specs.Fmt.{decimal};
