@@ -1,12 +1,15 @@
 -- What is printed of a core, from what its report says of its account.
 use Rattle.std.specs.Prelude.{◌≡◌, ℕ, Bool, false, List, [], ◌++◌, Option, Result, Ok, Err, is_err, OnOk}
-use Rattle.std.specs.Prelude.{length}
+use Rattle.std.specs.Prelude.{length, filter, reverse, true, if◌then◌else◌, ◌∷◌}
 use Rattle.std.proofs.{Common.refl, Common.sym, Common.ap, Common.subst, Common.◌∙◌, lemmas.Bool.false≢true}
+use Rattle.std.proofs.Common.{inl, inr, arith, length-append}
+use Rattle.std.proofs.{lemmas.Bool.cases_Bool, lemmas.List.reverse-append, lemmas.List.Elements.filter-append}
 use Rattle.std.specs.Io.KnownBytes.{Appends}
 use Rattle.core_state.specs.{View.CoreView}
 use Rattle.smt_model.specs.{declared.config.Status.Status, Account.open_job_count, Memory.output}
+use Rattle.smt_model.specs.{Account.records, Basics.how_many, Touched.looks}
 use Rattle.events.specs.declared.effect.Record.{Record}
-use Rattle.reports.specs.Report.{records_text, report_text, status_number}
+use Rattle.reports.specs.Report.{is_load_record, looks_line, records_text, report_text, status_number}
 use Rattle.reports.proofs.Appending.{appends_more}
 use Rattle.commands.specs.Account.{AreTables, IsReported, looks_of, statuses_of, retired_of, report_of}
 
@@ -14,6 +17,26 @@ use Rattle.commands.specs.Account.{AreTables, IsReported, looks_of, statuses_of,
 pub on_ok_done : {A E : Type 0} (r : Result A E) (P : Type 0) → is_err r ≡ false → OnOk r P → P
 on_ok_done (Ok x) P done holds = holds
 on_ok_done (Err e) P done holds = absurd (false≢true (sym done))
+
+-- How many pass a test doesn't depend on their order.
+how_many-reverse : {A : Type 0} → (test : A → Bool) (xs : List A) → how_many test (reverse xs) ≡ how_many test xs
+how_many-reverse test [] = refl
+how_many-reverse test (x ∷ xs) =
+    let rest = how_many-reverse test xs in
+    ap (how_many test) (reverse-append (x ∷ []) xs)
+    ∙ ap length (filter-append test (reverse xs) (x ∷ []))
+    ∙ length-append (filter test (reverse xs)) (filter test (x ∷ []))
+    ∙ elim (cases_Bool (test x)) [ inl t ↦ rw t (omega arith) | inr f ↦ rw f (omega arith) ]
+
+-- The line of the looks is this core's.
+pub looked_is : (wanted : Bool) (core : CoreView) (n : ℕ) (rs : List Record) → n ≡ looks core.past
+    → rs ≡ retired_of core
+    → (if wanted then looks_line n (how_many is_load_record rs) else []) ≡ looks_of wanted core
+looked_is true core n rs is_looks is_records =
+    ap (λ m. looks_line m (how_many is_load_record rs)) is_looks
+    ∙ ap (looks_line (looks core.past))
+    (ap (how_many is_load_record) is_records ∙ how_many-reverse is_load_record (records core.past))
+looked_is false core n rs is_looks is_records = refl
 
 -- An account that is this core's, and how its harts stand.
 module _ (core : CoreView) (with_records : Bool) (rs : List Record) (events lent : ℕ) (statuses : List Status)
