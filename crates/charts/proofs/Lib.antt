@@ -1,0 +1,5 @@
+mod Keeping
+mod Moving
+mod Fresh
+mod Growing
+mod Cutting
