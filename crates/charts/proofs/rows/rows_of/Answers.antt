@@ -1,4 +1,5 @@
 use Rattle.std.proofs.Common.{◌∙◌, ap, sym, subst, length, ◌<◌}
+use Rattle.std.proofs.lemmas.List.{with_items_is}
 use Rattle.events.specs.Event.{seq_of}
 use Rattle.charts.specs.Moves.{HaveMoved}
 use Rattle.charts.proofs.Growing.{fetches_none, known_at, moved_at, fetched_at}
@@ -23,7 +24,9 @@ loop-index-preserved c =
           w.in_ok-push-in-Fetch.ensures.items)
       | in_default w ↦
           let moved = rw w.as_mut_slice.ensures.value at w.move_on.ensures in
-          rw w.rows-is (moved_at events c.loop-index.index _ c.loop-index.rows.items w.move_on.new.rows
+          let back = with_items_is c.loop-index.rows w.move_on.new.rows
+          (w.move_on.ensures.count ∙ w.as_mut_slice.ensures.len) in
+          rw (w.rows-is, back) (moved_at events c.loop-index.index _ c.loop-index.rows.items w.move_on.new.rows
           c.requires.history c.loop-index-test.true (fetches_none _ w.in_default.not-Fetch) c.loop-index.invariant
           moved)
     ]
