@@ -3,3 +3,4 @@ mod Moving
 mod Fresh
 mod Growing
 mod Cutting
+mod Squashed

@@ -1,13 +1,14 @@
 -- The rows of a chart: at which event of a history an instruction moved on, and which event squashed
 -- it. An event's place is how many came before it. (This project's own choice.)
 use Rattle.std.specs.Prelude.{◌≡◌, ℕ, ◌<◌, Bool, false, ◌==◌, ◌&&◌, if◌then◌else◌, List, [], ◌∷◌}
-use Rattle.std.specs.Prelude.{length, reverse, Option, Some, None, slice_index_or}
+use Rattle.std.specs.Prelude.{length, reverse, Option, Some, None, is_some, slice_index_or}
 use Rattle.events.specs.{Event.seq_of, Kind.event_kind, Kind.letter_of}
 use Rattle.events.specs.{declared.effect.Outcome.Outcome, declared.event.Event.Event}
 use Rattle.events.specs.{declared.event.Event.TheVariants.Retire, declared.kind.EventKind.EventKind}
 use Rattle.events.specs.declared.kind.EventKind.TheVariants as kinds
 use Rattle.smt_model.specs.{Basics.or_else, Rules.is_legal, Setup.Setup}
-use Rattle.smt_model.specs.Fates.{fetches, fetching, completion, squashes, is_replayed}
+use Rattle.smt_model.specs.Fates.{fetches, fetching, completion, squashes, is_replayed, fate, is}
+use Rattle.smt_model.specs.Fates.{Squashed}
 use Rattle.charts.specs.{declared.row.Row.Row, declared.row.Squash.Squash}
 
 -- The event is of this kind, and of instruction s.
@@ -64,6 +65,12 @@ pub record IsRow (past : List Event) (s : ℕ) (row : Row) : Type 0 where
 pub record AreRows (past : List Event) (rows : List Row) : Type 0 where
   pub count : length rows ≡ fetches past
   pub each : (s : ℕ) (d : Row) → s < length rows → IsRow past s (slice_index_or rows s d)
+
+-- A row says that its instruction was squashed exactly where its fate is that. So one that retired isn't
+-- shown as squashed.
+pub record TellSquashes (past : List Event) (rows : List Row) : Type 0 where
+  pub squashed : (s : ℕ) (d : Row) → s < length rows
+      → is (fate past s) Squashed ≡ is_some (slice_index_or rows s d).squashed
 
 -- The events, the oldest first, are a legal history of some core.
 abbrev pub AreHistory : List Event → Type 0

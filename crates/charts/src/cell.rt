@@ -84,9 +84,7 @@ impl Row {
 
     /// Whether it is fetched, and neither retired nor squashed, behind the event at this place.
     fn is_live_at(&self, place: u32) -> bool {
-        self.fetched < place
-            && !is_at_or_before(self.retired, place)
-            && !self.is_squashed_by(place)
+        self.fetched < place && !is_at_or_before(self.retired, place) && !self.is_squashed_by(place)
     }
 
     /// Whether it was squashed by the event at this place, or by one before.
@@ -94,6 +92,25 @@ impl Row {
         match self.squashed {
             Some(squash) => squash.place <= place,
             None => false,
+        }
+    }
+
+    /// Whether it was squashed by the event at this place.
+    pub(crate) fn is_squashed_at(&self, place: u32) -> bool {
+        match self.squashed {
+            Some(squash) => squash.place == place,
+            None => false,
+        }
+    }
+
+    /// Where it retired or was squashed; none where it is live at the end of the history.
+    pub(crate) fn end_of_life(&self) -> Option<u32> {
+        if self.retired.is_some() {
+            return self.retired;
+        }
+        match self.squashed {
+            Some(squash) => Some(squash.place),
+            None => None,
         }
     }
 

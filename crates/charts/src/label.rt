@@ -49,7 +49,9 @@ impl Widths {
     /// The width of a name, with a space behind each of its parts.
     pub fn name(&self) -> usize {
         // A digit for the hart, eight for the pc, and a space behind each of the four.
-        self.number.saturating_add(self.instruction).saturating_add(13)
+        self.number
+            .saturating_add(self.instruction)
+            .saturating_add(13)
     }
 
     /// The width of the longest remark behind a row.

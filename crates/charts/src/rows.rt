@@ -1,7 +1,7 @@
 ghost use Rattle.std.specs.Prelude.{◌≡◌, ◌<◌, ◌≤◌, length, reverse, IfOk, OnOk};
 ghost use Rattle.numbers.specs.Sizes.{most_events};
 ghost use Rattle.events.specs.Event.{seq_of};
-ghost use Rattle.charts.specs.Rows.{AreRows, AreHistory};
+ghost use Rattle.charts.specs.Rows.{AreRows, AreHistory, TellSquashes};
 ghost use Rattle.charts.specs.Moves.{HaveMoved, AreCut};
 
 use crate::row::{Row, Squash};
@@ -12,7 +12,8 @@ use std::alloc::{AllocError, Global};
 pub fn rows_of(events: &[Event], alloc: Global) -> Result<Vec<Row>, AllocError>
     requires history { AreHistory events.now }
     requires few { length events.now ≤ most_events }
-    ensures { IfOk result (λ rows. AreRows (reverse events.now) rows.items) }
+    ensures rows { IfOk result (λ rows. AreRows (reverse events.now) rows.items) }
+    ensures squashed { IfOk result (λ rows. TellSquashes (reverse events.now) rows.items) }
 {
     let mut rows = Vec::new(alloc);
     for index in 0..events.len() {

@@ -16,9 +16,9 @@ const COLUMNS_A_NUMBER: usize = 10;
 
 /// Writes the chart of some rows, of which the view shows a part, in lines of `width` characters
 /// (docs/FORMATS.md). An error is the one that `out` answered.
-pub fn write_text<W: Write>(rows: &[Row], view: &View, width: u16, out: &mut W) -> io::Result<()> {
+pub fn write_text<W: Write>(rows: &[Row], view: &View, width: u32, out: &mut W) -> io::Result<()> {
     let widths = Widths::of(rows, view);
-    let columns = columns_in(usize::from(width), &widths);
+    let columns = columns_in(width as usize, &widths);
     let mut first = 0;
     for number in 0..view.bands(columns) {
         let band = view.band(number, columns);
@@ -36,7 +36,9 @@ pub fn write_text<W: Write>(rows: &[Row], view: &View, width: u16, out: &mut W) 
 fn columns_in(width: usize, widths: &Widths) -> u32
     ensures { FEWEST_COLUMNS ≤ result }
 {
-    let beside = width.saturating_sub(widths.name()).saturating_sub(widths.remark());
+    let beside = width
+        .saturating_sub(widths.name())
+        .saturating_sub(widths.remark());
     u32::try_from(beside).unwrap_or(0).max(FEWEST_COLUMNS)
 }
 
@@ -63,11 +65,7 @@ fn write_rows<W: Write>(
     widths: &Widths,
     out: &mut W,
 ) -> io::Result<()> {
-    let shown = View {
-        from: band.from,
-        to: band.to,
-        hart: view.hart,
-    };
+    let shown = view.within(band);
     for number in first..rows.len() {
         let row = &rows[number];
         if row.fetched > band.to {

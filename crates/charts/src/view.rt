@@ -8,17 +8,43 @@ use crate::row::Row;
 pub struct View {
     /// The place of the first event that is drawn; the first of the history is at 0.
     pub from: u32,
-    /// The place of the last event that is drawn.
+    /// The place of the last event that is drawn; where it is before the first, none is.
     pub to: u32,
     /// The one hart whose instructions are drawn.
     pub hart: Option<u8>,
 }
 
 impl View {
+    /// What is drawn of a history of so many events, of what is asked for.
+    pub fn new(from: u32, to: u32, hart: Option<u8>, events: usize) -> View {
+        if events == 0 {
+            return View {
+                from: 1,
+                to: 0,
+                hart,
+            };
+        }
+        let last = u32::try_from(events - 1).unwrap_or(u32::MAX);
+        View {
+            from,
+            to: to.min(last),
+            hart,
+        }
+    }
+
     /// Whether the instruction of a row is drawn: it is of a hart that is drawn, and something of it
     /// stands in these columns.
     pub fn shows(&self, row: &Row) -> bool {
         self.has_hart(row.hart) && row.fetched <= self.to && !row.ends_before(self.from)
+    }
+
+    /// What it shows of a band.
+    pub(crate) fn within(&self, band: &Band) -> View {
+        View {
+            from: band.from,
+            to: band.to,
+            hart: self.hart,
+        }
     }
 
     fn has_hart(&self, hart: u8) -> bool {
@@ -66,6 +92,14 @@ impl Band {
 }
 
 impl View {
+    /// How many events it shows.
+    pub(crate) fn span(&self) -> u32 {
+        if self.from > self.to {
+            return 0;
+        }
+        (self.to - self.from).saturating_add(1)
+    }
+
     /// How many bands it has, of so many columns each.
     pub(crate) fn bands(&self, columns: u32) -> u32
         requires { 0 < columns }

@@ -12,6 +12,7 @@ use Rattle.commands.specs.Inputs.{Read, OfFile, BehindFile}
 use Rattle.commands.specs.Step.{IsStepRefusal, StepComesTo}
 use Rattle.commands.specs.Run.{IsRunRefusal, RunComesTo, LackARole}
 use Rattle.commands.specs.Check.{IsCheckRefusal, CheckComesTo, OfEvents, AreTooMany}
+use Rattle.commands.specs.Chart.{IsChartRefusal, ChartComesTo, has_file}
 use Rattle.commands.specs.Plain.{IsPlainRefusal, PlainComesTo}
 use Rattle.commands.specs.Schedule.{IsScheduleRefusal, ScheduleComesTo}
 use Rattle.commands.specs.List.{IsListRefusal, ListComesTo}
@@ -28,6 +29,8 @@ IsCommandRefusal (commands.Plain plain) settings image second reason =
 IsCommandRefusal (commands.Schedule schedule) settings image second reason =
     BehindFile second (IsScheduleRefusal settings image) reason
 IsCommandRefusal (commands.List list) settings image second reason = IsListRefusal reason
+IsCommandRefusal (commands.Chart chart) settings image second reason =
+    BehindFile second (λ trace. IsChartRefusal settings image trace chart) reason
 
 -- What a command comes to. `Traced` says of a core whether its trace is written where that is
 -- wanted.
@@ -46,27 +49,33 @@ CommandComesTo (commands.Schedule schedule) settings image second Traced old new
     OfFile second (λ order. ScheduleComesTo settings image order old new status)
 CommandComesTo (commands.List list) settings image second Traced old new status =
     ListComesTo image old new status
+CommandComesTo (commands.Chart chart) settings image second Traced old new status =
+    OfFile second (λ trace. ChartComesTo settings image trace chart status)
 
 -- What a command may refuse of settings that are a configuration's: a run of threads needs an actor
--- of each role, and a trace may have no more events than a core. No other command refuses any.
+-- of each role, and a trace, checked or drawn, may have no more events than a core. No other command refuses any.
 abbrev pub AreUnfit : Command → Settings → ProgramImage → Read → Type 0
 AreUnfit (commands.Run run) settings image second = LackARole settings
 AreUnfit (commands.Check check) settings image second =
     OfFile second (λ trace. OfEvents settings image trace AreTooMany)
+AreUnfit (commands.Chart chart) settings image second =
+    OfFile second (λ trace. OfEvents settings image trace AreTooMany)
 AreUnfit _ settings image second = ⊥
 
--- What a command prints that doesn't come to its report since its trace couldn't be written: a
--- core's answers to the asks, where it makes steps; nothing, where it runs threads. No other command
--- writes a trace.
+-- What a command prints that doesn't come to its report since its file couldn't be written: a
+-- core's answers to the asks, where it makes steps; nothing, where it runs threads, or where the file
+-- is that of a chart. No other command writes a file.
 abbrev pub IsUnreported : Command → Read → Option (List ℕ) → Option (List ℕ) → Type 0
 IsUnreported (commands.Step step) second old new =
     (core : CoreView)
     × Prints old new (λ text. OfFile second (λ script. AreAsked script core text))
 IsUnreported (commands.Run run) second old new = new ≡ old
+IsUnreported (commands.Chart chart) second old new = new ≡ old
 IsUnreported _ second old new = ⊥
 
--- The command names a file for the trace of its core.
+-- The command names a file for the trace of its core, or for its chart.
 abbrev pub wants_trace : Command → Bool
 wants_trace (commands.Step step) = is_some step.trace
 wants_trace (commands.Run run) = is_some run.trace
+wants_trace (commands.Chart chart) = has_file chart
 wants_trace _ = false

@@ -46,7 +46,7 @@ pub fn perform_check<W: Write>(
 }
 
 /// The events of a trace's text.
-fn read_events(text: &[u8], alloc: Global) -> Result<Trace, Refused>
+pub(crate) fn read_events(text: &[u8], alloc: Global) -> Result<Trace, Refused>
     ensures trace { IfOk result (IsTraceOf text.now) }
     ensures refused { IfErr result (IsTraceRefusal text.now) }
 {
@@ -58,7 +58,7 @@ fn read_events(text: &[u8], alloc: Global) -> Result<Trace, Refused>
 }
 
 /// A core of an image that has followed these events, with room for no more.
-fn follow_all(
+pub(crate) fn follow_all(
     image: &Image,
     settings: &Settings,
     events: &[Event],

@@ -2,7 +2,7 @@
 //!
 //! Read in this order: `refused` (why there is no report), `inputs` (the files of a line as they were
 //! read, and what is made of the first two), `account` (what is reported of a core), then a module a
-//! command: `step`, `run`, `check`, `plain`, `schedule`, `list`; and `performing` (all of it: the
+//! command: `step`, `run`, `check`, `plain`, `schedule`, `list`, `chart`; and `performing` (all of it: the
 //! files taken in their order, the command, the exit status).
 //! `retiring` has the law that a printed schedule is retired.
 //! What each command comes to, and when each of its refusals comes, stands in `specs` under the
@@ -10,6 +10,7 @@
 #![tactic(auto)]
 
 mod account;
+mod chart;
 mod check;
 mod inputs;
 mod list;
@@ -22,6 +23,7 @@ mod schedule;
 mod step;
 
 pub use account::Wanted;
+pub use chart::perform_chart;
 pub use check::perform_check;
 pub use inputs::Inputs;
 pub use list::perform_list;

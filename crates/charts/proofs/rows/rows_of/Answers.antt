@@ -1,4 +1,7 @@
-use Rattle.std.proofs.Common.{◌∙◌, ap, sym, subst, length, ◌<◌}
+use Rattle.std.proofs.Common.{◌∙◌, ap, sym, subst, length, ◌<◌, ◌≤◌, reverse, arith}
+use Rattle.std.proofs.lemmas.List.{take_all}
+use Rattle.charts.specs.Rows.{AreRows}
+use Rattle.charts.proofs.Squashed.{tell_squashes}
 use Rattle.std.proofs.lemmas.List.{with_items_is}
 use Rattle.events.specs.Event.{seq_of}
 use Rattle.charts.specs.Moves.{HaveMoved}
@@ -30,3 +33,11 @@ loop-index-preserved c =
           c.requires.history c.loop-index-test.true (fetches_none _ w.in_default.not-Fetch) c.loop-index.invariant
           moved)
     ]
+
+pub returns-clause-squashed : goal.returns-clause-squashed
+returns-clause-squashed c =
+    let events = c.args.events.now in
+    let end : length events ≤ c.loop-index.index = omega arith in
+    tell_squashes c.requires.history.0 (reverse events) c.loop-index.rows.items c.requires.history.1
+    (subst (λ xs. AreRows (reverse xs) c.loop-index.rows.items) (take_all c.loop-index.index events end)
+    c.loop-index.invariant)
