@@ -13,8 +13,8 @@ use Rattle.sim_inputs.specs.{Configuration.IsConfiguration}
 use Rattle.reports.specs.Statuses.{says_harts}
 use Rattle.commands.specs.declared.refused.Refused.{Refused}
 use Rattle.commands.specs.declared.refused.Refused.TheVariants.{Image, Config, Script, Order, Step, Memory, File}
-use Rattle.commands.specs.declared.refused.Refused.TheVariants.{Output, Thread, Trace, Event, NoUnit, Limit}
-use Rattle.commands.specs.declared.refused.Refused.TheVariants.{Prediction, Register}
+use Rattle.commands.specs.declared.refused.Refused.TheVariants.{Output, Thread, Trace, Event, NoUnit, Limit, NoHart}
+use Rattle.commands.specs.declared.refused.Refused.TheVariants.{Prediction, Register, Picture}
 use Rattle.commands.specs.declared.refused.Unread.{Unread}
 use Rattle.commands.specs.declared.refused.Unread.TheVariants as unread
 use Rattle.commands.specs.Refused.{exit_status_of, refusal_of, AreAccepted, PassesAll}
@@ -48,6 +48,8 @@ module _ (command : Command) (text : List ℕ) (settings : Settings) (file : Lis
   command_refusal (Register index) is = (settings, configured, (passes, program, loaded, is))
   command_refusal (NoUnit kind) is = (settings, configured, (passes, program, loaded, is))
   command_refusal (Limit least) is = (settings, configured, (passes, program, loaded, is))
+  command_refusal (NoHart hart) is = (settings, configured, (passes, program, loaded, is))
+  command_refusal (Picture last) is = (settings, configured, (passes, program, loaded, is))
   command_refusal Memory is = tt
   command_refusal Thread is = (settings, configured, (passes, program, loaded, is))
   command_refusal File is = inr (inr (settings, configured, (passes, program, loaded, is)))
@@ -102,6 +104,8 @@ known_refusal (Prediction index) status is = inr (inr (inl is))
 known_refusal (Register index) status is = inr (inr (inl is))
 known_refusal (NoUnit kind) status is = inr (inl is)
 known_refusal (Limit least) status is = inr (inl is)
+known_refusal (NoHart hart) status is = inr (inl is)
+known_refusal (Picture last) status is = inr (inl is)
 known_refusal Memory status is = inr (inr (inr is))
 known_refusal Thread status is = inr (inr (inr is))
 known_refusal File status is = inr (inr (inr is))
@@ -119,6 +123,8 @@ never_says (Prediction index) = refl
 never_says (Register index) = refl
 never_says (NoUnit kind) = refl
 never_says (Limit least) = refl
+never_says (NoHart hart) = refl
+never_says (Picture last) = refl
 never_says Memory = refl
 never_says Thread = refl
 never_says File = refl

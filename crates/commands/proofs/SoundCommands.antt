@@ -16,6 +16,7 @@ use Rattle.sim_inputs.specs.declared.line.PlainCommand.{PlainCommand}
 use Rattle.sim_inputs.specs.declared.line.ScheduleCommand.{ScheduleCommand}
 use Rattle.sim_inputs.specs.declared.line.ScriptCommand.{ScriptCommand}
 use Rattle.sim_inputs.specs.declared.line.ListCommand.{ListCommand}
+use Rattle.sim_inputs.specs.declared.line.ChartCommand.{ChartCommand}
 use Rattle.commands.specs.Refused.{AreAccepted, AreRefused}
 use Rattle.commands.specs.Inputs.{Read}
 use Rattle.commands.specs.{Account.statuses_of, Plain.standing}
@@ -191,6 +192,23 @@ of_list list settings program second = record {
   says = λ Traced old new status is. zero_says status is.zero;
 }
 
+of_chart : (chart : ChartCommand) (settings : Settings) (program : ProgramImage) (second : Read)
+    → IsSound (commands.Chart chart) settings program second
+of_chart chart settings program (Ok trace) = record {
+  no_image = λ number is. is;
+  unfit = λ accepted is. is;
+  output = λ Traced old new status is. is.history;
+  flushed = λ Traced old mid new status flushed is. is;
+  says = λ Traced old new status is. zero_says status is.zero;
+}
+of_chart chart settings program (Err why) = record {
+  no_image = λ number is. no_unread_image number why is;
+  unfit = λ accepted is. no_unread_config why is;
+  output = λ Traced old new status is. absurd is;
+  flushed = λ Traced old mid new status flushed is. absurd is;
+  says = λ Traced old new status is. absurd is;
+}
+
 pub sound : (command : Command) (settings : Settings) (program : ProgramImage) (second : Read)
     → IsSound command settings program second
 sound (commands.Step step) settings program second = of_step step settings program second
@@ -200,3 +218,4 @@ sound (commands.Plain plain) settings program second = of_plain plain settings p
 sound (commands.Schedule schedule) settings program second = of_schedule schedule settings program second
 sound (commands.Script script) settings program second = of_script script settings program second
 sound (commands.List list) settings program second = of_list list settings program second
+sound (commands.Chart chart) settings program second = of_chart chart settings program second

@@ -11,6 +11,7 @@ use Rattle.commands.specs.Inputs.{Read, OfFile, BehindFile}
 use Rattle.commands.specs.Step.{IsStepRefusal, StepComesTo, ArePrinted}
 use Rattle.commands.specs.Run.{IsRunRefusal, RunComesTo, LackARole}
 use Rattle.commands.specs.Check.{IsCheckRefusal, CheckComesTo, OfEvents, AreTooMany}
+use Rattle.commands.specs.Chart.{IsChartRefusal, ChartComesTo, has_file}
 use Rattle.commands.specs.Plain.{IsPlainRefusal, PlainComesTo}
 use Rattle.commands.specs.Schedule.{IsScheduleRefusal, ScheduleComesTo}
 use Rattle.commands.specs.Script.{IsScriptingRefusal, ScriptComesTo}
@@ -30,6 +31,8 @@ IsCommandRefusal (commands.Schedule schedule) settings image second reason =
 IsCommandRefusal (commands.Script script) settings image second reason =
     BehindFile second (IsScriptingRefusal settings image) reason
 IsCommandRefusal (commands.List list) settings image second reason = IsListRefusal reason
+IsCommandRefusal (commands.Chart chart) settings image second reason =
+    BehindFile second (λ trace. IsChartRefusal settings image trace chart) reason
 
 -- What a command comes to. `Traced` says of a core whether its trace is written where that is
 -- wanted.
@@ -50,30 +53,36 @@ CommandComesTo (commands.Script script) settings image second Traced old new sta
     OfFile second (λ trace. ScriptComesTo settings image trace old new status)
 CommandComesTo (commands.List list) settings image second Traced old new status =
     ListComesTo image old new status
+CommandComesTo (commands.Chart chart) settings image second Traced old new status =
+    OfFile second (λ trace. ChartComesTo settings image trace chart status)
 
 -- What a command may refuse of settings that are a configuration's: a run of threads needs an actor
--- of each role, and a trace that is read may have no more events than a core. No other command
--- refuses any.
+-- of each role, and a trace, checked, drawn or asked for again, may have no more events than a core.
+-- No other command refuses any.
 abbrev pub AreUnfit : Command → Settings → ProgramImage → Read → Type 0
 AreUnfit (commands.Run run) settings image second = LackARole settings
 AreUnfit (commands.Check check) settings image second =
     OfFile second (λ trace. OfEvents settings image trace AreTooMany)
 AreUnfit (commands.Script script) settings image second =
     OfFile second (λ trace. OfEvents settings image trace AreTooMany)
+AreUnfit (commands.Chart chart) settings image second =
+    OfFile second (λ trace. OfEvents settings image trace AreTooMany)
 AreUnfit _ settings image second = ⊥
 
--- What a command prints that doesn't come to its report since its trace couldn't be written: a
--- core's answers to the asks, or what explains them, where it makes steps; nothing, where it runs threads. No other command
--- writes a trace.
+-- What a command prints that doesn't come to its report since its file couldn't be written: a
+-- core's answers to the asks, or what explains them, where it makes steps; nothing, where it runs
+-- threads, or where the file is that of a chart. No other command writes a file.
 abbrev pub IsUnreported : Command → Read → Option (List ℕ) → Option (List ℕ) → Type 0
 IsUnreported (commands.Step step) second old new =
     (core : CoreView)
     × Prints old new (λ text. OfFile second (λ script. ArePrinted step.why script core text))
 IsUnreported (commands.Run run) second old new = new ≡ old
+IsUnreported (commands.Chart chart) second old new = new ≡ old
 IsUnreported _ second old new = ⊥
 
--- The command names a file for the trace of its core.
+-- The command names a file for the trace of its core, or for its chart.
 abbrev pub wants_trace : Command → Bool
 wants_trace (commands.Step step) = is_some step.trace
 wants_trace (commands.Run run) = is_some run.trace
+wants_trace (commands.Chart chart) = has_file chart
 wants_trace _ = false

@@ -4,6 +4,7 @@ pub mod Account
 pub mod Step
 pub mod Run
 pub mod Check
+pub mod Chart
 pub mod Plain
 pub mod Schedule
 pub mod Script

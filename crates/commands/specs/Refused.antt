@@ -10,8 +10,8 @@ use Rattle.sim_inputs.specs.{declared.settings.Settings.Settings}
 use Rattle.commands.specs.{declared.refused.Refused.Refused, declared.refused.Unread.Unread}
 use Rattle.commands.specs.declared.refused.Refused.TheVariants.{Image, Config, Script, Order}
 use Rattle.commands.specs.declared.refused.Refused.TheVariants.{Step, Trace, Event, Prediction}
-use Rattle.commands.specs.declared.refused.Refused.TheVariants.{Register, NoUnit, Limit}
-use Rattle.commands.specs.declared.refused.Refused.TheVariants.{Memory, Thread, File, Output}
+use Rattle.commands.specs.declared.refused.Refused.TheVariants.{Register, NoUnit, Limit, NoHart}
+use Rattle.commands.specs.declared.refused.Refused.TheVariants.{Picture, Memory, Thread, File, Output}
 use Rattle.commands.specs.declared.refused.Unread.TheVariants as unread
 
 -- The number of the exit status: 2 for an input, 4 for a trace, 5 for memory, threads, files and
@@ -28,6 +28,8 @@ exit_status_of (Prediction index) = 4
 exit_status_of (Register index) = 4
 exit_status_of (NoUnit kind) = 2
 exit_status_of (Limit least) = 2
+exit_status_of (NoHart hart) = 2
+exit_status_of (Picture last) = 2
 exit_status_of Memory = 5
 exit_status_of Thread = 5
 exit_status_of File = 5

@@ -58,7 +58,7 @@ pub(crate) fn read_events(text: &[u8], alloc: Global) -> Result<Trace, Refused>
 }
 
 /// A core of an image that has followed these events, with room for no more.
-fn follow_all(
+pub(crate) fn follow_all(
     image: &Image,
     settings: &Settings,
     events: &[Event],

@@ -3,7 +3,7 @@
 //! Read in this order: `refused` (why there is no report), `inputs` (the files of a line as they were
 //! read, and what is made of the first two), `account` (what is reported of a core), then a module a
 //! command: `step`, `run`, `check`, `plain`, `schedule`, `script`,
-//! `list`; and `performing` (all of it: the
+//! `list`, `chart`; and `performing` (all of it: the
 //! files taken in their order, the command, the exit status).
 //! `retiring` has the law that a printed schedule is retired.
 //! What each command comes to, and when each of its refusals comes, stands in `specs` under the
@@ -11,6 +11,7 @@
 #![tactic(auto)]
 
 mod account;
+mod chart;
 mod check;
 mod inputs;
 mod list;
@@ -24,6 +25,7 @@ mod script;
 mod step;
 
 pub use account::Wanted;
+pub use chart::perform_chart;
 pub use check::perform_check;
 pub use inputs::Inputs;
 pub use list::perform_list;

@@ -10,6 +10,7 @@ ghost use Rattle.commands.specs.Perform.{IsRefusal, LineComesTo, IsPerformed};
 ghost use Rattle.commands.specs.Account.{IsTraceWritten};
 
 use crate::account::Wanted;
+use crate::chart::perform_chart;
 use crate::check::perform_check;
 use crate::inputs::{Inputs, image_of, settings_of};
 use crate::list::perform_list;
@@ -30,14 +31,14 @@ use std::sync::Wait;
 use std::thread::Threads;
 
 /// Does all that the program does once its files are read, and answers its exit status: how the
-/// harts stand, 0 for a listing, a schedule and a script, 2 for a refused input, 4 for a refused trace, 5
+/// harts stand, 0 for a listing, a schedule, a script and a chart, 2 for a refused input, 4 for a refused trace, 5
 /// where memory, a thread or a file failed. A refusal is one line on `err`. The configuration is
 /// looked at first, then the image, then the script, the order or the trace; a file that couldn't
 /// be read is refused where it is looked at. All that is printed is flushed.
 ///
 /// The trace of a core goes into `trace`, a sink that hasn't failed, where the line names a file
 /// for it: behind the last ask, and before the tables and the report. Where the sink fails, neither
-/// is printed. A run of threads asks `gate` whether it may go on.
+/// is printed. So does a chart that is written to a file. A run of threads asks `gate` whether it may go on.
 pub fn perform<
     G: Gate + Sync,
     P: Predict + Copy + Send,
@@ -177,5 +178,9 @@ fn perform_command<
             perform_script(image, settings, text, out, alloc)
         }
         Command::List(_) => perform_list(image, out),
+        Command::Chart(chart) => {
+            let text = second?;
+            perform_chart(image, settings, text, chart, trace, out, alloc)
+        }
     }
 }

@@ -48,6 +48,12 @@ pub enum Refused {
     /// The limit is below this number of events, which a schedule needs.
     #[error("limit below {0}")]
     Limit(u64),
+    /// The core has no hart with this number, which was to be drawn.
+    #[error("no hart {0}")]
+    NoHart(u32),
+    /// A picture would have too many instructions; one up to this event has few enough.
+    #[error("picture of more than 4000 instructions: --to {0} would do")]
+    Picture(u32),
     /// There isn't enough memory.
     #[error("memory")]
     Memory,
@@ -57,7 +63,8 @@ pub enum Refused {
     /// A file can't be read.
     #[error("file")]
     File,
-    /// An output took no more: the standard output, or the file of a trace.
+    /// An output took no more: the standard output, or the file of a trace or
+    /// of a chart.
     #[error("file")]
     Output,
 }
@@ -73,6 +80,7 @@ impl Refused {
             Refused::Image(_) | Refused::Config => 2,
             Refused::Script(_) | Refused::Order(_) | Refused::Step { .. } => 2,
             Refused::NoUnit(_) | Refused::Limit(_) => 2,
+            Refused::NoHart(_) | Refused::Picture(_) => 2,
             Refused::Trace { .. } | Refused::Event { .. } => 4,
             Refused::Prediction(_) | Refused::Register(_) => 4,
             Refused::Memory | Refused::Thread | Refused::File | Refused::Output => 5,

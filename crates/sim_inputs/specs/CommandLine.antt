@@ -1,7 +1,10 @@
 -- The command line as data, and what its words ask for.
-use Rattle.std.specs.Prelude.{None, ◌≡◌, ◌≢◌, Bool, true, false, List, [], ◌∷◌, Option, Some}
+use Rattle.std.specs.Prelude.{None, ◌≡◌, ◌≢◌, ℕ, ◌-◌, nat_le, not, ◌&&◌, Bool, true, false, List, [], ◌∷◌}
+use Rattle.std.specs.Prelude.{Option, Some, is_some}
 use Rattle.std.specs.Prelude.{IsSomeAnd, option_map, codes}
-use Rattle.std.specs.{Borrow.Bor, List.fold, Option.option_map_or, Str.bytes_eq}
+use Rattle.std.specs.{Borrow.Bor, List.fold, Option.option_map_or, Result.result_ok, Str.bytes_eq}
+use Rattle.numbers.specs.Sizes.{most_events, most_harts}
+use Rattle.text_fields.specs.Reading.{decimal_field}
 use Rattle.clap.specs.Words.{App, Row, Rule, Text, IsAmong, app_of, rule_of, fault_of, first_of}
 use Rattle.clap.specs.Words.{new_app, new_rule, subcommand_of, with_rule, with_subcommand}
 use Rattle.clap.specs.{declared.builder.arg.Arg.Arg, declared.builder.command.Command.Command}
@@ -17,6 +20,7 @@ use Rattle.sim_inputs.specs.declared.line.{StepCommand.StepCommand, RunCommand.R
 use Rattle.sim_inputs.specs.declared.line.{CheckCommand.CheckCommand, PlainCommand.PlainCommand}
 use Rattle.sim_inputs.specs.declared.line.{ScheduleCommand.ScheduleCommand}
 use Rattle.sim_inputs.specs.declared.line.{ScriptCommand.ScriptCommand, ListCommand.ListCommand}
+use Rattle.sim_inputs.specs.declared.line.{ChartCommand.ChartCommand}
 use Rattle.sim_inputs.specs.{declared.line.WordsRefused.TheVariants.Help}
 use Rattle.sim_inputs.specs.{declared.line.WordsRefused.TheVariants.Refused}
 use Rattle.sim_inputs.specs.{declared.line.WordsRefused.TheVariants.Memory}
@@ -62,6 +66,42 @@ why_rule = flag_rule (codes "why")
 abbrev pub written_trace_rule : Rule
 written_trace_rule = file_option_rule (codes "trace")
 
+-- The last event that a history may have, the last hart that a core may have, and how many characters
+-- a line of a chart has, or events a band of a picture: usually, and at the most.
+abbrev pub last_place : ℕ
+last_place = most_events - 1
+
+abbrev pub last_hart : ℕ
+last_hart = most_harts - 1
+
+abbrev pub usual_columns : ℕ
+usual_columns = 120
+
+abbrev pub most_columns : ℕ
+most_columns = 10000
+
+-- An option that has a number.
+abbrev pub number_option_rule : Text → Rule
+number_option_rule name = record (new_rule name) { long = Some name; value_names = 1 }
+
+abbrev pub from_rule : Rule
+from_rule = number_option_rule (codes "from")
+
+abbrev pub to_rule : Rule
+to_rule = number_option_rule (codes "to")
+
+abbrev pub hart_rule : Rule
+hart_rule = number_option_rule (codes "hart")
+
+abbrev pub width_rule : Rule
+width_rule = number_option_rule (codes "width")
+
+abbrev pub svg_rule : Rule
+svg_rule = file_option_rule (codes "svg")
+
+abbrev pub kanata_rule : Rule
+kanata_rule = file_option_rule (codes "kanata")
+
 -- A subcommand of this name, with its arguments in order.
 abbrev pub subcommand : Text → List Rule → App
 subcommand name rules = fold with_rule (new_app name) rules
@@ -96,7 +136,13 @@ script_command = subcommand (codes "script") (image_rule ∷ trace_rule ∷ conf
 abbrev pub list_command : App
 list_command = subcommand (codes "list") (image_rule ∷ config_rule ∷ [])
 
--- The whole command line: one of the seven subcommands must be there. `clap` adds `--help` and
+-- `chart IMAGE TRACE`, with `--config FILE`, `--from N`, `--to N`, `--hart N`, `--width N`, `--svg FILE`
+-- and `--kanata FILE`.
+abbrev pub chart_command : App
+chart_command = subcommand (codes "chart") (image_rule ∷ trace_rule ∷ config_rule ∷ from_rule ∷ to_rule
+    ∷ hart_rule ∷ width_rule ∷ svg_rule ∷ kanata_rule ∷ [])
+
+-- The whole command line: one of the eight subcommands must be there. `clap` adds `--help` and
 -- `help`.
 abbrev pub top : App
 top = let app =
@@ -104,8 +150,8 @@ top = let app =
 
 abbrev pub smtsim : App
 smtsim = fold (λ app sub. with_subcommand app sub.top) top (step_command ∷ run_command
-    ∷ check_command ∷ plain_command ∷ schedule_command ∷ script_command
-    ∷ list_command ∷ [])
+    ∷ check_command ∷ plain_command ∷ schedule_command ∷ script_command ∷ list_command
+    ∷ chart_command ∷ [])
 
 -- What `clap` is given: an argument and a command as data, neither of them for the commands below
 -- too.
@@ -174,6 +220,39 @@ pub record IsScript (rows : List Row) (script : ScriptCommand) : Type 0 where
 pub record IsList (rows : List Row) (list : ListCommand) : Type 0 where
   pub image : IsFile rows (codes "IMAGE") list.image
 
+-- The number that was found for an option, of at most `greatest`; the default where it isn't given.
+abbrev pub number_or : ℕ → ℕ → Option Text → Option ℕ
+number_or default greatest None = Some default
+number_or default greatest (Some text) = result_ok (decimal_field greatest text)
+
+abbrev IsNumber : List Row → Text → ℕ → ℕ → ℕ → Type 0
+IsNumber rows name default greatest number = number_or default greatest (first_of name rows) ≡ Some number
+
+-- So it is with one that has no default.
+abbrev pub number_in : ℕ → Option Text → Option (Option ℕ)
+number_in greatest None = Some None
+number_in greatest (Some text) = option_map (λ number. Some number) (result_ok (decimal_field greatest text))
+
+abbrev IsNumberOption : List Row → Text → ℕ → Option ℕ → Type 0
+IsNumberOption rows name greatest number = number_in greatest (first_of name rows) ≡ Some number
+
+-- The last event that is drawn isn't before the first, a line has room, and there's one file at most.
+abbrev pub can_be_drawn : ChartCommand → Bool
+can_be_drawn chart =
+    (nat_le chart.from chart.to && nat_le 1 chart.width)
+    && not (is_some chart.svg && is_some chart.kanata)
+
+pub record IsChart (rows : List Row) (chart : ChartCommand) : Type 0 where
+  pub image : IsFile rows (codes "IMAGE") chart.image
+  pub trace : IsFile rows (codes "TRACE") chart.trace
+  pub from : IsNumber rows (codes "from") 0 last_place chart.from
+  pub to : IsNumber rows (codes "to") last_place last_place chart.to
+  pub hart : IsNumberOption rows (codes "hart") last_hart chart.hart
+  pub width : IsNumber rows (codes "width") usual_columns most_columns chart.width
+  pub svg : IsFileOption rows (codes "svg") chart.svg
+  pub kanata : IsFileOption rows (codes "kanata") chart.kanata
+  pub together : can_be_drawn chart ≡ true
+
 -- A subcommand of this name, with what was found for it, is the command.
 abbrev pub IsCommandOf : Text → List Row → LineCommand → Type 0
 IsCommandOf name rows (commands.Step step) = (name ≡ codes "step") × IsStep rows step
@@ -184,6 +263,7 @@ IsCommandOf name rows (commands.Schedule schedule) =
     (name ≡ codes "schedule") × IsSchedule rows schedule
 IsCommandOf name rows (commands.Script script) = (name ≡ codes "script") × IsScript rows script
 IsCommandOf name rows (commands.List list) = (name ≡ codes "list") × IsList rows list
+IsCommandOf name rows (commands.Chart chart) = (name ≡ codes "chart") × IsChart rows chart
 
 -- A subcommand of this name, with what was found for it, is the line: its command, and the
 -- configuration, which every command may have.

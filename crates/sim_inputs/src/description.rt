@@ -15,6 +15,8 @@ pub(crate) enum Kind {
     Option,
     /// `--name`, which may be there.
     Flag,
+    /// `--name N`, which may be there.
+    Number,
 }
 
 /// An argument of a subcommand, as help describes it.
@@ -67,6 +69,15 @@ fields are decimal.";
 const ORDER_FORM: &str = "\
 An order has words apart by spaces or newlines. Each is the number of a hart,
 0 to 255, which makes the next step: one whole instruction.";
+
+/// How a chart is read, for the help of `chart`.
+const CHART_FORM: &str = "\
+In the row of an instruction stand, each under its event:
+  F D R I C T   it is fetched, decoded, renamed, issued, completed, retired
+  .             it is in the pipeline
+  x             it is squashed; behind the row stands by which instruction
+  X             a unit hands it back, squashed before
+The trace is checked first, as check does: no other one is drawn.";
 
 /// How a configuration is written, for the help of the program.
 const CONFIGURATION_FORM: &str = "\
@@ -141,6 +152,42 @@ const WRITTEN_TRACE: Argument = Argument {
     help: "The file that the history is written to",
 };
 
+const FROM: Argument = Argument {
+    kind: Kind::Number,
+    name: "from",
+    help: "The first event that is drawn; 0 is the first of all",
+};
+
+const TO: Argument = Argument {
+    kind: Kind::Number,
+    name: "to",
+    help: "The last event that is drawn",
+};
+
+const HART: Argument = Argument {
+    kind: Kind::Number,
+    name: "hart",
+    help: "The one hart whose instructions are drawn",
+};
+
+const WIDTH: Argument = Argument {
+    kind: Kind::Number,
+    name: "width",
+    help: "The characters of a line, or the events of a picture's band: 120",
+};
+
+const SVG: Argument = Argument {
+    kind: Kind::Option,
+    name: "svg",
+    help: "The file that a picture is written to, in place of text",
+};
+
+const KANATA: Argument = Argument {
+    kind: Kind::Option,
+    name: "kanata",
+    help: "The file that a log for Konata is written to, in place of text",
+};
+
 /// The subcommands, in the order in which help lists them.
 static SUBCOMMANDS: [Subcommand; 7] = [
     Subcommand {
@@ -194,6 +241,12 @@ static SUBCOMMANDS: [Subcommand; 7] = [
         arguments: &[IMAGE, CONFIG],
         form: "",
     },
+    Subcommand {
+        name: "chart",
+        about: "Draw a trace's instructions in the pipeline: a row each, a column an event",
+        arguments: &[IMAGE, TRACE, CONFIG, FROM, TO, HART, WIDTH, SVG, KANATA],
+        form: CHART_FORM,
+    },
 ];
 
 /// The program's command line.
@@ -246,5 +299,6 @@ fn argument_of<'a>(row: &'static Argument, alloc: Global) -> Arg<'a>
         Kind::File => argument.required(true),
         Kind::Option => argument.long(row.name).value_name("FILE"),
         Kind::Flag => argument.long(row.name).action(ArgAction::SetTrue),
+        Kind::Number => argument.long(row.name).value_name("N"),
     }
 }

@@ -1,7 +1,7 @@
 ghost use Rattle.std.specs.Prelude.{◌≡◌};
-ghost use Rattle.sim_inputs.specs.Files.{files_of};
+ghost use Rattle.sim_inputs.specs.Files.{files_of, written_chart};
 
-use crate::line::{Command, Line};
+use crate::line::{ChartCommand, Command, Line};
 
 /// The files that a line names: three that are read, in this order, and one that is written.
 #[derive(Clone, Copy, Drop)]
@@ -12,8 +12,20 @@ pub struct Files<'a> {
     pub image: Option<&'a str>,
     /// The script, the trace that is read, or the order.
     pub second: Option<&'a str>,
-    /// The file that the trace of a core is written to.
+    /// The file that is written: the trace of a core, or a chart.
     pub trace: Option<&'a str>,
+}
+
+impl<'a> ChartCommand<'a> {
+    /// The file that the chart is written to; none where it is printed.
+    pub fn written(&self) -> Option<&'a str>
+        ensures { result ≡ written_chart self.now }
+    {
+        if self.svg.is_some() {
+            return self.svg;
+        }
+        self.kanata
+    }
 }
 
 impl<'a> Line<'a> {
@@ -29,6 +41,7 @@ impl<'a> Line<'a> {
             Command::Schedule(schedule) => (Some(schedule.image), Some(schedule.order), None),
             Command::Script(script) => (Some(script.image), Some(script.trace), None),
             Command::List(list) => (Some(list.image), None, None),
+            Command::Chart(chart) => (Some(chart.image), Some(chart.trace), chart.written()),
         };
         Files {
             config: self.config,

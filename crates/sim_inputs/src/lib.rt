@@ -20,7 +20,7 @@ mod words;
 pub use configuration::{ConfigRefused, read_config};
 pub use files::Files;
 pub use line::{
-    CheckCommand, Command, Line, ListCommand, PlainCommand, RunCommand, ScheduleCommand,
+    ChartCommand, CheckCommand, Command, Line, ListCommand, PlainCommand, RunCommand, ScheduleCommand,
     ScriptCommand, StepCommand, WordsRefused,
 };
 pub use settings::Settings;

@@ -18,6 +18,7 @@ pub enum Command<'a> {
     Schedule(ScheduleCommand<'a>),
     Script(ScriptCommand<'a>),
     List(ListCommand<'a>),
+    Chart(ChartCommand<'a>),
 }
 
 /// `step IMAGE SCRIPT`: the script's asks are made in order, without threads.
@@ -85,6 +86,27 @@ pub struct ScriptCommand<'a> {
 #[derive(Clone, Copy, Drop)]
 pub struct ListCommand<'a> {
     pub image: &'a str,
+}
+
+/// `chart IMAGE TRACE`: the pipeline is drawn, an instruction a row and an event a column.
+#[derive(Clone, Copy, Drop)]
+pub struct ChartCommand<'a> {
+    pub image: &'a str,
+    /// The file of the trace, which is read.
+    pub trace: &'a str,
+    /// `--from N`: the first event that is drawn, 0 where it isn't given.
+    pub from: u32,
+    /// `--to N`: the last event that is drawn, none below `from`.
+    pub to: u32,
+    /// `--hart H`: the one hart that is drawn.
+    pub hart: Option<u32>,
+    /// `--width W`: how many characters a line has, or how many events a band of a picture, 1 to
+    /// `MOST_COLUMNS`.
+    pub width: u32,
+    /// `--svg FILE`: the file that a picture is written to.
+    pub svg: Option<&'a str>,
+    /// `--kanata FILE`: the file that Konata's log is written to. There is one of the two at most.
+    pub kanata: Option<&'a str>,
 }
 
 /// Why there is nothing to do.

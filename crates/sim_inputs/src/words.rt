@@ -2,18 +2,31 @@ ghost use Rattle.std.specs.Prelude.{◌≡◌, map, option_map, IfOk, IfErr};
 ghost use Rattle.clap.specs.Words.{first_of, found_of, kind_of, rows_of, subcommand_rows_of};
 ghost use Rattle.sim_inputs.specs.CommandLine.{is_flag_set, Finds, IsCommandOf, Names, Asks};
 ghost use Rattle.sim_inputs.specs.CommandLine.{IsStep, IsRun, IsCheck, IsPlain, IsSchedule, IsScript};
-ghost use Rattle.sim_inputs.specs.CommandLine.{IsList};
+ghost use Rattle.sim_inputs.specs.CommandLine.{IsList, IsChart, can_be_drawn, number_or, number_in};
 ghost use Rattle.sim_inputs.specs.CommandLine.{AreWordsRefusedFor, IsRefusalOf};
 
 use crate::description::describe;
 use crate::limits::with_limits;
 use crate::line::{
-    CheckCommand, Command, Line, ListCommand, PlainCommand, RunCommand, ScheduleCommand,
+    ChartCommand, CheckCommand, Command, Line, ListCommand, PlainCommand, RunCommand, ScheduleCommand,
     ScriptCommand, StepCommand, WordsRefused,
 };
 use clap::error::ErrorKind;
 use clap::{ArgMatches, Error};
+use numbers::sizes::{MOST_EVENTS, MOST_HARTS};
 use std::alloc::{AllocError, Global};
+use text_fields::read_decimal;
+
+/// The place of the last event that a history may have.
+const LAST_PLACE: u32 = MOST_EVENTS - 1;
+
+/// The last hart that a core may have.
+const LAST_HART: u32 = MOST_HARTS as u32 - 1;
+
+/// How many characters a line of a chart has, or how many events a band of a picture, where nothing
+/// else is said, and how many at the most.
+const USUAL_COLUMNS: u32 = 120;
+const MOST_COLUMNS: u32 = 10_000;
 
 /// Reads the program's words, its own name first. `Help` is answered where `clap` answers with its
 /// help, `Refused` where the words ask for nothing, and `Memory` where there isn't enough of it.
@@ -53,6 +66,7 @@ fn command_named<'a>(name: &str, found: &ArgMatches<'a>) -> Option<Command<'a>>
         "schedule" => Some(Command::Schedule(schedule_in(found)?)),
         "script" => Some(Command::Script(script_in(found)?)),
         "list" => Some(Command::List(list_in(found)?)),
+        "chart" => Some(Command::Chart(chart_in(found)?)),
         _ => None,
     }
 }
@@ -127,6 +141,55 @@ fn list_in<'a>(found: &ArgMatches<'a>) -> Option<ListCommand<'a>>
     Some(ListCommand {
         image: file(found, "IMAGE")?,
     })
+}
+
+fn chart_in<'a>(found: &ArgMatches<'a>) -> Option<ChartCommand<'a>>
+    ensures { Finds (IsChart (rows_of (found_of found.now))) result }
+{
+    let chart = ChartCommand {
+        image: file(found, "IMAGE")?,
+        trace: file(found, "TRACE")?,
+        from: number_or(found, "from", 0, LAST_PLACE)?,
+        to: number_or(found, "to", LAST_PLACE, LAST_PLACE)?,
+        hart: number(found, "hart", LAST_HART)?,
+        width: number_or(found, "width", USUAL_COLUMNS, MOST_COLUMNS)?,
+        svg: file(found, "svg"),
+        kanata: file(found, "kanata"),
+    };
+    if !can_be_drawn(&chart) {
+        return None;
+    }
+    Some(chart)
+}
+
+/// Whether the options of a chart go together: its events rise, a line has room, and there's one file
+/// at most.
+fn can_be_drawn(chart: &ChartCommand<'_>) -> bool
+    ensures { result ≡ can_be_drawn chart.now }
+{
+    chart.from <= chart.to && chart.width >= 1 && !(chart.svg.is_some() && chart.kanata.is_some())
+}
+
+/// The number that was found for an option, of at most `greatest`, or the default where it isn't
+/// given; none where something else was found.
+fn number_or(found: &ArgMatches<'_>, name: &str, default: u32, greatest: u32) -> Option<u32>
+    ensures { result ≡ number_or default greatest (first_of name.now (rows_of (found_of found.now))) }
+{
+    match file(found, name) {
+        Some(text) => read_decimal(text.as_bytes(), greatest).ok(),
+        None => Some(default),
+    }
+}
+
+/// The number that was found for an option, of at most `greatest`, if one was given; none where
+/// something else was found.
+fn number(found: &ArgMatches<'_>, name: &str, greatest: u32) -> Option<Option<u32>>
+    ensures { result ≡ number_in greatest (first_of name.now (rows_of (found_of found.now))) }
+{
+    match file(found, name) {
+        Some(text) => Some(Some(read_decimal(text.as_bytes(), greatest).ok()?)),
+        None => Some(None),
+    }
 }
 
 /// The file that was found for an argument or an option.

@@ -1,0 +1,6 @@
+mod Keeping
+mod Moving
+mod Fresh
+mod Growing
+mod Cutting
+mod Squashed

@@ -1,0 +1,85 @@
+//! The name of a row: its hart, its number, its pc and its instruction.
+
+use crate::row::Row;
+use crate::view::View;
+use arrayvec::ArrayString;
+use rv_decode::{Op, decode_op};
+use std::io;
+use std::io::Write;
+use text_fields::push_decimal;
+
+/// The spelling of a row's instruction; `.word` and the word where it is none, and a dash where there
+/// is no word.
+pub(crate) fn instruction_of(row: &Row) -> ArrayString<40> {
+    match decode_op(row.word) {
+        Op::Known(instr) => rv_text::print(instr, row.pc),
+        Op::Illegal => text_of(".word"),
+        Op::NoWord => text_of("-"),
+    }
+}
+
+fn text_of(text: &'static str) -> ArrayString<40> {
+    ArrayString::from(text).unwrap_or_default()
+}
+
+/// How wide the parts of a row's name are.
+#[derive(Clone, Copy, Drop)]
+pub(crate) struct Widths {
+    /// The digits of the greatest number.
+    number: usize,
+    /// The characters of the longest instruction.
+    instruction: usize,
+}
+
+impl Widths {
+    /// Of the names of the rows that are drawn.
+    pub fn of(rows: &[Row], view: &View) -> Widths {
+        let mut widths = Widths {
+            number: digits_of(rows.len()),
+            instruction: 0,
+        };
+        for row in rows {
+            if view.shows(row) {
+                widths.instruction = widths.instruction.max(instruction_of(row).len());
+            }
+        }
+        widths
+    }
+
+    /// The width of a name, with a space behind each of its parts.
+    pub fn name(&self) -> usize {
+        // A digit for the hart, eight for the pc, and a space behind each of the four.
+        self.number
+            .saturating_add(self.instruction)
+            .saturating_add(13)
+    }
+
+    /// The width of the longest remark behind a row.
+    pub fn remark(&self) -> usize {
+        // Either ` by ` and a number, or ` replayed`.
+        self.number.saturating_add(4).max(9)
+    }
+
+    /// Writes the name of the row with this number.
+    pub fn write_name<W: Write>(&self, row: &Row, number: usize, out: &mut W) -> io::Result<()> {
+        let instruction = instruction_of(row);
+        write!(out, "{} ", row.hart)?;
+        write_spaces(self.number.saturating_sub(digits_of(number)), out)?;
+        write!(out, "{number} {:08x} {} ", row.pc, instruction)?;
+        write_spaces(self.instruction.saturating_sub(instruction.len()), out)
+    }
+}
+
+/// How many digits a number has.
+pub(crate) fn digits_of(number: usize) -> usize {
+    let mut text = ArrayString::<20>::new();
+    push_decimal(&mut text, number);
+    text.len()
+}
+
+pub(crate) fn write_spaces<W: Write>(count: usize, out: &mut W) -> io::Result<()> {
+    for _ in 0..count {
+        out.write_all(b" ")?;
+    }
+    Ok(())
+}

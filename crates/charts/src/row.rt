@@ -1,0 +1,154 @@
+ghost use Rattle.std.specs.Prelude.{◌≡◌, false};
+ghost use Rattle.charts.specs.Moves.{is_replay, moved, cuts, cut};
+ghost use Rattle.smt_model.specs.Nexts.{is_last, redirect_pc};
+ghost use Rattle.std.specs.Prelude.{is_some};
+
+use events::{Effect, Event, Next};
+use numbers::Seq;
+use rv_decode::decode_op;
+
+/// What squashed an instruction.
+#[derive(Clone, Copy, PartialEq, Eq, Drop)]
+pub struct Squash {
+    /// The place of the event that squashed it.
+    pub place: u32,
+    /// The number of the instruction which that event is of.
+    pub by: Seq,
+}
+
+/// An instruction of a history, and the places of its events: the first event of the history is at
+/// 0. An instruction has no two events of one kind.
+#[derive(Clone, Copy, PartialEq, Eq, Drop)]
+pub struct Row {
+    pub hart: u8,
+    pub pc: u32,
+    pub word: Option<u32>,
+    /// The pc that was predicted to follow.
+    pub predicted: u32,
+    pub fetched: u32,
+    pub decoded: Option<u32>,
+    pub renamed: Option<u32>,
+    pub issued: Option<u32>,
+    pub completed: Option<u32>,
+    /// Where a unit handed it back that was squashed before.
+    pub dropped: Option<u32>,
+    pub retired: Option<u32>,
+    pub squashed: Option<Squash>,
+    /// The number that its completion gave: for a load, that of its first look.
+    pub value: Option<u32>,
+    /// It is a load that had another number as it retired.
+    pub replayed: bool,
+}
+
+impl Row {
+    /// The row of an instruction that was fetched by the event at this place.
+    pub(crate) fn fetched(hart: u8, pc: u32, word: Option<u32>, predicted: u32, place: u32) -> Row
+        ensures { result ≡ record {
+          hart = hart;
+          pc = pc;
+          word = word;
+          predicted = predicted;
+          fetched = place;
+          decoded = None;
+          renamed = None;
+          issued = None;
+          completed = None;
+          dropped = None;
+          retired = None;
+          squashed = None;
+          value = None;
+          replayed = false;
+        } }
+    {
+        Row {
+            hart,
+            pc,
+            word,
+            predicted,
+            fetched: place,
+            decoded: None,
+            renamed: None,
+            issued: None,
+            completed: None,
+            dropped: None,
+            retired: None,
+            squashed: None,
+            value: None,
+            replayed: false,
+        }
+    }
+
+    /// The row behind an event of its instruction, at this place.
+    pub(crate) fn moved(self, event: &Event, place: u32) -> Row
+        ensures { result ≡ moved event.now place self }
+    {
+        let mut row = self;
+        match *event {
+            Event::Fetch { .. } => {}
+            Event::Decode { .. } => row.decoded = Some(place),
+            Event::Rename { .. } => row.renamed = Some(place),
+            Event::Issue { .. } => row.issued = Some(place),
+            Event::Complete { outcome, .. } => {
+                row.completed = Some(place);
+                row.value = outcome.value;
+            }
+            Event::Drop { .. } => row.dropped = Some(place),
+            Event::Retire { effect, .. } => {
+                row.retired = Some(place);
+                row.replayed = self.is_replay(effect);
+            }
+        }
+        row
+    }
+
+    /// Whether an event of its instruction squashes all younger ones of its hart: a completion that
+    /// finds another pc than the predicted one, and a retirement that ends or stops the hart, or is
+    /// of a load with another number now.
+    pub(crate) fn cuts(self, event: &Event) -> bool
+        ensures { result ≡ cuts event.now self }
+    {
+        match *event {
+            Event::Complete { outcome, .. } => is_mispredicted(outcome.next, self.predicted),
+            Event::Retire { effect, .. } => is_last(effect.next) || self.is_replay(effect),
+            _ => false,
+        }
+    }
+
+    /// The row behind a squash of the younger ones of `hart`, of which it may be one.
+    pub(crate) fn cut(self, hart: u8, by: Squash) -> Row
+        ensures { result ≡ cut hart by self }
+    {
+        let mut row = self;
+        if row.hart == hart && row.squashed.is_none() {
+            row.squashed = Some(by);
+        }
+        row
+    }
+
+    /// Whether it is a load that has another number as it retires than it had as it completed.
+    fn is_replay(self, effect: Effect) -> bool
+        ensures { result ≡ is_replay self effect }
+    {
+        decode_op(self.word).kind().is_loading()
+            && self.completed.is_some()
+            && self.value != effect.value
+    }
+}
+
+fn is_mispredicted(next: Next, predicted: u32) -> bool
+    ensures { result ≡ is_some (redirect_pc next predicted) }
+{
+    match next {
+        Next::Pc(pc) => pc != predicted,
+        Next::Ended(_) | Next::Stopped(_) => false,
+    }
+}
+
+fn is_last(next: Next) -> bool
+    ensures { result ≡ is_last next }
+{
+    match next {
+        Next::Pc(_) => false,
+        Next::Ended(_) | Next::Stopped(_) => true,
+    }
+}

@@ -1,0 +1,176 @@
+"""The chart of a trace, as `smtsim chart` has to draw it: the text, and with --kanata the log for Konata.
+
+    chart.py IMAGE TRACE [--config FILE] [--from N] [--to N] [--hart H] [--width W] [--kanata]
+
+Written from docs/FORMATS.md over the second judge's definitions (judge_history.py): which event squashed
+an instruction is the first of which `squashes` says so. Only the spelling of an instruction is that of
+the model (instructions.py). A trace that isn't legal is refused as judge.py refuses it.
+"""
+
+import argparse
+import sys
+
+import judge
+from instructions import spelled
+from judge_inputs import Complete, Decode, Drop, Fetch, Issue, Refused, Rename, Retire, Settings
+from judge_inputs import image_of, settings_of, trace_of
+from judge_words import op_of_word
+
+LETTERS = {Fetch: "F", Decode: "D", Rename: "R", Issue: "I", Complete: "C", Drop: "X", Retire: "T"}
+
+
+class Row:
+    """An instruction: its fetch, the letters under its events, and what squashed it."""
+
+    def __init__(self, history, fetch):
+        self.fetch, self.number, self.hart = fetch, fetch.seq, fetch.hart
+        self.at = {LETTERS[type(e)]: n for n, e in enumerate(history.events) if e.seq == fetch.seq}
+        self.squash = next((n for n in range(len(history.events)) if history.squashes(n, fetch.seq)), None)
+        self.by = None if self.squash is None else history.events[self.squash].seq
+        self.replayed = "T" in self.at and history.is_replayed(
+            self.at["T"], self.number, history.events[self.at["T"]].effect)
+        self.op = op_of_word(fetch.word)
+        self.text = "-" if fetch.word is None else spelled(fetch.word, fetch.pc)
+
+    def last(self):
+        """The last place in which something stands; none where it goes on."""
+        return self.at.get("T", self.at.get("X", self.squash))
+
+    def cell(self, n):
+        for letter, place in self.at.items():
+            if place == n:
+                return letter
+        if n == self.squash:
+            return "x"
+        over = [place for place in (self.at.get("T"), self.squash) if place is not None]
+        return "." if self.at["F"] < n and all(n < place for place in over) else " "
+
+    def is_shown(self, first, last, hart):
+        begins = self.at["F"] <= last and (self.last() is None or first <= self.last())
+        return begins and hart in (None, self.hart)
+
+
+def rows_of(history):
+    return [Row(history, e) for e in history.events if isinstance(e, Fetch)]
+
+
+def text(rows, first, last, hart, width):
+    """The lines of the chart, from one event to another."""
+    digits = len(str(len(rows)))
+    shown = [row for row in rows if row.is_shown(first, last, hart)]
+    room = max((len(row.text) for row in shown), default=0)
+    name = digits + room + 13
+    columns = max(10, width - name - max(9, digits + 4))
+    for start in range(first, last + 1, columns):
+        end = min(last, start + columns - 1)
+        if start > first:
+            yield ""
+        ruler = " " * name
+        for n in range(start, end + 1):
+            if n % 10 == 0 and len(ruler) <= name + n - start:
+                ruler = ruler.ljust(name + n - start) + str(n)
+        yield ruler
+        for row in rows:
+            if row.is_shown(start, end, hart):
+                head = f"{row.hart} {row.number:>{digits}} {row.fetch.pc:08x} {row.text:<{room}} "
+                stop = end if row.last() is None else min(end, row.last())
+                line = head + "".join(row.cell(n) for n in range(start, stop + 1))
+                if row.squash is not None and start <= row.squash <= end:
+                    line += f" by {row.by}"
+                if row.replayed and start <= row.at["T"] <= end:
+                    line += " replayed"
+                yield line
+
+
+def waited_for(rows, row, register):
+    """The instruction whose number for a register a renamed one had to wait for."""
+    if not register:
+        return None
+    renamed = row.at["R"]
+    for older in reversed(rows[: row.number]):
+        gone = older.squash is not None and older.squash <= renamed
+        if older.hart == row.hart and "R" in older.at and not gone and older.op.rd == register:
+            done = older.at.get("T" if older.op.kind in ("reserving", "conditional", "atomic") else "C")
+            return older if done is None or done > renamed else None
+    return None
+
+
+def kanata(history, rows, first, last, hart):
+    """The lines of the log: the instructions that are shown, each of them whole."""
+    shown = [row for row in rows if row.is_shown(first, last, hart)]
+    ids = {row.number: n for n, row in enumerate(shown)}
+    cycle, left = shown[0].at["F"] if shown else 0, 0
+    stages = {}
+    yield "Kanata\t0004"
+    yield f"C=\t{cycle}"
+    for n, e in enumerate(history.events):
+        lines = []
+        if e.seq in ids:
+            row, id, letter = rows[e.seq], ids[e.seq], LETTERS[type(e)]
+            if letter == "F":
+                told = f"number {row.number} of hart {row.hart}"
+                told += "" if row.by is None else f", squashed by number {row.by}"
+                told += ", replayed" if row.replayed else ""
+                lines = [f"I\t{id}\t{row.number}\t{row.hart}", f"L\t{id}\t0\t{row.fetch.pc:08x}: {row.text}"]
+                lines += [f"L\t{id}\t1\t{told}", f"S\t{id}\t0\tF"]
+            else:
+                lines = [f"E\t{id}\t0\t{stages[id]}"]
+                if letter in "XT":
+                    lines.append(f"R\t{id}\t{left}\t{int(letter == 'X')}")
+                    left += 1
+                else:
+                    lines.append(f"S\t{id}\t0\t{letter}")
+            stages[id] = letter
+            if letter == "I":
+                for register in dict.fromkeys((row.op.first, row.op.second)):
+                    other = waited_for(rows, row, register)
+                    if other is not None and other.number in ids:
+                        lines.append(f"W\t{id}\t{ids[other.number]}\t0")
+        for row in shown:
+            if row.squash == n:
+                id = ids[row.number]
+                lines.append(f"E\t{id}\t0\t{stages[id]}")
+                if "X" in row.at:
+                    lines.append(f"S\t{id}\t0\tx")
+                    stages[id] = "x"
+                else:
+                    lines.append(f"R\t{id}\t{left}\t1")
+                    left += 1
+        if lines and n > cycle:
+            yield f"C\t{n - cycle}"
+            cycle = n
+        yield from lines
+
+
+def main(words):
+    line = argparse.ArgumentParser()
+    line.add_argument("image")
+    line.add_argument("trace")
+    line.add_argument("--config")
+    line.add_argument("--from", type=int, default=0, dest="first")
+    line.add_argument("--to", type=int, default=2**24, dest="last")
+    line.add_argument("--hart", type=int)
+    line.add_argument("--width", type=int, default=120)
+    line.add_argument("--kanata", action="store_true")
+    asked = line.parse_args(words)
+    try:
+        settings = settings_of(judge.contents(asked.config)) if asked.config else Settings()
+        image = image_of(judge.contents(asked.image), settings.ram)
+        events = trace_of(judge.contents(asked.trace))
+        judge.judged(image, settings, events)
+    except Refused as refused:
+        print(f"smtsim: {refused.said}", file=sys.stderr)
+        return refused.status
+    history = judge.Rules(settings, image, events)
+    rows = rows_of(history)
+    last = min(asked.last, max(len(events) - 1, 0))
+    if asked.kanata:
+        lines = kanata(history, rows, asked.first, last, asked.hart)
+    else:
+        lines = text(rows, asked.first, last, asked.hart, asked.width)
+    sys.stdout.writelines(f"{line}\n" for line in lines)
+    return 0
+
+
+if __name__ == "__main__":
+    sys.exit(main(sys.argv[1:]))
