@@ -22,7 +22,7 @@ fn words_of(text: &str, alloc: Global) -> Result<Vec<&str>, AllocError> {
 }
 
 /// Words, and what they ask for.
-static LINES: [(&str, Line<'_>); 20] = [
+X = [
     (
         "smtsim step first.elf first.script",
         Line {

@@ -189,7 +189,7 @@ const KANATA: Argument = Argument {
 };
 
 /// The subcommands, in the order in which help lists them.
-static SUBCOMMANDS: [Subcommand; 7] = [
+static SUBCOMMANDS: [Subcommand; 8] = [
     Subcommand {
         name: "step",
         about: "Make a script's asks of the core in order, and print a report",

@@ -20,8 +20,8 @@ mod words;
 pub use configuration::{ConfigRefused, read_config};
 pub use files::Files;
 pub use line::{
-    ChartCommand, CheckCommand, Command, Line, ListCommand, PlainCommand, RunCommand, ScheduleCommand,
-    ScriptCommand, StepCommand, WordsRefused,
+    ChartCommand, CheckCommand, Command, Line, ListCommand, PlainCommand, RunCommand,
+    ScheduleCommand, ScriptCommand, StepCommand, WordsRefused,
 };
 pub use settings::Settings;
 pub use words::read_words;

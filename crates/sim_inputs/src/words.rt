@@ -8,8 +8,8 @@ ghost use Rattle.sim_inputs.specs.CommandLine.{AreWordsRefusedFor, IsRefusalOf};
 use crate::description::describe;
 use crate::limits::with_limits;
 use crate::line::{
-    ChartCommand, CheckCommand, Command, Line, ListCommand, PlainCommand, RunCommand, ScheduleCommand,
-    ScriptCommand, StepCommand, WordsRefused,
+    ChartCommand, CheckCommand, Command, Line, ListCommand, PlainCommand, RunCommand,
+    ScheduleCommand, ScriptCommand, StepCommand, WordsRefused,
 };
 use clap::error::ErrorKind;
 use clap::{ArgMatches, Error};
@@ -26,6 +26,7 @@ const LAST_HART: u32 = MOST_HARTS as u32 - 1;
 /// How many characters a line of a chart has, or how many events a band of a picture, where nothing
 /// else is said, and how many at the most.
 const USUAL_COLUMNS: u32 = 120;
+
 const MOST_COLUMNS: u32 = 10_000;
 
 /// Reads the program's words, its own name first. `Help` is answered where `clap` answers with its
