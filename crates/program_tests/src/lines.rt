@@ -36,6 +36,7 @@ pub fn looks_line() -> Line<'static> {
         looks: true,
         records: false,
         show: false,
+        why: false,
     },))
 }
 

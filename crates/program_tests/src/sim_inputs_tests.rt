@@ -22,7 +22,7 @@ fn words_of(text: &str, alloc: Global) -> Result<Vec<&str>, AllocError> {
 }
 
 /// Words, and what they ask for.
-X = [
+static LINES: [(&str, Line<'_>); 21] = [
     (
         "smtsim step first.elf first.script",
         Line {
@@ -139,6 +139,7 @@ X = [
                 looks: true,
                 records: false,
                 show: false,
+                why: false,
             }),
         },
     ),
@@ -289,16 +290,17 @@ fn files_of<'a>(line: &Line<'a>) -> Named<'a> {
     (files.config, files.image, files.second, files.trace)
 }
 
-/// The command of a line, and its flags: records, tables and looks.
-fn flags_of(line: &Line<'_>) -> (&'static str, [bool; 3]) {
+/// The command of a line, and its flags: records, tables, looks and reasons.
+fn flags_of(line: &Line<'_>) -> (&'static str, [bool; 4]) {
     match line.command {
-        Command::Step(step) => ("step", [step.records, step.show, step.looks]),
-        Command::Run(run) => ("run", [run.records, false, false]),
-        Command::Check(check) => ("check", [check.records, false, false]),
-        Command::Plain(plain) => ("plain", [plain.records, false, false]),
-        Command::Schedule(_) => ("schedule", [false; 3]),
-        Command::Script(_) => ("script", [false; 3]),
-        Command::List(_) => ("list", [false; 3]),
+        Command::Step(step) => ("step", [step.records, step.show, step.looks, step.why]),
+        Command::Run(run) => ("run", [run.records, false, false, false]),
+        Command::Check(check) => ("check", [check.records, false, false, false]),
+        Command::Plain(plain) => ("plain", [plain.records, false, false, false]),
+        Command::Schedule(_) => ("schedule", [false; 4]),
+        Command::Script(_) => ("script", [false; 4]),
+        Command::List(_) => ("list", [false; 4]),
+        Command::Chart(_) => ("chart", [false; 4]),
     }
 }
 

@@ -243,7 +243,7 @@ static SUBCOMMANDS: [Subcommand; 8] = [
     },
     Subcommand {
         name: "chart",
-        about: "Draw a trace's instructions in the pipeline: a row each, a column an event",
+        about: "Draw a trace's pipeline: a row an instruction, a column an event",
         arguments: &[IMAGE, TRACE, CONFIG, FROM, TO, HART, WIDTH, SVG, KANATA],
         form: CHART_FORM,
     },
