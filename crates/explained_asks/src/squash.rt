@@ -13,7 +13,9 @@ use std::io::Write;
 #[derive(Clone, Copy, PartialEq, Eq, Drop)]
 pub(crate) enum Cause {
     /// It goes on elsewhere than here.
-    Mispredicted { predicted: u32 },
+    Mispredicted {
+        predicted: u32,
+    },
     /// A load whose value was this as it completed, and is another as it retires; the retired write
     /// that was the last to touch its bytes.
     Replayed {

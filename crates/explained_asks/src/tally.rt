@@ -52,9 +52,7 @@ pub(crate) struct Tally {
 impl Tally {
     /// Nothing came.
     pub(crate) fn new() -> Self {
-        Tally {
-            counts: [0; KINDS],
-        }
+        Tally { counts: [0; KINDS] }
     }
 
     /// A step wasn't made for this reason.

@@ -69,7 +69,11 @@ impl<'a> Walk<'a> {
         let (hart, active) = self.in_flight(event.seq())?;
         let cause = cause_of(event, &active, self.made, self.followed)?;
         let leaves = matches!(event, Event::Retire { .. });
-        Some((hart, cause, self.live(hart).saturating_sub(usize::from(leaves))))
+        Some((
+            hart,
+            cause,
+            self.live(hart).saturating_sub(usize::from(leaves)),
+        ))
     }
 
     /// The hart that has an instruction in flight, and how it stands there.

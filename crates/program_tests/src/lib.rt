@@ -1,8 +1,9 @@
-//! The tests of the program: scripts, schedules, the words of a line and its configuration, reports, asks explained,
-//! whole lines performed, and what a terminal shows of a run. They stand in one crate, since a crate
-//! with tests of its own is proved twice by the gate. Each module whose name ends in `_tests` has the
-//! tests of the crate that it is named after, through its public calls alone; `progress_tests` has
-//! those of the gate of the crate `program` that shows on a terminal how far a run is.
+//! The tests of the program: scripts, schedules, the words of a line and its configuration, reports,
+//! asks that are explained, whole lines performed, and what a terminal shows of a run. They stand in
+//! one crate, since a crate with tests of its own is proved twice by the gate. Each module whose name
+//! ends in `_tests` has the tests of the crate that it is named after, through its public calls alone;
+//! `progress_tests` has those of the gate of the crate `program` that shows on a terminal how far a
+//! run is.
 #![tactic(auto)]
 
 #[cfg(test)]

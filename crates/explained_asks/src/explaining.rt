@@ -142,11 +142,7 @@ fn write_reason<W: Write>(
 }
 
 /// Follows the event that was made, and writes what it has squashed.
-fn write_squash<W: Write>(
-    walk: &mut Walk<'_>,
-    tally: &mut Tally,
-    out: &mut W,
-) -> io::Result<()> {
+fn write_squash<W: Write>(walk: &mut Walk<'_>, tally: &mut Tally, out: &mut W) -> io::Result<()> {
     let Some(squash) = walk.follow() else {
         return Ok(());
     };
