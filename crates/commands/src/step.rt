@@ -187,7 +187,14 @@ fn explain_asks<P: Predict, W: Write>(
         Err(Refused::Output) => return Err(Refused::Memory),
         Err(refused) => return Err(refused),
     };
-    let text = explained(image, settings, script, lines.as_slice(), &finished.core, alloc)?;
+    let text = explained(
+        image,
+        settings,
+        script,
+        lines.as_slice(),
+        &finished.core,
+        alloc,
+    )?;
     match out.write_all(text.as_slice()) {
         Ok(()) => Ok(finished),
         Err(_) => Err(Refused::Output),
@@ -206,8 +213,8 @@ fn explained(
     ensures refused { IfErr result (IsStepRefusal settings.now script.now) }
 {
     let unasked = new_core(image, settings, alloc)?;
-    let words = words_of(script, alloc)?;
-    match explain(words.as_slice(), lines, core.history(), unasked, alloc) {
+    let asked = words_of(script, alloc)?;
+    match explain(asked.as_slice(), lines, core.history(), unasked, alloc) {
         Ok(text) => Ok(text),
         Err(AllocError) => Err(Refused::Memory),
     }

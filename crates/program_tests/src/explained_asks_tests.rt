@@ -28,7 +28,14 @@ fn explained(script: &str, alloc: Global) -> Option<Vec<u8>> {
     let mut lines = Vec::new(alloc);
     let made = core_after(script, &mut lines, alloc)?;
     let unasked = core_after("", &mut Vec::new(alloc), alloc)?;
-    explain(words.as_slice(), lines.as_slice(), made.history(), unasked, alloc).ok()
+    explain(
+        words.as_slice(),
+        lines.as_slice(),
+        made.history(),
+        unasked,
+        alloc,
+    )
+    .ok()
 }
 
 /// A fetch, and three mistakes.

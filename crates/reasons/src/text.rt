@@ -104,11 +104,7 @@ fn write_not_ready<W: fmt::Write>(
     write!(f, " of number {writer} ({progress})")
 }
 
-fn write_waiting<W: fmt::Write>(
-    f: &mut fmt::Formatter<W>,
-    seq: Seq,
-    register: Reg,
-) -> fmt::Result {
+fn write_waiting<W: fmt::Write>(f: &mut fmt::Formatter<W>, seq: Seq, register: Reg) -> fmt::Result {
     write!(f, ": the oldest, number {seq}, waits for x{register}")
 }
 
