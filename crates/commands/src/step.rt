@@ -213,8 +213,8 @@ fn explained(
     ensures refused { IfErr result (IsStepRefusal settings.now script.now) }
 {
     let unasked = new_core(image, settings, alloc)?;
-    let asks = words_of(script, alloc)?;
-    match explain(asks.as_slice(), lines, core.history(), unasked, alloc) {
+    let asked = words_of(script, alloc)?;
+    match explain(asked.as_slice(), lines, core.history(), unasked, alloc) {
         Ok(text) => Ok(text),
         Err(AllocError) => Err(Refused::Memory),
     }

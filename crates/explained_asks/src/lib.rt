@@ -5,12 +5,12 @@
 //! here are only tested.
 //!
 //! Read in this order: `squash` (what an event squashes, and why), `tally` (how often what came),
-//! `walk` (a core that is led through a history), `explain` (the text of it all).
+//! `walk` (a core that is led through a history), `explaining` (the text of it all).
 #![tactic(auto)]
 
-mod explain;
+mod explaining;
 mod squash;
 mod tally;
 mod walk;
 
-pub use explain::explain;
+pub use explaining::explain;
