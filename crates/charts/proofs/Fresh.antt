@@ -1,12 +1,12 @@
 -- Of an instruction that isn't fetched yet a history says nothing; and an event is of one that is.
-use Rattle.std.specs.Prelude.{◌≡◌, ℕ, ◌+◌, ◌<◌, ◌≤◌, Bool, true, false, ◌==◌, ◌&&◌, nat_lt, List, [], ◌∷◌, length, Option}
+use Rattle.std.specs.Prelude.{◌≡◌, ℕ, ◌<◌, ◌≤◌, Bool, false, ◌==◌, ◌&&◌, nat_lt, List, [], ◌∷◌, Option}
 use Rattle.std.specs.Prelude.{Some, None}
-use Rattle.std.proofs.Common.{refl, sym, ap, subst, ◌∙◌, arith, inl, inr}
-use Rattle.std.proofs.{Math.Bool.and-false, lemmas.Bool.Decides.nat_tests, lemmas.Bool.cases_Bool}
+use Rattle.std.proofs.Common.{refl, ◌∙◌, arith}
+use Rattle.std.proofs.{Math.Bool.and-false, lemmas.Bool.Decides.nat_tests}
 use Rattle.events.specs.{Event.seq_of, declared.event.Event.Event, declared.kind.EventKind.EventKind}
 use Rattle.events.specs.declared.event.Event.TheVariants.{Fetch, Decode, Rename, Issue, Complete, Drop, Retire}
-use Rattle.smt_model.specs.{Basics.or_else, Basics.holds_of, Setup.Setup, Rules.is_legal, Rules.refused}
-use Rattle.smt_model.specs.Fates.{Fetched, fetching, fetches, fate, stage, squashes, same_hart, is_of, mispredicts}
+use Rattle.smt_model.specs.{Basics.holds_of, Setup.Setup, Rules.is_legal, Rules.refused}
+use Rattle.smt_model.specs.Fates.{Fetched, fetching, fetches, same_hart, is_of, mispredicts}
 use Rattle.smt_model.specs.Fates.{squashes_at_retirement, completion}
 use Rattle.smt_model.proofs.Fates.{Sound.sound, Numbers.known_below, Numbers.fetching-none}
 use Rattle.smt_model.proofs.Fates.Moves.{fetch_number, decode_was, rename_was, issue_was, complete_was, drop_was}

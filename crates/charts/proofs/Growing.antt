@@ -1,6 +1,6 @@
 -- The rows of a history with one more event, from the rows before it.
-use Rattle.std.specs.Prelude.{◌≡◌, ℕ, suc, ◌+◌, ◌<◌, ◌≤◌, Bool, true, false, ◌==◌, List, [], ◌∷◌, ◌++◌, length, Option}
-use Rattle.std.specs.Prelude.{reverse, take, drop, Some, None}
+use Rattle.std.specs.Prelude.{◌≡◌, ℕ, ◌+◌, ◌<◌, ◌≤◌, true, false, ◌==◌, List, [], ◌∷◌, ◌++◌, length, Option}
+use Rattle.std.specs.Prelude.{reverse, take, drop, None}
 use Rattle.std.proofs.Common.{get_or, refl, sym, ap, subst, ◌∙◌, arith, inl, inr}
 use Rattle.std.proofs.{lemmas.Bool.Decides.nat_tests, lemmas.Bool.cases_lt, lemmas.List.reverse-append}
 use Rattle.std.proofs.{lemmas.List.take_more, lemmas.List.take-append-drop, lemmas.List.length_push}
@@ -8,11 +8,11 @@ use Rattle.std.proofs.lemmas.List.{get_or_append_left, get_or_push, length-rever
 use Rattle.events.specs.{Event.seq_of, declared.event.Event.Event}
 use Rattle.events.specs.declared.event.Event.TheVariants.{Fetch, Decode, Rename, Issue, Complete, Drop, Retire}
 use Rattle.events.specs.declared.kind.EventKind.TheVariants as kinds
-use Rattle.smt_model.specs.{Basics.or_else, Setup.Setup, Rules.is_legal, Fates.fetches}
+use Rattle.smt_model.specs.{Setup.Setup, Rules.is_legal, Fates.fetches}
 use Rattle.smt_model.proofs.Fates.Moves.{fetch_number}
 use Rattle.charts.specs.{declared.row.Row.Row, declared.row.Squash.Squash}
 use Rattle.charts.specs.Rows.{IsRow, AreRows, AreHistory, value_of}
-use Rattle.charts.specs.Moves.{HaveMoved, row_after}
+use Rattle.charts.specs.Moves.{HaveMoved}
 use Rattle.charts.proofs.Keeping.{or_none, other_row}
 use Rattle.charts.proofs.Moving.{FetchesNone, any_row}
 use Rattle.charts.proofs.Fresh.{under, fresh}

@@ -1,19 +1,18 @@
 -- An event of another instruction leaves what a row says, but for a squash; and what each event says of its own.
-use Rattle.std.specs.Prelude.{◌≡◌, ℕ, Bool, true, false, not, ◌==◌, ◌&&◌, ◌||◌, nat_lt, List, [], ◌∷◌, length, Option}
+use Rattle.std.specs.Prelude.{◌≡◌, ℕ, Bool, true, false, not, ◌==◌, ◌&&◌, nat_lt, List, [], ◌∷◌, Option}
 use Rattle.std.specs.Prelude.{Some, None, is_some}
 use Rattle.std.proofs.Common.{refl, sym, ap, ◌∙◌, arith}
-use Rattle.std.proofs.{Math.Bool.and-false, lemmas.Bool.Decides.nat_tests}
+use Rattle.std.proofs.{Math.Bool.and-false}
 use Rattle.events.specs.{Event.seq_of, Kind.event_kind, Kind.letter_of}
 use Rattle.events.specs.{declared.effect.Outcome.Outcome, declared.effect.Effect.Effect, declared.effect.Next.Next}
 use Rattle.events.specs.{declared.event.Event.Event, declared.kind.EventKind.EventKind}
 use Rattle.events.specs.declared.event.Event.TheVariants.{Fetch, Decode, Rename, Issue, Complete, Drop, Retire}
 use Rattle.events.specs.declared.kind.EventKind.TheVariants as kinds
-use Rattle.smt_model.specs.{Basics.or_else, Basics.holds_of, Basics.same_number, Nexts.redirect_pc, Kinds.kind_of}
-use Rattle.smt_model.specs.{Kinds.is_loading}
-use Rattle.smt_model.specs.Fates.{Fetched, fetching, completion, squashes, is_replayed, mispredicts, same_hart, is_of}
-use Rattle.smt_model.specs.Fates.{squashes_at_retirement, op_at, op_of_fetched}
+use Rattle.smt_model.specs.{Basics.or_else, Basics.holds_of, Basics.same_number, Nexts.redirect_pc}
+use Rattle.smt_model.specs.Fates.{fetching, completion, squashes, is_replayed, mispredicts, same_hart}
+use Rattle.smt_model.specs.Fates.{squashes_at_retirement, op_of_fetched}
 use Rattle.charts.specs.{declared.row.Row.Row, declared.row.Squash.Squash}
-use Rattle.charts.specs.Rows.{IsRow, is_event, place, squash, squash_of, looked_twice, value_of}
+use Rattle.charts.specs.Rows.{IsRow, is_event, place, squash_of, looked_twice, value_of}
 use Rattle.charts.specs.Moves.{is_replay, cuts}
 
 -- ---- Another instruction's event

@@ -1,17 +1,16 @@
 -- The row of each instruction behind an event, from its row before.
-use Rattle.std.specs.Prelude.{◌≡◌, ℕ, Bool, true, false, ◌==◌, ◌&&◌, nat_lt, if◌then◌else◌, List, [], ◌∷◌, length, Option, Some, None}
+use Rattle.std.specs.Prelude.{◌≡◌, ℕ, Bool, true, false, ◌==◌, ◌&&◌, nat_lt, if◌then◌else◌, List, ◌∷◌, length, Option, Some, None}
 use Rattle.std.proofs.Common.{refl, sym, ap, subst, ◌∙◌, arith, inl, inr}
 use Rattle.std.proofs.{Math.Bool.and-false, lemmas.Bool.Decides.nat_tests, lemmas.Bool.cases_Bool}
 use Rattle.events.specs.{Event.seq_of}
 use Rattle.events.specs.{declared.effect.Outcome.Outcome, declared.effect.Effect.Effect}
 use Rattle.events.specs.{declared.event.Event.Event}
 use Rattle.events.specs.declared.event.Event.TheVariants.{Fetch, Decode, Rename, Issue, Complete, Drop, Retire}
-use Rattle.events.specs.declared.kind.EventKind.TheVariants as kinds
 use Rattle.smt_model.specs.{Basics.or_else, Fates.squashes, Fates.mispredicts, Fates.same_hart}
-use Rattle.smt_model.specs.{Fates.squashes_at_retirement, Fates.is_replayed}
+use Rattle.smt_model.specs.{Fates.squashes_at_retirement}
 use Rattle.charts.specs.{declared.row.Row.Row, declared.row.Squash.Squash}
-use Rattle.charts.specs.Rows.{IsRow, place, squash, squash_of, looked_twice, value_of}
-use Rattle.charts.specs.Moves.{is_replay, cuts, cut, moved, row_after}
+use Rattle.charts.specs.Rows.{IsRow, squash, squash_of}
+use Rattle.charts.specs.Moves.{cuts, cut, moved, row_after}
 use Rattle.charts.proofs.Keeping.{or_none, other_row, replay_is, squashes_is}
 
 itself : (n : ℕ) → (n == n) ≡ true

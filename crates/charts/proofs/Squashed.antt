@@ -1,11 +1,11 @@
 -- A history squashes an instruction exactly where its fate says so.
-use Rattle.std.specs.Prelude.{◌≡◌, ◌≢◌, ◌⊎◌, ℕ, ◌<◌, ◌≤◌, Bool, true, false, ◌==◌, ◌&&◌, nat_lt, if◌then◌else◌, List, []}
+use Rattle.std.specs.Prelude.{◌≡◌, ◌≢◌, ℕ, ◌<◌, ◌≤◌, Bool, true, false, ◌==◌, ◌&&◌, nat_lt, if◌then◌else◌, List, []}
 use Rattle.std.specs.Prelude.{◌∷◌, Option, Some, None, is_some}
 use Rattle.std.proofs.Common.{refl, sym, ap, ◌∙◌, arith, inl, inr}
 use Rattle.std.proofs.{lemmas.Bool.Decides.nat_tests, lemmas.Bool.cases_Bool, lemmas.Bool.cases_eq}
 use Rattle.events.specs.{Event.seq_of, declared.event.Event.Event, declared.effect.Effect.Effect}
 use Rattle.events.specs.declared.event.Event.TheVariants.{Fetch, Decode, Rename, Issue, Complete, Drop, Retire}
-use Rattle.smt_model.specs.{Basics.or_else, Basics.holds_of, Setup.Setup, Rules.is_legal, Rules.refused}
+use Rattle.smt_model.specs.{Basics.or_else, Setup.Setup, Rules.is_legal, Rules.refused}
 use Rattle.smt_model.specs.Fates.{Fate, Squashed, fate, fate_by, stage, is, squashes, same_hart, is_of, mispredicts}
 use Rattle.smt_model.specs.Fates.{next_fate, squashes_at_retirement, retired_as, InDecode, InRename, Renamed, Issued}
 use Rattle.smt_model.specs.Fates.{Completed}
@@ -14,7 +14,7 @@ use Rattle.smt_model.proofs.Fates.Numbers.{IsFetched, tested, same_hart-at, know
 use Rattle.smt_model.proofs.Fates.Sound.{sound, moved}
 use Rattle.smt_laws.proofs.Fates.Order.{in_order}
 use Rattle.charts.specs.{declared.row.Row.Row, declared.row.Squash.Squash as AnySquash}
-use Rattle.charts.specs.Rows.{squash, squash_of, IsRow, AreRows, TellSquashes}
+use Rattle.charts.specs.Rows.{squash, AreRows, TellSquashes}
 
 -- The fetch of an instruction with another one of its hart.
 shared : (past : List Event) (q s : ℕ) → same_hart past q s ≡ true → IsFetched past q

@@ -1,10 +1,8 @@
-use Rattle.std.proofs.Common.{◌∙◌, ap, sym, subst, length, ◌<◌, ◌≤◌, reverse, arith}
+use Rattle.std.proofs.Common.{◌∙◌, subst, length, ◌≤◌, reverse, arith}
 use Rattle.std.proofs.lemmas.List.{take_all}
 use Rattle.charts.specs.Rows.{AreRows}
 use Rattle.charts.proofs.Squashed.{tell_squashes}
 use Rattle.std.proofs.lemmas.List.{with_items_is}
-use Rattle.events.specs.Event.{seq_of}
-use Rattle.charts.specs.Moves.{HaveMoved}
 use Rattle.charts.proofs.Growing.{fetches_none, known_at, moved_at, fetched_at}
 use Rattle.charts.proofs.rows.rows_of.Goals as goal
 use Rattle.charts.proofs.rows.rows_of.Goals.{in-Fetch+in_ok-push-in-Fetch, in_default}
