@@ -11,12 +11,11 @@ use retire_squash::Active;
 use scripts::Action;
 use smt_core::Core;
 
-/// A core that has followed the first `followed` of these events.
+/// A core that has followed as many of these events as its history has.
 #[derive(Drop)]
 pub(crate) struct Walk<'a> {
     core: Core,
     made: &'a History,
-    followed: usize,
 }
 
 /// How many instructions of which hart an event squashes, and why.
@@ -30,11 +29,7 @@ pub(crate) struct Squash {
 impl<'a> Walk<'a> {
     /// A walk from a core without a history.
     pub(crate) fn new(core: Core, made: &'a History) -> Self {
-        Walk {
-            core,
-            made,
-            followed: 0,
-        }
+        Walk { core, made }
     }
 
     /// Why what an action asks can't be made now.
@@ -51,10 +46,9 @@ impl<'a> Walk<'a> {
 
     /// Follows the next event, if there is one, and tells what it squashes.
     pub(crate) fn follow(&mut self) -> Option<Squash> {
-        let event = self.made.get(self.followed)?;
+        let event = self.made.get(self.followed())?;
         let squash = self.squash_of(&event);
         self.core.follow(&event);
-        self.followed += 1;
         let (hart, cause, before) = squash?;
         Some(Squash {
             count: before.saturating_sub(self.live(hart)),
@@ -63,11 +57,16 @@ impl<'a> Walk<'a> {
         })
     }
 
+    /// How many events it has followed.
+    fn followed(&self) -> usize {
+        self.core.history().len()
+    }
+
     /// The hart of which an event squashes, why, and how many of its instructions there are beside
     /// the ones that stay or retire.
     fn squash_of(&self, event: &Event) -> Option<(u8, Cause, usize)> {
         let (hart, active) = self.in_flight(event.seq())?;
-        let cause = cause_of(event, &active, self.made, self.followed)?;
+        let cause = cause_of(event, &active, self.made, self.followed())?;
         let leaves = matches!(event, Event::Retire { .. });
         Some((
             hart,
