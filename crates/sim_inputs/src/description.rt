@@ -161,19 +161,19 @@ const HART: Argument = Argument {
 const WIDTH: Argument = Argument {
     kind: Kind::Number,
     name: "width",
-    help: "The characters of a line, or the events of a picture's band: 120",
+    help: "Characters of a line, or events of a picture's band: 120",
 };
 
 const SVG: Argument = Argument {
     kind: Kind::Option,
     name: "svg",
-    help: "The file that a picture is written to, in place of text",
+    help: "The file for a picture, in place of text",
 };
 
 const KANATA: Argument = Argument {
     kind: Kind::Option,
     name: "kanata",
-    help: "The file that a log for Konata is written to, in place of text",
+    help: "The file for a log that Konata reads, in place of text",
 };
 
 /// The subcommands, in the order in which help lists them.
@@ -216,7 +216,7 @@ static SUBCOMMANDS: [Subcommand; 7] = [
     },
     Subcommand {
         name: "chart",
-        about: "Draw a trace's instructions in the pipeline: a row each, a column an event",
+        about: "Draw a trace's pipeline: a row an instruction, a column an event",
         arguments: &[IMAGE, TRACE, CONFIG, FROM, TO, HART, WIDTH, SVG, KANATA],
         form: CHART_FORM,
     },

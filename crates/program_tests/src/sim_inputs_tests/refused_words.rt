@@ -43,7 +43,17 @@ smtsim list first.elf first.script
 smtsim list --records first.elf
 smtsim list --show first.elf
 smtsim list --trace t first.elf
-smtsim list --config c --config c a";
+smtsim list --config c --config c a
+smtsim chart a
+smtsim chart --records a t
+smtsim chart --from 5 --to 4 a t
+smtsim chart --from 16777216 a t
+smtsim chart --from 01 a t
+smtsim chart --to x a t
+smtsim chart --hart 8 a t
+smtsim chart --width 0 a t
+smtsim chart --width 10001 a t
+smtsim chart --svg p --kanata q a t";
 
 /// Whether words are refused, where there is memory for them.
 fn are_refused(text: &str, alloc: Global) -> Result<bool, AllocError> {
