@@ -2,8 +2,8 @@
 use Rattle.std.specs.Prelude.{ℕ, List}
 use Rattle.commands.specs.declared.refused.Refused.{Refused}
 use Rattle.commands.specs.declared.refused.Refused.TheVariants.{Image, Config, Script, Order, Step, Memory, File}
-use Rattle.commands.specs.declared.refused.Refused.TheVariants.{Output, Thread, Trace, Event, NoUnit, Limit}
-use Rattle.commands.specs.declared.refused.Refused.TheVariants.{Prediction, Register}
+use Rattle.commands.specs.declared.refused.Refused.TheVariants.{Output, Thread, Trace, Event, NoUnit, Limit, NoHart}
+use Rattle.commands.specs.declared.refused.Refused.TheVariants.{Prediction, Register, Picture}
 use Rattle.commands.specs.Refused.{PassesAll, BehindImage}
 
 -- What is refused of what comes behind it, where that never refuses the image.
@@ -20,6 +20,8 @@ refusal_behind file ram P (Prediction index) never passes is = (passes, is)
 refusal_behind file ram P (Register index) never passes is = (passes, is)
 refusal_behind file ram P (NoUnit kind) never passes is = (passes, is)
 refusal_behind file ram P (Limit least) never passes is = (passes, is)
+refusal_behind file ram P (NoHart hart) never passes is = (passes, is)
+refusal_behind file ram P (Picture last) never passes is = (passes, is)
 refusal_behind file ram P Memory never passes is = tt
 refusal_behind file ram P Thread never passes is = (passes, is)
 refusal_behind file ram P File never passes is = (passes, is)

@@ -3,6 +3,7 @@
 //! (`trace_files`), which loads look again (`looks`), inputs that are refused (`refusals`), and actors
 //! that work side by side (`meeting`).
 
+mod chart;
 mod check;
 mod list;
 mod looks;

@@ -1,8 +1,8 @@
 //! Lines of the program, as their words are read. None names a configuration.
 
 use sim_inputs::{
-    CheckCommand, Command, Line, ListCommand, PlainCommand, RunCommand, ScheduleCommand,
-    ScriptCommand, StepCommand,
+    ChartCommand, CheckCommand, Command, Line, ListCommand, PlainCommand, RunCommand,
+    ScheduleCommand, ScriptCommand, StepCommand,
 };
 
 macro_rules! line {
@@ -78,6 +78,20 @@ pub const SCRIPT: Line<'static> = line!(Command::Script(ScriptCommand {
     image: "image",
     trace: "trace",
 },));
+
+/// The chart of a trace, written to these files or printed.
+pub fn chart_line(svg: Option<&'static str>, kanata: Option<&'static str>) -> Line<'static> {
+    line!(Command::Chart(ChartCommand {
+        image: "image",
+        trace: "trace",
+        from: 0,
+        to: 16_777_215,
+        hart: None,
+        width: 120,
+        svg,
+        kanata,
+    },))
+}
 
 /// The listing of an image's code.
 pub const LIST: Line<'static> = line!(Command::List(ListCommand { image: "image" }));

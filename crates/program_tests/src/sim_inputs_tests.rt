@@ -7,8 +7,8 @@ mod refused_words;
 
 use crate::rows::holds;
 use sim_inputs::{
-    CheckCommand, Command, Line, ListCommand, PlainCommand, RunCommand, ScheduleCommand,
-    ScriptCommand, StepCommand, read_words,
+    ChartCommand, CheckCommand, Command, Line, ListCommand, PlainCommand, RunCommand,
+    ScheduleCommand, ScriptCommand, StepCommand, read_words,
 };
 use std::alloc::{AllocError, Global};
 
@@ -22,7 +22,39 @@ fn words_of(text: &str, alloc: Global) -> Result<Vec<&str>, AllocError> {
 }
 
 /// Words, and what they ask for.
-static LINES: [(&str, Line<'_>); 21] = [
+static LINES: [(&str, Line<'_>); 23] = [
+    (
+        "smtsim chart a t",
+        Line {
+            config: None,
+            command: Command::Chart(ChartCommand {
+                image: "a",
+                trace: "t",
+                from: 0,
+                to: 16_777_215,
+                hart: None,
+                width: 120,
+                svg: None,
+                kanata: None,
+            }),
+        },
+    ),
+    (
+        "smtsim chart --from 7 a --to 7 --hart=7 t --width 1 --svg p --config c",
+        Line {
+            config: Some("c"),
+            command: Command::Chart(ChartCommand {
+                image: "a",
+                trace: "t",
+                from: 7,
+                to: 7,
+                hart: Some(7),
+                width: 1,
+                svg: Some("p"),
+                kanata: None,
+            }),
+        },
+    ),
     (
         "smtsim step first.elf first.script",
         Line {
@@ -304,9 +336,26 @@ fn flags_of(line: &Line<'_>) -> (&'static str, [bool; 4]) {
     }
 }
 
+/// What of a chart is drawn: the first and the last event, the hart, and the width; and whether it is
+/// a picture.
+fn view_of(line: &Line<'_>) -> Option<(u32, u32, Option<u32>, u32, bool)> {
+    match line.command {
+        Command::Chart(chart) => Some((
+            chart.from,
+            chart.to,
+            chart.hart,
+            chart.width,
+            chart.svg.is_some(),
+        )),
+        _ => None,
+    }
+}
+
 /// Whether two lines have the same command, files and flags.
 fn is_same(read: &Line<'_>, line: &Line<'_>) -> bool {
-    files_of(read) == files_of(line) && flags_of(read) == flags_of(line)
+    files_of(read) == files_of(line)
+        && flags_of(read) == flags_of(line)
+        && view_of(read) == view_of(line)
 }
 
 /// Whether words ask for this, where there is memory for them.
@@ -326,7 +375,23 @@ fn each_line_is_read_with_its_files_and_options(rt: HostRuntime) {
 }
 
 /// A line of each command, and its files.
-static NAMED: [(Line<'_>, Named<'_>); 7] = [
+static NAMED: [(Line<'_>, Named<'_>); 8] = [
+    (
+        Line {
+            config: Some("c"),
+            command: Command::Chart(ChartCommand {
+                image: "a",
+                trace: "t",
+                from: 0,
+                to: 9,
+                hart: None,
+                width: 80,
+                svg: None,
+                kanata: Some("k"),
+            }),
+        },
+        (Some("c"), Some("a"), Some("t"), Some("k")),
+    ),
     (
         Line {
             config: Some("c"),

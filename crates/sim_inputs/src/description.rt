@@ -173,19 +173,19 @@ const HART: Argument = Argument {
 const WIDTH: Argument = Argument {
     kind: Kind::Number,
     name: "width",
-    help: "The characters of a line, or the events of a picture's band: 120",
+    help: "Characters of a line, or events of a picture's band: 120",
 };
 
 const SVG: Argument = Argument {
     kind: Kind::Option,
     name: "svg",
-    help: "The file that a picture is written to, in place of text",
+    help: "The file for a picture, in place of text",
 };
 
 const KANATA: Argument = Argument {
     kind: Kind::Option,
     name: "kanata",
-    help: "The file that a log for Konata is written to, in place of text",
+    help: "The file for a log that Konata reads, in place of text",
 };
 
 /// The subcommands, in the order in which help lists them.

@@ -12,10 +12,10 @@ use std::test::Fail;
 const COLUMNS: usize = 80;
 
 /// The words that ask for help, and what it tells; a bar stands between two of those.
-static HELPS: [(&str, &str); 8] = [
+static HELPS: [(&str, &str); 9] = [
     (
         "smtsim --help",
-        "Usage: smtsim <COMMAND>|step|run|check|plain|schedule|script|list|\
+        "Usage: smtsim <COMMAND>|step|run|check|plain|schedule|script|list|chart|\
 harts|extra|queue|ram|limit|turns|actors",
     ),
     (
@@ -47,6 +47,11 @@ F actor hart number pc word predicted|T actor number value next address data out
     (
         "smtsim list --help",
         "Usage: smtsim list [OPTIONS] <IMAGE>|--config <FILE>",
+    ),
+    (
+        "smtsim chart --help",
+        "Usage: smtsim chart [OPTIONS] <IMAGE> <TRACE>|--config <FILE>|--from <N>|--to <N>|--hart <N>|\
+--width <N>|--svg <FILE>|--kanata <FILE>",
     ),
 ];
 

@@ -50,7 +50,17 @@ smtsim list first.elf first.script
 smtsim list --records first.elf
 smtsim list --show first.elf
 smtsim list --trace t first.elf
-smtsim list --config c --config c a";
+smtsim list --config c --config c a
+smtsim chart a
+smtsim chart --records a t
+smtsim chart --from 5 --to 4 a t
+smtsim chart --from 16777216 a t
+smtsim chart --from 01 a t
+smtsim chart --to x a t
+smtsim chart --hart 8 a t
+smtsim chart --width 0 a t
+smtsim chart --width 10001 a t
+smtsim chart --svg p --kanata q a t";
 
 /// Whether words are refused, where there is memory for them.
 fn are_refused(text: &str, alloc: Global) -> Result<bool, AllocError> {
@@ -69,6 +79,6 @@ fn other_words_are_refused(rt: HostRuntime) {
         holds(&rt, text, are_refused(text, rt.alloc()) == Ok(true));
         rows = rows.wrapping_add(1);
     }
-    assert!(rt; rows == 45);
+    assert!(rt; rows == 55);
     assert!(rt; is_refusal(read_words(&[], rt.alloc())));
 }
