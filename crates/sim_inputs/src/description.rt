@@ -143,7 +143,7 @@ const SHOW: Argument = Argument {
 const WHY: Argument = Argument {
     kind: Kind::Flag,
     name: "why",
-    help: "Explain each ask: why no step was made, or what it squashed",
+    help: "Tell why an ask made no step, and what it squashed",
 };
 
 const WRITTEN_TRACE: Argument = Argument {
