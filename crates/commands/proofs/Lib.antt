@@ -4,7 +4,7 @@ pub mod OfAccount
 pub mod OfStep
 pub mod OfRun
 pub mod OfCheck
-mod OfChart
+pub mod OfChart
 pub mod OfPlain
 pub mod OfSchedule
 pub mod OfScript

@@ -54,7 +54,7 @@ module _ (core : CoreView) (with_records : Bool) (rs : List Record) (events lent
       → Appends behind new (records_text with_records rs ++ report_text events (length rs) lent statuses put)
       → stand ≡ statuses → exit_status ≡ status_number stand
       → IsReported core with_records with_tables with_looks old new exit_status
-  reported with_tables with_looks old mid behind new tables bytes looked stand exit_status are same first is_looked then
+  reported with_tables with_looks old mid behind new tables bytes looked stand exit_status are same first is_looked second
       next is_stand harts = record {
         printed = (
           tables ++ (looked ++ (records_text with_records rs ++ report_text events (length rs) lent statuses put)),
@@ -64,7 +64,7 @@ module _ (core : CoreView) (with_records : Bool) (rs : List Record) (events lent
             whole = ap (λ t. tables ++ (looked ++ t)) same_text
                 ∙ ap (λ l. tables ++ (l ++ (records_text with_records (retired_of core) ++ report_of core))) is_looked;
           },
-          appends_more old mid new _ _ (subst (Appends old mid) same first) (appends_more mid behind new _ _ then next),
+          appends_more old mid new _ _ (subst (Appends old mid) same first) (appends_more mid behind new _ _ second next),
         );
         harts = harts ∙ ap status_number (is_stand ∙ is_statuses);
       }
