@@ -162,17 +162,18 @@ fn a_completion_says_its_fault_or_its_first_look(rt: HostRuntime) -> Result<(), 
     Ok(())
 }
 
-/// Load 5 of hart 0, 5 and 7 of hart 2 and 7 of hart 3, which have looked at a word; it was written
-/// since.
+/// Store 6 of hart 2, which isn't resolved; and load 5 of hart 0, 5 and 7 of hart 2 and 7 of hart 3,
+/// which have looked at a word; it was written since.
 fn touched_loads() -> LoadStore {
     let mut queues = LoadStore::new();
-    queues.add_load(0, 5);
-    queues.looked(0, 5, WORD, 4);
+    queues.add_store(2, 6);
     queues.add_load(2, 5);
-    queues.looked(2, 5, WORD, 4);
     queues.add_load(2, 7);
-    queues.looked(2, 7, WORD, 4);
+    queues.add_load(0, 5);
     queues.add_load(3, 7);
+    queues.looked(0, 5, WORD, 4);
+    queues.looked(2, 5, WORD, 4);
+    queues.looked(2, 7, WORD, 4);
     queues.looked(3, 7, WORD, 4);
     queues.touch(&Written {
         addr: WORD,
@@ -213,7 +214,6 @@ fn looks(memory: &Memory, queues: &LoadStore, hart: u8, seq: u32) -> (Option<u32
 fn a_load_sees_a_store_in_flight_at_its_first_look_alone(rt: HostRuntime) -> Result<(), Fail> {
     let memory = first_memory(rt.alloc()).ok_or("refused")?;
     let mut queues = touched_loads();
-    queues.add_store(2, 6);
     queues.resolve_store(2, 6, WORD, 1, 0x80);
     let numbers = [
         looks(&memory, &queues, 2, 7),

@@ -122,7 +122,6 @@ fn a_write_touches_the_loads_of_all_harts_that_share_a_byte(rt: HostRuntime) {
     let touched = needs(&queues);
     queues.looked(7, 3, 0x8000_0103, 1);
     queues.squash(1, 2);
-    queues.add_load(1, 3);
     let anew = needs(&queues);
     assert!(rt; first == [false, false, false]);
     assert!(rt; beside == [false, false, false]);
