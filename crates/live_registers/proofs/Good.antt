@@ -1,0 +1,214 @@
+-- A table of good rows is good.
+use Rattle.std.specs.Prelude.{◌≡◌, ◌≢◌, ℕ, ◌+◌, ◌-◌, ◌*◌, ◌/◌, ◌%◌, ◌<◌, Bool, true, false, ◌==◌, ◌&&◌, ◌||◌}
+use Rattle.std.specs.Prelude.{nat_le, nat_lt, if◌then◌else◌, List, length, Option, Some, None, IfSome}
+use Rattle.std.specs.{List.slice_get, List.slice_index_or}
+use Rattle.std.specs.Prelude.{zero, suc, ◌⊎◌}
+use Rattle.std.specs.Prelude.{All, Contains}
+use Rattle.std.proofs.lemmas.{Option.slice_get_within, Option.slice_get_cases, List.get_or-replicate}
+use Rattle.std.proofs.lemmas.List.Elements.{All-contains}
+use Rattle.std.proofs.Common.{◌∙◌, refl, sym, ap, subst, inl, inr, arith}
+use Rattle.std.proofs.{lemmas.Bool.cases_Bool, lemmas.Bool.Decides.nat_tests}
+use Rattle.elf_image.specs.Image.{ProgramImage, code_word}
+use Rattle.rv_instr.specs.{declared.op.Op.Op, Kinds.destination, Kinds.first_source, Kinds.second_source}
+use Rattle.rv_instr.specs.{declared.op.Op.TheVariants.NoWord, Decode.op_of_word, Registers.op_rs1, Registers.op_rs2}
+use Rattle.rv_instr.specs.{Table.OpInRange, Kinds.or_zero}
+use Rattle.rv_instr.proofs.DecodedLemmas.{op_rs1_below, op_rs2_below}
+use Rattle.decoded_code.specs.Code.{IsCodeOf, IsFound, found_at}
+use Rattle.decoded_code.specs.declared.code.{Code.Code, Fetched.Fetched}
+use Rattle.outcome_laws.specs.Live.{op_at, reads_register, may_follow, IsLiveTable}
+use Rattle.live_registers.specs.declared.table.{LiveTable.LiveTable, Row.Row}
+use Rattle.live_registers.specs.Table.{all_alike, row_at, live_in, live_of, IsOfCode, IsGoodRow, AreGoodBelow}
+
+-- ---- Where there is no word
+
+first_and : (a b : Bool) → (a && b) ≡ true → a ≡ true
+first_and true b both = refl
+first_and false b both = both
+
+second_and : (a b : Bool) → (a && b) ≡ true → b ≡ true
+second_and true b both = both
+second_and false b both = absurd (grind arith)
+
+nothing_read : (r : ℕ) → r ≢ 0 → reads_register NoWord r ≡ true → ⊥
+unfolding first_source second_source op_rs1 op_rs2
+nothing_read r some reads = absurd (grind (arith, nat_tests))
+
+nowhere : (pc to : ℕ) → may_follow NoWord pc to ≡ true → ⊥
+unfolding may_follow
+nowhere pc to follows = absurd (grind arith)
+
+no_op : (word : Option ℕ) → word ≡ None → op_of_word word ≡ NoWord
+unfolding op_of_word
+no_op word none = rw none refl
+
+-- ---- Registers of an instruction
+
+apart_or : (a b : Bool) → (a || b) ≡ true → a ≡ false → b ≡ true
+apart_or true b either none = absurd (grind arith)
+apart_or false b either none = either
+
+below_of : (register : Option ℕ) (r : ℕ) → IfSome register (λ n. n < 32) → (r == or_zero register) ≡ true → r < 32
+below_of None r below same = grind (arith, nat_tests)
+below_of (Some n) r below same = grind (arith, nat_tests)
+
+read_below : (op : Op) (r : ℕ) → OpInRange op → reads_register op r ≡ true → r < 32
+unfolding first_source second_source
+read_below op r in_range reads =
+    elim (cases_Bool (r == or_zero (op_rs1 op))) [
+      | inl first ↦ below_of (op_rs1 op) r (op_rs1_below op in_range) first
+      | inr other ↦ below_of (op_rs2 op) r (op_rs2_below op in_range) (apart_or (r == or_zero (op_rs1 op)) (r == or_zero (op_rs2 op)) reads other)
+    ]
+
+-- ---- Where there is a word
+
+if_some : {A : Type 0} → (test : Bool) (a : Option A) (x : A) → (if test then a else None) ≡ Some x
+    → (test ≡ true) × (a ≡ Some x)
+if_some true a x is = (refl, is)
+if_some false a x is = absurd (grind arith)
+
+one : {A : Type 0} → (a b : A) → Some a ≡ Some b → a ≡ b
+one a b same = cc
+
+pc_of : (start pc : ℕ) → (nat_le start pc && ((pc - start) % 4 == 0)) ≡ true → start + 4 * ((pc - start) / 4) ≡ pc
+pc_of start pc test = grind (arith, nat_tests)
+
+-- The row at the pc of a word of the code is there, and good.
+record HasRow (table : LiveTable) (op : Op) (pc : ℕ) : Type 0 where
+  row : Row
+  at : row_at table pc ≡ Some row
+  good : IsGoodRow table op pc row
+
+row_there : (start begin pc : ℕ) (rows : List Row) (row : Row) → begin ≡ start
+    → (nat_le start pc && ((pc - start) % 4 == 0)) ≡ true → slice_get rows ((pc - start) / 4) ≡ Some row
+    → (if nat_le begin pc && ((pc - begin) % 4 == 0) then slice_get rows ((pc - begin) / 4) else None) ≡ Some row
+row_there start begin pc rows row same test got = rw (same, test) got
+
+has_row : (code : Code) (table : LiveTable) (pc : ℕ) (f : Fetched) → IsOfCode code table
+    → AreGoodBelow (length code.words.items) table code → found_at code.words.items code.start pc ≡ Some f
+    → HasRow table f.op pc
+has_row code table pc f of_code are found =
+    let words = code.words.items in
+    let index = (pc - code.start) / 4 in
+    let split = if_some (nat_le code.start pc && ((pc - code.start) % 4 == 0)) (slice_get words index) f found in
+    let good = are index (slice_get_within words index f split.1) in
+    let word : good.0 ≡ f = one good.0 f (sym good.2 ∙ split.1) in
+    let here : code.start + 4 * index ≡ pc = pc_of code.start pc split.0 in
+    record {
+      row = good.1;
+      at = row_there code.start table.start pc table.rows.items good.1 of_code.start split.0 good.3;
+      good = subst (λ p. IsGoodRow table f.op p good.1) here (subst (λ (w : Fetched). IsGoodRow table w.op (code.start + 4 * index) good.1) word good.4);
+    }
+
+live_by : (table : LiveTable) (pc r : ℕ) (row : Row) → row_at table pc ≡ Some row → r < 32
+    → slice_index_or row.live r false ≡ true → live_of table pc r ≡ true
+live_by table pc r row at below live =
+    let within : nat_lt r 32 ≡ true = grind (arith, nat_tests) in
+    ap (live_in r) at ∙ rw (within, live) refl
+
+-- ---- The table
+
+module _ (image : ProgramImage) (code : Code) (table : LiveTable) (is : IsCodeOf image code)
+    (of_code : IsOfCode code table) (are : AreGoodBelow (length code.words.items) table code) where
+  -- At a pc the image has no word, or an instruction of which there is a good row.
+  record Finds (pc : ℕ) : Type 0 where
+    op : Op
+    is_so : op_at image pc ≡ op
+    known : (op ≡ NoWord) ⊎ (OpInRange op × HasRow table op pc)
+
+  finds_in : (pc : ℕ) (found : Option Fetched) → found_at code.words.items code.start pc ≡ found
+      → IsFound image pc found → Finds pc
+  finds_in pc None same none =
+      record { op = NoWord; is_so = no_op (code_word image pc) none; known = inl refl }
+  finds_in pc (Some f) same fetched = record {
+    op = f.op;
+    is_so = ap op_of_word fetched.word ∙ sym fetched.op;
+    known = inr (fetched.in_range, has_row code table pc f of_code are same);
+  }
+
+  finds : (pc : ℕ) → Finds pc
+  finds pc = finds_in pc (found_at code.words.items code.start pc) refl (is.found pc)
+
+  positive : (r : ℕ) → r ≢ 0 → 0 < r
+  positive zero some = absurd (some refl)
+  positive (suc r) some = omega arith
+
+  reads_at : (pc r : ℕ) → r ≢ 0 → (it : Finds pc) → reads_register it.op r ≡ true → live_of table pc r ≡ true
+  reads_at pc r some it reads =
+      elim it.known [
+        | inl none ↦ absurd (nothing_read r some (subst (λ o. reads_register o r ≡ true) none reads))
+        | inr both ↦
+            let below = read_below it.op r both.0 reads in
+            live_by table pc r both.1.row both.1.at below (both.1.good.reads r (positive r some) below reads)
+      ]
+
+  stays_at : (pc to r : ℕ) → r ≢ 0 → (it : Finds pc) → may_follow it.op pc to ≡ true → live_of table to r ≡ true
+      → (r == destination it.op) ≡ false → live_of table pc r ≡ true
+  stays_at pc to r some it follows lives other =
+      elim it.known [
+        | inl none ↦ absurd (nowhere pc to (subst (λ o. may_follow o pc to ≡ true) none follows))
+        | inr both ↦
+            let below : r < 32 = grind (arith, nat_tests) in
+            live_by table pc r both.1.row both.1.at below
+            (both.1.good.stays to r (positive r some) below follows lives other)
+      ]
+
+  good_table : IsLiveTable image (live_of table)
+  good_table = record {
+    reads = λ pc r some reads.
+        let it = finds pc in
+        reads_at pc r some it (subst (λ o. reads_register o r ≡ true) it.is_so reads);
+    stays = λ pc to r some follows lives other.
+        let it = finds pc in
+        stays_at pc to r some it (subst (λ o. may_follow o pc to ≡ true) it.is_so follows) lives
+        (subst (λ o. (r == destination o) ≡ false) it.is_so other);
+  }
+
+pub good : (image : ProgramImage) (code : Code) (table : LiveTable) → IsCodeOf image code → IsOfCode code table
+    → AreGoodBelow (length code.words.items) table code → IsLiveTable image (live_of table)
+good image code table is of_code are = good_table image code table is of_code are
+
+-- ---- Every register live everywhere
+
+full_row : (table : LiveTable) (op : Op) (pc : ℕ) (row : Row) → row.live ≡ all_alike true
+    → IsGoodRow table op pc row
+unfolding all_alike
+full_row table op pc row full =
+    let live : (r : ℕ) → r < 32 → slice_index_or row.live r false ≡ true =
+    (λ r below. ap (λ l. slice_index_or l r false) full ∙ get_or-replicate 32 r true false below) in
+    record {
+      reads = λ r some below reads. live r below;
+      stays = λ to r some below follows lives other. live r below;
+    }
+
+-- An element at a place inside a list.
+record IsElement {A : Type 0} (xs : List A) (i : ℕ) : Type 0 where
+  element : A
+  at : slice_get xs i ≡ Some element
+  holds : Contains xs element
+
+element : {A : Type 0} → (xs : List A) (i : ℕ) → i < length xs → IsElement xs i
+element xs i below =
+    elim (slice_get_cases xs i).1 [
+      | inl it ↦ record { element = it.0; at = it.2; holds = (i, below, it.3) }
+      | inr past ↦ absurd (omega arith)
+    ]
+
+full_below : (code : Code) (table : LiveTable) → IsOfCode code table
+    → All (λ (row : Row). row.live ≡ all_alike true) table.rows.items
+    → AreGoodBelow (length code.words.items) table code
+full_below code table of_code full index below =
+    let word = element code.words.items index below in
+    let rows = of_code.rows in
+    let row = element table.rows.items index (omega arith) in (
+      word.element,
+      row.element,
+      word.at,
+      row.at,
+      full_row table word.element.op (code.start + 4 * index) row.element
+          (All-contains (λ (it : Row). it.live ≡ all_alike true) table.rows.items row.element full row.holds),
+    )
+
+pub full_good : (image : ProgramImage) (code : Code) (table : LiveTable) → IsCodeOf image code → IsOfCode code table
+    → All (λ (row : Row). row.live ≡ all_alike true) table.rows.items → IsLiveTable image (live_of table)
+full_good image code table is of_code full =
+    good image code table is of_code (full_below code table of_code full)

@@ -1,0 +1,6 @@
+use Rattle.live_registers.specs.Table.{IsOfCode}
+use Rattle.live_registers.proofs.table.LiveTable.found.Given as goal
+
+-- There is a row for each word.
+abbrev pub invariant-loop-turn : goal.invariant-loop-turn
+invariant-loop-turn l = IsOfCode l.code l.table

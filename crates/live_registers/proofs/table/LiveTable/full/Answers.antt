@@ -1,0 +1,16 @@
+use Rattle.std.specs.Prelude.{◌≡◌, true, All}
+use Rattle.elf_image.specs.Image.{ProgramImage}
+use Rattle.decoded_code.specs.Code.{IsCodeOf}
+use Rattle.outcome_laws.specs.Live.{IsLiveTable}
+use Rattle.live_registers.specs.declared.table.{LiveTable.LiveTable, Row.Row}
+use Rattle.live_registers.specs.Table.{live_of, IsOfCode, all_alike}
+use Rattle.live_registers.proofs.{Below.from_both, Good.full_good}
+use Rattle.live_registers.proofs.table.LiveTable.full.Goals as goal
+
+pub returns-clause-good : goal.returns-clause-good
+returns-clause-good c =
+    from_both c.filled.result (IsOfCode c.args.code.now)
+    (λ (table : LiveTable). All (λ (row : Row). row.live ≡ all_alike true) table.rows.items)
+    (λ table. (image : ProgramImage) → IsCodeOf image c.args.code.now → IsLiveTable image (live_of table))
+    c.filled.ensures.of_code c.filled.ensures.all
+    (λ table of_code full image is. full_good image c.args.code.now table is of_code full)

@@ -1,0 +1,48 @@
+-- A table of live registers, a row for each word of a code. [This project's own choice]
+use Rattle.std.specs.Prelude.{◌≡◌, ℕ, ◌+◌, ◌-◌, ◌*◌, ◌/◌, ◌%◌, ◌<◌, Bool, true, false, ◌==◌, ◌&&◌, nat_le, nat_lt, if◌then◌else◌}
+use Rattle.std.specs.Prelude.{List, length, replicate, Option, Some, None}
+use Rattle.std.specs.{List.slice_get, List.slice_index_or, Option.option_map_or}
+use Rattle.rv_instr.specs.{declared.op.Op.Op, Kinds.destination}
+use Rattle.decoded_code.specs.declared.code.{Code.Code, Fetched.Fetched}
+use Rattle.outcome_laws.specs.Live.{reads_register, may_follow}
+use Rattle.live_registers.specs.declared.table.LiveTable.{LiveTable}
+use Rattle.live_registers.specs.declared.table.Row.{Row}
+
+-- A row in which all registers are live, or none is.
+unfoldable pub all_alike : Bool → List Bool
+all_alike live = replicate 32 live
+
+-- The row of the word at a pc, where the code has one.
+abbrev pub row_at : LiveTable → ℕ → Option Row
+row_at table pc =
+    if nat_le table.start pc && ((pc - table.start) % 4 == 0)
+    then slice_get table.rows.items ((pc - table.start) / 4) else None
+
+-- Register r is live at a pc: the row there says so; where there is no word none is.
+abbrev pub live_in : ℕ → Option Row → Bool
+live_in r row = nat_lt r 32 && option_map_or (λ (it : Row). slice_index_or it.live r false) row false
+
+abbrev pub live_of : LiveTable → ℕ → ℕ → Bool
+live_of table pc r = live_in r (row_at table pc)
+
+-- The table has a row for each word of the code.
+pub record IsOfCode (code : Code) (table : LiveTable) : Type 0 where
+  pub start : table.start ≡ code.start
+  pub rows : length table.rows.items ≡ length code.words.items
+
+-- A row for an instruction at a pc is good: what it reads is live, and so is what is live where it may go on,
+-- but for the register that it writes.
+pub record IsGoodRow (table : LiveTable) (op : Op) (pc : ℕ) (row : Row) : Type 0 where
+  pub reads : (r : ℕ) → 0 < r → r < 32 → reads_register op r ≡ true
+      → slice_index_or row.live r false ≡ true
+  pub stays : (to r : ℕ) → 0 < r → r < 32 → may_follow op pc to ≡ true → live_of table to r ≡ true
+      → (r == destination op) ≡ false → slice_index_or row.live r false ≡ true
+
+-- The row of a word of the code is good, at the word's pc.
+abbrev pub IsGoodAt : LiveTable → Code → ℕ → Type 0
+IsGoodAt table code index = (word : Fetched) × (row : Row)
+    × (slice_get code.words.items index ≡ Some word) × (slice_get table.rows.items index ≡ Some row)
+    × IsGoodRow table word.op (code.start + 4 * index) row
+
+abbrev pub AreGoodBelow : ℕ → LiveTable → Code → Type 0
+AreGoodBelow count table code = (index : ℕ) → index < count → IsGoodAt table code index

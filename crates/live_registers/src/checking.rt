@@ -1,0 +1,97 @@
+//! When a table is good: a register is live wherever it may be read before it is written.
+
+ghost use Rattle.std.specs.Prelude.{◌≡◌, ◌<◌, ◌+◌, ◌*◌, ℕ, true, false, ◌==◌, length, IfSome};
+ghost use Rattle.rv_instr.specs.Kinds.{destination};
+ghost use Rattle.outcome_laws.specs.Live.{reads_register, may_follow};
+ghost use Rattle.live_registers.specs.Onward.{goes_on_at};
+ghost use Rattle.live_registers.specs.Table.{live_of, IsGoodRow, IsGoodAt, AreGoodBelow};
+
+use crate::onward::{Onward, onward_of};
+use crate::table::{LiveTable, REGISTERS, Row};
+use decoded_code::Code;
+use rv_instr::{Op, Reg};
+
+/// Whether an instruction reads a register, 0 standing for one that it doesn't name.
+#[tactic(auto, unfolding(rv_instr::specs::Kinds::first_source, rv_instr::specs::Kinds::second_source))]
+fn reads(op: Op, register: Reg) -> bool
+    ensures { result ≡ reads_register op register }
+{
+    op.rs1().unwrap_or(0) == register || op.rs2().unwrap_or(0) == register
+}
+
+/// Whether a register is live at some place where an instruction may go on.
+fn is_live_behind(table: &LiveTable, onward: Onward, register: Reg) -> bool
+    requires { register < 32 }
+    ensures { (to : ℕ) → goes_on_at onward to ≡ true → live_of table.now to register ≡ true
+        → result ≡ true }
+{
+    match onward {
+        Onward::Nowhere => false,
+        Onward::At(to) => table.is_live(to, register),
+        Onward::AtEither(one, other) => {
+            table.is_live(one, register) || table.is_live(other, register)
+        }
+        Onward::Anywhere => true,
+    }
+}
+
+/// Whether a register has to be live at a pc, by what is live behind it.
+pub(crate) fn is_needed(table: &LiveTable, op: Op, pc: u32, register: Reg) -> bool
+    requires { register < 32 }
+    ensures reads { reads_register op register ≡ true → result ≡ true }
+    ensures stays { (to : ℕ) → may_follow op pc to ≡ true → live_of table.now to register ≡ true
+        → (register == destination op) ≡ false → result ≡ true }
+{
+    reads(op, register)
+        || (register != op.destination() && is_live_behind(table, onward_of(op, pc), register))
+}
+
+/// Whether each register that has to be live at a pc is live in this row.
+pub(crate) fn is_row_good(table: &LiveTable, op: Op, pc: u32, row: &Row) -> bool
+    ensures { result ≡ true → IsGoodRow table.now op pc row.now }
+{
+    for register in 1..REGISTERS as u8 {
+        if is_needed(table, op, pc, register) && !row.live[usize::from(register)] {
+            return false;
+        }
+    }
+    true
+}
+
+/// Whether the table is good for a code: each of its rows is.
+pub(crate) fn is_good(table: &LiveTable, code: &Code) -> bool
+    ensures { result ≡ true → AreGoodBelow (length code.now.words.items) table.now code.now }
+{
+    let Ok(count) = u32::try_from(code.words.len()) else {
+        return false;
+    };
+    for index in 0..count {
+        if !is_good_at(table, code, index) {
+            return false;
+        }
+    }
+    true
+}
+
+/// Whether the row of a word is good.
+fn is_good_at(table: &LiveTable, code: &Code, index: u32) -> bool
+    ensures { result ≡ true → IsGoodAt table.now code.now index }
+{
+    let Some(pc) = pc_at(code.start, index) else {
+        return false;
+    };
+    let Some(fetched) = code.words.get(index as usize) else {
+        return false;
+    };
+    let Some(row) = table.rows.get(index as usize) else {
+        return false;
+    };
+    is_row_good(table, fetched.op, pc, row)
+}
+
+/// The pc of a word of the code, where it is one.
+fn pc_at(start: u32, index: u32) -> Option<u32>
+    ensures { IfSome result (λ pc. pc ≡ start + 4 * index) }
+{
+    start.checked_add(index.checked_mul(4)?)
+}

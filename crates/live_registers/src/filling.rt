@@ -1,0 +1,117 @@
+//! How a table is found: from no register on, what has to be live is added, the last word first, until
+//! nothing is missing. Where that takes too long every register is live.
+
+ghost use Rattle.std.specs.Prelude.{◌≡◌, ◌<◌, IfOk, All, length};
+ghost use Rattle.elf_image.specs.Image.{ProgramImage};
+ghost use Rattle.decoded_code.specs.Code.{IsCodeOf};
+ghost use Rattle.outcome_laws.specs.Live.{IsLiveTable};
+ghost use Rattle.live_registers.specs.Table.{live_of, IsOfCode, all_alike};
+
+use crate::checking::{is_good, is_needed};
+use crate::table::{LiveTable, REGISTERS, Row};
+use decoded_code::Code;
+use rv_instr::Op;
+use std::alloc::{AllocError, Global};
+
+/// How often the words are gone through at the most. A register is carried to all words before its use
+/// but for loops, so few are needed.
+const MOST_TURNS: usize = 64;
+
+impl LiveTable {
+    /// A table of a code, of which few registers are live. Fails only for want of memory.
+    pub fn of(code: &Code, alloc: Global) -> Result<LiveTable, AllocError>
+        ensures of_code { IfOk result (IsOfCode code.now) }
+        ensures good { IfOk result (λ table. (image : ProgramImage) → IsCodeOf image code.now
+            → IsLiveTable image (live_of table)) }
+    {
+        let table = LiveTable::found(code, alloc)?;
+        if is_good(&table, code) {
+            return Ok(table);
+        }
+        LiveTable::full(code, alloc)
+    }
+
+    /// A table of a code to which nothing has to be added, where that was found in time.
+    fn found(code: &Code, alloc: Global) -> Result<LiveTable, AllocError>
+        ensures { IfOk result (IsOfCode code.now) }
+    {
+        let mut table = LiveTable::filled(code, false, alloc)?;
+        for _turn in 0..MOST_TURNS {
+            if !table.add_needed(code) {
+                return Ok(table);
+            }
+        }
+        Ok(table)
+    }
+
+    /// The table of a code in which every register is live everywhere.
+    fn full(code: &Code, alloc: Global) -> Result<LiveTable, AllocError>
+        ensures of_code { IfOk result (IsOfCode code.now) }
+        ensures good { IfOk result (λ table. (image : ProgramImage) → IsCodeOf image code.now
+            → IsLiveTable image (live_of table)) }
+    {
+        LiveTable::filled(code, true, alloc)
+    }
+
+    /// Adds what has to be live to the rows, the last first. Answers whether anything was missing.
+    fn add_needed(&mut self, code: &Code) -> bool
+        requires { IsOfCode code.now self.old }
+        ensures { IsOfCode code.now self.new }
+    {
+        let mut has_added = false;
+        let count = code.words.len();
+        for turn in 0..count {
+            if self.add_needed_at(code, count - 1 - turn) {
+                has_added = true;
+            }
+        }
+        has_added
+    }
+
+    /// Adds what has to be live at a word. Answers whether anything was missing.
+    fn add_needed_at(&mut self, code: &Code, index: usize) -> bool
+        requires inside { index < length code.now.words.items }
+        requires of_code { IsOfCode code.now self.old }
+        ensures { IsOfCode code.now self.new }
+    {
+        let Some(fetched) = code.words.get(index) else {
+            return false;
+        };
+        let pc = code
+            .start
+            .wrapping_add(u32::try_from(index).unwrap_or(0).wrapping_mul(4));
+        let row = self.rows[index];
+        let with_needed = self.with_needed(row, fetched.op, pc);
+        if with_needed.live == row.live {
+            return false;
+        }
+        self.rows[index] = with_needed;
+        true
+    }
+
+    /// The row with what has to be live there.
+    fn with_needed(&self, row: Row, op: Op, pc: u32) -> Row {
+        let mut row = row;
+        for register in 1..REGISTERS as u8 {
+            if is_needed(self, op, pc, register) {
+                row.live[usize::from(register)] = true;
+            }
+        }
+        row
+    }
+
+    /// The table of a code in which all registers are live everywhere, or none is anywhere.
+    fn filled(code: &Code, live: bool, alloc: Global) -> Result<LiveTable, AllocError>
+        ensures of_code { IfOk result (IsOfCode code.now) }
+        ensures all { IfOk result (λ table. All (λ row. row.live ≡ all_alike live) table.rows.items) }
+    {
+        let mut rows = Vec::with_capacity(alloc, code.words.len())?;
+        for _index in 0..code.words.len() {
+            rows.push(Row::all(live))?;
+        }
+        Ok(LiveTable {
+            start: code.start,
+            rows,
+        })
+    }
+}

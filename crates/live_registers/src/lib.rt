@@ -1,0 +1,13 @@
+//! Which registers may be read yet at each word of a code: a table that is computed by any means and
+//! then checked.
+//!
+//! Read in this order: `onward` (where an instruction may go on), `table` (a row for each word),
+//! `checking` (when a table is good), `filling` (how one is found).
+#![tactic(auto)]
+
+mod checking;
+mod filling;
+mod onward;
+mod table;
+
+pub use table::LiveTable;

@@ -1,0 +1,56 @@
+ghost use Rattle.std.specs.Prelude.{◌≡◌, ◌<◌};
+ghost use Rattle.live_registers.specs.Table.{row_at, live_of, all_alike};
+
+use rv_instr::Reg;
+
+/// How many registers a hart has.
+pub(crate) const REGISTERS: usize = 32;
+
+/// Which registers are live at a word.
+#[derive(Clone, Copy, Drop)]
+pub struct Row {
+    pub live: [bool; REGISTERS],
+}
+
+impl Row {
+    /// A row in which all registers are live, or none is.
+    #[tactic(auto, unfolding(crate::specs::Table::all_alike))]
+    pub(crate) fn all(live: bool) -> Self
+        ensures { result.live ≡ all_alike live }
+    {
+        Row {
+            live: [live; REGISTERS],
+        }
+    }
+}
+
+/// Which registers are live at each word of a code that begins at `start`.
+#[derive(Drop)]
+pub struct LiveTable {
+    pub start: u32,
+    pub rows: Vec<Row>,
+}
+
+impl LiveTable {
+    /// The row of the word at a pc, where the code has one.
+    pub(crate) fn row_at(&self, pc: u32) -> Option<Row>
+        ensures { result ≡ row_at self.now pc }
+    {
+        let offset = pc.checked_sub(self.start)?;
+        if offset % 4 != 0 {
+            return None;
+        }
+        self.rows.get((offset / 4) as usize).copied()
+    }
+
+    /// Whether a register is live at a pc: where there is no word none is.
+    pub fn is_live(&self, pc: u32, register: Reg) -> bool
+        requires { register < 32 }
+        ensures { result ≡ live_of self.now pc register }
+    {
+        match self.row_at(pc) {
+            Some(row) => row.live[usize::from(register)],
+            None => false,
+        }
+    }
+}

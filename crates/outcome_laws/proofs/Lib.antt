@@ -1,0 +1,4 @@
+mod Paths
+mod Local
+mod Live
+mod Search

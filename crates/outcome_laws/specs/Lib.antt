@@ -1,0 +1,4 @@
+pub mod Paths
+pub mod Local
+pub mod Live
+pub mod Search

@@ -1,0 +1,29 @@
+//! The functions do nothing: each is there for its contract, which ranges over all setups and all
+//! states of the plain machine.
+ghost use Rattle.outcome_laws.specs.Paths.{RunsArePaths};
+ghost use Rattle.outcome_laws.specs.Local.{LocalStepsGoFirst};
+ghost use Rattle.outcome_laws.specs.Live.{AlikeStatesStepAlike};
+ghost use Rattle.outcome_laws.specs.Search.{EveryEndIsVisited, WhatSettlesIsReached};
+
+/// A run of the plain machine in an order is the path of that order, from the start.
+pub fn runs_are_paths()
+    ensures paths { RunsArePaths }
+{}
+
+/// On the way to an end a local step may go first, and the rest of the way is shorter by it.
+pub fn local_steps_go_first()
+    ensures first { LocalStepsGoFirst }
+{}
+
+/// States that differ in dead registers alone make the same steps, and differ in dead registers alone
+/// afterwards.
+pub fn alike_states_step_alike()
+    ensures alike { AlikeStatesStepAlike }
+{}
+
+/// A search that goes on by each step and then by local ones, and keeps one of several states that are
+/// alike, visits every end, and nothing that no order leads to.
+pub fn visited_states_are_enough()
+    ensures ends { EveryEndIsVisited }
+    ensures reached { WhatSettlesIsReached }
+{}

@@ -1,0 +1,7 @@
+mod Places
+mod Orders
+mod Reading
+mod Walking
+mod Sweeping
+mod Looking
+mod Locals

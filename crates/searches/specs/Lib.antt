@@ -1,0 +1,5 @@
+pub mod Orders
+pub mod Trails
+pub mod Found
+pub mod Sweeps
+pub mod Locals
