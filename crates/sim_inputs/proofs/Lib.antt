@@ -1,4 +1,5 @@
 pub mod Described
+pub mod Faults
 pub mod Found
 pub mod Keys
 pub mod Names

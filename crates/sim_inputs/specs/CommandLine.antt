@@ -1,5 +1,5 @@
 -- The command line as data, and what its words ask for.
-use Rattle.std.specs.Prelude.{None, ◌≡◌, ◌≢◌, ℕ, ◌-◌, nat_le, not, ◌&&◌, Bool, true, false, List, [], ◌∷◌}
+use Rattle.std.specs.Prelude.{None, ◌≡◌, ◌≢◌, ℕ, ◌-◌, ◌^◌, nat_le, not, ◌&&◌, ◌||◌, Bool, true, false, List, [], ◌∷◌}
 use Rattle.std.specs.Prelude.{Option, Some, is_some}
 use Rattle.std.specs.Prelude.{IsSomeAnd, option_map, codes}
 use Rattle.std.specs.{Borrow.Bor, List.fold, Option.option_map_or, Result.result_ok, Str.bytes_eq}
@@ -20,16 +20,21 @@ use Rattle.sim_inputs.specs.declared.line.{StepCommand.StepCommand, RunCommand.R
 use Rattle.sim_inputs.specs.declared.line.{CheckCommand.CheckCommand, PlainCommand.PlainCommand}
 use Rattle.sim_inputs.specs.declared.line.{ScheduleCommand.ScheduleCommand}
 use Rattle.sim_inputs.specs.declared.line.{ScriptCommand.ScriptCommand, ListCommand.ListCommand}
-use Rattle.sim_inputs.specs.declared.line.{ChartCommand.ChartCommand}
+use Rattle.sim_inputs.specs.declared.line.{ChartCommand.ChartCommand, ExplainCommand.ExplainCommand}
 use Rattle.sim_inputs.specs.{declared.line.WordsRefused.TheVariants.Help}
 use Rattle.sim_inputs.specs.{declared.line.WordsRefused.TheVariants.Refused}
 use Rattle.sim_inputs.specs.{declared.line.WordsRefused.TheVariants.Memory}
+use Rattle.sim_inputs.specs.Files.{reads_input_once}
 
 -- An argument that names a file and must be there: the image, the script, the trace, and the order.
 abbrev pub file_rule : Text → Rule
 file_rule name = record (new_rule name) { required = true }
 
--- An option that names a file, and a flag.
+-- One that names a file and may be there: the order, in whose place there may be rounds.
+abbrev pub optional_file_rule : Text → Rule
+optional_file_rule name = new_rule name
+
+-- An option that names a file or a folder, and a flag.
 abbrev pub file_option_rule : Text → Rule
 file_option_rule name = record (new_rule name) { long = Some name; value_names = 1 }
 
@@ -48,8 +53,20 @@ trace_rule = file_rule (codes "TRACE")
 abbrev pub order_rule : Rule
 order_rule = file_rule (codes "ORDER")
 
+abbrev pub order_or_rounds_rule : Rule
+order_or_rounds_rule = optional_file_rule (codes "ORDER")
+
 abbrev pub config_rule : Rule
 config_rule = file_option_rule (codes "config")
+
+abbrev pub counts_rule : Rule
+counts_rule = flag_rule (codes "counts")
+
+abbrev pub json_rule : Rule
+json_rule = flag_rule (codes "json")
+
+abbrev pub keep_rule : Rule
+keep_rule = file_option_rule (codes "keep")
 
 abbrev pub looks_rule : Rule
 looks_rule = flag_rule (codes "looks")
@@ -66,13 +83,20 @@ why_rule = flag_rule (codes "why")
 abbrev pub written_trace_rule : Rule
 written_trace_rule = file_option_rule (codes "trace")
 
--- The last event that a history may have, the last hart that a core may have, and how many characters
--- a line of a chart has, or events a band of a picture: usually, and at the most.
+-- The last event that a history may have; the last hart that a core may have; how often a program is
+-- run at the most; the most instructions of a turn and of all rounds, and the last seed; and how many
+-- characters a line of a chart has, or events a band of a picture, usually and at the most.
 abbrev pub last_place : ℕ
 last_place = most_events - 1
 
 abbrev pub last_hart : ℕ
 last_hart = most_harts - 1
+
+abbrev pub most_times : ℕ
+most_times = 1000000
+
+abbrev pub most_rounds : ℕ
+most_rounds = 2 ^ 32 - 1
 
 abbrev pub usual_columns : ℕ
 usual_columns = 120
@@ -96,6 +120,18 @@ hart_rule = number_option_rule (codes "hart")
 abbrev pub width_rule : Rule
 width_rule = number_option_rule (codes "width")
 
+abbrev pub times_rule : Rule
+times_rule = number_option_rule (codes "times")
+
+abbrev pub rounds_rule : Rule
+rounds_rule = number_option_rule (codes "rounds")
+
+abbrev pub steps_rule : Rule
+steps_rule = number_option_rule (codes "steps")
+
+abbrev pub seed_rule : Rule
+seed_rule = number_option_rule (codes "seed")
+
 abbrev pub svg_rule : Rule
 svg_rule = file_option_rule (codes "svg")
 
@@ -106,23 +142,28 @@ kanata_rule = file_option_rule (codes "kanata")
 abbrev pub subcommand : Text → List Rule → App
 subcommand name rules = fold with_rule (new_app name) rules
 
--- `step IMAGE SCRIPT`, with `--config FILE`, `--looks`, `--records`, `--show`, `--why` and
--- `--trace FILE`.
+-- `step IMAGE SCRIPT`, with `--config FILE`, `--counts`, `--json`, `--looks`, `--records`, `--show`,
+-- `--why` and `--trace FILE`.
 abbrev pub step_command : App
-step_command = subcommand (codes "step") (image_rule ∷ script_rule ∷ config_rule ∷ looks_rule
-    ∷ records_rule ∷ show_rule ∷ why_rule ∷ written_trace_rule ∷ [])
+step_command = subcommand (codes "step") (image_rule ∷ script_rule ∷ config_rule ∷ counts_rule ∷ json_rule
+    ∷ looks_rule ∷ records_rule ∷ show_rule ∷ why_rule ∷ written_trace_rule ∷ [])
 
--- `run IMAGE`, with `--config FILE`, `--records` and `--trace FILE`.
+-- `run IMAGE`, with `--config FILE`, `--counts`, `--json`, `--records`, `--why`, `--times N`,
+-- `--keep FOLDER` and `--trace FILE`.
 abbrev pub run_command : App
-run_command = subcommand (codes "run") (image_rule ∷ config_rule ∷ records_rule ∷ written_trace_rule ∷ [])
+run_command = subcommand (codes "run") (image_rule ∷ config_rule ∷ counts_rule ∷ json_rule ∷ records_rule
+    ∷ why_rule ∷ times_rule ∷ keep_rule ∷ written_trace_rule ∷ [])
 
--- `check IMAGE TRACE`, with `--config FILE` and `--records`.
+-- `check IMAGE TRACE`, with `--config FILE`, `--counts`, `--json`, `--records` and `--why`.
 abbrev pub check_command : App
-check_command = subcommand (codes "check") (image_rule ∷ trace_rule ∷ config_rule ∷ records_rule ∷ [])
+check_command = subcommand (codes "check") (image_rule ∷ trace_rule ∷ config_rule ∷ counts_rule ∷ json_rule
+    ∷ records_rule ∷ why_rule ∷ [])
 
--- `plain IMAGE ORDER`, with `--config FILE` and `--records`.
+-- `plain IMAGE ORDER`, with `--config FILE` and `--records`; or without the order, and with
+-- `--rounds K`, `--steps N` and `--seed S`.
 abbrev pub plain_command : App
-plain_command = subcommand (codes "plain") (image_rule ∷ order_rule ∷ config_rule ∷ records_rule ∷ [])
+plain_command = subcommand (codes "plain") (image_rule ∷ order_or_rounds_rule ∷ config_rule ∷ records_rule
+    ∷ rounds_rule ∷ steps_rule ∷ seed_rule ∷ [])
 
 -- `schedule IMAGE ORDER`, with `--config FILE`.
 abbrev pub schedule_command : App
@@ -142,7 +183,11 @@ abbrev pub chart_command : App
 chart_command = subcommand (codes "chart") (image_rule ∷ trace_rule ∷ config_rule ∷ from_rule ∷ to_rule
     ∷ hart_rule ∷ width_rule ∷ svg_rule ∷ kanata_rule ∷ [])
 
--- The whole command line: one of the eight subcommands must be there. `clap` adds `--help` and
+-- `explain IMAGE`, with `--config FILE`.
+abbrev pub explain_command : App
+explain_command = subcommand (codes "explain") (image_rule ∷ config_rule ∷ [])
+
+-- The whole command line: one of the nine subcommands must be there. `clap` adds `--help` and
 -- `help`.
 abbrev pub top : App
 top = let app =
@@ -151,7 +196,7 @@ top = let app =
 abbrev pub smtsim : App
 smtsim = fold (λ app sub. with_subcommand app sub.top) top (step_command ∷ run_command
     ∷ check_command ∷ plain_command ∷ schedule_command ∷ script_command ∷ list_command
-    ∷ chart_command ∷ [])
+    ∷ chart_command ∷ explain_command ∷ [])
 
 -- What `clap` is given: an argument and a command as data, neither of them for the commands below
 -- too.
@@ -184,42 +229,6 @@ IsFileOption rows name file = first_of name rows ≡ option_map (λ f. f.now) fi
 abbrev IsFlag : List Row → Text → Bool → Type 0
 IsFlag rows name flag = is_flag_set name rows ≡ flag
 
--- What was found for a subcommand's arguments and options is the command.
-pub record IsStep (rows : List Row) (step : StepCommand) : Type 0 where
-  pub image : IsFile rows (codes "IMAGE") step.image
-  pub script : IsFile rows (codes "SCRIPT") step.script
-  pub trace : IsFileOption rows (codes "trace") step.trace
-  pub looks : IsFlag rows (codes "looks") step.looks
-  pub records : IsFlag rows (codes "records") step.records
-  pub show : IsFlag rows (codes "show") step.show
-  pub why : IsFlag rows (codes "why") step.why
-
-pub record IsRun (rows : List Row) (run : RunCommand) : Type 0 where
-  pub image : IsFile rows (codes "IMAGE") run.image
-  pub trace : IsFileOption rows (codes "trace") run.trace
-  pub records : IsFlag rows (codes "records") run.records
-
-pub record IsCheck (rows : List Row) (check : CheckCommand) : Type 0 where
-  pub image : IsFile rows (codes "IMAGE") check.image
-  pub trace : IsFile rows (codes "TRACE") check.trace
-  pub records : IsFlag rows (codes "records") check.records
-
-pub record IsPlain (rows : List Row) (plain : PlainCommand) : Type 0 where
-  pub image : IsFile rows (codes "IMAGE") plain.image
-  pub order : IsFile rows (codes "ORDER") plain.order
-  pub records : IsFlag rows (codes "records") plain.records
-
-pub record IsSchedule (rows : List Row) (schedule : ScheduleCommand) : Type 0 where
-  pub image : IsFile rows (codes "IMAGE") schedule.image
-  pub order : IsFile rows (codes "ORDER") schedule.order
-
-pub record IsScript (rows : List Row) (script : ScriptCommand) : Type 0 where
-  pub image : IsFile rows (codes "IMAGE") script.image
-  pub trace : IsFile rows (codes "TRACE") script.trace
-
-pub record IsList (rows : List Row) (list : ListCommand) : Type 0 where
-  pub image : IsFile rows (codes "IMAGE") list.image
-
 -- The number that was found for an option, of at most `greatest`; the default where it isn't given.
 abbrev pub number_or : ℕ → ℕ → Option Text → Option ℕ
 number_or default greatest None = Some default
@@ -235,6 +244,73 @@ number_in greatest (Some text) = option_map (λ number. Some number) (result_ok 
 
 abbrev IsNumberOption : List Row → Text → ℕ → Option ℕ → Type 0
 IsNumberOption rows name greatest number = number_in greatest (first_of name rows) ≡ Some number
+
+-- What was found for a subcommand's arguments and options is the command.
+pub record IsStep (rows : List Row) (step : StepCommand) : Type 0 where
+  pub image : IsFile rows (codes "IMAGE") step.image
+  pub script : IsFile rows (codes "SCRIPT") step.script
+  pub trace : IsFileOption rows (codes "trace") step.trace
+  pub counts : IsFlag rows (codes "counts") step.counts
+  pub json : IsFlag rows (codes "json") step.json
+  pub looks : IsFlag rows (codes "looks") step.looks
+  pub records : IsFlag rows (codes "records") step.records
+  pub show : IsFlag rows (codes "show") step.show
+  pub why : IsFlag rows (codes "why") step.why
+
+-- A run has an option of its report. Many runs have none; there is one at least, and one alone has no
+-- folder.
+abbrev pub is_reported : RunCommand → Bool
+is_reported run = is_some run.trace || run.counts || run.json || run.records || run.why
+
+abbrev pub can_be_run : RunCommand → Bool
+can_be_run run = let once = not (is_some run.keep) in
+    option_map_or (λ times. nat_le 1 times && not (is_reported run)) run.times once
+
+pub record IsRun (rows : List Row) (run : RunCommand) : Type 0 where
+  pub image : IsFile rows (codes "IMAGE") run.image
+  pub trace : IsFileOption rows (codes "trace") run.trace
+  pub counts : IsFlag rows (codes "counts") run.counts
+  pub json : IsFlag rows (codes "json") run.json
+  pub records : IsFlag rows (codes "records") run.records
+  pub why : IsFlag rows (codes "why") run.why
+  pub times : IsNumberOption rows (codes "times") most_times run.times
+  pub keep : IsFileOption rows (codes "keep") run.keep
+  pub together : can_be_run run ≡ true
+
+pub record IsCheck (rows : List Row) (check : CheckCommand) : Type 0 where
+  pub image : IsFile rows (codes "IMAGE") check.image
+  pub trace : IsFile rows (codes "TRACE") check.trace
+  pub counts : IsFlag rows (codes "counts") check.counts
+  pub json : IsFlag rows (codes "json") check.json
+  pub records : IsFlag rows (codes "records") check.records
+  pub why : IsFlag rows (codes "why") check.why
+
+-- There is either an order or rounds, of an instruction at least, and what says more of rounds is there
+-- with them alone.
+abbrev pub can_be_plain : PlainCommand → Bool
+can_be_plain plain =
+    let ordered = is_some plain.order && not (is_some plain.steps) && not (is_some plain.seed) in
+    option_map_or (λ rounds. nat_le 1 rounds && not (is_some plain.order)) plain.rounds ordered
+
+pub record IsPlain (rows : List Row) (plain : PlainCommand) : Type 0 where
+  pub image : IsFile rows (codes "IMAGE") plain.image
+  pub order : IsFileOption rows (codes "ORDER") plain.order
+  pub rounds : IsNumberOption rows (codes "rounds") most_rounds plain.rounds
+  pub steps : IsNumberOption rows (codes "steps") most_rounds plain.steps
+  pub seed : IsNumberOption rows (codes "seed") most_rounds plain.seed
+  pub records : IsFlag rows (codes "records") plain.records
+  pub together : can_be_plain plain ≡ true
+
+pub record IsSchedule (rows : List Row) (schedule : ScheduleCommand) : Type 0 where
+  pub image : IsFile rows (codes "IMAGE") schedule.image
+  pub order : IsFile rows (codes "ORDER") schedule.order
+
+pub record IsScript (rows : List Row) (script : ScriptCommand) : Type 0 where
+  pub image : IsFile rows (codes "IMAGE") script.image
+  pub trace : IsFile rows (codes "TRACE") script.trace
+
+pub record IsList (rows : List Row) (list : ListCommand) : Type 0 where
+  pub image : IsFile rows (codes "IMAGE") list.image
 
 -- The last event that is drawn isn't before the first, a line has room, and there's one file at most.
 abbrev pub can_be_drawn : ChartCommand → Bool
@@ -253,6 +329,9 @@ pub record IsChart (rows : List Row) (chart : ChartCommand) : Type 0 where
   pub kanata : IsFileOption rows (codes "kanata") chart.kanata
   pub together : can_be_drawn chart ≡ true
 
+pub record IsExplain (rows : List Row) (explain : ExplainCommand) : Type 0 where
+  pub image : IsFile rows (codes "IMAGE") explain.image
+
 -- A subcommand of this name, with what was found for it, is the command.
 abbrev pub IsCommandOf : Text → List Row → LineCommand → Type 0
 IsCommandOf name rows (commands.Step step) = (name ≡ codes "step") × IsStep rows step
@@ -264,12 +343,14 @@ IsCommandOf name rows (commands.Schedule schedule) =
 IsCommandOf name rows (commands.Script script) = (name ≡ codes "script") × IsScript rows script
 IsCommandOf name rows (commands.List list) = (name ≡ codes "list") × IsList rows list
 IsCommandOf name rows (commands.Chart chart) = (name ≡ codes "chart") × IsChart rows chart
+IsCommandOf name rows (commands.Explain explain) = (name ≡ codes "explain") × IsExplain rows explain
 
 -- A subcommand of this name, with what was found for it, is the line: its command, and the
--- configuration, which every command may have.
+-- configuration, which every command may have. One of its files at most is standard input.
 pub record IsLineOf (name : Text) (rows : List Row) (line : Line) : Type 0 where
   pub config : IsFileOption rows (codes "config") line.config
   pub command : IsCommandOf name rows line.command
+  pub once : reads_input_once line ≡ true
 
 -- A subcommand was found, and it is the line.
 abbrev pub Names : Option (Text × List Row) → Line → Type 0

@@ -1,6 +1,7 @@
 -- The files that a line names. (This project's own choice.)
-use Rattle.std.specs.Prelude.{List, ℕ, Option, None, Some, is_some, if◌then◌else◌}
-use Rattle.std.specs.Borrow.{Bor}
+use Rattle.std.specs.Prelude.{List, ℕ, ◌+◌, nat_le, Bool, Option, None, Some, is_some, option_map}
+use Rattle.std.specs.Prelude.{codes, if◌then◌else◌}
+use Rattle.std.specs.{Borrow.Bor, Str.bytes_eq}
 use Rattle.sim_inputs.specs.{declared.files.Files.Files}
 use Rattle.sim_inputs.specs.{declared.line.Line.Line, declared.line.Command.Command}
 use Rattle.sim_inputs.specs.{declared.line.ChartCommand.ChartCommand}
@@ -33,7 +34,7 @@ files_with config (commands.Check check) = record {
 files_with config (commands.Plain plain) = record {
   config = config;
   image = Some plain.image;
-  second = Some plain.order;
+  second = plain.order;
   trace = None;
 }
 files_with config (commands.Schedule schedule) = record {
@@ -60,8 +61,31 @@ files_with config (commands.Chart chart) = record {
   second = Some chart.trace;
   trace = written_chart chart;
 }
+files_with config (commands.Explain explain) = record {
+  config = config;
+  image = Some explain.image;
+  second = None;
+  trace = None;
+}
 
 -- The configuration, the image, the file that is read beside them (the script, the trace that is
 -- read, or the order), and the file that is written: the trace of a core, or a chart.
 abbrev pub files_of : Line → Files
 files_of line = files_with line.config line.command
+
+-- This names standard input in place of a file.
+abbrev pub is_standard_input : List ℕ → Bool
+is_standard_input name = bytes_eq name (codes "-")
+
+-- How often standard input stands in place of this file: once or never.
+abbrev pub input_count : Option (List ℕ) → ℕ
+input_count None = 0
+input_count (Some name) = if is_standard_input name then 1 else 0
+
+abbrev input_count_of : Option (Bor (List ℕ)) → ℕ
+input_count_of file = input_count (option_map (λ name. name.now) file)
+
+-- Standard input stands in place of one file that is read, at the most.
+abbrev pub reads_input_once : Line → Bool
+reads_input_once line = let files = files_of line in
+    nat_le (input_count_of files.config + input_count_of files.image + input_count_of files.second) 1

@@ -1,4 +1,5 @@
 pub mod CommandLine
 pub mod Configuration
+pub mod Explained
 pub mod Files
 pub mod Table

@@ -11,10 +11,14 @@ use std::alloc::{AllocError, Global};
 pub(crate) enum Kind {
     /// The name of a file, which must be there.
     File,
+    /// The name of a file, which may be there.
+    OptionalFile,
     /// `--name FILE`, which may be there.
     Option,
     /// `--name`, which may be there.
     Flag,
+    /// `--name FOLDER`, which may be there.
+    Folder,
     /// `--name N`, which may be there.
     Number,
 }
@@ -116,10 +120,28 @@ const ORDER: Argument = Argument {
     help: "The order: which hart makes each step",
 };
 
+const ORDER_OR_ROUNDS: Argument = Argument {
+    kind: Kind::OptionalFile,
+    name: "ORDER",
+    help: "The order: which hart makes each step; none with --rounds",
+};
+
 const CONFIG: Argument = Argument {
     kind: Kind::Option,
     name: "config",
     help: "The configuration, a TOML file: see smtsim --help",
+};
+
+const COUNTS: Argument = Argument {
+    kind: Kind::Flag,
+    name: "counts",
+    help: "Print how often each kind of event came, after the report",
+};
+
+const JSON: Argument = Argument {
+    kind: Kind::Flag,
+    name: "json",
+    help: "Print the report as one JSON object",
 };
 
 const LOOKS: Argument = Argument {
@@ -144,6 +166,42 @@ const WHY: Argument = Argument {
     kind: Kind::Flag,
     name: "why",
     help: "Tell why an ask made no step, and what it squashed",
+};
+
+const WHY_ENDS: Argument = Argument {
+    kind: Kind::Flag,
+    name: "why",
+    help: "Tell why each hart that hasn't ended stands where it does",
+};
+
+const TIMES: Argument = Argument {
+    kind: Kind::Number,
+    name: "times",
+    help: "Run that often, and print a table of the ends",
+};
+
+const KEEP: Argument = Argument {
+    kind: Kind::Folder,
+    name: "keep",
+    help: "The folder for a trace and an order of each end",
+};
+
+const ROUNDS: Argument = Argument {
+    kind: Kind::Number,
+    name: "rounds",
+    help: "Without an order: each hart makes so many steps in turn",
+};
+
+const STEPS: Argument = Argument {
+    kind: Kind::Number,
+    name: "steps",
+    help: "The most steps of all harts, with --rounds",
+};
+
+const SEED: Argument = Argument {
+    kind: Kind::Number,
+    name: "seed",
+    help: "Draw the turns, from this number on, with --rounds",
 };
 
 const WRITTEN_TRACE: Argument = Argument {
@@ -189,7 +247,7 @@ const KANATA: Argument = Argument {
 };
 
 /// The subcommands, in the order in which help lists them.
-static SUBCOMMANDS: [Subcommand; 8] = [
+static SUBCOMMANDS: [Subcommand; 9] = [
     Subcommand {
         name: "step",
         about: "Make a script's asks of the core in order, and print a report",
@@ -197,6 +255,8 @@ static SUBCOMMANDS: [Subcommand; 8] = [
             IMAGE,
             SCRIPT,
             CONFIG,
+            COUNTS,
+            JSON,
             LOOKS,
             RECORDS,
             SHOW,
@@ -208,19 +268,29 @@ static SUBCOMMANDS: [Subcommand; 8] = [
     Subcommand {
         name: "run",
         about: "Run the core, with a thread for each actor, and print a report",
-        arguments: &[IMAGE, CONFIG, RECORDS, WRITTEN_TRACE],
+        arguments: &[
+            IMAGE,
+            CONFIG,
+            COUNTS,
+            JSON,
+            RECORDS,
+            WHY_ENDS,
+            TIMES,
+            KEEP,
+            WRITTEN_TRACE,
+        ],
         form: "",
     },
     Subcommand {
         name: "check",
         about: "Check that a trace is a history of the core, and print its report",
-        arguments: &[IMAGE, TRACE, CONFIG, RECORDS],
+        arguments: &[IMAGE, TRACE, CONFIG, COUNTS, JSON, RECORDS, WHY_ENDS],
         form: TRACE_FORM,
     },
     Subcommand {
         name: "plain",
         about: "Run the plain machine in an order of harts, and print a report",
-        arguments: &[IMAGE, ORDER, CONFIG, RECORDS],
+        arguments: &[IMAGE, ORDER_OR_ROUNDS, CONFIG, RECORDS, ROUNDS, STEPS, SEED],
         form: ORDER_FORM,
     },
     Subcommand {
@@ -246,6 +316,12 @@ static SUBCOMMANDS: [Subcommand; 8] = [
         about: "Draw a trace's pipeline: a row an instruction, a column an event",
         arguments: &[IMAGE, TRACE, CONFIG, FROM, TO, HART, WIDTH, SVG, KANATA],
         form: CHART_FORM,
+    },
+    Subcommand {
+        name: "explain",
+        about: "Tell what image and configuration hold, or why they are refused",
+        arguments: &[IMAGE, CONFIG],
+        form: "",
     },
 ];
 
@@ -297,7 +373,9 @@ fn argument_of<'a>(row: &'static Argument, alloc: Global) -> Arg<'a>
     let argument = Arg::new(alloc, row.name).help(row.help);
     match row.kind {
         Kind::File => argument.required(true),
+        Kind::OptionalFile => argument,
         Kind::Option => argument.long(row.name).value_name("FILE"),
+        Kind::Folder => argument.long(row.name).value_name("FOLDER"),
         Kind::Flag => argument.long(row.name).action(ArgAction::SetTrue),
         Kind::Number => argument.long(row.name).value_name("N"),
     }

@@ -1,5 +1,6 @@
-ghost use Rattle.std.specs.Prelude.{◌≡◌};
-ghost use Rattle.sim_inputs.specs.Files.{files_of, written_chart};
+ghost use Rattle.std.specs.Prelude.{◌≡◌, ◌≤◌, option_map};
+ghost use Rattle.sim_inputs.specs.Files.{files_of, written_chart, is_standard_input, input_count};
+ghost use Rattle.sim_inputs.specs.Files.{reads_input_once};
 
 use crate::line::{ChartCommand, Command, Line};
 
@@ -37,11 +38,12 @@ impl<'a> Line<'a> {
             Command::Step(step) => (Some(step.image), Some(step.script), step.trace),
             Command::Run(run) => (Some(run.image), None, run.trace),
             Command::Check(check) => (Some(check.image), Some(check.trace), None),
-            Command::Plain(plain) => (Some(plain.image), Some(plain.order), None),
+            Command::Plain(plain) => (Some(plain.image), plain.order, None),
             Command::Schedule(schedule) => (Some(schedule.image), Some(schedule.order), None),
             Command::Script(script) => (Some(script.image), Some(script.trace), None),
             Command::List(list) => (Some(list.image), None, None),
             Command::Chart(chart) => (Some(chart.image), Some(chart.trace), chart.written()),
+            Command::Explain(explain) => (Some(explain.image), None, None),
         };
         Files {
             config: self.config,
@@ -49,5 +51,31 @@ impl<'a> Line<'a> {
             second,
             trace,
         }
+    }
+}
+
+/// Whether this names standard input in place of a file: `-`.
+pub fn is_standard_input(name: &str) -> bool
+    ensures { result ≡ is_standard_input name.now }
+{
+    name == "-"
+}
+
+/// Whether standard input stands in place of one file that is read, at the most.
+pub(crate) fn reads_input_once(line: &Line<'_>) -> bool
+    ensures { result ≡ reads_input_once line.now }
+{
+    let files = line.files();
+    input_count(files.config) + input_count(files.image) + input_count(files.second) <= 1
+}
+
+/// How often standard input stands in place of this file: once or never.
+fn input_count(file: Option<&str>) -> u8
+    ensures counted { result ≡ input_count (option_map (λ name. name.now) file.entry) }
+    ensures once { result ≤ 1 }
+{
+    match file {
+        Some(name) if is_standard_input(name) => 1,
+        _ => 0,
     }
 }

@@ -4,11 +4,13 @@
 //! Read in this order: `line` (what the words may ask for), `files` (the files that they name),
 //! `words` (how they are read), `description` (the command line as it is described to `clap`),
 //! `limits` (what stands in its texts for the limits of a core); then
-//! `settings`, `configuration` (how they are read), `roles` and `ranges` (its parts).
+//! `settings`, `configuration` (how they are read), `roles` and `ranges` (its parts), `explained`
+//! (which fault a refused configuration has).
 #![tactic(auto)]
 
 mod configuration;
 mod description;
+mod explained;
 mod files;
 mod limits;
 mod line;
@@ -18,10 +20,13 @@ mod settings;
 mod words;
 
 pub use configuration::{ConfigRefused, read_config};
-pub use files::Files;
+pub use explained::{
+    ActorsFault, ConfigFault, KNOWN_KEYS, NumberKey, ROLE_NAMES, read_config_or_fault, role_name,
+};
+pub use files::{Files, is_standard_input};
 pub use line::{
-    ChartCommand, CheckCommand, Command, Line, ListCommand, PlainCommand, RunCommand,
-    ScheduleCommand, ScriptCommand, StepCommand, WordsRefused,
+    ChartCommand, CheckCommand, Command, ExplainCommand, Line, ListCommand, PlainCommand,
+    RunCommand, ScheduleCommand, ScriptCommand, StepCommand, WordsRefused,
 };
 pub use settings::Settings;
 pub use words::read_words;

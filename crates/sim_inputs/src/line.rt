@@ -19,6 +19,7 @@ pub enum Command<'a> {
     Script(ScriptCommand<'a>),
     List(ListCommand<'a>),
     Chart(ChartCommand<'a>),
+    Explain(ExplainCommand<'a>),
 }
 
 /// `step IMAGE SCRIPT`: the script's asks are made in order, without threads.
@@ -28,13 +29,18 @@ pub struct StepCommand<'a> {
     pub script: &'a str,
     /// `--trace FILE`: the file that the history is written to.
     pub trace: Option<&'a str>,
+    /// `--counts`: how often each kind of event came is printed behind the report.
+    pub counts: bool,
+    /// `--json`: the report is printed as one JSON object.
+    pub json: bool,
     /// `--looks`: how many loads looked again is printed behind the tables.
     pub looks: bool,
     /// `--records`: a line for each record is printed before the report.
     pub records: bool,
     /// `--show`: the core's tables are printed between the asks and the report.
     pub show: bool,
-    /// `--why`: each ask's line is explained, and a tally of the reasons comes behind them.
+    /// `--why`: each ask's line is explained, and a tally of the reasons comes behind them; behind the
+    /// report, why each hart that hasn't ended stands where it does.
     pub why: bool,
 }
 
@@ -44,8 +50,20 @@ pub struct RunCommand<'a> {
     pub image: &'a str,
     /// `--trace FILE`: the file that the history is written to.
     pub trace: Option<&'a str>,
+    /// `--counts`: how often each kind of event came is printed behind the report.
+    pub counts: bool,
+    /// `--json`: the report is printed as one JSON object.
+    pub json: bool,
     /// `--records`: a line for each record is printed before the report.
     pub records: bool,
+    /// `--why`: behind the report, why each hart that hasn't ended stands where it does.
+    pub why: bool,
+    /// `--times N`: that many runs, 1 to `MOST_TIMES`, and a table of their ends in place of a report.
+    /// Then there is none of the five options above.
+    pub times: Option<u32>,
+    /// `--keep FOLDER`: the folder for a trace and an order of each end. There is none without
+    /// `times`.
+    pub keep: Option<&'a str>,
 }
 
 /// `check IMAGE TRACE`: whether the trace's events are a history of the core.
@@ -54,15 +72,29 @@ pub struct CheckCommand<'a> {
     pub image: &'a str,
     /// The file of the trace, which is read.
     pub trace: &'a str,
+    /// `--counts`: how often each kind of event came is printed behind the report.
+    pub counts: bool,
+    /// `--json`: the report is printed as one JSON object.
+    pub json: bool,
     /// `--records`: a line for each record is printed before the report.
     pub records: bool,
+    /// `--why`: behind the report, why each hart that hasn't ended stands where it does.
+    pub why: bool,
 }
 
-/// `plain IMAGE ORDER`: the plain machine makes a step of each hart of the order.
+/// `plain IMAGE ORDER` or `plain IMAGE --rounds K`: the plain machine makes a step of each hart of an
+/// order, or of each hart in turn.
 #[derive(Clone, Copy, Drop)]
 pub struct PlainCommand<'a> {
     pub image: &'a str,
-    pub order: &'a str,
+    /// The file of the order. There is one where there are no rounds, and none beside them.
+    pub order: Option<&'a str>,
+    /// `--rounds K`: how many instructions a hart makes in its turn, 1 at least.
+    pub rounds: Option<u32>,
+    /// `--steps N`: the most instructions of all harts. There is none without rounds.
+    pub steps: Option<u32>,
+    /// `--seed S`: the turns are drawn, from this number on. There is none without rounds.
+    pub seed: Option<u32>,
     /// `--records`: a line for each record is printed before the report.
     pub records: bool,
 }
@@ -107,6 +139,12 @@ pub struct ChartCommand<'a> {
     pub svg: Option<&'a str>,
     /// `--kanata FILE`: the file that Konata's log is written to. There is one of the two at most.
     pub kanata: Option<&'a str>,
+}
+
+/// `explain IMAGE`: what the image and the configuration hold, or why they are refused.
+#[derive(Clone, Copy, Drop)]
+pub struct ExplainCommand<'a> {
+    pub image: &'a str,
 }
 
 /// Why there is nothing to do.

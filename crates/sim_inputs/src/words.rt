@@ -2,14 +2,16 @@ ghost use Rattle.std.specs.Prelude.{◌≡◌, map, option_map, IfOk, IfErr};
 ghost use Rattle.clap.specs.Words.{first_of, found_of, kind_of, rows_of, subcommand_rows_of};
 ghost use Rattle.sim_inputs.specs.CommandLine.{is_flag_set, Finds, IsCommandOf, Names, Asks};
 ghost use Rattle.sim_inputs.specs.CommandLine.{IsStep, IsRun, IsCheck, IsPlain, IsSchedule, IsScript};
-ghost use Rattle.sim_inputs.specs.CommandLine.{IsList, IsChart, can_be_drawn, number_or, number_in};
+ghost use Rattle.sim_inputs.specs.CommandLine.{IsList, IsChart, IsExplain, can_be_drawn, can_be_run};
+ghost use Rattle.sim_inputs.specs.CommandLine.{is_reported, can_be_plain, number_or, number_in};
 ghost use Rattle.sim_inputs.specs.CommandLine.{AreWordsRefusedFor, IsRefusalOf};
 
 use crate::description::describe;
+use crate::files::reads_input_once;
 use crate::limits::with_limits;
 use crate::line::{
-    ChartCommand, CheckCommand, Command, Line, ListCommand, PlainCommand, RunCommand,
-    ScheduleCommand, ScriptCommand, StepCommand, WordsRefused,
+    ChartCommand, CheckCommand, Command, ExplainCommand, Line, ListCommand, PlainCommand,
+    RunCommand, ScheduleCommand, ScriptCommand, StepCommand, WordsRefused,
 };
 use clap::error::ErrorKind;
 use clap::{ArgMatches, Error};
@@ -22,6 +24,9 @@ const LAST_PLACE: u32 = MOST_EVENTS - 1;
 
 /// The last hart that a core may have.
 const LAST_HART: u32 = MOST_HARTS as u32 - 1;
+
+/// How often a program is run at the most.
+const MOST_TIMES: u32 = 1_000_000;
 
 /// How many characters a line of a chart has, or how many events a band of a picture, where nothing
 /// else is said, and how many at the most.
@@ -51,7 +56,11 @@ fn line_in<'a>(matches: &ArgMatches<'a>) -> Option<Line<'a>>
     let (name, found) = matches.subcommand()?;
     let command = command_named(name, found)?;
     let config = file(found, "config");
-    Some(Line { config, command })
+    let line = Line { config, command };
+    if !reads_input_once(&line) {
+        return None;
+    }
+    Some(line)
 }
 
 /// The command of this name, of what was found for its arguments and options; none where there is
@@ -68,12 +77,13 @@ fn command_named<'a>(name: &str, found: &ArgMatches<'a>) -> Option<Command<'a>>
         "script" => Some(Command::Script(script_in(found)?)),
         "list" => Some(Command::List(list_in(found)?)),
         "chart" => Some(Command::Chart(chart_in(found)?)),
+        "explain" => Some(Command::Explain(explain_in(found)?)),
         _ => None,
     }
 }
 
-/// The command `step` of what was found; none where a file is missing that it must have. The six
-/// below answer for their commands.
+/// The command `step` of what was found; none where a file is missing that it must have. The eight
+/// below answer for their commands; three of them have options that don't go together.
 fn step_in<'a>(found: &ArgMatches<'a>) -> Option<StepCommand<'a>>
     ensures { Finds (IsStep (rows_of (found_of found.now))) result }
 {
@@ -81,6 +91,8 @@ fn step_in<'a>(found: &ArgMatches<'a>) -> Option<StepCommand<'a>>
         image: file(found, "IMAGE")?,
         script: file(found, "SCRIPT")?,
         trace: file(found, "trace"),
+        counts: is_set(found, "counts"),
+        json: is_set(found, "json"),
         looks: is_set(found, "looks"),
         records: is_set(found, "records"),
         show: is_set(found, "show"),
@@ -91,11 +103,38 @@ fn step_in<'a>(found: &ArgMatches<'a>) -> Option<StepCommand<'a>>
 fn run_in<'a>(found: &ArgMatches<'a>) -> Option<RunCommand<'a>>
     ensures { Finds (IsRun (rows_of (found_of found.now))) result }
 {
-    Some(RunCommand {
+    let run = RunCommand {
         image: file(found, "IMAGE")?,
         trace: file(found, "trace"),
+        counts: is_set(found, "counts"),
+        json: is_set(found, "json"),
         records: is_set(found, "records"),
-    })
+        why: is_set(found, "why"),
+        times: number(found, "times", MOST_TIMES)?,
+        keep: file(found, "keep"),
+    };
+    if !can_be_run(&run) {
+        return None;
+    }
+    Some(run)
+}
+
+/// Whether the options of a run go together: there is one run at least, only many have a folder, and
+/// only one has a report.
+fn can_be_run(run: &RunCommand<'_>) -> bool
+    ensures { result ≡ can_be_run run.now }
+{
+    match run.times {
+        Some(times) => times >= 1 && !is_reported(run),
+        None => run.keep.is_none(),
+    }
+}
+
+/// Whether a run has an option of its report.
+fn is_reported(run: &RunCommand<'_>) -> bool
+    ensures { result ≡ is_reported run.now }
+{
+    run.trace.is_some() || run.counts || run.json || run.records || run.why
 }
 
 fn check_in<'a>(found: &ArgMatches<'a>) -> Option<CheckCommand<'a>>
@@ -104,18 +143,39 @@ fn check_in<'a>(found: &ArgMatches<'a>) -> Option<CheckCommand<'a>>
     Some(CheckCommand {
         image: file(found, "IMAGE")?,
         trace: file(found, "TRACE")?,
+        counts: is_set(found, "counts"),
+        json: is_set(found, "json"),
         records: is_set(found, "records"),
+        why: is_set(found, "why"),
     })
 }
 
 fn plain_in<'a>(found: &ArgMatches<'a>) -> Option<PlainCommand<'a>>
     ensures { Finds (IsPlain (rows_of (found_of found.now))) result }
 {
-    Some(PlainCommand {
+    let plain = PlainCommand {
         image: file(found, "IMAGE")?,
-        order: file(found, "ORDER")?,
+        order: file(found, "ORDER"),
+        rounds: number(found, "rounds", u32::MAX)?,
+        steps: number(found, "steps", u32::MAX)?,
+        seed: number(found, "seed", u32::MAX)?,
         records: is_set(found, "records"),
-    })
+    };
+    if !can_be_plain(&plain) {
+        return None;
+    }
+    Some(plain)
+}
+
+/// Whether there is either an order or rounds, of an instruction at least, and whether what says more
+/// of rounds has some.
+fn can_be_plain(plain: &PlainCommand<'_>) -> bool
+    ensures { result ≡ can_be_plain plain.now }
+{
+    match plain.rounds {
+        Some(rounds) => rounds >= 1 && plain.order.is_none(),
+        None => plain.order.is_some() && plain.steps.is_none() && plain.seed.is_none(),
+    }
 }
 
 fn schedule_in<'a>(found: &ArgMatches<'a>) -> Option<ScheduleCommand<'a>>
@@ -140,6 +200,14 @@ fn list_in<'a>(found: &ArgMatches<'a>) -> Option<ListCommand<'a>>
     ensures { Finds (IsList (rows_of (found_of found.now))) result }
 {
     Some(ListCommand {
+        image: file(found, "IMAGE")?,
+    })
+}
+
+fn explain_in<'a>(found: &ArgMatches<'a>) -> Option<ExplainCommand<'a>>
+    ensures { Finds (IsExplain (rows_of (found_of found.now))) result }
+{
+    Some(ExplainCommand {
         image: file(found, "IMAGE")?,
     })
 }
