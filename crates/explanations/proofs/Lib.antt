@@ -1,0 +1,3 @@
+mod Checks
+mod Ends
+mod Faults

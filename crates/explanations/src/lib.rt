@@ -1,0 +1,21 @@
+//! Why a configuration or an image is refused, and what is in one that is accepted, in lines for a
+//! person.
+//!
+//! Read in this order: `lines`, `place` (where something stands in a text), `near` (which name was
+//! meant), `config` and `config_fault` (what is said of a configuration); `headers` (the segments that
+//! a file names), `segments`, `image`, `file_fault` and `segment_fault` (what is said of an image).
+#![tactic(auto)]
+
+mod config;
+mod config_fault;
+mod file_fault;
+mod headers;
+mod image;
+mod lines;
+mod near;
+mod place;
+mod segment_fault;
+mod segments;
+
+pub use config::{ConfigExplained, explain_config};
+pub use image::{ImageExplained, explain_image};
