@@ -16,6 +16,11 @@ RANGES = {
 COMMANDS = {
     "step": (2, ("--records", "--show", "--looks")), "plain": (2, ("--records",)), "list": (1, ()),
 }
+# The options with a number, and what it may be. With `--rounds` a command has no second file, and the
+# others come with it alone.
+NUMBERS = {
+    "plain": {"--rounds": (1, 2**32 - 1), "--steps": (0, 2**32 - 1), "--seed": (0, 2**32 - 1)},
+}
 
 
 class Refused(Exception):
@@ -32,7 +37,9 @@ def read_line(words):
         raise Refused("command line", 2)
     command, rest = words[0], list(words[1:])
     count, flags = COMMANDS[command]
+    numbers = NUMBERS.get(command, {})
     line = {"command": command, "files": [], "config": None}
+    line |= dict.fromkeys((option[2:] for option in numbers), None)
     line |= {"records": False, "show": False, "looks": False}
     seen = set()
     while rest:
@@ -40,6 +47,8 @@ def read_line(words):
         name, has_value, value = word.partition("=")
         if name == "--config" and name not in seen and (has_value or rest):
             line["config"] = value if has_value else rest.pop(0)
+        elif name in numbers and name not in seen and (has_value or rest):
+            line[name[2:]] = read_number(value if has_value else rest.pop(0), *numbers[name])
         elif word in flags and word not in seen:
             line[word[2:]] = True
         elif not word.startswith("-"):
@@ -48,9 +57,20 @@ def read_line(words):
         else:
             raise Refused("command line", 2)
         seen.add(name)
+    if "--rounds" in seen:
+        count -= 1
+    elif seen & set(numbers):
+        raise Refused("command line", 2)
     if len(line["files"]) != count:
         raise Refused("command line", 2)
     return line
+
+
+def read_number(text, low, high):
+    """The number of an option, in its range."""
+    if not re.fullmatch("0|[1-9][0-9]{0,19}", text) or not low <= int(text) <= high:
+        raise Refused("command line", 2)
+    return int(text)
 
 
 def read_config(data):

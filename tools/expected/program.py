@@ -3,6 +3,7 @@ docs/FORMATS.md says it.
 
     python3 tools/expected/program.py step IMAGE SCRIPT [--config FILE] [--records] [--show] [--looks]
     python3 tools/expected/program.py plain IMAGE ORDER [--config FILE] [--records]
+    python3 tools/expected/program.py plain IMAGE --rounds K [--steps N] [--seed S] [--config FILE] [--records]
     python3 tools/expected/program.py list IMAGE [--config FILE]
 """
 
@@ -15,6 +16,7 @@ import looks
 from inputs import Refused
 from instructions import spelled
 from plain import Plain
+from rounds import make_rounds
 
 
 def read_file(name):
@@ -165,6 +167,13 @@ def ordered(made, settings, second, line):
     return list(plain_report(machine, records, line["records"])), exit_status(machine.statuses)
 
 
+def in_rounds(made, settings, line):
+    """The lines of the plain machine's report, behind its rounds, and the exit status."""
+    machine = Plain(made, settings["harts"])
+    records = list(make_rounds(machine, line["rounds"], line["steps"], line["seed"]))
+    return list(plain_report(machine, records, line["records"])), exit_status(machine.statuses)
+
+
 def run(words):
     """The lines on standard output, those on standard error, and the exit status."""
     try:
@@ -176,6 +185,9 @@ def run(words):
         made = loaded(line["files"][0], settings)
         if line["command"] == "list":
             return list(listing(made)), [], 0
+        if line.get("rounds") is not None:
+            out, status = in_rounds(made, settings, line)
+            return out, [], status
         second = read_file(line["files"][1])
         if second is None:
             raise Refused("file", 5)

@@ -9,5 +9,5 @@ mod order;
 mod stopped;
 
 pub use finished::PlainRun;
-pub use order::run_order;
+pub use order::{run_order, statuses_of};
 pub use stopped::OrderStopped;

@@ -56,7 +56,7 @@ pub fn run_order(
 }
 
 /// How each hart stands, hart 0 first.
-fn statuses_of(machine: &Plain) -> ArrayVec<Status, HART_ROOM>
+pub fn statuses_of(machine: &Plain) -> ArrayVec<Status, HART_ROOM>
     ensures { InEachState machine.now
         (λ setup s. result.items ≡ map s.statuses (below setup.harts)) }
 {

@@ -1,5 +1,5 @@
 ghost use Rattle.std.specs.Prelude.{◌≡◌, ℕ, ◌<◌, ◌≤◌, ◌↔◌, Err, false, length, IfOk, slice_index};
-ghost use Rattle.std.specs.Prelude.{slice_index_or};
+ghost use Rattle.std.specs.Prelude.{slice_index_or, OnOk};
 ghost use Rattle.numbers.specs.Sizes.{most_harts};
 ghost use Rattle.smt_model.specs.Plain.{read_register};
 ghost use Rattle.sc_machine.specs.Harts.{IsFirst};
@@ -133,6 +133,31 @@ impl Plain {
         ensures { result ≡ self.now.room }
     {
         self.room
+    }
+
+    /// Makes room for one more byte of output at least, where there is none. Nothing else changes.
+    pub fn make_room(&mut self) -> Result<(), AllocError>
+        ensures room { OnOk result (length self.new.output < self.new.room) }
+        ensures grown { self.old.room ≤ self.new.room }
+        ensures same { self.new ≡ record self.old { room = self.new.room } }
+    {
+        if self.output.len() < self.room {
+            return Ok(());
+        }
+        self.grow()
+    }
+
+    /// Makes room for more bytes of output than there is.
+    #[cold]
+    #[inline(never)]
+    fn grow(&mut self) -> Result<(), AllocError>
+        ensures room { OnOk result (length self.new.output < self.new.room) }
+        ensures grown { self.old.room ≤ self.new.room }
+        ensures same { self.new ≡ record self.old { room = self.new.room } }
+    {
+        self.output.reserve(1)?;
+        self.room = self.output.capacity();
+        Ok(())
     }
 
     /// The memory of all harts, with the image and the reservations.

@@ -1,0 +1,4 @@
+pub mod Printing
+pub mod Choosing
+pub mod Stepping
+pub mod Taking

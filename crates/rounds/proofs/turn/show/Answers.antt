@@ -1,0 +1,8 @@
+use Rattle.reports.specs.Report.{record_line}
+use Rattle.rounds.proofs.Printing.{appends_unwanted}
+use Rattle.rounds.proofs.turn.show.Goals as goal
+
+pub returns-then-not-wanted : goal.returns-then-not-wanted
+returns-then-not-wanted g c =
+    appends_unwanted c.args.wanted (g.W.Write.contents c.args.out.now) (record_line c.args.record.now)
+    c.if-not-wanted.true

@@ -1,0 +1,8 @@
+use Rattle.sc_machine.specs.Steps.{InEachRun}
+use Rattle.rounds.specs.Steps.{HasMade}
+use Rattle.rounds.proofs.turn.take_turn.Given as goal
+
+-- so many steps are made
+abbrev pub invariant-loop-made : goal.invariant-loop-made
+invariant-loop-made g l = InEachRun l.fn.machine (λ setup before. HasMade setup before l.hart l.made l.records
+    (g.W.Write.contents l.fn.out) (g.W.Write.contents l.out) l.machine)
