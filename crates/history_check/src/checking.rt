@@ -124,4 +124,11 @@ impl Checked {
     {
         self.core.account()
     }
+
+    /// The core that has followed the events.
+    pub fn core(&self) -> &Core
+        ensures { result.now ≡ self.now }
+    {
+        &self.core
+    }
 }

@@ -1,3 +1,4 @@
 pub mod Appending
 pub mod RecordLines
 pub mod WordLines
+pub mod Latest

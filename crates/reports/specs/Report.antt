@@ -47,9 +47,12 @@ status_text (Stopped cause) = codes " stopped " ++ decimal cause
 abbrev pub hart_line : ℕ → Status → List ℕ
 hart_line hart status = codes "hart " ++ (decimal hart ++ (status_text status ++ 10 ∷ []))
 
+abbrev pub each_from : (ℕ → Status → List ℕ) → ℕ → List Status → List ℕ
+each_from text hart [] = []
+each_from text hart (status ∷ others) = text hart status ++ each_from text (hart + 1) others
+
 abbrev pub hart_lines : ℕ → List Status → List ℕ
-hart_lines hart [] = []
-hart_lines hart (status ∷ others) = hart_line hart status ++ hart_lines (hart + 1) others
+hart_lines hart statuses = each_from hart_line hart statuses
 
 -- The bytes that were put out, two hexadecimal digits each; a dash where there are none.
 abbrev pub bytes_text : List ℕ → List ℕ
@@ -66,15 +69,19 @@ record_line r = record_text_of r ++ 10 ∷ []
 abbrev pub records_text : Bool → List Record → List ℕ
 records_text wanted records = if wanted then flat_map record_line records else []
 
+-- How a simulation has ended: how each hart stands, and the bytes that were put out.
+abbrev pub end_text : List Status → List ℕ → List ℕ
+end_text statuses output = hart_lines 0 statuses ++ output_line output
+
 -- The whole report: how many events there are, how many instructions have retired and how many jobs
--- are with units, how each hart stands, and the bytes that were put out.
+-- are with units, and how it has ended.
 abbrev pub report_text : ℕ → ℕ → ℕ → List Status → List ℕ → List ℕ
 report_text events retired lent statuses output =
     count_line (codes "events") events
     ++ (count_line (codes "retired") retired ++ (count_line (codes "lent") lent
-    ++ (hart_lines 0 statuses ++ output_line output)))
+    ++ end_text statuses output))
 
 -- The report of the plain machine, which has no events and no units.
 abbrev pub plain_report_text : ℕ → List Status → List ℕ → List ℕ
 plain_report_text retired statuses output =
-    count_line (codes "retired") retired ++ (hart_lines 0 statuses ++ output_line output)
+    count_line (codes "retired") retired ++ end_text statuses output

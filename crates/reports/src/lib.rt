@@ -1,10 +1,16 @@
 //! What goes out of a simulation: the report, a line for each record, the listing of an image, and
 //! the tables of a core. Why there is no report says `commands`.
 //!
-//! Read in this order: `records` (the records' lines), `reporting` (the report), `statuses` (the exit
-//! status that goes with it), `looks` (how many loads looked again), `listing`, `tables`.
+//! Read in this order: `form` (a number under its word), `records` (the records' lines), `reporting`
+//! (the report), `statuses` (the exit status that goes with it), `counts` (the numbers of a history),
+//! `json` (both as an object), `ends` (why each hart stands where it does), `looks` (how many loads
+//! looked again), `listing`, `tables`.
 #![tactic(auto)]
 
+mod counts;
+mod ends;
+mod form;
+mod json;
 mod listing;
 mod looks;
 mod records;
@@ -12,8 +18,13 @@ mod reporting;
 mod statuses;
 mod tables;
 
+pub use counts::report_counts;
+pub use ends::{RunEnd, report_ends};
+pub use form::report_count;
+pub use json::report_json;
 pub use listing::list;
 pub use looks::report_looks;
-pub use reporting::{report, report_plain};
+pub use records::{report_records, write_record};
+pub use reporting::{report, report_end, report_plain, report_standing};
 pub use statuses::status_of;
 pub use tables::write_tables;

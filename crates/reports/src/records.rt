@@ -31,8 +31,8 @@ fn write_records<W: Write>(records: &[Record], out: &mut W) -> io::Result<()>
     Ok(())
 }
 
-/// One write for one line.
-fn write_record<W: Write>(record: &Record, out: &mut W) -> io::Result<()>
+/// Writes the line of a record, by one write.
+pub fn write_record<W: Write>(record: &Record, out: &mut W) -> io::Result<()>
     ensures { OnOk result
         (Appends (W.contents out.old) (W.contents out.new) (record_line record.now)) }
 {

@@ -2,10 +2,10 @@ ghost use Rattle.std.specs.Prelude.{◌≡◌, ◌+◌, ◌≤◌, ◌++◌, len
 ghost use Rattle.std.specs.Io.KnownBytes.{Appends};
 ghost use Rattle.arrayvec.specs.ArrayString.{array_string_len};
 ghost use Rattle.text_fields.specs.Spelling.{hex};
-ghost use Rattle.reports.specs.Report.{count_line};
 ghost use Rattle.reports.specs.Report.{status_text, hart_line, hart_lines, output_line};
-ghost use Rattle.reports.specs.Report.{records_text, report_text, plain_report_text};
+ghost use Rattle.reports.specs.Report.{records_text, end_text, report_text, plain_report_text};
 
+use crate::form::{Line, report_count};
 use crate::records::report_records;
 use arrayvec::ArrayString;
 use plain_run::PlainRun;
@@ -14,9 +14,6 @@ use smt_model::Status;
 use std::io;
 use std::io::Write;
 use text_fields::{push_ascii, push_decimal, push_hex};
-
-/// Room for the name of a line with its number, or for the line of a hart.
-type Line = ArrayString<64>;
 
 /// Writes the report of an account: with `records` a line for each retired instruction, then how
 /// many events and retired instructions there are, how many jobs are with units, how each hart
@@ -33,8 +30,7 @@ pub fn report<W: Write>(account: &Account<'_>, records: bool, out: &mut W) -> io
     report_count("events", u64::from(account.events), out)?;
     report_count("retired", account.records.len() as u64, out)?;
     report_count("lent", u64::from(account.lent), out)?;
-    report_harts(account.statuses.as_slice(), out)?;
-    report_output(account.output, out)
+    report_end(account.statuses.as_slice(), account.output, out)
 }
 
 /// Writes the report of a run of the plain machine: with `records` a line for each of its steps,
@@ -47,22 +43,33 @@ pub fn report_plain<W: Write>(ran: &PlainRun, records: bool, out: &mut W) -> io:
         ++ plain_report_text (length ran.now.records) ran.now.statuses ran.now.machine.output)) }
 {
     report_records(records, ran.records(), out)?;
-    report_count("retired", ran.records().len() as u64, out)?;
-    report_harts(ran.statuses().as_slice(), out)?;
-    report_output(ran.output(), out)
+    let retired = ran.records().len() as u64;
+    report_standing(retired, ran.statuses().as_slice(), ran.output(), out)
 }
 
-fn report_count<W: Write>(name: &str, count: u64, out: &mut W) -> io::Result<()>
-    requires { length name.now ≤ 16 }
-    ensures { OnOk result
-        (Appends (W.contents out.old) (W.contents out.new) (count_line name.now count)) }
+/// Writes how many steps of the plain machine there are, how each hart stands behind them, and the
+/// output's bytes in hexadecimal. Where it answers Ok, it has written exactly these lines.
+pub fn report_standing<W: Write>(
+    retired: u64,
+    statuses: &[Status],
+    output: &[u8],
+    out: &mut W,
+) -> io::Result<()>
+    ensures { OnOk result (Appends (W.contents out.old) (W.contents out.new)
+        (plain_report_text retired statuses.now output.now)) }
 {
-    let mut line = Line::new();
-    line.push_str(name);
-    push_ascii(&mut line, b' ');
-    push_decimal(&mut line, count);
-    push_ascii(&mut line, b'\n');
-    out.write_all(line.as_bytes())
+    report_count("retired", retired, out)?;
+    report_end(statuses, output, out)
+}
+
+/// Writes how a simulation has ended, as a report tells it: how each hart stands, and the output's
+/// bytes in hexadecimal.
+pub fn report_end<W: Write>(statuses: &[Status], output: &[u8], out: &mut W) -> io::Result<()>
+    ensures { OnOk result
+        (Appends (W.contents out.old) (W.contents out.new) (end_text statuses.now output.now)) }
+{
+    report_harts(statuses, out)?;
+    report_output(output, out)
 }
 
 fn report_harts<W: Write>(statuses: &[Status], out: &mut W) -> io::Result<()>
@@ -117,7 +124,7 @@ fn report_output<W: Write>(output: &[u8], out: &mut W) -> io::Result<()>
     out.write_all(b"\n")
 }
 
-fn write_bytes<W: Write>(bytes: &[u8], out: &mut W) -> io::Result<()>
+pub(crate) fn write_bytes<W: Write>(bytes: &[u8], out: &mut W) -> io::Result<()>
     ensures { OnOk result
         (Appends (W.contents out.old) (W.contents out.new) (flat_map (hex 2) bytes.now)) }
 {

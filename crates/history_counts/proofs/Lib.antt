@@ -1,0 +1,3 @@
+pub mod Listing
+mod Places
+mod Rows

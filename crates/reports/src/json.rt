@@ -1,0 +1,151 @@
+//! The report as one JSON object.
+
+ghost use Rattle.std.specs.Prelude.{◌≡◌, ◌+◌, ◌≤◌, ◌++◌, codes, length, OnOk};
+ghost use Rattle.std.specs.Io.KnownBytes.{Appends};
+ghost use Rattle.arrayvec.specs.ArrayString.{array_string_len};
+ghost use Rattle.reports.specs.Report.{each_from};
+ghost use Rattle.reports.specs.Json.{counts_member, counts_object, hart_object, harts_member, json_text};
+ghost use Rattle.reports.specs.Json.{lead_of, output_member, sizes_text, status_members};
+
+use crate::counts::write_counts;
+use crate::form::{Form, write_member};
+use crate::reporting::write_bytes;
+use arrayvec::ArrayString;
+use events::Record;
+use history_counts::Counts;
+use smt_laws::Account;
+use smt_model::Status;
+use std::io;
+use std::io::Write;
+use text_fields::{push_ascii, push_decimal};
+
+/// Room for the object of a hart.
+type Text = ArrayString<96>;
+
+/// Writes the report of an account, and the numbers of its history where there are some, as one JSON
+/// object on one line. Where it answers Ok, it has written exactly this object.
+pub fn report_json<W: Write>(
+    account: &Account<'_>,
+    counts: &Option<Counts>,
+    out: &mut W,
+) -> io::Result<()>
+    ensures { OnOk result
+        (Appends (W.contents out.old) (W.contents out.new)
+        (json_text account.now.events account.now.records.now account.now.lent
+        account.now.statuses.items account.now.output.now counts.now)) }
+{
+    let statuses = account.statuses.as_slice();
+    write_sizes(account.events, account.records.len(), account.lent, out)?;
+    write_harts(statuses, out)?;
+    write_output(account.output, out)?;
+    write_end(counts, statuses, account.records, out)
+}
+
+fn write_sizes<W: Write>(events: u32, retired: usize, lent: u32, out: &mut W) -> io::Result<()>
+    ensures { OnOk result
+        (Appends (W.contents out.old) (W.contents out.new) (sizes_text events retired lent)) }
+{
+    write_member("{", "events", events as u64, out)?;
+    write_member(",", "retired", retired as u64, out)?;
+    write_member(",", "lent", lent as u64, out)
+}
+
+fn write_harts<W: Write>(statuses: &[Status], out: &mut W) -> io::Result<()>
+    ensures { OnOk result
+        (Appends (W.contents out.old) (W.contents out.new) (harts_member statuses.now)) }
+{
+    out.write_all(b",\"harts\":[")?;
+    write_objects(statuses, out)?;
+    out.write_all(b"]")
+}
+
+fn write_objects<W: Write>(statuses: &[Status], out: &mut W) -> io::Result<()>
+    ensures { OnOk result
+        (Appends (W.contents out.old) (W.contents out.new)
+        (each_from hart_object 0 statuses.now)) }
+{
+    for (hart, status) in statuses.iter().enumerate() {
+        write_object(hart, *status, out)?;
+    }
+    Ok(())
+}
+
+fn write_object<W: Write>(hart: usize, status: Status, out: &mut W) -> io::Result<()>
+    ensures { OnOk result
+        (Appends (W.contents out.old) (W.contents out.new) (hart_object hart status)) }
+{
+    let mut text = Text::new();
+    text.push_str(lead_of(hart));
+    text.push_str("{\"hart\":");
+    push_decimal(&mut text, hart);
+    push_status(&mut text, status);
+    push_ascii(&mut text, b'}');
+    out.write_all(text.as_bytes())
+}
+
+/// What parts the object of a hart from the one before.
+fn lead_of(hart: usize) -> &'static str
+    ensures lead { result.now ≡ lead_of hart }
+    ensures short { length result.now ≤ 1 }
+{
+    if hart == 0 { "" } else { "," }
+}
+
+fn push_status(text: &mut Text, status: Status)
+    requires { array_string_len text.old + 48 ≤ 96 }
+    ensures spelled { text.new.bytes ≡ text.old.bytes ++ status_members status }
+    ensures length { array_string_len text.new ≤ array_string_len text.old + 48 }
+{
+    match status {
+        Status::Going => text.push_str(",\"status\":\"going\""),
+        Status::Ended(number) => {
+            text.push_str(",\"status\":\"ended\",\"value\":");
+            push_decimal(text, number);
+        }
+        Status::Stopped(cause) => {
+            text.push_str(",\"status\":\"stopped\",\"cause\":");
+            push_decimal(text, cause);
+        }
+    }
+}
+
+fn write_output<W: Write>(output: &[u8], out: &mut W) -> io::Result<()>
+    ensures { OnOk result
+        (Appends (W.contents out.old) (W.contents out.new) (output_member output.now)) }
+{
+    out.write_all(b",\"output\":\"")?;
+    write_bytes(output, out)?;
+    out.write_all(b"\"")
+}
+
+/// The numbers of the history, where there are some, and the end of the object.
+fn write_end<W: Write>(
+    counts: &Option<Counts>,
+    statuses: &[Status],
+    records: &[Record],
+    out: &mut W,
+) -> io::Result<()>
+    ensures { OnOk result
+        (Appends (W.contents out.old) (W.contents out.new)
+        (counts_member counts.now (length statuses.now) records.now ++ codes "}\n")) }
+{
+    if let Some(counts) = counts {
+        write_member_of_counts(counts, statuses.len(), records, out)?;
+    }
+    out.write_all(b"}\n")
+}
+
+fn write_member_of_counts<W: Write>(
+    counts: &Counts,
+    harts: usize,
+    records: &[Record],
+    out: &mut W,
+) -> io::Result<()>
+    ensures { OnOk result
+        (Appends (W.contents out.old) (W.contents out.new)
+        (counts_object counts.now harts records.now)) }
+{
+    out.write_all(b",\"counts\":")?;
+    write_counts(Form::Members, counts, harts, records, out)?;
+    out.write_all(b"}")
+}
