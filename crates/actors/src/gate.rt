@@ -14,6 +14,9 @@ pub enum Point {
 /// What every actor of a run asks whether it may go on. A gate is given no leave to wait: it may
 /// look, keep what it sees, and give its processor away for a while.
 pub trait Gate {
+    /// So many runs begin, one after another. Where this isn't called there is one.
+    fn begin_all(&self, _times: u32) {}
+
     /// A run begins whose history has room for so many events. No actor has asked yet.
     fn begin(&self, _limit: u32) {}
 
@@ -23,6 +26,9 @@ pub trait Gate {
 
     /// The run that began is over: all threads are joined, and no actor asks any more.
     fn end(&self) {}
+
+    /// The runs that began are over, or no other is made since one was refused.
+    fn end_all(&self) {}
 }
 
 /// The gate that lets all pass.

@@ -1,0 +1,5 @@
+pub mod Counting
+pub mod Same
+pub mod Tallying
+pub mod Ordering
+pub mod Rows

@@ -1,0 +1,7 @@
+use Rattle.stress_runs.proofs.Rows.{rows_step}
+use Rattle.stress_runs.proofs.table.report_rows.Goals as goal
+
+pub loop-index-preserved : goal.loop-index-preserved
+loop-index-preserved g c =
+    rows_step _ _ _ c.args.rows.now c.loop-index.index c.index-rows-index.result c.loop-index-test.true
+    c.index-rows-index.is c.loop-index.invariant c.in_ok-report_row.ensures

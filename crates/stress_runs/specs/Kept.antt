@@ -1,0 +1,58 @@
+-- What is written of the runs that show an end. (This project's own choice.) A sink says of its values
+-- which bytes were put, where it knows them (`written`), whether it has failed (`has_failed`), and how
+-- it stands once a file was begun (`begins`).
+use Rattle.std.specs.Prelude.{◌≡◌, ℕ, ◌+◌, Bool, true, false, List, [], ◌∷◌, ◌++◌, Option}
+use Rattle.std.specs.Prelude.{flat_map, length, map, reverse}
+use Rattle.std.specs.Fmt.{decimal}
+use Rattle.event_text.specs.{Sinking.HasPut, Trace.trace_text}
+use Rattle.smt_model.specs.Account.{order}
+use Rattle.core_state.specs.View.{CoreView}
+use Rattle.stress_runs.specs.declared.keeping.Part.{Part}
+use Rattle.stress_runs.specs.declared.keeping.Part.TheVariants.{Trace, Order}
+use Rattle.stress_runs.specs.declared.tally.Row.{Row}
+use Rattle.stress_runs.specs.Ends.{end_of, is_new, rows_of}
+
+-- The text of an order of harts: a line for each.
+abbrev pub order_line : ℕ → List ℕ
+order_line hart = decimal hart ++ 10 ∷ []
+
+abbrev pub order_text : List ℕ → List ℕ
+order_text harts = flat_map order_line harts
+
+-- The order in which the instructions of a core have retired: the hart of each, the oldest first. The
+-- plain machine's run in this order is that of the core (`Shown`), and so it has its end.
+abbrev pub order_of : CoreView → List ℕ
+order_of core = reverse (order core.past)
+
+-- The trace and the order of a core were put into the two files of the end with this number.
+pub record IsKept {S : Type 0} (begins : S → ℕ → Part → S → Type 0) (written : S → Option (List ℕ))
+    (has_failed : S → Bool) (old new : S) (number : ℕ) (core : CoreView) : Type 0 where
+  pub for_trace : S
+  pub begun_trace : begins old number Trace for_trace
+  pub traced : S
+  pub trace : HasPut written has_failed for_trace traced (trace_text (reverse core.past))
+  pub for_order : S
+  pub begun_order : begins traced number Order for_order
+  pub ordered : HasPut written has_failed for_order new (order_text (order_of core))
+
+-- So it is where that is so; else nothing was put.
+abbrev pub IsKeptWhere : {S : Type 0} → (S → ℕ → Part → S → Type 0) → (S → Option (List ℕ)) → (S → Bool)
+    → Bool → ℕ → CoreView → S → S → Type 0
+IsKeptWhere begins written has_failed true number core old new =
+    IsKept begins written has_failed old new number core
+IsKeptWhere begins written has_failed false number core old new = new ≡ old
+
+-- Of a run behind others with these rows: where its end is new, its trace and its order are in the files of
+-- this end, whose number is the next; else nothing was put.
+abbrev pub IsNextKept : {S : Type 0} → (S → ℕ → Part → S → Type 0) → (S → Option (List ℕ)) → (S → Bool)
+    → List Row → CoreView → S → S → Type 0
+IsNextKept begins written has_failed rows core old new =
+    IsKeptWhere begins written has_failed (is_new (end_of core) rows) (length rows + 1) core old new
+
+-- So it is for each of some runs, the newest first.
+abbrev pub AreKept : {S : Type 0} → (S → ℕ → Part → S → Type 0) → (S → Option (List ℕ)) → (S → Bool)
+    → List CoreView → S → S → Type 0
+AreKept begins written has_failed [] old new = new ≡ old
+AreKept {S} begins written has_failed (core ∷ past) old new = (before : S)
+    × AreKept begins written has_failed past old before
+    × IsNextKept begins written has_failed (rows_of (map end_of past)) core before new

@@ -1,0 +1,4 @@
+pub mod End
+pub mod Ends
+pub mod Table
+pub mod Kept

@@ -1,0 +1,17 @@
+//! How the runs of a program end, and how often each end comes.
+//!
+//! Read in this order: `end` (how a run has ended), `tally` (the ends that came, and how often),
+//! `table` (what is printed of them); `order` (the text of an order of harts), `keeping` (the files
+//! of a run that shows an end). Who makes the runs is `commands`.
+#![tactic(auto)]
+
+mod end;
+pub mod keeping;
+mod order;
+mod table;
+pub mod tally;
+
+pub use end::End;
+pub use keeping::{EndFiles, Part, keep_end};
+pub use table::report_tally;
+pub use tally::{Row, Tally};
