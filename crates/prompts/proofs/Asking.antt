@@ -1,0 +1,86 @@
+-- The core that was asked all lines, from what is known of the asks.
+use Rattle.std.specs.Prelude.{◌≡◌, ℕ, List, [], ◌++◌, reverse, Option, Some}
+use Rattle.std.specs.Prelude.{Result, Ok, Err, IfOk}
+use Rattle.elf_image.specs.Image.{ProgramImage}
+use Rattle.std.proofs.Common.{refl, sym, ap, subst, ◌∙◌, arith}
+use Rattle.std.proofs.lemmas.Grind.{common_steps}
+use Rattle.events.specs.declared.event.Event.{Event}
+use Rattle.smt_model.specs.{Setup.Setup, Rules.is_legal}
+use Rattle.smt_model.specs.declared.config.Config.{Config}
+use Rattle.core_state.specs.{Setup.setup_of, View.CoreView}
+use Rattle.smt_core.specs.Shown.{Shown}
+use Rattle.text_fields.specs.Printing.{Prints}
+use Rattle.scripts.specs.{declared.actions.ScriptWord.ScriptWord, Lines.words_in}
+use Rattle.scripts.specs.Session.{HaveAsked, AreGuessed, HasGuessed, unasked}
+use Rattle.charts.specs.Rows.{AreHistory}
+use Rattle.prompts.specs.Kept.{Kept, IsAskedAll}
+
+-- What was printed into a text of nothing is all of it.
+pub printed_all : (old new : List ℕ) (P : List ℕ → Type 0) → old ≡ [] → Prints (Some old) (Some new) P → P new
+printed_all old new P none printed = subst P (sym (printed.2 ∙ ap (λ l. l ++ printed.0) none)) printed.1
+
+after_nothing : {A : Type 0} (xs : List A) → xs ++ [] ≡ xs
+after_nothing xs = grind (arith, common_steps)
+
+-- A core without a history is what the one that it becomes was before its first event.
+unasked_is : (old new : CoreView) → old.past ≡ [] → new.setup ≡ old.setup → new.limit ≡ old.limit
+    → old ≡ unasked new
+unasked_is old new none setup limit =
+    ap (λ p. record { setup = old.setup; limit = old.limit; past = p }) none
+    ∙ (ap (λ s. record { setup = s; limit = old.limit; past = [] }) (sym setup)
+    ∙ ap (λ l. record { setup = new.setup; limit = l; past = [] }) (sym limit))
+
+pub asked_all : {P : Type 0} (predicts : P → ℕ → ℕ → ℕ → ℕ → P → Type 0) (before after : P) (setup : Setup) (limit : ℕ)
+    (kept : Kept) (words : List ScriptWord) (old new : CoreView) (lines : List ℕ)
+    → words ≡ words_in kept → old ≡ record { setup = setup; limit = limit; past = [] }
+    → new.setup ≡ old.setup → new.limit ≡ old.limit → Shown new → HaveAsked words old new lines
+    → HasGuessed predicts old.past new.past before after
+    → IsAskedAll predicts before setup limit kept new lines
+asked_all predicts before after setup limit kept words old new lines are made same_setup same_limit shown asked guessed =
+    let none : old.past ≡ [] = ap (λ (c : CoreView). c.past) made in
+    let past : new.past ≡ guessed.events =
+    guessed.grown ∙ ap (λ l. guessed.events ++ l) none ∙ after_nothing guessed.events in
+    record {
+      has_setup = same_setup ∙ ap (λ (c : CoreView). c.setup) made;
+      has_limit = same_limit ∙ ap (λ (c : CoreView). c.limit) made;
+      shown = shown;
+      asked = subst (λ w. HaveAsked w (unasked new) new lines) are
+          (subst (λ c. HaveAsked words c new lines) (unasked_is old new none same_setup same_limit) asked);
+      after = after;
+      guessed = subst (λ l. AreGuessed predicts l before after) (sym past) guessed.guessed;
+    }
+
+-- The history of a core, as a list of events that begins with the oldest.
+pub history_in : (core : CoreView) (items events : List Event) → reverse items ≡ core.past
+    → is_legal core.setup core.past → events ≡ items → AreHistory events
+history_in core items events past legal same =
+    (core.setup, subst (is_legal core.setup) (sym (ap reverse same ∙ past)) legal)
+
+-- A copy of a configuration makes the same core.
+pub same_setup : (image : ProgramImage) (a b : Config) → (a.harts ≡ b.harts) × (a.extra ≡ b.extra) × (a.queue ≡ b.queue)
+    → a.roles.items ≡ b.roles.items → setup_of image a ≡ setup_of image b
+same_setup image a b sizes roles =
+    let harts = sizes.0 in
+    let extra = sizes.1 in
+    let queue = sizes.2 in
+    cc
+
+pub made_as : (core : CoreView) (setup other : Setup) (limit : ℕ)
+    → core ≡ record { setup = setup; limit = limit; past = [] } → setup ≡ other
+    → core ≡ record { setup = other; limit = limit; past = [] }
+made_as core setup other limit made same = made ∙ ap (λ s. record { setup = s; limit = limit; past = [] }) same
+
+-- The same of an answer.
+module _ {P A E : Type 0} (predicts : P → ℕ → ℕ → ℕ → ℕ → P → Type 0) (core_of : A → CoreView) (text_of : A → List ℕ)
+  where
+    pub all_asked : (answer : Result A E) (before : P) (setup : Setup) (limit : ℕ) (kept : Kept)
+        (words : List ScriptWord) (old : CoreView)
+        → words ≡ words_in kept → old ≡ record { setup = setup; limit = limit; past = [] }
+        → IfOk answer (λ a. (core_of a).setup ≡ old.setup) → IfOk answer (λ a. (core_of a).limit ≡ old.limit)
+        → IfOk answer (λ a. Shown (core_of a)) → IfOk answer (λ a. HaveAsked words old (core_of a) (text_of a))
+        → IfOk answer (λ a. (after : P) × HasGuessed predicts old.past (core_of a).past before after)
+        → IfOk answer (λ a. IsAskedAll predicts before setup limit kept (core_of a) (text_of a))
+    all_asked (Ok a) before setup limit kept words old are made has_setup has_limit shown asked guessed =
+        asked_all predicts before guessed.0 setup limit kept words old (core_of a) (text_of a) are made has_setup has_limit
+        shown asked guessed.1
+    all_asked (Err e) before setup limit kept words old are made has_setup has_limit shown asked guessed = tt

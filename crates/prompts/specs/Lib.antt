@@ -1,0 +1,4 @@
+pub mod Typed
+pub mod Kept
+pub mod Prompted
+pub mod Session

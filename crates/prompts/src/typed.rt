@@ -1,0 +1,33 @@
+//! The lines that are typed, as they are read.
+
+ghost use Rattle.prompts.specs.Typed.{IsNextLine};
+ghost use Rattle.std.specs.Prelude.{IfOk, IfSome, MatchOption};
+ghost use Rattle.std.specs.Io.KnownBytes.{IsAtEnd};
+
+use crate::session::Complaint;
+use std::alloc::Global;
+use std::io::{BufRead, Error, ErrorKind};
+
+/// The next line of a reader, with its newline where it has one; none at the end of its bytes.
+pub(crate) fn next_line<R: BufRead>(
+    reader: &mut R,
+    alloc: Global,
+) -> Result<Option<Vec<u8>>, Complaint>
+    ensures { IfOk result (λ read. MatchOption read (IsAtEnd (R.remaining reader.old))
+        (λ line. IsNextLine (R.remaining reader.old) line.items (R.remaining reader.new))) }
+{
+    let mut line = Vec::new(alloc);
+    match reader.read_until(b'\n', &mut line) {
+        Ok(0) => Ok(None),
+        Ok(_) => Ok(Some(line)),
+        Err(error) => Err(why_unread(&error)),
+    }
+}
+
+/// Why a line couldn't be read.
+fn why_unread(error: &Error) -> Complaint {
+    match error.kind() {
+        ErrorKind::OutOfMemory => Complaint::Memory,
+        _ => Complaint::Unread,
+    }
+}
