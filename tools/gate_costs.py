@@ -2,7 +2,7 @@
 """What the gate costs, crate by crate.
 
 tools/gate_costs.py watch LOG COMMAND ..   runs the command (.ci/run), and writes into LOG what each check of the prover took
-tools/gate_costs.py table LOG              prints the table of docs/GATE.md that this log says
+tools/gate_costs.py table LOG ..           prints the table of docs/GATE.md that these logs say, of each crate what the last one has
 
 The gate prints no times. So each half second this looks at the prover's processes: of which crate each is, and whether it proves the crate,
 its tests or an edit of it, and how many seconds of a processor it has taken. A line of the log is a check: CRATE KIND SECONDS.
@@ -17,6 +17,7 @@ import time
 
 TICKS = os.sysconf("SC_CLK_TCK")
 KINDS = ["proof", "tests", "edit"]
+COLUMNS = 3
 
 
 def stat_of(process):
@@ -66,22 +67,38 @@ def watch(log, command):
     return running.returncode
 
 
-def table(log):
-    seconds, edits, crates = collections.Counter(), collections.Counter(), []
-    for line in open(log, encoding="utf-8"):
-        crate, kind, taken = line.split()
-        seconds[crate, kind] += float(taken)
-        edits[crate] += kind == "edit"
-        if crate not in crates:
-            crates.append(crate)
+def read_logs(logs):
+    """Of each crate the seconds of each kind, and how many edits there were: by the last log that has a check of that kind."""
+    seconds, edits = {}, {}
+    for log in logs:
+        of_log, counted = collections.Counter(), collections.Counter()
+        for line in open(log, encoding="utf-8"):
+            crate, kind, taken = line.split()
+            of_log[crate, kind] += float(taken)
+            counted[crate] += kind == "edit"
+        seconds.update(of_log)
+        edits.update({crate: count for crate, count in counted.items() if count})
+    return seconds, edits
+
+
+def cells(crate, seconds, edits):
+    """What one crate takes in a row of the table."""
+    proof, tests, of_edits = (seconds.get((crate, kind), 0) for kind in KINDS)
+    own = f"{proof:.0f} + {tests:.0f}" if tests else f"{proof:.0f}"
+    return f"`{crate}` | {own} | {of_edits:.0f} ({edits.get(crate, 0)})"
+
+
+def table(logs):
+    seconds, edits = read_logs(logs)
     root = os.path.dirname(os.path.dirname(os.path.abspath(__file__)))
     listed = re.findall(r"^(\w+)[^:#\n]*:", open(f"{root}/crates.txt", encoding="utf-8").read(), re.M)
-    print("| Crate | The proof | Its tests | Must-fail edits | The edits |\n|---|---|---|---|---|")
-    for crate in [it for it in listed if it in crates]:
-        proof, tests, of_edits = (seconds[crate, kind] for kind in KINDS)
-        print(f"| `{crate}` | {proof:.0f} | {tests:.0f} | {edits[crate]} | {of_edits:.0f} |")
-    proof, tests, of_edits = (sum(seconds[crate, kind] for crate in listed) for kind in KINDS)
-    print(f"| all | {proof:.0f} | {tests:.0f} | {sum(edits.values())} | {of_edits:.0f} |")
+    found = [cells(crate, seconds, edits) for crate in listed if any((crate, kind) in seconds for kind in KINDS)]
+    rows = -(-len(found) // COLUMNS)
+    print(f"|{' Crate | Proof | Edits |' * COLUMNS}\n|{'---|---|---|' * COLUMNS}")
+    for row in range(rows):
+        print("| " + " | ".join((found[row::rows] + [" | | "] * COLUMNS)[:COLUMNS]) + " |")
+    proof, tests, of_edits = (sum(seconds.get((crate, kind), 0) for crate in listed) for kind in KINDS)
+    print(f"\nIn all: proofs {proof / 60:.0f}, tests {tests / 60:.0f}, {sum(edits.values())} edits {of_edits / 60:.0f} processor minutes.")
     return 0
 
 
@@ -90,7 +107,7 @@ def main():
     if role == "watch" and command:
         return watch(log, command)
     if role == "table":
-        return table(log)
+        return table([log, *command])
     print(__doc__, file=sys.stderr)
     return 2
 

@@ -6,10 +6,13 @@ pub mod OfRun
 pub mod OfCheck
 pub mod OfChart
 pub mod OfPlain
+pub mod OfRounds
 pub mod OfSchedule
 pub mod OfScript
 pub mod Sound
 pub mod SoundCommands
 pub mod OfLine
+pub mod OfExplain
 pub mod OneImage
 pub mod Retired
+pub mod OfStress

@@ -7,7 +7,7 @@ use mathlib.Core.Logic.{inl, inr}
 use Rattle.std.specs.Io.KnownBytes.{Keeps}
 use Rattle.elf_image.specs.{Loaded.IsImageOf}
 use Rattle.elf_image.specs.Image.{ProgramImage}
-use Rattle.core_state.specs.View.{CoreView}
+use Rattle.commands.specs.Written.{ToWrite}
 use Rattle.sim_inputs.specs.{declared.line.Command.Command, declared.settings.Settings.Settings}
 use Rattle.sim_inputs.specs.{Configuration.IsConfiguration}
 use Rattle.reports.specs.Statuses.{says_harts}
@@ -53,11 +53,11 @@ module _ (command : Command) (text : List ℕ) (settings : Settings) (file : Lis
   command_refusal Memory is = tt
   command_refusal Thread is = (settings, configured, (passes, program, loaded, is))
   command_refusal File is = inr (inr (settings, configured, (passes, program, loaded, is)))
-  command_refusal Output is = (settings, configured, (passes, program, loaded, is))
+  command_refusal Output is = inl (settings, configured, (passes, program, loaded, is))
 
   -- Behind what the command comes to, only the output may still be refused; and once that is flushed, the
   -- line has come to it.
-  module _ (Traced : Bool → CoreView → Type 0) (old mid : Option (List ℕ)) (status : ℕ)
+  module _ (Traced : ToWrite → Type 0) (old mid : Option (List ℕ)) (status : ℕ)
       (ended : CommandComesTo command settings program second Traced old mid status) where
     pub output_refusal : IsRefusal command (Ok text) (Ok file) second Output
     output_refusal =
@@ -81,7 +81,7 @@ module _ (command : Command) (text : List ℕ) (settings : Settings) (file : Lis
 
 -- ---- The exit status
 
-pub status_says : (command : Command) (config image second : Read) (Traced : Bool → CoreView → Type 0)
+pub status_says : (command : Command) (config image second : Read) (Traced : ToWrite → Type 0)
     (old new : Option (List ℕ)) (status : ℕ) → LineComesTo command config image second Traced old new status
     → IsTrue (says_harts status)
 status_says command (Ok text) (Ok file) second Traced old new status is =

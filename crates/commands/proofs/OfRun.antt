@@ -1,5 +1,5 @@
 -- The command `run`: its refusals from those of the actors' run, and what it comes to.
-use Rattle.std.specs.Prelude.{◌≡◌, ◌⊎◌, ◌↔◌, ℕ, Bool, true, false, List, Option, Result, Ok, Err}
+use Rattle.std.specs.Prelude.{◌≡◌, ◌⊎◌, ◌↔◌, ℕ, true, false, List, Option, Result, Ok, Err}
 use Rattle.std.proofs.{Common.refl, Common.sym, Common.subst, Common.◌∙◌, lemmas.Bool.cases_Bool}
 use mathlib.Core.Logic.{inl, inr}
 use Rattle.core_state.specs.{Setup.setup_of, View.CoreView}
@@ -13,7 +13,7 @@ use Rattle.sim_inputs.specs.declared.settings.Settings.{Settings}
 use Rattle.commands.specs.declared.refused.Refused.{Refused}
 use Rattle.commands.specs.declared.refused.Refused.TheVariants.{Image, Memory, Output}
 use Rattle.commands.specs.Refused.{AreAccepted}
-use Rattle.commands.specs.Account.{IsReported}
+use Rattle.commands.specs.{Account.IsReported, declared.wanted.Wanted.Wanted}
 use Rattle.commands.specs.Run.{IsRunRefusal, RunComesTo, LackARole, run_refusal}
 
 -- What a run's answer says of the sizes and of the roles.
@@ -92,16 +92,13 @@ report_refusal settings reason accepted manned (inr same) =
 pub never_image : (settings : Settings) (number : ℕ) → IsRunRefusal settings (Image number) → ⊥
 never_image settings number is = is
 
-pub comes_to : (settings : Settings) (image : ProgramImage) (with_records with_tables with_looks : Bool) (core : CoreView)
-    (Traced : CoreView → Type 0) (old new : Option (List ℕ)) (exit_status : ℕ) → with_tables ≡ false → with_looks ≡ false
+pub comes_to : (settings : Settings) (image : ProgramImage) (wanted : Wanted) (core : CoreView)
+    (Traced : CoreView → Type 0) (old new : Option (List ℕ)) (exit_status : ℕ)
     → AreAccepted settings → (LackARole settings → ⊥)
     → core.setup ≡ setup_of image settings.config → core.limit ≡ settings.limit → Shown core
-    → Traced core → IsReported core with_records with_tables with_looks old new exit_status
-    → RunComesTo settings image with_records Traced old new exit_status
-comes_to settings image with_records with_tables with_looks core Traced old new exit_status none unlooked accepted manned setup limit shown
-    traced reported =
-    let untabled = subst (λ tables. IsReported core with_records tables false old new exit_status) none
-    (subst (λ looked. IsReported core with_records with_tables looked old new exit_status) unlooked reported) in
+    → Traced core → IsReported core wanted old new exit_status
+    → RunComesTo settings image wanted Traced old new exit_status
+comes_to settings image wanted core Traced old new exit_status accepted manned setup limit shown traced reported =
     record {
       accepted = accepted;
       manned = manned;
@@ -110,6 +107,6 @@ comes_to settings image with_records with_tables with_looks core Traced old new 
       limit = limit;
       shown = shown;
       traced = traced;
-      printed = untabled.printed;
-      harts = untabled.harts;
+      printed = reported.printed;
+      harts = reported.harts;
     }

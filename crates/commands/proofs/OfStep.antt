@@ -14,7 +14,7 @@ use Rattle.commands.specs.declared.refused.Refused.{Refused}
 use Rattle.commands.specs.declared.refused.Refused.TheVariants.{Image, Memory}
 use Rattle.commands.specs.declared.refused.Refused.TheVariants.{Output}
 use Rattle.commands.specs.Refused.{AreAccepted}
-use Rattle.commands.specs.Account.{IsReported}
+use Rattle.commands.specs.{Account.IsReported, declared.wanted.Wanted.Wanted}
 use Rattle.commands.specs.Step.{IsStepRefusal, IsAsking, StepComesTo, ArePrinted}
 
 -- Behind inputs that are accepted, the report is refused for memory or by the output.
@@ -32,14 +32,14 @@ never_image settings script number is = is
 
 -- The asks were printed, and then the account.
 pub comes_to : (settings : Settings) (image : ProgramImage) (script : List ℕ)
-    (with_why with_records with_tables with_looks : Bool) (core : CoreView)
-    (Traced : CoreView → Type 0) (old mid new : Option (List ℕ)) (exit_status : ℕ)
+    (with_why : Bool) (wanted : Wanted) (core : CoreView) (Traced : CoreView → Type 0)
+    (old mid new : Option (List ℕ)) (exit_status : ℕ)
     → AreAccepted settings → IsAsking script
     → core.setup ≡ setup_of image settings.config → core.limit ≡ settings.limit → Shown core
     → Prints old mid (ArePrinted with_why script core)
-    → Traced core → IsReported core with_records with_tables with_looks mid new exit_status
-    → StepComesTo settings image script with_why with_records with_tables with_looks Traced old new exit_status
-comes_to settings image script with_why with_records with_tables with_looks core Traced old mid new exit_status
+    → Traced core → IsReported core wanted mid new exit_status
+    → StepComesTo settings image script with_why wanted Traced old new exit_status
+comes_to settings image script with_why wanted core Traced old mid new exit_status
     accepted asking setup limit shown asks traced reported = record {
       accepted = accepted;
       is_asking = asking;

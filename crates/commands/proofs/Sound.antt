@@ -6,7 +6,7 @@ use Rattle.std.specs.List.{list_any, list_all}
 use Rattle.std.specs.Io.KnownBytes.{Appends, Keeps}
 use mathlib.Core.Logic.{inl, inr}
 use Rattle.elf_image.specs.Image.{ProgramImage}
-use Rattle.core_state.specs.View.{CoreView}
+use Rattle.commands.specs.Written.{ToWrite}
 use Rattle.smt_model.specs.{declared.config.Status.Status, Plain.is_going_status}
 use Rattle.text_fields.specs.{Printing.Prints}
 use Rattle.sim_inputs.specs.{declared.line.Command.Command, declared.settings.Settings.Settings}
@@ -27,13 +27,13 @@ pub record IsSound (command : Command) (settings : Settings) (program : ProgramI
       → AreUnfit command settings program second
   -- Behind what it comes to, only the output may still be refused. A flush changes nothing of it, and its
   -- exit status says how harts stand.
-  pub output : (Traced : Bool → CoreView → Type 0) (old new : Option (List ℕ)) (status : ℕ)
+  pub output : (Traced : ToWrite → Type 0) (old new : Option (List ℕ)) (status : ℕ)
       → CommandComesTo command settings program second Traced old new status
       → IsCommandRefusal command settings program second Output
-  pub flushed : (Traced : Bool → CoreView → Type 0) (old mid new : Option (List ℕ)) (status : ℕ) → Keeps mid new
+  pub flushed : (Traced : ToWrite → Type 0) (old mid new : Option (List ℕ)) (status : ℕ) → Keeps mid new
       → CommandComesTo command settings program second Traced old mid status
       → CommandComesTo command settings program second Traced old new status
-  pub says : (Traced : Bool → CoreView → Type 0) (old new : Option (List ℕ)) (status : ℕ)
+  pub says : (Traced : ToWrite → Type 0) (old new : Option (List ℕ)) (status : ℕ)
       → CommandComesTo command settings program second Traced old new status → IsTrue (says_harts status)
 
 -- ---- For all of them

@@ -1,7 +1,8 @@
 -- Each command's definitions are as `perform` needs them.
-use Rattle.std.specs.Prelude.{◌≡◌, true, false, List, [], Ok, Err, length, reverse}
-use Rattle.std.proofs.Common.{sym, subst, ◌∙◌, arith}
-use Rattle.std.proofs.lemmas.Bool.{true≢false}
+use Rattle.std.specs.Prelude.{◌≡◌, ◌⊎◌, ℕ, max, true, false, IsTrue, List, [], ◌∷◌, Option, Some, None, Ok, Err, length, map, reverse}
+use Rattle.std.proofs.Common.{refl, sym, ap, subst, ◌∙◌, arith}
+use Rattle.std.specs.Io.KnownBytes.{Keeps}
+use Rattle.std.proofs.lemmas.Bool.{true≢false, cases_lt}
 use Rattle.std.proofs.lemmas.Bool.Decides.{nat_tests}
 use mathlib.Core.Logic.{inl, inr}
 use Rattle.elf_image.specs.Image.{ProgramImage}
@@ -17,9 +18,16 @@ use Rattle.sim_inputs.specs.declared.line.ScheduleCommand.{ScheduleCommand}
 use Rattle.sim_inputs.specs.declared.line.ScriptCommand.{ScriptCommand}
 use Rattle.sim_inputs.specs.declared.line.ListCommand.{ListCommand}
 use Rattle.sim_inputs.specs.declared.line.ChartCommand.{ChartCommand}
+use Rattle.sim_inputs.specs.declared.line.ExplainCommand.{ExplainCommand}
+use Rattle.reports.specs.{Report.status_number, Statuses.says_harts}
+use Rattle.stress_runs.specs.{End.EndView, Ends.end_of, Ends.worst_of}
 use Rattle.commands.specs.Refused.{AreAccepted, AreRefused}
+use Rattle.commands.specs.{Commands.RunsComeTo, Run.LackARole, Written.ToWrite}
 use Rattle.commands.specs.Inputs.{Read}
 use Rattle.commands.specs.{Account.statuses_of, Plain.standing}
+use Rattle.commands.specs.declared.refused.Refused.TheVariants.{Output}
+use Rattle.commands.specs.PlainRounds.{rounds_of, IsRoundsRefusal, RoundsComeTo}
+use Rattle.commands.proofs.OfRounds.{from_rounds, in_rounds}
 use Rattle.commands.proofs.Sound.{IsSound, no_unread_image, no_unread_config, kept, prints_kept, status_says, zero_says}
 
 -- Sizes of a core aren't refused, nor are its harts too few or too many for the plain machine.
@@ -61,16 +69,30 @@ of_step step settings program (Err why) = record {
   says = λ Traced old new status is. absurd is;
 }
 
-of_run : (run : RunCommand) (settings : Settings) (program : ProgramImage) (second : Read)
-    → IsSound (commands.Run run) settings program second
-of_run run settings program second = record {
-  no_image = λ number is. is;
-  unfit = λ accepted is. elim is [
-    | inl refused ↦ absurd (never_refused settings accepted refused)
-    | inr lacks ↦ lacks.1
-  ];
-  output = λ Traced old new status is. (is.accepted, is.manned);
-  flushed = λ Traced old mid new status flushed is. record {
+-- The worst of some exit statuses that say how harts stand says so too.
+greater_of : (m n : ℕ) → (max m n ≡ m) ⊎ (max m n ≡ n)
+greater_of m n = elim (cases_lt m n) [ inl less ↦ inr (omega arith) | inr more ↦ inl (omega arith) ]
+
+worst_says : (ends : List EndView) → IsTrue (says_harts (worst_of ends))
+worst_says [] = refl
+worst_says (end ∷ past) = elim (greater_of (worst_of past) (status_number end.statuses)) [
+  | inl before ↦ ap says_harts before ∙ worst_says past
+  | inr now ↦ status_says (worst_of (end ∷ past)) end.statuses now
+]
+
+-- One run, or as many as are asked for.
+module _ (run : RunCommand) (settings : Settings) (program : ProgramImage) (Traced : ToWrite → Type 0)
+    (old : Option (List ℕ)) (status : ℕ) where
+  run_accepted : (times : Option ℕ) (new : Option (List ℕ))
+      → RunsComeTo times run settings program Traced old new status
+      → AreAccepted settings × (LackARole settings → ⊥)
+  run_accepted None new is = (is.accepted, is.manned)
+  run_accepted (Some times) new is = (is.accepted, is.manned)
+
+  run_flushed : (times : Option ℕ) (mid new : Option (List ℕ)) → Keeps mid new
+      → RunsComeTo times run settings program Traced old mid status
+      → RunsComeTo times run settings program Traced old new status
+  run_flushed None mid new flushed is = record {
     accepted = is.accepted;
     manned = is.manned;
     core = is.core;
@@ -80,8 +102,35 @@ of_run run settings program second = record {
     traced = is.traced;
     printed = prints_kept old mid new _ is.printed flushed;
     harts = is.harts;
-  };
-  says = λ Traced old new status is. status_says status (statuses_of is.core) is.harts;
+  }
+  run_flushed (Some times) mid new flushed is = record {
+    accepted = is.accepted;
+    manned = is.manned;
+    cores = is.cores;
+    many = is.many;
+    are = is.are;
+    kept = is.kept;
+    printed = kept old mid new _ is.printed flushed;
+    stands = is.stands;
+  }
+
+  run_says : (times : Option ℕ) (new : Option (List ℕ))
+      → RunsComeTo times run settings program Traced old new status → IsTrue (says_harts status)
+  run_says None new is = status_says status (statuses_of is.core) is.harts
+  run_says (Some times) new is = ap says_harts is.stands ∙ worst_says (map end_of is.cores)
+
+of_run : (run : RunCommand) (settings : Settings) (program : ProgramImage) (second : Read)
+    → IsSound (commands.Run run) settings program second
+of_run run settings program second = record {
+  no_image = λ number is. is;
+  unfit = λ accepted is. elim is [
+    | inl refused ↦ absurd (never_refused settings accepted refused)
+    | inr lacks ↦ lacks.1
+  ];
+  output = λ Traced old new status is. run_accepted run settings program Traced old status run.times new is;
+  flushed = λ Traced old mid new status flushed is.
+      run_flushed run settings program Traced old status run.times mid new flushed is;
+  says = λ Traced old new status is. run_says run settings program Traced old status run.times new is;
 }
 
 of_check : (check : CheckCommand) (settings : Settings) (program : ProgramImage) (second : Read)
@@ -124,25 +173,60 @@ of_check check settings program (Err why) = record {
 of_plain : (plain : PlainCommand) (settings : Settings) (program : ProgramImage) (second : Read)
     → IsSound (commands.Plain plain) settings program second
 of_plain plain settings program (Ok order) = record {
-  no_image = λ number is. is;
-  unfit = λ accepted is. never_without_harts settings accepted is.1;
-  output = λ Traced old new status is. (is.harts, is.is_order);
-  flushed = λ Traced old mid new status flushed is. record {
-    harts = is.harts;
-    is_order = is.is_order;
-    ran = is.ran;
-    runs = is.runs;
-    printed = kept old mid new _ is.printed flushed;
-    stands = is.stands;
-  };
-  says = λ Traced old new status is. status_says status (standing settings.config.harts is.ran) is.stands;
+  no_image = λ number is. from_rounds (rounds_of plain) _ _ ⊥ (λ rounds of. of) (λ of. of) is;
+  unfit = λ accepted is.
+      from_rounds (rounds_of plain) _ _ ⊥ (λ rounds of. never_without_harts settings accepted of)
+      (λ of. never_without_harts settings accepted of.1) is;
+  output = λ Traced old new status is.
+      in_rounds (rounds_of plain) _ (λ rounds. IsRoundsRefusal settings Output) _ _ (λ rounds of. of.accepted)
+      (λ of. (of.harts, of.is_order)) is;
+  flushed = λ Traced old mid new status flushed is.
+      in_rounds (rounds_of plain) _ (λ rounds. RoundsComeTo settings program rounds plain.records old new status) _ _
+      (λ rounds of. record {
+        accepted = of.accepted;
+        turns = of.turns;
+        ran = of.ran;
+        are = of.are;
+        printed = kept old mid new _ of.printed flushed;
+        stands = of.stands;
+      })
+      (λ of. record {
+        harts = of.harts;
+        is_order = of.is_order;
+        ran = of.ran;
+        runs = of.runs;
+        printed = kept old mid new _ of.printed flushed;
+        stands = of.stands;
+      }) is;
+  says = λ Traced old new status is.
+      from_rounds (rounds_of plain) _ _ _
+      (λ rounds of. status_says status (standing settings.config.harts of.ran) of.stands)
+      (λ of. status_says status (standing settings.config.harts of.ran) of.stands) is;
 }
 of_plain plain settings program (Err why) = record {
-  no_image = λ number is. no_unread_image number why is;
-  unfit = λ accepted is. no_unread_config why is;
-  output = λ Traced old new status is. absurd is;
-  flushed = λ Traced old mid new status flushed is. absurd is;
-  says = λ Traced old new status is. absurd is;
+  no_image = λ number is.
+      from_rounds (rounds_of plain) _ _ ⊥ (λ rounds of. of) (λ of. no_unread_image number why of) is;
+  unfit = λ accepted is.
+      from_rounds (rounds_of plain) _ _ ⊥ (λ rounds of. never_without_harts settings accepted of)
+      (λ of. no_unread_config why of) is;
+  output = λ Traced old new status is.
+      in_rounds (rounds_of plain) _ (λ rounds. IsRoundsRefusal settings Output) _ _ (λ rounds of. of.accepted)
+      (λ of. absurd of) is;
+  flushed = λ Traced old mid new status flushed is.
+      in_rounds (rounds_of plain) _ (λ rounds. RoundsComeTo settings program rounds plain.records old new status) _ _
+      (λ rounds of. record {
+        accepted = of.accepted;
+        turns = of.turns;
+        ran = of.ran;
+        are = of.are;
+        printed = kept old mid new _ of.printed flushed;
+        stands = of.stands;
+      })
+      (λ of. absurd of) is;
+  says = λ Traced old new status is.
+      from_rounds (rounds_of plain) _ _ _
+      (λ rounds of. status_says status (standing settings.config.harts of.ran) of.stands)
+      (λ of. absurd of) is;
 }
 
 of_schedule : (schedule : ScheduleCommand) (settings : Settings) (program : ProgramImage) (second : Read)
@@ -192,6 +276,17 @@ of_list list settings program second = record {
   says = λ Traced old new status is. zero_says status is.zero;
 }
 
+of_explain : (explain : ExplainCommand) (settings : Settings) (program : ProgramImage) (second : Read)
+    → IsSound (commands.Explain explain) settings program second
+of_explain explain settings program second = record {
+  no_image = λ number is. is;
+  unfit = λ accepted is. is;
+  output = λ Traced old new status is. tt;
+  flushed = λ Traced old mid new status flushed is.
+      record { printed = prints_kept old mid new _ is.printed flushed; zero = is.zero };
+  says = λ Traced old new status is. zero_says status is.zero;
+}
+
 of_chart : (chart : ChartCommand) (settings : Settings) (program : ProgramImage) (second : Read)
     → IsSound (commands.Chart chart) settings program second
 of_chart chart settings program (Ok trace) = record {
@@ -218,4 +313,5 @@ sound (commands.Plain plain) settings program second = of_plain plain settings p
 sound (commands.Schedule schedule) settings program second = of_schedule schedule settings program second
 sound (commands.Script script) settings program second = of_script script settings program second
 sound (commands.List list) settings program second = of_list list settings program second
+sound (commands.Explain explain) settings program second = of_explain explain settings program second
 sound (commands.Chart chart) settings program second = of_chart chart settings program second

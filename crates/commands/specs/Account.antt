@@ -1,7 +1,7 @@
 -- What is reported of a core: what is printed of it, its trace, and the exit status. (This
 -- project's own choice.)
-use Rattle.std.specs.Prelude.{◌≡◌, ℕ, Bool, true, false, List, [], ◌++◌, Option, length, map}
-use Rattle.std.specs.Prelude.{reverse, if◌then◌else◌}
+use Rattle.std.specs.Prelude.{◌≡◌, ℕ, Bool, true, false, List, [], ◌++◌, Option, Some, None, is_some}
+use Rattle.std.specs.Prelude.{length, map, reverse, if◌then◌else◌}
 use Rattle.events.specs.declared.effect.Record.{Record}
 use Rattle.smt_model.specs.{declared.config.Status.Status, Basics.below, Account.records}
 use Rattle.smt_model.specs.{Account.open_job_count, Memory.status, Memory.output}
@@ -9,19 +9,17 @@ use Rattle.core_state.specs.{View.CoreView}
 use Rattle.event_text.specs.{Sinking.HasPut, Trace.trace_text}
 use Rattle.text_fields.specs.{Printing.Prints}
 use Rattle.smt_model.specs.Touched.{looks, loads}
+use Rattle.history_counts.specs.{declared.counts.Counts.Counts, Numbers.counts_of}
 use Rattle.reports.specs.Report.{looks_line, records_text, report_text, status_number}
+use Rattle.reports.specs.{CountLines.count_lines, Json.json_text}
+use Rattle.commands.specs.declared.wanted.Wanted.{Wanted}
 
--- How the harts of a core stand; what has retired in it, the oldest first; and its report.
+-- How the harts of a core stand; what has retired in it, the oldest first.
 abbrev pub statuses_of : CoreView → List Status
 statuses_of core = map (status core.past) (below core.setup.harts)
 
 abbrev pub retired_of : CoreView → List Record
 retired_of core = reverse (records core.past)
-
-abbrev pub report_of : CoreView → List ℕ
-report_of core =
-    report_text (length core.past) (length (retired_of core)) (open_job_count core.setup core.past)
-    (statuses_of core) (output core.past)
 
 -- The tables' text: some text where they are wanted, and else none.
 abbrev pub AreTables : Bool → List ℕ → Type 0
@@ -33,20 +31,45 @@ AreTables false text = text ≡ []
 abbrev pub looks_of : Bool → CoreView → List ℕ
 looks_of wanted core = if wanted then looks_line (looks core.past) (loads core.past) else []
 
+-- The numbers of its history, where they are wanted: behind the report, or in its object.
+abbrev pub counts_in : Bool → CoreView → Option Counts
+counts_in wanted core = if wanted then Some (counts_of core.past) else None
+
+abbrev pub numbers_text : Option Counts → ℕ → List Record → List ℕ
+numbers_text None harts records = []
+numbers_text (Some counts) harts records = count_lines counts harts records
+
+-- A report, of what an account has, and behind it the numbers and why each hart stands where it does
+-- (`ends`). As an object it comes last, with the numbers in it.
+abbrev pub body_text : Bool → ℕ → List Record → ℕ → List Status → List ℕ → Option Counts
+    → List ℕ → List ℕ
+body_text true events records lent statuses output counts ends =
+    ends ++ json_text events records lent statuses output counts
+body_text false events records lent statuses output counts ends =
+    report_text events (length records) lent statuses output
+    ++ (numbers_text counts (length statuses) records ++ ends)
+
+abbrev pub body_of : Bool → Bool → CoreView → List ℕ → List ℕ
+body_of as_json with_counts core ends =
+    body_text as_json (length core.past) (retired_of core) (open_job_count core.setup core.past)
+    (statuses_of core) (output core.past) (counts_in with_counts core) ends
+
 -- What is printed of a core behind the lines of the asks: its tables, how many loads looked again
--- and its records, where they are wanted, and its report.
-pub record IsAccount (core : CoreView) (with_records with_tables with_looks : Bool)
-    (text : List ℕ) : Type 0 where
+-- and its records, where they are wanted, and its report, with what else is wanted.
+pub record IsAccount (core : CoreView) (wanted : Wanted) (text : List ℕ) : Type 0 where
   pub tables : List ℕ
-  pub are_tables : AreTables with_tables tables
+  pub are_tables : AreTables wanted.tables tables
+  pub ends : List ℕ
+  pub are_ends : AreTables (is_some wanted.ends) ends
   pub whole : text
-      ≡ tables ++ (looks_of with_looks core
-      ++ (records_text with_records (retired_of core) ++ report_of core))
+      ≡ tables ++ (looks_of wanted.looks core
+      ++ (records_text wanted.records (retired_of core)
+      ++ body_of wanted.json wanted.counts core ends))
 
 -- The account of a core is printed, and the exit status is that of its harts.
-pub record IsReported (core : CoreView) (with_records with_tables with_looks : Bool)
-    (old new : Option (List ℕ)) (exit_status : ℕ) : Type 0 where
-  pub printed : Prints old new (IsAccount core with_records with_tables with_looks)
+pub record IsReported (core : CoreView) (wanted : Wanted) (old new : Option (List ℕ))
+    (exit_status : ℕ) : Type 0 where
+  pub printed : Prints old new (IsAccount core wanted)
   pub harts : exit_status ≡ status_number (statuses_of core)
 
 -- Where the trace of a core is wanted, a sink took all of it, and hasn't failed; else nothing went

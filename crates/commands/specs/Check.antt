@@ -12,6 +12,7 @@ use Rattle.sim_inputs.specs.{declared.settings.Settings.Settings}
 use Rattle.reports.specs.Report.{status_number}
 use Rattle.commands.specs.{declared.refused.Refused.Refused}
 use Rattle.commands.specs.declared.refused.Refused.TheVariants as refused
+use Rattle.commands.specs.declared.wanted.Wanted.{Wanted}
 use Rattle.commands.specs.Account.{IsAccount, statuses_of}
 
 -- The text is the trace of these events, each of them in range.
@@ -59,10 +60,10 @@ IsHistoryRefusal setup events _ = ⊥
 
 -- What the command comes to. The trace's events, the last of them first, are the history of a core
 -- of this image and these settings, with room for just so many: one of those that may be shown, so
--- its history is legal. What was printed is what is printed of this core, with no tables; the exit
--- status is that of its harts.
+-- its history is legal. What was printed is what is printed of this core; the exit status is that of
+-- its harts.
 pub record CheckComesTo (settings : Settings) (image : ProgramImage) (trace : List ℕ)
-    (with_records : Bool) (old new : Option (List ℕ)) (exit_status : ℕ) : Type 0 where
+    (wanted : Wanted) (old new : Option (List ℕ)) (exit_status : ℕ) : Type 0 where
   pub events : List Event
   pub is_trace : IsTraceOf trace events
   pub core : CoreView
@@ -71,5 +72,5 @@ pub record CheckComesTo (settings : Settings) (image : ProgramImage) (trace : Li
   pub past : core.past ≡ reverse events
   pub accepted : is_accepted core.setup core.limit ≡ true
   pub shown : Shown core
-  pub printed : Prints old new (IsAccount core with_records false false)
+  pub printed : Prints old new (IsAccount core wanted)
   pub harts : exit_status ≡ status_number (statuses_of core)

@@ -1,6 +1,7 @@
 -- What is owed on a command, of its settings, its program image and its second file as it was read:
 -- each row names the definitions of one command. (This project's own choice.)
-use Rattle.std.specs.Prelude.{◌≡◌, ℕ, Bool, false, List, Option, is_some}
+use Rattle.std.specs.Prelude.{◌≡◌, ℕ, Bool, true, false, List, Option, Some, None, is_some}
+use Rattle.std.specs.Prelude.{if◌then◌else◌}
 use Rattle.elf_image.specs.Image.{ProgramImage}
 use Rattle.core_state.specs.View.{CoreView}
 use Rattle.text_fields.specs.{Printing.Prints}
@@ -8,16 +9,22 @@ use Rattle.sim_inputs.specs.{declared.line.Command.Command, declared.settings.Se
 use Rattle.sim_inputs.specs.declared.line.Command.TheVariants as commands
 use Rattle.commands.specs.{declared.refused.Refused.Refused}
 use Rattle.commands.specs.Inputs.{Read, OfFile, BehindFile}
+use Rattle.commands.specs.Wanted.{step_wants, run_wants, check_wants}
 use Rattle.commands.specs.Step.{IsStepRefusal, StepComesTo, ArePrinted}
+use Rattle.sim_inputs.specs.declared.line.RunCommand.{RunCommand}
 use Rattle.commands.specs.Run.{IsRunRefusal, RunComesTo, LackARole}
+use Rattle.commands.specs.{Stress.StressComesTo, Written.ToWrite, Written.TraceOf, Written.EndsOf}
 use Rattle.commands.specs.Check.{IsCheckRefusal, CheckComesTo, OfEvents, AreTooMany}
 use Rattle.commands.specs.Chart.{IsChartRefusal, ChartComesTo, has_file}
 use Rattle.commands.specs.Plain.{IsPlainRefusal, PlainComesTo}
+use Rattle.commands.specs.PlainRounds.{rounds_of, InRounds, IsRoundsRefusal, RoundsComeTo}
 use Rattle.commands.specs.Schedule.{IsScheduleRefusal, ScheduleComesTo}
 use Rattle.commands.specs.Script.{IsScriptingRefusal, ScriptComesTo}
 use Rattle.commands.specs.List.{IsListRefusal, ListComesTo}
+use Rattle.commands.specs.Explain.{ExplainComesTo}
 
--- When each refusal of a command comes. One that has a second file is refused where that is unread.
+-- When each refusal of a command comes. One that has a second file is refused where that is unread;
+-- rounds have none.
 abbrev pub IsCommandRefusal : Command → Settings → ProgramImage → Read → Refused → Type 0
 IsCommandRefusal (commands.Step step) settings image second reason =
     BehindFile second (IsStepRefusal settings) reason
@@ -25,34 +32,48 @@ IsCommandRefusal (commands.Run run) settings image second reason = IsRunRefusal 
 IsCommandRefusal (commands.Check check) settings image second reason =
     BehindFile second (IsCheckRefusal settings image) reason
 IsCommandRefusal (commands.Plain plain) settings image second reason =
-    BehindFile second (IsPlainRefusal settings image) reason
+    InRounds (rounds_of plain) (λ rounds. IsRoundsRefusal settings reason)
+    (BehindFile second (IsPlainRefusal settings image) reason)
 IsCommandRefusal (commands.Schedule schedule) settings image second reason =
     BehindFile second (IsScheduleRefusal settings image) reason
 IsCommandRefusal (commands.Script script) settings image second reason =
     BehindFile second (IsScriptingRefusal settings image) reason
 IsCommandRefusal (commands.List list) settings image second reason = IsListRefusal reason
+IsCommandRefusal (commands.Explain explain) settings image second reason = IsListRefusal reason
 IsCommandRefusal (commands.Chart chart) settings image second reason =
     BehindFile second (λ trace. IsChartRefusal settings image trace chart) reason
 
--- What a command comes to. `Traced` says of a core whether its trace is written where that is
--- wanted.
-abbrev pub CommandComesTo : Command → Settings → ProgramImage → Read → (Bool → CoreView → Type 0)
+-- What `run` comes to: one run, or as many as are asked for.
+abbrev pub RunsComeTo : Option ℕ → RunCommand → Settings → ProgramImage → (ToWrite → Type 0)
+    → Option (List ℕ) → Option (List ℕ) → ℕ → Type 0
+RunsComeTo None run settings image Traced old new status =
+    RunComesTo settings image (run_wants run) (λ core. Traced (TraceOf (is_some run.trace) core)) old new status
+RunsComeTo (Some times) run settings image Traced old new status =
+    StressComesTo settings image times (λ cores. Traced (EndsOf (is_some run.keep) cores)) old new status
+
+-- What a command comes to. `Traced` says whether its files are written, where that is wanted: a trace of
+-- a core, or the files of ends.
+abbrev pub CommandComesTo : Command → Settings → ProgramImage → Read → (ToWrite → Type 0)
     → Option (List ℕ) → Option (List ℕ) → ℕ → Type 0
 CommandComesTo (commands.Step step) settings image second Traced old new status =
-    OfFile second (λ script. StepComesTo settings image script step.why step.records step.show
-    step.looks (Traced (is_some step.trace)) old new status)
+    OfFile second (λ script. StepComesTo settings image script step.why (step_wants step)
+    (λ core. Traced (TraceOf (is_some step.trace) core)) old new status)
 CommandComesTo (commands.Run run) settings image second Traced old new status =
-    RunComesTo settings image run.records (Traced (is_some run.trace)) old new status
+    RunsComeTo run.times run settings image Traced old new status
 CommandComesTo (commands.Check check) settings image second Traced old new status =
-    OfFile second (λ trace. CheckComesTo settings image trace check.records old new status)
+    OfFile second (λ trace. CheckComesTo settings image trace (check_wants check) old new status)
 CommandComesTo (commands.Plain plain) settings image second Traced old new status =
-    OfFile second (λ order. PlainComesTo settings image order plain.records old new status)
+    InRounds (rounds_of plain)
+    (λ rounds. RoundsComeTo settings image rounds plain.records old new status)
+    (OfFile second (λ order. PlainComesTo settings image order plain.records old new status))
 CommandComesTo (commands.Schedule schedule) settings image second Traced old new status =
     OfFile second (λ order. ScheduleComesTo settings image order old new status)
 CommandComesTo (commands.Script script) settings image second Traced old new status =
     OfFile second (λ trace. ScriptComesTo settings image trace old new status)
 CommandComesTo (commands.List list) settings image second Traced old new status =
     ListComesTo image old new status
+CommandComesTo (commands.Explain explain) settings image second Traced old new status =
+    ExplainComesTo old new status
 CommandComesTo (commands.Chart chart) settings image second Traced old new status =
     OfFile second (λ trace. ChartComesTo settings image trace chart status)
 
@@ -80,9 +101,14 @@ IsUnreported (commands.Run run) second old new = new ≡ old
 IsUnreported (commands.Chart chart) second old new = new ≡ old
 IsUnreported _ second old new = ⊥
 
--- The command names a file for the trace of its core, or for its chart.
+-- The command names a file for the trace of its core, or for its chart, or a folder for ends.
 abbrev pub wants_trace : Command → Bool
 wants_trace (commands.Step step) = is_some step.trace
-wants_trace (commands.Run run) = is_some run.trace
+wants_trace (commands.Run run) = if is_some run.times then is_some run.keep else is_some run.trace
 wants_trace (commands.Chart chart) = has_file chart
 wants_trace _ = false
+
+-- The command explains its files: it answers before they are refused.
+abbrev pub explains : Command → Bool
+explains (commands.Explain explain) = true
+explains _ = false

@@ -3,19 +3,20 @@
 use Rattle.std.specs.Prelude.{◌≡◌, ◌⊎◌, ℕ, Bool, true, false, List, Option, Result, Err}
 use Rattle.std.specs.Prelude.{OnOk, IfOk, IfErr}
 use Rattle.elf_image.specs.Image.{ProgramImage}
-use Rattle.core_state.specs.View.{CoreView}
 use Rattle.sim_inputs.specs.{declared.line.Command.Command, declared.settings.Settings.Settings}
 use Rattle.commands.specs.{declared.refused.Refused.Refused}
-use Rattle.commands.specs.declared.refused.Refused.TheVariants.{Image, Config, Memory, File}
+use Rattle.commands.specs.declared.refused.Refused.TheVariants.{Image, Config, Memory, File, Output}
 use Rattle.commands.specs.declared.refused.Unread.TheVariants as unread
 use Rattle.commands.specs.Refused.{IsFirstFailed, AreAccepted}
 use Rattle.commands.specs.Inputs.{Read, OfFile, OfSettings, OfProgram, IsNoConfiguration}
-use Rattle.commands.specs.Account.{IsTraceWritten}
+use Rattle.stress_runs.specs.declared.keeping.Part.{Part}
+use Rattle.commands.specs.Written.{ToWrite, IsWritten}
 use Rattle.commands.specs.Commands.{IsCommandRefusal, CommandComesTo, AreUnfit, IsUnreported}
-use Rattle.commands.specs.Commands.{wants_trace}
+use Rattle.commands.specs.Commands.{wants_trace, explains}
 
 -- When each refusal comes: the configuration is looked at first, then the image, then what the
--- command needs. A file that can't be read is refused where it is looked at.
+-- command needs. A file that can't be read is refused where it is looked at. Where files are explained
+-- the output may be refused before they are.
 abbrev pub IsRefusal : Command → Read → Read → Read → Refused → Type 0
 IsRefusal command config image second (Image number) = OfSettings config
     (λ settings. OfFile image (λ file. IsFirstFailed file settings.ram number))
@@ -26,12 +27,15 @@ IsRefusal command config image second File = (config ≡ Err unread.File)
     ⊎ OfSettings config (λ settings. image ≡ Err unread.File)
     ⊎ OfProgram config image
     (λ settings program. IsCommandRefusal command settings program second File)
+IsRefusal command config image second Output = OfProgram config image
+    (λ settings program. IsCommandRefusal command settings program second Output)
+    ⊎ (explains command ≡ true)
 IsRefusal command config image second reason = OfProgram config image
     (λ settings program. IsCommandRefusal command settings program second reason)
 
 -- What a line comes to: its configuration's settings are a core's, its image passes every check, and
 -- the command has come to what is owed on it.
-abbrev pub LineComesTo : Command → Read → Read → Read → (Bool → CoreView → Type 0)
+abbrev pub LineComesTo : Command → Read → Read → Read → (ToWrite → Type 0)
     → Option (List ℕ) → Option (List ℕ) → ℕ → Type 0
 LineComesTo command config image second Traced old new status = OfProgram config image
     (λ settings program. AreAccepted settings
@@ -41,12 +45,12 @@ LineComesTo command config image second Traced old new status = OfProgram config
 -- output is flushed: a refusal that may come of it, or an exit status behind what is owed on it.
 -- Where no trace is wanted nothing goes into the sink of the trace. The sink hasn't failed behind an
 -- exit status; where it has, nothing is printed but what a command prints before its trace.
-pub record IsPerformed {S : Type 0} (written : S → Option (List ℕ)) (has_failed : S → Bool)
-    (before after : S) (command : Command) (settings : Settings) (program : ProgramImage)
+pub record IsPerformed {S : Type 0} (begins : S → ℕ → Part → S → Type 0)
+    (written : S → Option (List ℕ)) (has_failed : S → Bool) (before after : S) (command : Command) (settings : Settings) (program : ProgramImage)
     (second : Read) (old new : Option (List ℕ)) (answer : Result ℕ Refused) : Type 0 where
   pub refused : IfErr answer (IsCommandRefusal command settings program second)
   pub ended : IfOk answer (CommandComesTo command settings program second
-      (IsTraceWritten written has_failed before after) old new)
+      (IsWritten begins written has_failed before after) old new)
   pub unwanted : wants_trace command ≡ false → after ≡ before
   pub unbroken : OnOk answer (has_failed after ≡ false)
   pub unreported : has_failed after ≡ true → IsUnreported command second old new

@@ -1,5 +1,5 @@
 -- The command `run`: a core asked by a thread for each actor. (This project's own choice.)
-use Rattle.std.specs.Prelude.{◌≡◌, ◌⊎◌, ℕ, Bool, false, List, Option}
+use Rattle.std.specs.Prelude.{◌≡◌, ◌⊎◌, ℕ, List, Option}
 use Rattle.elf_image.specs.Image.{ProgramImage}
 use Rattle.core_state.specs.{Setup.setup_of, View.CoreView}
 use Rattle.smt_core.specs.Shown.{Shown}
@@ -11,6 +11,7 @@ use Rattle.reports.specs.Report.{status_number}
 use Rattle.commands.specs.declared.refused.Refused.{Refused}
 use Rattle.commands.specs.declared.refused.Refused.TheVariants.{Config, Memory, Thread, Output}
 use Rattle.commands.specs.Refused.{AreAccepted, AreRefused}
+use Rattle.commands.specs.declared.wanted.Wanted.{Wanted}
 use Rattle.commands.specs.Account.{IsAccount, statuses_of}
 
 -- No actor has some role.
@@ -36,9 +37,8 @@ IsRunRefusal settings _ = ⊥
 
 -- What the command comes to. No role is without an actor. There is a core of this image and these
 -- settings, one of those that may be shown. Its trace is written where that is wanted (`Traced`).
--- What was printed is what is printed of this core, with no tables; the exit status is that of its
--- harts.
-pub record RunComesTo (settings : Settings) (image : ProgramImage) (with_records : Bool)
+-- What was printed is what is printed of this core; the exit status is that of its harts.
+pub record RunComesTo (settings : Settings) (image : ProgramImage) (wanted : Wanted)
     (Traced : CoreView → Type 0) (old new : Option (List ℕ)) (exit_status : ℕ) : Type 0 where
   pub accepted : AreAccepted settings
   pub manned : LackARole settings → ⊥
@@ -47,5 +47,5 @@ pub record RunComesTo (settings : Settings) (image : ProgramImage) (with_records
   pub limit : core.limit ≡ settings.limit
   pub shown : Shown core
   pub traced : Traced core
-  pub printed : Prints old new (IsAccount core with_records false false)
+  pub printed : Prints old new (IsAccount core wanted)
   pub harts : exit_status ≡ status_number (statuses_of core)

@@ -11,6 +11,7 @@ use Rattle.commands.specs.declared.refused.Refused.{Refused}
 use Rattle.commands.specs.declared.refused.Refused.TheVariants.{Config, Script, Memory, Output}
 use Rattle.commands.specs.Refused.{AreAccepted, AreRefused}
 use Rattle.reports.specs.Report.{status_number}
+use Rattle.commands.specs.declared.wanted.Wanted.{Wanted}
 use Rattle.commands.specs.Account.{IsAccount, statuses_of}
 
 -- The text is a script.
@@ -41,11 +42,11 @@ ArePrinted true script core text = (lines : List ℕ) × AreAsked script core li
 
 -- The lines of all that a script has asked of a core, and then what is printed of it.
 pub record AreAsksAndAccount (core : CoreView) (script : List ℕ)
-    (with_why with_records with_tables with_looks : Bool) (text : List ℕ) : Type 0 where
+    (with_why : Bool) (wanted : Wanted) (text : List ℕ) : Type 0 where
   pub asks : List ℕ
   pub account : List ℕ
   pub are_printed : ArePrinted with_why script core asks
-  pub is_account : IsAccount core with_records with_tables with_looks account
+  pub is_account : IsAccount core wanted account
   pub both : text ≡ asks ++ account
 
 -- What the command comes to. There is a core of this image and these settings, one of those that
@@ -53,8 +54,7 @@ pub record AreAsksAndAccount (core : CoreView) (script : List ℕ)
 -- answers to the script's asks, or what explains them, and then what is printed of it; the exit
 -- status is that of its harts.
 pub record StepComesTo (settings : Settings) (image : ProgramImage) (script : List ℕ)
-    (with_why with_records with_tables with_looks : Bool) (Traced : CoreView → Type 0)
-    (old new : Option (List ℕ))
+    (with_why : Bool) (wanted : Wanted) (Traced : CoreView → Type 0) (old new : Option (List ℕ))
     (exit_status : ℕ) : Type 0 where
   pub accepted : AreAccepted settings
   pub is_asking : IsAsking script
@@ -63,6 +63,5 @@ pub record StepComesTo (settings : Settings) (image : ProgramImage) (script : Li
   pub limit : core.limit ≡ settings.limit
   pub shown : Shown core
   pub traced : Traced core
-  pub printed : Prints old new (AreAsksAndAccount core script with_why with_records with_tables
-      with_looks)
+  pub printed : Prints old new (AreAsksAndAccount core script with_why wanted)
   pub harts : exit_status ≡ status_number (statuses_of core)

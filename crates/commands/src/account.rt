@@ -1,60 +1,36 @@
-//! What is reported of a core: its trace, its tables, how many of its loads looked again, its records
-//! and its report. Each command that
-//! has a core at its end reports it so.
+//! What is reported of a core: its trace, its tables, how many of its loads looked again, its
+//! records and its report, with the numbers of its history and why its harts stand where they do.
+//! Each command that has a core at its end reports it so.
 
-ghost use Rattle.std.specs.Prelude.{◌≡◌, OnOk, IfOk, IfErr, ◌⊎◌, true, false};
-ghost use Rattle.std.specs.Prelude.{is_some, [], if◌then◌else◌};
+ghost use Rattle.std.specs.Prelude.{◌≡◌, ◌++◌, OnOk, IfOk, IfErr, ◌⊎◌, true, false};
+ghost use Rattle.std.specs.Prelude.{is_some, [], if◌then◌else◌, length};
 ghost use Rattle.std.specs.Io.KnownBytes.{Appends};
 ghost use Rattle.smt_model.specs.Basics.{how_many};
-ghost use Rattle.reports.specs.Report.{is_load_record, looks_line};
+ghost use Rattle.reports.specs.Report.{is_load_record, looks_line, records_text};
 ghost use Rattle.commands.specs.declared.refused.Refused.TheVariants.{Memory, Output};
-ghost use Rattle.commands.specs.Account.{AreTables, IsReported, IsTraceWritten};
+ghost use Rattle.commands.specs.Account.{AreTables, IsReported, IsTraceWritten, counts_in};
+ghost use Rattle.commands.specs.Account.{body_text, numbers_text};
 
 use crate::refused::Refused;
+use crate::wanted::Wanted;
 use event_text::{Sink, print_trace};
 use events::Record;
-use reports::{report, report_looks, status_of, write_tables};
+use history_counts::{Counts, counts_of};
+use reports::{
+    RunEnd, report, report_counts, report_ends, report_json, report_looks, report_records,
+    status_of, write_tables,
+};
 use smt_core::Core;
+use smt_laws::Account;
 use std::alloc::{AllocError, Global};
+use std::io;
 use std::io::Write;
 
-/// What is wanted of a core beside its report.
-#[derive(Clone, Copy, PartialEq, Eq, Drop)]
-pub struct Wanted {
-    /// A line for each retired instruction, before the report.
-    pub records: bool,
-    /// The tables of the core, before the records.
-    pub tables: bool,
-    /// How many of its loads looked again, behind the tables.
-    pub looks: bool,
-    /// The trace of the core, put into its sink.
-    pub trace: bool,
-}
-
-impl Wanted {
-    /// What a command wants that names this file for its trace, or none.
-    pub fn new(records: bool, tables: bool, looks: bool, trace: Option<&str>) -> Self
-        ensures { result ≡ record {
-          records = records;
-          tables = tables;
-          looks = looks;
-          trace = is_some trace.entry;
-        } }
-    {
-        Wanted {
-            records,
-            tables,
-            looks,
-            trace: trace.is_some(),
-        }
-    }
-}
-
-/// Writes the trace of a core where it is wanted, and then its tables and how many loads looked
-/// again, where they are wanted, and its report. Answers the exit status: how the harts stand.
+/// Writes the trace of a core where it is wanted, and then what else is wanted of it and its report.
+/// Answers the exit status: how the harts stand.
 ///
-/// `Output` is answered where the sink or `out` took no more, `Memory` where there is none for the
-/// text of the tables. Where the sink failed, nothing is written.
+/// `Output` is answered where the sink or `out` took no more, `Memory` where there is none for what
+/// is made before it is written. Where the sink failed, nothing is written.
 pub(crate) fn write_account<S: Sink, W: Write>(
     core: &Core,
     wanted: Wanted,
@@ -66,8 +42,8 @@ pub(crate) fn write_account<S: Sink, W: Write>(
     ensures refused { IfErr result (λ reason. (reason ≡ Memory) ⊎ (reason ≡ Output)) }
     ensures traced { OnOk result (IsTraceWritten S.written S.has_failed trace.old trace.new
         wanted.trace core.now) }
-    ensures reported { IfOk result (IsReported core.now wanted.records wanted.tables
-        wanted.looks (W.contents out.old) (W.contents out.new)) }
+    ensures reported { IfOk result
+        (IsReported core.now wanted (W.contents out.old) (W.contents out.new)) }
     ensures unwanted { wanted.trace ≡ false → trace.new ≡ trace.old }
     ensures unbroken { OnOk result (S.has_failed trace.new ≡ false) }
     ensures unreported { S.has_failed trace.new ≡ true
@@ -96,30 +72,129 @@ fn write_trace<S: Sink>(core: &Core, wanted: bool, sink: &mut S) -> Result<(), R
     }
 }
 
-/// Writes the tables and how many loads looked again, where they are wanted, and the report.
-/// Answers how the harts stand.
-fn report_core<W: Write>(
+/// Writes what is wanted of a core, and its report. Answers how the harts stand.
+pub(crate) fn report_core<W: Write>(
     core: &Core,
     wanted: Wanted,
     out: &mut W,
     alloc: Global,
 ) -> Result<u8, Refused>
     ensures refused { IfErr result (λ reason. (reason ≡ Memory) ⊎ (reason ≡ Output)) }
-    ensures reported { IfOk result (IsReported core.now wanted.records wanted.tables
-        wanted.looks (W.contents out.old) (W.contents out.new)) }
+    ensures reported { IfOk result
+        (IsReported core.now wanted (W.contents out.old) (W.contents out.new)) }
 {
-    let tables = match table_text(core, wanted.tables, alloc) {
-        Ok(tables) => tables,
-        Err(AllocError) => return Err(Refused::Memory),
-    };
-    if out.write_all(tables.as_slice()).is_err() {
+    match made_of(core, wanted, alloc) {
+        Ok(made) => write_made(core, wanted, &made, out),
+        Err(AllocError) => Err(Refused::Memory),
+    }
+}
+
+/// What is made of a core before any of it is written.
+#[derive(Drop)]
+struct Made {
+    counts: Option<Counts>,
+    tables: Vec<u8>,
+    ends: Vec<u8>,
+}
+
+/// What is wanted of a core that takes memory to make.
+fn made_of(core: &Core, wanted: Wanted, alloc: Global) -> Result<Made, AllocError>
+    ensures counts { IfOk result (λ made. made.counts ≡ counts_in wanted.counts core.now) }
+    ensures tables { IfOk result (λ made. AreTables wanted.tables made.tables.items) }
+    ensures ends { IfOk result (λ made. AreTables (is_some wanted.ends) made.ends.items) }
+{
+    let counts = counts_in(core, wanted.counts, alloc)?;
+    let tables = table_text(core, wanted.tables, alloc)?;
+    let ends = ends_text(core, wanted.ends, alloc)?;
+    Ok(Made {
+        counts,
+        tables,
+        ends,
+    })
+}
+
+/// Writes what was made of a core and is wanted of it, and its report. Answers how the harts stand.
+fn write_made<W: Write>(
+    core: &Core,
+    wanted: Wanted,
+    made: &Made,
+    out: &mut W,
+) -> Result<u8, Refused>
+    requires counts { made.now.counts ≡ counts_in wanted.counts core.now }
+    requires tables { AreTables wanted.tables made.now.tables.items }
+    requires ends { AreTables (is_some wanted.ends) made.now.ends.items }
+    ensures refused { IfErr result (λ reason. reason ≡ Output) }
+    ensures reported { IfOk result
+        (IsReported core.now wanted (W.contents out.old) (W.contents out.new)) }
+{
+    if out.write_all(made.tables.as_slice()).is_err() {
         return Err(Refused::Output);
     }
     let account = core.account();
     write_looks(wanted.looks, core.looks(), account.records, out)?;
-    match report(&account, wanted.records, out) {
+    match write_report(&account, wanted, made, out) {
         Ok(()) => Ok(status_of(account.statuses.as_slice())),
         Err(_) => Err(Refused::Output),
+    }
+}
+
+/// Writes the records of an account where they are wanted, and its report.
+fn write_report<W: Write>(
+    account: &Account<'_>,
+    wanted: Wanted,
+    made: &Made,
+    out: &mut W,
+) -> io::Result<()>
+    ensures { OnOk result (Appends (W.contents out.old) (W.contents out.new)
+        (records_text wanted.records account.now.records.now
+        ++ body_text wanted.json account.now.events account.now.records.now account.now.lent
+        account.now.statuses.items account.now.output.now made.now.counts made.now.ends.items)) }
+{
+    report_records(wanted.records, account.records, out)?;
+    if wanted.json {
+        return write_object(account, made, out);
+    }
+    write_lines(account, made, out)
+}
+
+/// Writes why the harts stand where they do, and behind it the report as an object.
+fn write_object<W: Write>(account: &Account<'_>, made: &Made, out: &mut W) -> io::Result<()>
+    ensures { OnOk result (Appends (W.contents out.old) (W.contents out.new)
+        (body_text true account.now.events account.now.records.now account.now.lent
+        account.now.statuses.items account.now.output.now made.now.counts made.now.ends.items)) }
+{
+    out.write_all(made.ends.as_slice())?;
+    report_json(account, &made.counts, out)
+}
+
+/// Writes the report, and behind it the numbers of the history and why the harts stand where they do.
+fn write_lines<W: Write>(account: &Account<'_>, made: &Made, out: &mut W) -> io::Result<()>
+    ensures { OnOk result (Appends (W.contents out.old) (W.contents out.new)
+        (body_text false account.now.events account.now.records.now account.now.lent
+        account.now.statuses.items account.now.output.now made.now.counts made.now.ends.items)) }
+{
+    report(account, false, out)?;
+    write_numbers(account, &made.counts, out)?;
+    out.write_all(made.ends.as_slice())
+}
+
+/// Writes the numbers of the history, where there are some.
+fn write_numbers<W: Write>(
+    account: &Account<'_>,
+    counts: &Option<Counts>,
+    out: &mut W,
+) -> io::Result<()>
+    ensures { OnOk result (Appends (W.contents out.old) (W.contents out.new)
+        (numbers_text counts.now (length account.now.statuses.items) account.now.records.now)) }
+{
+    match counts {
+        Some(counts) => report_counts(
+            counts,
+            account.statuses.as_slice().len(),
+            account.records,
+            out,
+        ),
+        None => out.write_all(b""),
     }
 }
 
@@ -154,5 +229,32 @@ fn table_text(core: &Core, wanted: bool, alloc: Global) -> Result<Vec<u8>, Alloc
     match write_tables(core, &mut text) {
         Ok(()) => Ok(text),
         Err(_) => Err(AllocError),
+    }
+}
+
+/// Why the harts stand where they do, where it is wanted, else nothing.
+fn ends_text(core: &Core, wanted: Option<RunEnd>, alloc: Global) -> Result<Vec<u8>, AllocError>
+    ensures { IfOk result (λ text. AreTables (is_some wanted) text.items) }
+{
+    let mut text = Vec::new(alloc);
+    let Some(end) = wanted else {
+        return Ok(text);
+    };
+    match report_ends(core, end, &mut text) {
+        Ok(()) => Ok(text),
+        Err(_) => Err(AllocError),
+    }
+}
+
+/// The numbers of a core's history, where they are wanted.
+fn counts_in(core: &Core, wanted: bool, alloc: Global) -> Result<Option<Counts>, AllocError>
+    ensures { IfOk result (λ counts. counts ≡ counts_in wanted core.now) }
+{
+    if !wanted {
+        return Ok(None);
+    }
+    match counts_of(core.history(), alloc) {
+        Ok(counts) => Ok(Some(counts)),
+        Err(AllocError) => Err(AllocError),
     }
 }

@@ -8,21 +8,21 @@ ghost use Rattle.core_state.specs.Setup.{setup_of};
 ghost use Rattle.commands.specs.declared.refused.Refused.TheVariants.{Output};
 ghost use Rattle.commands.specs.Check.{IsCheckRefusal, CheckComesTo, IsTraceOf};
 ghost use Rattle.commands.specs.Check.{IsTraceRefusal, IsHistoryRefusal};
-ghost use Rattle.commands.specs.Account.{IsReported};
 
+use crate::account::report_core;
 use crate::refused::Refused;
+use crate::wanted::Wanted;
 use elf_image::Image;
 use event_text::{Trace, TraceRefused, read_trace};
 use events::Event;
 use history_check::{CheckRefused, Checked, check};
-use reports::{report, status_of};
 use sim_inputs::Settings;
 use std::alloc::Global;
 use std::io::Write;
 
 /// Checks that the events of a trace are a history of the core of an image, and writes what the
-/// history comes to: the records where they are wanted, and the report. Answers the exit status: how
-/// the harts stand.
+/// history comes to: the report, and what else is wanted. Answers the exit status: how the harts
+/// stand.
 ///
 /// Refused are, in this order, the first line of the trace that breaks a rule, sizes of no core or
 /// too many events, and the first event that isn't allowed; then nothing is printed. `Output` is
@@ -32,17 +32,17 @@ pub fn perform_check<W: Write>(
     image: &Image,
     settings: &Settings,
     trace: &[u8],
-    records: bool,
+    wanted: Wanted,
     out: &mut W,
     alloc: Global,
 ) -> Result<u8, Refused>
     ensures refused { IfErr result (IsCheckRefusal settings.now image.now trace.now) }
-    ensures ended { IfOk result (CheckComesTo settings.now image.now trace.now records
+    ensures ended { IfOk result (CheckComesTo settings.now image.now trace.now wanted
         (W.contents out.old) (W.contents out.new)) }
 {
     let trace = read_events(trace, alloc)?;
     let checked = follow_all(image, settings, trace.events(), alloc)?;
-    report_checked(&checked, records, out)
+    report_core(checked.core(), wanted, out, alloc)
 }
 
 /// The events of a trace's text.
@@ -80,18 +80,5 @@ pub(crate) fn follow_all(
         Err(CheckRefused::BadConfig) => Err(Refused::Config),
         Err(CheckRefused::Memory) => Err(Refused::Memory),
         Err(CheckRefused::Event { index, rule }) => Err(Refused::Event { index, rule }),
-    }
-}
-
-/// Writes the report of the history that was checked. Answers how the harts stand.
-fn report_checked<W: Write>(checked: &Checked, records: bool, out: &mut W) -> Result<u8, Refused>
-    ensures refused { IfErr result (λ reason. reason ≡ Output) }
-    ensures reported { IfOk result
-        (IsReported checked.now records false false (W.contents out.old) (W.contents out.new)) }
-{
-    let account = checked.account();
-    match report(&account, records, out) {
-        Ok(()) => Ok(status_of(account.statuses.as_slice())),
-        Err(_) => Err(Refused::Output),
     }
 }

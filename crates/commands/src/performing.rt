@@ -4,37 +4,42 @@ ghost use Rattle.std.specs.Prelude.{◌≡◌, ◌⊎◌, IsTrue, IfOk, IfErr, E
 ghost use Rattle.reports.specs.Statuses.{says_harts};
 ghost use Rattle.commands.specs.declared.refused.Refused.{Refused as AnyRefused};
 ghost use Rattle.commands.specs.Refused.{exit_status_of, refusal_of};
-ghost use Rattle.commands.specs.Inputs.{as_read};
-ghost use Rattle.commands.specs.Commands.{IsUnreported, wants_trace};
+ghost use Rattle.sim_inputs.specs.declared.line.Command.TheVariants.{Run};
+ghost use Rattle.commands.specs.Inputs.{as_read, Read};
+ghost use Rattle.commands.specs.Commands.{IsUnreported, wants_trace, explains};
 ghost use Rattle.commands.specs.Perform.{IsRefusal, LineComesTo, IsPerformed};
-ghost use Rattle.commands.specs.Account.{IsTraceWritten};
+ghost use Rattle.commands.specs.Written.{IsWritten};
 
-use crate::account::Wanted;
 use crate::chart::perform_chart;
 use crate::check::perform_check;
+use crate::explain::{perform_explain, point_to_explain};
 use crate::inputs::{Inputs, image_of, settings_of};
 use crate::list::perform_list;
 use crate::plain::perform_plain;
+use crate::plain_rounds::{perform_rounds, rounds_of};
 use crate::refused::{Refused, Unread, refuse};
 use crate::run::perform_run;
 use crate::schedule::perform_schedule;
 use crate::script::perform_script;
 use crate::step::perform_step;
+use crate::stress::perform_stress;
+use crate::wanted::Wanted;
 use actors::Gate;
 use elf_image::Image;
-use event_text::Sink;
-use sim_inputs::{Command, Line, Settings};
+use sim_inputs::{Command, Line, RunCommand, Settings};
 use smt_core::Predict;
 use std::alloc::Global;
 use std::io::Write;
 use std::sync::Wait;
 use std::thread::Threads;
+use stress_runs::EndFiles;
 
 /// Does all that the program does once its files are read, and answers its exit status: how the
 /// harts stand, 0 for a listing, a schedule, a script and a chart, 2 for a refused input, 4 for a refused trace, 5
 /// where memory, a thread or a file failed. A refusal is one line on `err`. The configuration is
 /// looked at first, then the image, then the script, the order or the trace; a file that couldn't
-/// be read is refused where it is looked at. All that is printed is flushed.
+/// be read is refused where it is looked at. Where `err` is a terminal, a second line says which
+/// command explains a refused configuration or image. All that is printed is flushed.
 ///
 /// The trace of a core goes into `trace`, a sink that hasn't failed, where the line names a file
 /// for it: behind the last ask, and before the tables and the report. Where the sink fails, neither
@@ -42,7 +47,7 @@ use std::thread::Threads;
 pub fn perform<
     G: Gate + Sync,
     P: Predict + Copy + Send,
-    S: Sink,
+    S: EndFiles,
     W: Write,
     E: Write,
     R: Threads + Wait + Sync,
@@ -55,6 +60,7 @@ pub fn perform<
     trace: &mut S,
     out: &mut W,
     err: &mut E,
+    on_terminal: bool,
     alloc: Global,
 ) -> u8
     requires works { S.has_failed trace.old ≡ false }
@@ -65,7 +71,7 @@ pub fn perform<
         (as_read inputs.now.config) (as_read inputs.now.image) (as_read inputs.now.second) reason }
     ensures ended { IsTrue (says_harts result) → LineComesTo line.now.command
         (as_read inputs.now.config) (as_read inputs.now.image) (as_read inputs.now.second)
-        (IsTraceWritten S.written S.has_failed trace.old trace.new) (W.contents out.old)
+        (IsWritten S.begins S.written S.has_failed trace.old trace.new) (W.contents out.old)
         (W.contents out.new) result }
     ensures unwanted { wants_trace line.now.command ≡ false → trace.new ≡ trace.old }
     ensures unreported { S.has_failed trace.new ≡ true → IsUnreported line.now.command
@@ -73,15 +79,27 @@ pub fn perform<
 {
     match read_and_perform(rt, line, inputs, gate, predict, trace, out, alloc) {
         Ok(status) => status,
-        Err(refused) => refuse(refused, err),
+        Err(refused) => refuse_line(refused, line, on_terminal, err),
     }
+}
+
+/// Says why a line is refused, and on a terminal which command says more of it. Answers the exit
+/// status.
+fn refuse_line<E: Write>(refused: Refused, line: &Line<'_>, on_terminal: bool, err: &mut E) -> u8
+    ensures { result ≡ exit_status_of refused }
+{
+    let status = refuse(refused, err);
+    if on_terminal && !explains(&line.command) {
+        point_to_explain(refused, line, err);
+    }
+    status
 }
 
 /// The exit status of a line whose inputs are accepted, with all flushed that it prints.
 fn read_and_perform<
     G: Gate + Sync,
     P: Predict + Copy + Send,
-    S: Sink,
+    S: EndFiles,
     W: Write,
     R: Threads + Wait + Sync,
 >(
@@ -100,13 +118,16 @@ fn read_and_perform<
         (as_read inputs.now.image) (as_read inputs.now.second)) }
     ensures ended { IfOk result (LineComesTo line.now.command (as_read inputs.now.config)
         (as_read inputs.now.image) (as_read inputs.now.second)
-        (IsTraceWritten S.written S.has_failed trace.old trace.new) (W.contents out.old)
+        (IsWritten S.begins S.written S.has_failed trace.old trace.new) (W.contents out.old)
         (W.contents out.new)) }
     ensures unwanted { wants_trace line.now.command ≡ false → trace.new ≡ trace.old }
     ensures unreported { S.has_failed trace.new ≡ true → IsUnreported line.now.command
         (as_read inputs.now.second) (W.contents out.old) (W.contents out.new) }
 {
     let config = inputs.config?;
+    if explains(&line.command) {
+        return perform_explain(config, inputs.image, out, alloc);
+    }
     let settings = settings_of(config, alloc)?;
     let file = inputs.image?;
     let image = image_of(file, settings.ram, alloc)?;
@@ -124,11 +145,18 @@ fn read_and_perform<
     }
 }
 
-/// Does what a command asks for, of its settings, its image and its second file.
+/// Whether a command explains its files, and so takes them before they are refused.
+fn explains(command: &Command<'_>) -> bool
+    ensures { result ≡ explains command.now }
+{
+    matches!(command, Command::Explain(_))
+}
+
+/// Does what any other command asks for, of its settings, its image and its second file.
 fn perform_command<
     G: Gate + Sync,
     P: Predict + Copy + Send,
-    S: Sink,
+    S: EndFiles,
     W: Write,
     R: Threads + Wait + Sync,
 >(
@@ -144,28 +172,30 @@ fn perform_command<
     alloc: Global,
 ) -> Result<u8, Refused>
     requires works { S.has_failed trace.old ≡ false }
-    ensures { IsPerformed S.written S.has_failed trace.old trace.new command.now settings.now
+    requires other { explains command.now ≡ false }
+    ensures { IsPerformed S.begins S.written S.has_failed trace.old trace.new command.now settings.now
         image.now (as_read second.entry) (W.contents out.old) (W.contents out.new) result }
 {
     match command {
         Command::Step(step) => {
-            let wanted = Wanted::new(step.records, step.show, step.looks, step.trace);
+            let wanted = Wanted::of_step(step);
             let script = second?;
             perform_step(
                 image, settings, script, step.why, wanted, predict, trace, out, alloc,
             )
         }
-        Command::Run(run) => {
-            let wanted = Wanted::new(run.records, false, false, run.trace);
-            perform_run(
-                rt, image, settings, wanted, gate, predict, trace, out, alloc,
-            )
-        }
+        Command::Run(run) => perform_runs(
+            rt, image, settings, run, gate, predict, trace, out, alloc,
+        ),
         Command::Check(check) => {
+            let wanted = Wanted::of_check(check);
             let text = second?;
-            perform_check(image, settings, text, check.records, out, alloc)
+            perform_check(image, settings, text, wanted, out, alloc)
         }
         Command::Plain(plain) => {
+            if let Some(rounds) = rounds_of(plain) {
+                return perform_rounds(image, settings, rounds, plain.records, out, alloc);
+            }
             let order = second?;
             perform_plain(image, settings, order, plain.records, out, alloc)
         }
@@ -178,9 +208,45 @@ fn perform_command<
             perform_script(image, settings, text, out, alloc)
         }
         Command::List(_) => perform_list(image, out),
+        Command::Explain(_) => unreachable!(),
         Command::Chart(chart) => {
             let text = second?;
             perform_chart(image, settings, text, chart, trace, out, alloc)
         }
     }
+}
+
+/// Runs an image once, or as often as is asked for.
+fn perform_runs<
+    G: Gate + Sync,
+    P: Predict + Copy + Send,
+    S: EndFiles,
+    W: Write,
+    R: Threads + Wait + Sync,
+>(
+    rt: &R,
+    image: &Image,
+    settings: &Settings,
+    run: &RunCommand<'_>,
+    gate: &G,
+    predict: P,
+    files: &mut S,
+    out: &mut W,
+    alloc: Global,
+) -> Result<u8, Refused>
+    requires works { S.has_failed files.old ≡ false }
+    ensures { (second : Read) → IsPerformed S.begins S.written S.has_failed files.old files.new
+        (Run run.now) settings.now image.now second (W.contents out.old) (W.contents out.new)
+        result }
+{
+    if let Some(times) = run.times {
+        let keep = run.keep.is_some();
+        return perform_stress(
+            rt, image, settings, times, keep, gate, predict, files, out, alloc,
+        );
+    }
+    let wanted = Wanted::of_run(run);
+    perform_run(
+        rt, image, settings, wanted, gate, predict, files, out, alloc,
+    )
 }

@@ -9,9 +9,10 @@ ghost use Rattle.commands.specs.Refused.{PassesAll, AreAccepted, BehindImage};
 ghost use Rattle.commands.specs.Run.{IsRunRefusal, RunComesTo, LackARole, run_refusal};
 ghost use Rattle.commands.specs.Account.{IsTraceWritten};
 
-use crate::account::{Wanted, write_account};
+use crate::account::write_account;
 use crate::inputs::image_of;
 use crate::refused::Refused;
+use crate::wanted::Wanted;
 use actors::{Gate, RunRefused};
 use elf_image::Image;
 use event_text::Sink;
@@ -56,7 +57,7 @@ pub fn run_bytes<G: Gate + Sync, P: Predict + Copy + Send, R: Threads + Wait + S
 }
 
 /// Runs the core of an image, with a thread for each actor of the configuration.
-fn run_image<G: Gate + Sync, P: Predict + Copy + Send, R: Threads + Wait + Sync>(
+pub(crate) fn run_image<G: Gate + Sync, P: Predict + Copy + Send, R: Threads + Wait + Sync>(
     rt: &R,
     image: &Image,
     settings: &Settings,
@@ -115,11 +116,9 @@ pub fn perform_run<
     out: &mut W,
     alloc: Global,
 ) -> Result<u8, Refused>
-    requires untabled { wanted.tables ≡ false }
-    requires unlooked { wanted.looks ≡ false }
     requires works { S.has_failed trace.old ≡ false }
     ensures refused { IfErr result (IsRunRefusal settings.now) }
-    ensures ended { IfOk result (RunComesTo settings.now image.now wanted.records
+    ensures ended { IfOk result (RunComesTo settings.now image.now wanted
         (IsTraceWritten S.written S.has_failed trace.old trace.new wanted.trace)
         (W.contents out.old) (W.contents out.new)) }
     ensures unwanted { wanted.trace ≡ false → trace.new ≡ trace.old }

@@ -15,9 +15,10 @@ ghost use Rattle.commands.specs.Step.{IsStepRefusal, StepComesTo, IsAsking, IsSc
 ghost use Rattle.commands.specs.Step.{ArePrinted};
 ghost use Rattle.commands.specs.Account.{IsTraceWritten};
 
-use crate::account::{Wanted, write_account};
+use crate::account::write_account;
 use crate::inputs::image_of;
 use crate::refused::Refused;
+use crate::wanted::Wanted;
 use elf_image::Image;
 use event_text::Sink;
 use explained_asks::explain;
@@ -236,8 +237,8 @@ pub fn perform_step<P: Predict + Copy, S: Sink, W: Write>(
 ) -> Result<u8, Refused>
     requires works { S.has_failed trace.old ≡ false }
     ensures refused { IfErr result (IsStepRefusal settings.now script.now) }
-    ensures ended { IfOk result (StepComesTo settings.now image.now script.now why wanted.records
-        wanted.tables wanted.looks (IsTraceWritten S.written S.has_failed trace.old trace.new wanted.trace)
+    ensures ended { IfOk result (StepComesTo settings.now image.now script.now why wanted
+        (IsTraceWritten S.written S.has_failed trace.old trace.new wanted.trace)
         (W.contents out.old) (W.contents out.new)) }
     ensures unwanted { wanted.trace ≡ false → trace.new ≡ trace.old }
     ensures unbroken { OnOk result (S.has_failed trace.new ≡ false) }

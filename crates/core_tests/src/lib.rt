@@ -19,6 +19,8 @@ mod first_trace;
 #[cfg(test)]
 mod history_check_tests;
 #[cfg(test)]
+mod live_registers_tests;
+#[cfg(test)]
 mod plain_run_tests;
 #[cfg(test)]
 mod reasons_tests;

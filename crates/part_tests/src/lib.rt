@@ -44,6 +44,8 @@ mod rv_text_tests;
 #[cfg(test)]
 mod rv_word_tests;
 #[cfg(test)]
+mod searches_tests;
+#[cfg(test)]
 mod shared_memory_tests;
 #[cfg(test)]
 mod text_fields_tests;

@@ -1,14 +1,25 @@
 -- The line that shows on a terminal how far a run is.
-use Rattle.std.specs.Prelude.{ℕ, List, ◌∷◌, ◌++◌, codes}
+use Rattle.std.specs.Prelude.{ℕ, ◌==◌, if◌then◌else◌, List, [], ◌∷◌, ◌++◌, codes}
 use Rattle.std.specs.Fmt.{decimal}
 
 -- Has a terminal forget what it shows from its cursor to the end of the line.
 abbrev pub erase : List ℕ
 erase = 27 ∷ codes "[K"
 
--- From the beginning of the line on: the events, out of how many, the seconds that it took, and
--- nothing behind them.
-abbrev pub progress_line : ℕ → ℕ → ℕ → List ℕ
-progress_line events limit seconds =
-    13 ∷ (codes "smtsim: " ++ (decimal events ++ (codes " of " ++ (decimal limit
-    ++ (codes " events, " ++ (decimal seconds ++ (codes " s" ++ erase)))))))
+-- Which of several runs it is; of one run nothing is said.
+abbrev pub run_text : ℕ → ℕ → List ℕ
+run_text run times =
+    if times == 0 then []
+    else codes "run " ++ (decimal run ++ (codes " of " ++ (decimal times ++ codes ", ")))
+
+-- How many events there are, out of how many; the seconds that all took so far, and nothing behind them.
+abbrev pub events_text : ℕ → ℕ → List ℕ
+events_text events limit = decimal events ++ (codes " of " ++ (decimal limit ++ codes " events, "))
+
+abbrev pub seconds_text : ℕ → List ℕ
+seconds_text seconds = decimal seconds ++ (codes " s" ++ erase)
+
+-- From the beginning of the line on.
+abbrev pub progress_line : ℕ → ℕ → ℕ → ℕ → ℕ → List ℕ
+progress_line events limit seconds run times =
+    13 ∷ (codes "smtsim: " ++ (run_text run times ++ (events_text events limit ++ seconds_text seconds)))

@@ -5,6 +5,7 @@ ghost use Rattle.std.specs.declared.io.ErrorKind.TheVariants.{Interrupted};
 ghost use Rattle.program.specs.Files.{why_unread, why_refused, unread_for, IsRefusedFor};
 
 use commands::Unread;
+use sim_inputs::is_standard_input;
 use std::alloc::Global;
 use std::fs;
 use std::io::{Error, ErrorKind, Read};
@@ -39,16 +40,27 @@ impl ReadRefused {
     }
 }
 
-/// The bytes of a file. One that is longer than 1 GiB, or has no end, isn't read to its end.
-pub fn read_file<S: Files>(system: &S, name: &str, alloc: Global) -> Result<Vec<u8>, Unread>
+/// The bytes of a file, or those of standard input where its name is a dash. One that is longer than
+/// 1 GiB, or has no end, isn't read to its end.
+pub fn read_file<S: Files + Input>(system: &S, name: &str, alloc: Global) -> Result<Vec<u8>, Unread>
     ensures { IfOk result (λ bytes. vec_len bytes ≤ 2 ^ 30) }
 {
+    if is_standard_input(name) {
+        return read_whole(system.reader(), alloc);
+    }
     match fs::open(system, name) {
-        Ok(file) => match read_to_end(file, MOST_BYTES, alloc) {
-            Ok(bytes) => Ok(bytes),
-            Err(refused) => Err(refused.unread()),
-        },
+        Ok(file) => read_whole(file, alloc),
         Err(error) => Err(unread_for(&error)),
+    }
+}
+
+/// All bytes of a reader that has no more than a file may have.
+fn read_whole<R: Read + Drop>(reader: R, alloc: Global) -> Result<Vec<u8>, Unread>
+    ensures { IfOk result (λ bytes. vec_len bytes ≤ 2 ^ 30) }
+{
+    match read_to_end(reader, MOST_BYTES, alloc) {
+        Ok(bytes) => Ok(bytes),
+        Err(refused) => Err(refused.unread()),
     }
 }
 

@@ -17,4 +17,4 @@ mod words;
 pub use files::{ReadRefused, read_file, read_to_end};
 pub use performing::perform_words;
 pub use progress::Progress;
-pub use trace_file::TraceFile;
+pub use trace_file::{Places, TraceFile};

@@ -9,11 +9,11 @@ ghost use Rattle.program.specs.Performed.{read_of, IsReadAs, HasPerformed, HaveP
 ghost use Rattle.program.specs.Words.{words_refused, IsWordsStatus};
 
 use crate::files::read_file;
-use crate::trace_file::TraceFile;
+use crate::trace_file::{Places, TraceFile};
 use crate::words::{refuse_words, take_words, texts};
 use actors::Gate;
 use commands::{Inputs, Refused, Unread, perform, refuse};
-use sim_inputs::{Files as NamedFiles, Line, WordsRefused, read_words};
+use sim_inputs::{Command, Files as NamedFiles, Line, WordsRefused, read_words};
 use smt_core::Predict;
 use std::alloc::{AllocError, Global};
 use std::env::Args;
@@ -27,9 +27,10 @@ use std::thread::Threads;
 /// what the words ask for is printed on `out`, and why it isn't on `err`. 0 for help, 2 for a wrong
 /// command line, 5 for want of memory and where `out` fails; else that of the command that is
 /// performed, with this gate and this predictor. Words that are no text are a wrong command line. A
-/// trace is written to the file that the words name.
+/// trace is written to the file that the words name. The file named by a dash is standard input. Where `err` is a terminal, a refused configuration
+/// or image is told of on two lines.
 pub fn perform_words<
-    S: Files + Threads + Wait + Sync,
+    S: Files + Input + Threads + Wait + Sync,
     G: Gate + Sync,
     P: Predict + Copy + Send,
     W: Write + Drop,
@@ -41,6 +42,7 @@ pub fn perform_words<
     predict: P,
     out: io::Result<W>,
     err: &mut E,
+    on_terminal: bool,
     alloc: Global,
 ) -> u8
     ensures known { IsTrue (says_harts result) ⊎ (result ≡ 2) ⊎ (result ≡ 4) ⊎ (result ≡ 5) }
@@ -54,6 +56,7 @@ pub fn perform_words<
         system,
         gate,
         predict,
+        on_terminal,
         alloc,
     };
     match out {
@@ -68,10 +71,12 @@ struct Program<'a, S, G, P> {
     system: &'a S,
     gate: &'a G,
     predict: P,
+    /// Whether standard error is a terminal.
+    on_terminal: bool,
     alloc: Global,
 }
 
-impl<S: Files + Threads + Wait + Sync, G: Gate + Sync, P: Predict + Copy + Send> Program<
+impl<S: Files + Input + Threads + Wait + Sync, G: Gate + Sync, P: Predict + Copy + Send> Program<
     '_,
     S,
     G,
@@ -129,7 +134,11 @@ impl<S: Files + Threads + Wait + Sync, G: Gate + Sync, P: Predict + Copy + Send>
     {
         let files = line.files();
         let read = ReadInputs::of(self.system, &files, self.alloc);
-        let mut trace = TraceFile::new(self.system, files.trace);
+        let places = Places {
+            file: files.trace,
+            folder: folder_of(line),
+        };
+        let mut trace = TraceFile::new(self.system, places, self.alloc);
         perform(
             self.system,
             line,
@@ -139,8 +148,17 @@ impl<S: Files + Threads + Wait + Sync, G: Gate + Sync, P: Predict + Copy + Send>
             &mut trace,
             out,
             err,
+            self.on_terminal,
             self.alloc,
         )
+    }
+}
+
+/// The folder that a line names for the files of ends.
+fn folder_of<'a>(line: &Line<'a>) -> Option<&'a str> {
+    match line.command {
+        Command::Run(run) => run.keep,
+        _ => None,
     }
 }
 
@@ -154,7 +172,7 @@ struct ReadInputs {
 
 impl ReadInputs {
     /// Reads the files, in their order.
-    fn of<S: Files>(system: &S, files: &NamedFiles<'_>, alloc: Global) -> ReadInputs
+    fn of<S: Files + Input>(system: &S, files: &NamedFiles<'_>, alloc: Global) -> ReadInputs
         ensures config { IsReadAs files.now.config (read_of result.config) }
         ensures image { IsReadAs files.now.image (read_of result.image) }
         ensures second { IsReadAs files.now.second (read_of result.second) }
@@ -181,7 +199,11 @@ impl ReadInputs {
 }
 
 /// The bytes of a file that the line names; none where it names none.
-fn read_named<S: Files>(system: &S, name: Option<&str>, alloc: Global) -> Result<Vec<u8>, Unread>
+fn read_named<S: Files + Input>(
+    system: &S,
+    name: Option<&str>,
+    alloc: Global,
+) -> Result<Vec<u8>, Unread>
     ensures few { IfOk result (λ bytes. vec_len bytes ≤ 2 ^ 30) }
     ensures unnamed { IsReadAs name.entry (read_of result) }
 {

@@ -1,6 +1,7 @@
-ghost use Rattle.std.specs.Prelude.{◌≡◌, ◌%◌, ◌^◌, true, sum};
+ghost use Rattle.std.specs.Prelude.{◌≡◌, ◌≤◌, ◌%◌, ◌^◌, ◌++◌, true, sum};
+ghost use Rattle.arrayvec.specs.ArrayString.{array_string_len};
 ghost use Rattle.std.specs.Bool.{then_some};
-ghost use Rattle.program.specs.ProgressLine.{progress_line};
+ghost use Rattle.program.specs.ProgressLine.{progress_line, run_text, events_text, seconds_text};
 
 use actors::{Gate, Point};
 use arrayvec::ArrayString;
@@ -23,7 +24,7 @@ const WATCHER: u8 = 0;
 const CLEARED: &[u8] = b"\r\x1b[K";
 
 /// The line that is shown of a run.
-type ProgressLine = ArrayString<96>;
+type ProgressLine = ArrayString<160>;
 
 /// A gate that lets every actor on, and shows on a terminal how far the run is: about once a
 /// second, from its first second on, on one line, which is cleared when the run is over.
@@ -44,6 +45,10 @@ pub struct Progress<C: Clock + Copy, W: Write + Copy> {
     due: AtomicU64,
     /// Whether there is a line to clear.
     shows: AtomicBool,
+    /// How many runs there are, where there is more than one; else 0.
+    times: AtomicU64,
+    /// How many of them have begun.
+    run: AtomicU64,
 }
 
 impl<C: Clock + Copy, W: Write + Copy> Progress<C, W> {
@@ -60,6 +65,8 @@ impl<C: Clock + Copy, W: Write + Copy> Progress<C, W> {
             start: AtomicU64::new(0),
             due: AtomicU64::new(u64::MAX),
             shows: AtomicBool::new(false),
+            times: AtomicU64::new(0),
+            run: AtomicU64::new(0),
         }
     }
 
@@ -84,7 +91,10 @@ impl<C: Clock + Copy, W: Write + Copy> Progress<C, W> {
         let limit = self.limit.load(Ordering::SeqCst);
         let taken = now.saturating_sub(self.start.load(Ordering::SeqCst));
         self.shows.store(true, Ordering::SeqCst);
-        self.write(line_of(total(&seen.counts), limit, taken / 1000).as_bytes());
+        let run = self.run.load(Ordering::SeqCst);
+        let times = self.times.load(Ordering::SeqCst);
+        let line = line_of(total(&seen.counts), limit, taken / 1000, run, times);
+        self.write(line.as_bytes());
     }
 
     fn write(&self, text: &[u8]) {
@@ -96,8 +106,16 @@ impl<C: Clock + Copy, W: Write + Copy> Progress<C, W> {
 }
 
 impl<C: Clock + Copy, W: Write + Copy> Gate for Progress<C, W> {
+    fn begin_all(&self, times: u32) {
+        self.times.store(u64::from(times), Ordering::SeqCst);
+    }
+
     fn begin(&self, limit: u32) {
         self.limit.store(u64::from(limit), Ordering::SeqCst);
+        let before = self.run.fetch_add(1, Ordering::SeqCst);
+        if before > 0 && self.times.load(Ordering::SeqCst) > 0 {
+            return;
+        }
         if let Some(now) = milliseconds(&self.clock) {
             self.start.store(now, Ordering::SeqCst);
             let first = now.saturating_add(MILLISECONDS_A_LINE);
@@ -115,6 +133,12 @@ impl<C: Clock + Copy, W: Write + Copy> Gate for Progress<C, W> {
     }
 
     fn end(&self) {
+        if self.times.load(Ordering::SeqCst) == 0 {
+            self.end_all();
+        }
+    }
+
+    fn end_all(&self) {
         if self.shows.swap(false, Ordering::SeqCst) {
             self.write(CLEARED);
         }
@@ -138,20 +162,55 @@ fn total(counts: &[u64]) -> u64
     all
 }
 
-/// The line of a run with so many events, of those that it may make, after so many seconds.
-fn line_of(events: u64, limit: u64, seconds: u64) -> ProgressLine
-    ensures { result.bytes ≡ progress_line events limit seconds }
+/// The line of a run with so many events, of those that it may make, after so many seconds; of one of
+/// several runs, it says which.
+fn line_of(events: u64, limit: u64, seconds: u64, run: u64, times: u64) -> ProgressLine
+    ensures { result.bytes ≡ progress_line events limit seconds run times }
 {
     let mut line = ProgressLine::new();
     push_ascii(&mut line, b'\r');
     line.push_str("smtsim: ");
-    push_decimal(&mut line, events);
-    line.push_str(" of ");
-    push_decimal(&mut line, limit);
-    line.push_str(" events, ");
-    push_decimal(&mut line, seconds);
-    line.push_str(" s");
-    push_ascii(&mut line, 27);
-    line.push_str("[K");
+    push_run(&mut line, run, times);
+    push_events(&mut line, events, limit);
+    push_seconds(&mut line, seconds);
     line
+}
+
+/// How many events there are, out of how many.
+fn push_events(line: &mut ProgressLine, events: u64, limit: u64)
+    requires { array_string_len line.old ≤ 70 }
+    ensures spelled { line.new.bytes ≡ line.old.bytes ++ events_text events limit }
+    ensures length { array_string_len line.new ≤ 130 }
+{
+    push_decimal(line, events);
+    line.push_str(" of ");
+    push_decimal(line, limit);
+    line.push_str(" events, ");
+}
+
+/// How many seconds all took so far, and nothing behind them.
+fn push_seconds(line: &mut ProgressLine, seconds: u64)
+    requires { array_string_len line.old ≤ 130 }
+    ensures { line.new.bytes ≡ line.old.bytes ++ seconds_text seconds }
+{
+    push_decimal(line, seconds);
+    line.push_str(" s");
+    push_ascii(line, 27);
+    line.push_str("[K");
+}
+
+/// Which of several runs it is.
+fn push_run(line: &mut ProgressLine, run: u64, times: u64)
+    requires { array_string_len line.old ≤ 16 }
+    ensures spelled { line.new.bytes ≡ line.old.bytes ++ run_text run times }
+    ensures length { array_string_len line.new ≤ 70 }
+{
+    if times == 0 {
+        return;
+    }
+    line.push_str("run ");
+    push_decimal(line, run);
+    line.push_str(" of ");
+    push_decimal(line, times);
+    line.push_str(", ");
 }

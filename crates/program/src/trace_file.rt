@@ -1,30 +1,52 @@
-ghost use Rattle.std.specs.Prelude.{◌≡◌, None, false};
+ghost use Rattle.std.specs.Prelude.{◌≡◌, None, false, true};
 
 use event_text::{Broken, Over, Sink};
+use std::alloc::Global;
 use std::fs;
 use std::rt::Files;
+use stress_runs::{EndFiles, Part};
 
-/// The file that a trace is written to, as a sink. It is made as the first bytes are put, so where
-/// there is no trace there is no file.
+/// Where the files of a line go that it has written.
+#[derive(Clone, Copy, Drop)]
+pub struct Places<'a> {
+    /// The file of a trace, or of a chart.
+    pub file: Option<&'a str>,
+    /// The folder for the files of ends.
+    pub folder: Option<&'a str>,
+}
+
+/// The files that a line has written, as a sink. Each is made as the first of its bytes are put, or
+/// as it is begun, so where there is no trace there is no file.
 #[derive(Drop)]
 pub struct TraceFile<'a, S: Files> {
     files: &'a S,
-    name: Option<&'a str>,
+    places: Places<'a>,
     file: Option<Over<S::File>>,
     failed: bool,
+    alloc: Global,
 }
 
 impl<'a, S: Files> TraceFile<'a, S> {
-    /// A sink that hasn't failed. Without a name it has no file, and its first put fails.
-    pub fn new(files: &'a S, name: Option<&'a str>) -> Self
+    /// A sink that hasn't failed. Without a name its first put fails, and without a folder each
+    /// beginning of a file.
+    pub fn new(files: &'a S, places: Places<'a>, alloc: Global) -> Self
         ensures { result.failed ≡ false }
     {
         TraceFile {
             files,
-            name,
+            places,
             file: None,
             failed: false,
+            alloc,
         }
+    }
+
+    /// From now on it has failed.
+    fn fail(&mut self) -> Broken
+        ensures { self.new.failed ≡ true }
+    {
+        self.failed = true;
+        Broken
     }
 
     /// Makes the file, where that can be done and hasn't been.
@@ -34,13 +56,31 @@ impl<'a, S: Files> TraceFile<'a, S> {
         if self.file.is_some() {
             return;
         }
-        let Some(name) = self.name else {
+        let Some(name) = self.places.file else {
             return;
         };
         if let Ok(file) = fs::create(self.files, name) {
             self.file = Some(Over::new(file));
         }
     }
+}
+
+/// A file of an end, in a folder that is made where it isn't there.
+fn create_part<S: Files>(
+    files: &S,
+    folder: &str,
+    end: u64,
+    part: Part,
+    alloc: Global,
+) -> Option<S::File> {
+    // A folder that is there already is none that can be made. Where it isn't there, no file is.
+    let _ = fs::create_dir(files, folder);
+    let kind = match part {
+        Part::Trace => "trace",
+        Part::Order => "order",
+    };
+    let name = format!(in alloc; "{folder}/end-{end}.{kind}").ok()?;
+    fs::create(files, name.as_str()).ok()
 }
 
 impl<'a, S: Files> Sink for TraceFile<'a, S> {
@@ -58,7 +98,20 @@ impl<'a, S: Files> Sink for TraceFile<'a, S> {
                 return Ok(count);
             }
         }
-        self.failed = true;
-        Err(Broken)
+        Err(self.fail())
+    }
+}
+
+impl<'a, S: Files> EndFiles for TraceFile<'a, S> {
+    ghost begins = { λ sink end part after. Unit {0} };
+
+    fn begin(&mut self, end: u64, part: Part) -> Result<(), Broken> {
+        if let Some(folder) = self.places.folder {
+            if let Some(file) = create_part(self.files, folder, end, part, self.alloc) {
+                self.file = Some(Over::new(file));
+                return Ok(());
+            }
+        }
+        Err(self.fail())
     }
 }

@@ -5,6 +5,7 @@
 
 mod chart;
 mod check;
+mod explain;
 mod list;
 mod looks;
 mod meeting;
@@ -16,6 +17,7 @@ mod script;
 mod script_lines;
 mod script_rows;
 mod step;
+mod stress;
 mod trace_files;
 
 use crate::rows::text_of;

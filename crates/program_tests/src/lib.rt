@@ -1,9 +1,9 @@
 //! The tests of the program: scripts, schedules, the scripts of histories, the words of a line and
-//! its configuration, reports, asks explained, whole lines performed, and what a terminal shows of a
-//! run. They stand in one crate, since a crate with tests of its own is proved twice by the gate.
-//! Each module whose name ends in `_tests` has the tests of the crate that it is named after, through
-//! its public calls alone; `progress_tests` has those of the gate of the crate `program` that shows
-//! on a terminal how far a run is.
+//! its configuration, reports, the numbers of histories, asks explained, whole lines performed, and
+//! what a terminal shows of a run. They stand in one crate, since a crate with tests of its own is
+//! proved twice by the gate. Each module whose name ends in `_tests` has the tests of the crate that
+//! it is named after, through its public calls alone; `progress_tests` has those of the gate of the
+//! crate `program` that shows on a terminal how far a run is.
 #![tactic(auto)]
 
 #[cfg(test)]
@@ -12,6 +12,8 @@ mod commands_tests;
 mod explained_asks_tests;
 #[cfg(test)]
 mod failing;
+#[cfg(test)]
+mod history_counts_tests;
 #[cfg(test)]
 mod history_scripts_tests;
 #[cfg(test)]
@@ -22,6 +24,8 @@ mod performing;
 mod progress_tests;
 #[cfg(test)]
 mod reports_tests;
+#[cfg(test)]
+mod rounds_tests;
 #[cfg(test)]
 mod rows;
 #[cfg(test)]

@@ -1,8 +1,8 @@
 //! Lines of the program, as their words are read. None names a configuration.
 
 use sim_inputs::{
-    ChartCommand, CheckCommand, Command, Line, ListCommand, PlainCommand, RunCommand,
-    ScheduleCommand, ScriptCommand, StepCommand,
+    ChartCommand, CheckCommand, Command, ExplainCommand, Line, ListCommand, PlainCommand,
+    RunCommand, ScheduleCommand, ScriptCommand, StepCommand,
 };
 
 macro_rules! line {
@@ -20,6 +20,8 @@ pub fn step_line(records: bool, show: bool, trace: Option<&'static str>) -> Line
         image: "image",
         script: "script",
         trace,
+        counts: false,
+        json: false,
         looks: false,
         records,
         show,
@@ -33,6 +35,8 @@ pub fn looks_line() -> Line<'static> {
         image: "image",
         script: "script",
         trace: None,
+        counts: false,
+        json: false,
         looks: true,
         records: false,
         show: false,
@@ -45,7 +49,26 @@ pub fn run_line(records: bool, trace: Option<&'static str>) -> Line<'static> {
     line!(Command::Run(RunCommand {
         image: "image",
         trace,
+        counts: false,
+        json: false,
         records,
+        why: false,
+        times: None,
+        keep: None,
+    },))
+}
+
+/// A line that makes so many runs, whose ends are kept.
+pub fn stress_line(times: u32) -> Line<'static> {
+    line!(Command::Run(RunCommand {
+        image: "image",
+        trace: None,
+        counts: false,
+        json: false,
+        records: false,
+        why: false,
+        times: Some(times),
+        keep: Some("kept"),
     },))
 }
 
@@ -54,7 +77,10 @@ pub fn check_line(records: bool) -> Line<'static> {
     line!(Command::Check(CheckCommand {
         image: "image",
         trace: "trace",
+        counts: false,
+        json: false,
         records,
+        why: false,
     },))
 }
 
@@ -62,7 +88,10 @@ pub fn check_line(records: bool) -> Line<'static> {
 pub fn plain_line(records: bool) -> Line<'static> {
     line!(Command::Plain(PlainCommand {
         image: "image",
-        order: "order",
+        order: Some("order"),
+        rounds: None,
+        steps: None,
+        seed: None,
         records,
     },))
 }
@@ -95,3 +124,6 @@ pub fn chart_line(svg: Option<&'static str>, kanata: Option<&'static str>) -> Li
 
 /// The listing of an image's code.
 pub const LIST: Line<'static> = line!(Command::List(ListCommand { image: "image" }));
+
+/// What is said of a configuration and of an image.
+pub const EXPLAIN: Line<'static> = line!(Command::Explain(ExplainCommand { image: "image" }));

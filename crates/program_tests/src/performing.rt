@@ -4,13 +4,14 @@ ghost use Rattle.std.specs.Prelude.{◌≡◌, false};
 
 use actors::{Open, StaticPredictor};
 use commands::{Inputs, Unread, perform};
-use event_text::{Over, Sink};
+use event_text::Over;
 use sim_inputs::Line;
 use smt_core::Predict;
 use std::alloc::Global;
 use std::io::Write;
 use std::sync::Wait;
 use std::thread::Threads;
+use stress_runs::EndFiles;
 
 /// The exit status, and what was written to standard error.
 #[derive(Drop)]
@@ -20,7 +21,7 @@ pub struct Ending {
 }
 
 /// Performs a line, whose trace goes into a sink.
-pub fn perform_into<P: Predict + Copy + Send, S: Sink, W: Write, R: Threads + Wait + Sync>(
+pub fn perform_into<P: Predict + Copy + Send, S: EndFiles, W: Write, R: Threads + Wait + Sync>(
     rt: &R,
     line: &Line<'_>,
     inputs: &Inputs<'_>,
@@ -33,7 +34,7 @@ pub fn perform_into<P: Predict + Copy + Send, S: Sink, W: Write, R: Threads + Wa
 {
     let mut err = Vec::new(alloc);
     let status = perform(
-        rt, line, inputs, &Open, predict, trace, out, &mut err, alloc,
+        rt, line, inputs, &Open, predict, trace, out, &mut err, false, alloc,
     );
     Ending { status, err }
 }

@@ -7,8 +7,8 @@ mod refused_words;
 
 use crate::rows::holds;
 use sim_inputs::{
-    ChartCommand, CheckCommand, Command, Line, ListCommand, PlainCommand, RunCommand,
-    ScheduleCommand, ScriptCommand, StepCommand, read_words,
+    ChartCommand, CheckCommand, Command, ExplainCommand, Line, ListCommand, PlainCommand,
+    RunCommand, ScheduleCommand, ScriptCommand, StepCommand, read_words,
 };
 use std::alloc::{AllocError, Global};
 
@@ -22,7 +22,7 @@ fn words_of(text: &str, alloc: Global) -> Result<Vec<&str>, AllocError> {
 }
 
 /// Words, and what they ask for.
-static LINES: [(&str, Line<'_>); 23] = [
+static LINES: [(&str, Line<'_>); 30] = [
     (
         "smtsim chart a t",
         Line {
@@ -63,6 +63,8 @@ static LINES: [(&str, Line<'_>); 23] = [
                 image: "first.elf",
                 script: "first.script",
                 trace: None,
+                counts: false,
+                json: false,
                 looks: false,
                 records: false,
                 show: false,
@@ -78,6 +80,8 @@ static LINES: [(&str, Line<'_>); 23] = [
                 image: "a",
                 script: "b",
                 trace: None,
+                counts: false,
+                json: false,
                 looks: false,
                 records: false,
                 show: false,
@@ -93,6 +97,8 @@ static LINES: [(&str, Line<'_>); 23] = [
                 image: "a",
                 script: "b",
                 trace: None,
+                counts: false,
+                json: false,
                 looks: false,
                 records: false,
                 show: false,
@@ -108,6 +114,8 @@ static LINES: [(&str, Line<'_>); 23] = [
                 image: "a",
                 script: "b",
                 trace: None,
+                counts: false,
+                json: false,
                 looks: false,
                 records: true,
                 show: false,
@@ -123,6 +131,8 @@ static LINES: [(&str, Line<'_>); 23] = [
                 image: "a",
                 script: "b",
                 trace: None,
+                counts: false,
+                json: false,
                 looks: false,
                 records: false,
                 show: true,
@@ -138,6 +148,8 @@ static LINES: [(&str, Line<'_>); 23] = [
                 image: "a",
                 script: "b",
                 trace: Some("t"),
+                counts: false,
+                json: false,
                 looks: false,
                 records: false,
                 show: false,
@@ -153,6 +165,8 @@ static LINES: [(&str, Line<'_>); 23] = [
                 image: "a",
                 script: "b",
                 trace: Some("t"),
+                counts: false,
+                json: false,
                 looks: false,
                 records: true,
                 show: true,
@@ -168,6 +182,8 @@ static LINES: [(&str, Line<'_>); 23] = [
                 image: "a",
                 script: "b",
                 trace: None,
+                counts: false,
+                json: false,
                 looks: true,
                 records: false,
                 show: false,
@@ -182,7 +198,12 @@ static LINES: [(&str, Line<'_>); 23] = [
             command: Command::Run(RunCommand {
                 image: "a",
                 trace: None,
+                counts: false,
+                json: false,
                 records: false,
+                why: false,
+                times: None,
+                keep: None,
             }),
         },
     ),
@@ -193,7 +214,12 @@ static LINES: [(&str, Line<'_>); 23] = [
             command: Command::Run(RunCommand {
                 image: "a",
                 trace: None,
+                counts: false,
+                json: false,
                 records: true,
+                why: false,
+                times: None,
+                keep: None,
             }),
         },
     ),
@@ -204,7 +230,12 @@ static LINES: [(&str, Line<'_>); 23] = [
             command: Command::Run(RunCommand {
                 image: "a",
                 trace: Some("t"),
+                counts: false,
+                json: false,
                 records: false,
+                why: false,
+                times: None,
+                keep: None,
             }),
         },
     ),
@@ -215,7 +246,10 @@ static LINES: [(&str, Line<'_>); 23] = [
             command: Command::Check(CheckCommand {
                 image: "a",
                 trace: "t",
+                counts: false,
+                json: false,
                 records: false,
+                why: false,
             }),
         },
     ),
@@ -226,7 +260,10 @@ static LINES: [(&str, Line<'_>); 23] = [
             command: Command::Check(CheckCommand {
                 image: "a",
                 trace: "t",
+                counts: false,
+                json: false,
                 records: true,
+                why: false,
             }),
         },
     ),
@@ -236,7 +273,10 @@ static LINES: [(&str, Line<'_>); 23] = [
             config: None,
             command: Command::Plain(PlainCommand {
                 image: "a",
-                order: "b",
+                order: Some("b"),
+                rounds: None,
+                steps: None,
+                seed: None,
                 records: false,
             }),
         },
@@ -247,7 +287,10 @@ static LINES: [(&str, Line<'_>); 23] = [
             config: Some("c"),
             command: Command::Plain(PlainCommand {
                 image: "a",
-                order: "b",
+                order: Some("b"),
+                rounds: None,
+                steps: None,
+                seed: None,
                 records: true,
             }),
         },
@@ -306,6 +349,104 @@ static LINES: [(&str, Line<'_>); 23] = [
             command: Command::List(ListCommand { image: "list.elf" }),
         },
     ),
+    (
+        "smtsim run --times 1000000 a --keep=f",
+        Line {
+            config: None,
+            command: Command::Run(RunCommand {
+                image: "a",
+                trace: None,
+                counts: false,
+                json: false,
+                records: false,
+                why: false,
+                times: Some(1_000_000),
+                keep: Some("f"),
+            }),
+        },
+    ),
+    (
+        "smtsim run --why --counts --json a",
+        Line {
+            config: None,
+            command: Command::Run(RunCommand {
+                image: "a",
+                trace: None,
+                counts: true,
+                json: true,
+                records: false,
+                why: true,
+                times: None,
+                keep: None,
+            }),
+        },
+    ),
+    (
+        "smtsim check --counts a --why - --json",
+        Line {
+            config: None,
+            command: Command::Check(CheckCommand {
+                image: "a",
+                trace: "-",
+                counts: true,
+                json: true,
+                records: false,
+                why: true,
+            }),
+        },
+    ),
+    (
+        "smtsim step - b --json --counts",
+        Line {
+            config: None,
+            command: Command::Step(StepCommand {
+                image: "-",
+                script: "b",
+                trace: None,
+                counts: true,
+                json: true,
+                looks: false,
+                records: false,
+                show: false,
+                why: false,
+            }),
+        },
+    ),
+    (
+        "smtsim plain a --rounds 4294967295 --steps 0 --seed 7 --config -",
+        Line {
+            config: Some("-"),
+            command: Command::Plain(PlainCommand {
+                image: "a",
+                order: None,
+                rounds: Some(4_294_967_295),
+                steps: Some(0),
+                seed: Some(7),
+                records: false,
+            }),
+        },
+    ),
+    (
+        "smtsim plain --rounds=1 a --records",
+        Line {
+            config: None,
+            command: Command::Plain(PlainCommand {
+                image: "a",
+                order: None,
+                rounds: Some(1),
+                steps: None,
+                seed: None,
+                records: true,
+            }),
+        },
+    ),
+    (
+        "smtsim explain --config c a",
+        Line {
+            config: Some("c"),
+            command: Command::Explain(ExplainCommand { image: "a" }),
+        },
+    ),
 ];
 
 /// The files of a line: its configuration, its image, the other one that is read, and the one that is
@@ -322,17 +463,37 @@ fn files_of<'a>(line: &Line<'a>) -> Named<'a> {
     (files.config, files.image, files.second, files.trace)
 }
 
-/// The command of a line, and its flags: records, tables, looks and reasons.
-fn flags_of(line: &Line<'_>) -> (&'static str, [bool; 4]) {
+/// The command of a line, and its flags: records, tables and looks.
+fn flags_of(line: &Line<'_>) -> (&'static str, [bool; 3]) {
     match line.command {
-        Command::Step(step) => ("step", [step.records, step.show, step.looks, step.why]),
-        Command::Run(run) => ("run", [run.records, false, false, false]),
-        Command::Check(check) => ("check", [check.records, false, false, false]),
-        Command::Plain(plain) => ("plain", [plain.records, false, false, false]),
-        Command::Schedule(_) => ("schedule", [false; 4]),
-        Command::Script(_) => ("script", [false; 4]),
-        Command::List(_) => ("list", [false; 4]),
-        Command::Chart(_) => ("chart", [false; 4]),
+        Command::Step(step) => ("step", [step.records, step.show, step.looks]),
+        Command::Run(run) => ("run", [run.records, false, false]),
+        Command::Check(check) => ("check", [check.records, false, false]),
+        Command::Plain(plain) => ("plain", [plain.records, false, false]),
+        Command::Schedule(_) => ("schedule", [false; 3]),
+        Command::Script(_) => ("script", [false; 3]),
+        Command::List(_) => ("list", [false; 3]),
+        Command::Chart(_) => ("chart", [false; 3]),
+        Command::Explain(_) => ("explain", [false; 3]),
+    }
+}
+
+/// What the report of a line's core is to have: reasons, counts, and the form of JSON.
+fn forms_of(line: &Line<'_>) -> [bool; 3] {
+    match line.command {
+        Command::Step(step) => [step.why, step.counts, step.json],
+        Command::Run(run) => [run.why, run.counts, run.json],
+        Command::Check(check) => [check.why, check.counts, check.json],
+        _ => [false; 3],
+    }
+}
+
+/// The numbers of a line that is run often or in rounds, and the folder that it names.
+fn numbers_of<'a>(line: &Line<'a>) -> ([Option<u32>; 3], Option<&'a str>) {
+    match line.command {
+        Command::Run(run) => ([run.times, None, None], run.keep),
+        Command::Plain(plain) => ([plain.rounds, plain.steps, plain.seed], None),
+        _ => ([None, None, None], None),
     }
 }
 
@@ -355,6 +516,8 @@ fn view_of(line: &Line<'_>) -> Option<(u32, u32, Option<u32>, u32, bool)> {
 fn is_same(read: &Line<'_>, line: &Line<'_>) -> bool {
     files_of(read) == files_of(line)
         && flags_of(read) == flags_of(line)
+        && forms_of(read) == forms_of(line)
+        && numbers_of(read) == numbers_of(line)
         && view_of(read) == view_of(line)
 }
 
@@ -375,7 +538,7 @@ fn each_line_is_read_with_its_files_and_options(rt: HostRuntime) {
 }
 
 /// A line of each command, and its files.
-static NAMED: [(Line<'_>, Named<'_>); 8] = [
+static NAMED: [(Line<'_>, Named<'_>); 9] = [
     (
         Line {
             config: Some("c"),
@@ -399,6 +562,8 @@ static NAMED: [(Line<'_>, Named<'_>); 8] = [
                 image: "a",
                 script: "b",
                 trace: Some("t"),
+                counts: false,
+                json: false,
                 looks: false,
                 records: true,
                 show: true,
@@ -413,7 +578,12 @@ static NAMED: [(Line<'_>, Named<'_>); 8] = [
             command: Command::Run(RunCommand {
                 image: "a",
                 trace: Some("t"),
+                counts: false,
+                json: false,
                 records: true,
+                why: false,
+                times: None,
+                keep: None,
             }),
         },
         (Some("c"), Some("a"), None, Some("t")),
@@ -424,7 +594,10 @@ static NAMED: [(Line<'_>, Named<'_>); 8] = [
             command: Command::Check(CheckCommand {
                 image: "a",
                 trace: "t",
+                counts: false,
+                json: false,
                 records: true,
+                why: false,
             }),
         },
         (Some("c"), Some("a"), Some("t"), None),
@@ -434,7 +607,10 @@ static NAMED: [(Line<'_>, Named<'_>); 8] = [
             config: Some("c"),
             command: Command::Plain(PlainCommand {
                 image: "a",
-                order: "b",
+                order: Some("b"),
+                rounds: None,
+                steps: None,
+                seed: None,
                 records: false,
             }),
         },
@@ -466,6 +642,13 @@ static NAMED: [(Line<'_>, Named<'_>); 8] = [
             command: Command::List(ListCommand { image: "a" }),
         },
         (Some("c"), Some("a"), None, None),
+    ),
+    (
+        Line {
+            config: None,
+            command: Command::Explain(ExplainCommand { image: "a" }),
+        },
+        (None, Some("a"), None, None),
     ),
 ];
 

@@ -11,7 +11,8 @@ use std::{env, io};
 fn main(rt: HostRuntime) -> ExitCode {
     let mut err = rt.stderr();
     // Only on a terminal is it shown how far a run is, so standard error in a file stays as it is.
-    let progress = Progress::new(&rt, err, err.is_terminal());
+    let on_terminal = err.is_terminal();
+    let progress = Progress::new(&rt, err, on_terminal);
     ExitCode::from(perform_words(
         &rt,
         env::args(&rt),
@@ -19,6 +20,7 @@ fn main(rt: HostRuntime) -> ExitCode {
         StaticPredictor,
         BufWriter::new(rt.alloc(), io::writer(&rt)),
         &mut err,
+        on_terminal,
         rt.alloc(),
     ))
 }

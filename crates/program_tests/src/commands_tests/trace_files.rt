@@ -9,13 +9,14 @@ use crate::lines::{run_line, step_line};
 use crate::performing::{Ending, inputs_of, perform_into};
 use crate::rows::{ends, holds, shows, text_of};
 use actors::StaticPredictor;
-use event_text::{Over, Sink, read_trace};
+use event_text::{Over, read_trace};
 use history_check::check;
 use sim_inputs::{Line, read_config};
 use std::alloc::Global;
 use std::process::Abort;
 use std::sync::Wait;
 use std::thread::Threads;
+use stress_runs::EndFiles;
 use test_files::{EXIT_WITH_5, image_of};
 
 /// The history of these asks, as a trace.
@@ -47,7 +48,7 @@ struct Traced {
     ending: Ending,
 }
 
-fn perform_traced<S: Sink, R: Threads + Wait + Sync>(
+fn perform_traced<S: EndFiles, R: Threads + Wait + Sync>(
     rt: &R,
     line: &Line<'_>,
     config: &[u8],

@@ -12,29 +12,32 @@ use std::test::Fail;
 const COLUMNS: usize = 80;
 
 /// The words that ask for help, and what it tells; a bar stands between two of those.
-static HELPS: [(&str, &str); 9] = [
+static HELPS: [(&str, &str); 10] = [
     (
         "smtsim --help",
         "Usage: smtsim <COMMAND>|step|run|check|plain|schedule|script|list|chart|\
-harts|extra|queue|ram|limit|turns|actors",
+explain|harts|extra|queue|ram|limit|turns|actors",
     ),
     (
         "smtsim step --help",
-        "Usage: smtsim step [OPTIONS] <IMAGE> <SCRIPT>|--config <FILE>|--looks|--records|\
---show|--trace <FILE>",
+        "Usage: smtsim step [OPTIONS] <IMAGE> <SCRIPT>|--config <FILE>|--counts|--json|--looks|\
+--records|--show|--why|--trace <FILE>",
     ),
     (
         "smtsim run --help",
-        "Usage: smtsim run [OPTIONS] <IMAGE>|--config <FILE>|--records|--trace <FILE>",
+        "Usage: smtsim run [OPTIONS] <IMAGE>|--config <FILE>|--counts|--json|--records|--why|\
+--times <N>|--keep <FOLDER>|--trace <FILE>",
     ),
     (
         "smtsim check --help",
-        "Usage: smtsim check [OPTIONS] <IMAGE> <TRACE>|--config <FILE>|--records|smt-trace 1|\
+        "Usage: smtsim check [OPTIONS] <IMAGE> <TRACE>|--config <FILE>|--counts|--json|--records|\
+--why|smt-trace 1|\
 F actor hart number pc word predicted|T actor number value next address data out",
     ),
     (
         "smtsim plain --help",
-        "Usage: smtsim plain [OPTIONS] <IMAGE> <ORDER>|--config <FILE>|--records|0 to 255",
+        "Usage: smtsim plain [OPTIONS] <IMAGE> [ORDER]|--config <FILE>|--records|--rounds <N>|\
+--steps <N>|--seed <N>|0 to 255",
     ),
     (
         "smtsim schedule --help",
@@ -43,6 +46,10 @@ F actor hart number pc word predicted|T actor number value next address data out
     (
         "smtsim script --help",
         "Usage: smtsim script [OPTIONS] <IMAGE> <TRACE>|--config <FILE>|smt-trace 1",
+    ),
+    (
+        "smtsim explain --help",
+        "Usage: smtsim explain [OPTIONS] <IMAGE>|--config <FILE>",
     ),
     (
         "smtsim list --help",

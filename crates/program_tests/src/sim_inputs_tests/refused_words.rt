@@ -24,6 +24,14 @@ smtsim run
 smtsim run a b
 smtsim run --show a
 smtsim run --looks a
+smtsim run --times 0 a
+smtsim run --times 1000001 a
+smtsim run --keep f a
+smtsim run --times 2 --trace t a
+smtsim run --times 2 --records a
+smtsim run --times 2 --why a
+smtsim run --times 2 --counts a
+smtsim run --times 2 --json a
 smtsim run a --trace
 smtsim run --trace t --trace u a
 smtsim check
@@ -32,6 +40,13 @@ smtsim check a t u
 smtsim check --trace t a u
 smtsim check --show a t
 smtsim plain a
+smtsim plain a b --rounds 1
+smtsim plain a b --steps 1
+smtsim plain a b --seed 1
+smtsim plain a --steps 1
+smtsim plain a --rounds 0
+smtsim plain a --rounds 4294967296
+smtsim plain --counts a b
 smtsim plain a b c
 smtsim plain --show a b
 smtsim plain --trace t a b
@@ -45,6 +60,11 @@ smtsim script a b c
 smtsim script --records a b
 smtsim script --show a b
 smtsim script --trace t a b
+smtsim step - -
+smtsim check - t --config -
+smtsim explain
+smtsim explain a b
+smtsim explain --why a
 smtsim list
 smtsim list first.elf first.script
 smtsim list --records first.elf
@@ -79,6 +99,6 @@ fn other_words_are_refused(rt: HostRuntime) {
         holds(&rt, text, are_refused(text, rt.alloc()) == Ok(true));
         rows = rows.wrapping_add(1);
     }
-    assert!(rt; rows == 55);
+    assert!(rt; rows == 75);
     assert!(rt; is_refusal(read_words(&[], rt.alloc())));
 }

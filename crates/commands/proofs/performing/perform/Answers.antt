@@ -25,10 +25,10 @@ pub returns-in-Err : goal.returns-in-Err
 returns-in-Err g c =
     let has = c.in-Err.ensures in
     record {
-      known = known_refusal c.in-Err.refused _ c.refuse.ensures;
-      unset = unset_refusal c.args.inputs.now.config _ c.in-Err.refused _ c.refuse.ensures has.unset;
-      refused = λ none. (c.in-Err.refused, sym c.refuse.ensures, has.refused);
-      ended = λ harts. absurd (refused_harts c.in-Err.refused _ c.refuse.ensures harts);
+      known = known_refusal c.in-Err.refused _ c.refuse_line.ensures;
+      unset = unset_refusal c.args.inputs.now.config _ c.in-Err.refused _ c.refuse_line.ensures has.unset;
+      refused = λ none. (c.in-Err.refused, sym c.refuse_line.ensures, has.refused);
+      ended = λ harts. absurd (refused_harts c.in-Err.refused _ c.refuse_line.ensures harts);
       unwanted = has.unwanted;
       unreported = has.unreported;
     }

@@ -15,9 +15,9 @@ returns g c =
           account.refused;
       ended =
           with_both answer _ _ _ account.traced account.reported
-          (λ traced status reported. comes_to c.args.settings.now c.args.image.now c.args.wanted.records
-          c.args.wanted.tables c.args.wanted.looks c.in_ok-finished.finished.core _ _ _ status c.requires.untabled
-          c.requires.unlooked ran.accepted ran.manned ran.setup ran.limit ran.shown traced reported);
+          (λ traced status reported. comes_to c.args.settings.now c.args.image.now c.args.wanted
+          c.in_ok-finished.finished.core _ _ _ status ran.accepted ran.manned ran.setup ran.limit ran.shown traced
+          reported);
       unwanted = account.unwanted;
       unbroken = account.unbroken;
       unreported = account.unreported;

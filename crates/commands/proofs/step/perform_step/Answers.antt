@@ -16,7 +16,7 @@ returns g c =
       ended =
           with_both answer _ _ _ account.traced account.reported
           (λ traced status reported. comes_to c.args.settings.now c.args.image.now c.args.script.now c.args.why
-          c.args.wanted.records c.args.wanted.tables c.args.wanted.looks c.in_ok-finished.finished.core _ _ _ _ status
+          c.args.wanted c.in_ok-finished.finished.core _ _ _ _ status
           asked.accepted asked.script asked.setup asked.limit asked.shown asked.printed traced reported);
       unwanted = account.unwanted;
       unbroken = account.unbroken;

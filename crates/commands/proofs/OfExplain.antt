@@ -1,0 +1,205 @@
+-- The command `explain`: what is printed in parts, and which refusal of a line it is.
+use Rattle.std.specs.Prelude.{◌≡◌, ◌⊎◌, ℕ, ◌++◌, true, false, Bool, List, [], Option, Some, None, Result, Ok, Err}
+use Rattle.std.specs.Prelude.{codes}
+use Rattle.std.proofs.Common.{refl, sym, ap, ◌∙◌, append_assoc, subst, IfSome, IfNone, IfOk}
+use Rattle.std.proofs.lemmas.List.{append-nil}
+use mathlib.Core.Logic.{inl, inr}
+use Rattle.std.specs.Io.KnownBytes.{Appends}
+use Rattle.text_fields.specs.{Printing.Prints}
+use Rattle.elf_image.specs.{declared.refusal.LoadRefused.LoadRefused, Refusal.reason_number}
+use Rattle.commands.specs.Written.{ToWrite}
+use Rattle.explanations.specs.Explained.{Begins, IsRefusedBy, IsAccepted, refused_line, config_head, image_head}
+use Rattle.sim_inputs.specs.{declared.line.Command.Command, declared.settings.Settings.Settings}
+use Rattle.sim_inputs.specs.declared.line.Command.TheVariants as commands
+use Rattle.sim_inputs.specs.{Configuration.IsConfiguration}
+use Rattle.commands.specs.declared.refused.Refused.{Refused}
+use Rattle.commands.specs.declared.refused.Refused.TheVariants.{Image, Config, Script, Order, Step, Memory, File}
+use Rattle.commands.specs.declared.refused.Refused.TheVariants.{Output, Thread, Trace, Event, NoUnit, Limit, NoHart}
+use Rattle.commands.specs.declared.refused.Refused.TheVariants.{Prediction, Register, Picture}
+use Rattle.commands.specs.declared.refused.Unread.{Unread}
+use Rattle.commands.specs.declared.refused.Unread.TheVariants as unread
+use Rattle.commands.specs.Refused.{refusal_of, IsFirstFailed, AreAccepted}
+use Rattle.commands.specs.Inputs.{Read, OfProgram}
+use Rattle.commands.specs.Explain.{IsExplainRefusal, IsExplanationOf, IsWritingRefusal, ExplainComesTo}
+use Rattle.commands.specs.Explain.{Tells, PrintsSome}
+use Rattle.commands.specs.{Commands.explains, Perform.IsRefusal, Perform.LineComesTo}
+use Rattle.commands.proofs.OfLine.{accepted_of}
+
+-- ---- What is printed
+
+appended : (old mid new : Option (List ℕ)) (a b : List ℕ) → Appends old mid a → Appends mid new b
+    → Appends old new (a ++ b)
+appended None mid new a b first second = tt
+appended (Some xs) None new a b first second = absurd first
+appended (Some xs) (Some ys) None a b first second = absurd second
+appended (Some xs) (Some ys) (Some zs) a b first second =
+    second ∙ ap (λ us. us ++ b) first ∙ append_assoc xs a b
+
+joined : (config settings image rest : List ℕ)
+    → (config ++ settings) ++ (image ++ rest) ≡ config ++ (settings ++ (image ++ rest))
+joined config settings image rest = append_assoc config settings (image ++ rest)
+
+-- the lines of a configuration, and then those of an image
+pub prints_both : (old mid new : Option (List ℕ)) (config image : List ℕ) → Prints old mid (Begins config)
+    → Prints mid new (Begins image) → Prints old new (Tells config image)
+prints_both old mid new config image (a, (settings, is_a), first) (b, (rest, is_b), second) = (
+  a ++ b,
+  (settings, rest, rw (is_a, is_b) (joined config settings image rest)),
+  appended old mid new a b first second,
+)
+
+-- a text, and then some more
+pub prints_more : (old mid new : Option (List ℕ)) (head : List ℕ) → Prints old mid (Begins head)
+    → PrintsSome mid new → Prints old new (Begins head)
+prints_more old mid new head (a, (settings, is_a), first) (b, some, second) = (
+  a ++ b,
+  (settings ++ b, rw is_a (append_assoc head settings b)),
+  appended old mid new a b first second,
+)
+
+pub prints_twice : (old mid new : Option (List ℕ)) (a : List ℕ) (P : List ℕ → Type 0) → Appends old mid a
+    → Prints mid new P → PrintsSome old new
+prints_twice old mid new a P first (b, is, second) = (a ++ b, tt, appended old mid new a b first second)
+
+nothing : (old : Option (List ℕ)) → Appends old old []
+nothing None = tt
+nothing (Some xs) = sym (append-nil xs)
+
+pub prints_nothing : (old : Option (List ℕ)) → PrintsSome old old
+prints_nothing old = ([], tt, nothing old)
+
+-- the line of a configuration, and of an image, once it is known which it is
+pub accepted_line : (found : Option Settings) (settings : Settings) (old mid : Option (List ℕ)) → found ≡ Some settings
+    → Prints old mid (Begins (config_head found)) → Prints old mid (Begins (codes "config accepted\n"))
+accepted_line found settings old mid is told =
+    subst (λ (f : Option Settings). Prints old mid (Begins (config_head f))) is told
+
+pub refused_config_line : (found : Option Settings) (old mid : Option (List ℕ)) → found ≡ None
+    → Prints old mid (Begins (config_head found)) → Prints old mid (Begins (codes "config refused\n"))
+refused_config_line found old mid is told =
+    subst (λ (f : Option Settings). Prints old mid (Begins (config_head f))) is told
+
+pub accepted_image_line : (found : Option LoadRefused) (old mid : Option (List ℕ)) → found ≡ None
+    → Prints old mid (Begins (image_head found)) → Prints old mid (Begins (codes "image accepted\n"))
+accepted_image_line found old mid is told =
+    subst (λ (f : Option LoadRefused). Prints old mid (Begins (image_head f))) is told
+
+pub check_line : (found : Option LoadRefused) (check : LoadRefused) (number : ℕ) (old mid : Option (List ℕ))
+    → found ≡ Some check → number ≡ reason_number check → Prints old mid (Begins (image_head found))
+    → Prints old mid (Begins (refused_line number))
+check_line found check number old mid is same told =
+    let line : Prints old mid (Begins (refused_line (reason_number check))) =
+    subst (λ (f : Option LoadRefused). Prints old mid (Begins (image_head f))) is told in
+    subst (λ (n : ℕ). Prints old mid (Begins (refused_line n))) (sym same) line
+
+-- and what is so of it
+pub configured : (found : Option Settings) (settings : Settings) (config : List ℕ) → found ≡ Some settings
+    → IfSome found (IsConfiguration config) → IsConfiguration config settings
+configured found settings config is has =
+    subst (λ (f : Option Settings). IfSome f (IsConfiguration config)) is has
+
+pub image_accepted : (found : Option LoadRefused) (file : List ℕ) (ram : ℕ) → found ≡ None
+    → IfNone found (IsAccepted file ram) → IsAccepted file ram
+image_accepted found file ram is has = subst (λ (f : Option LoadRefused). IfNone f (IsAccepted file ram)) is has
+
+-- ---- Refusals
+
+-- Memory and the output are refused, whatever the files are.
+pub writing_refusal : (config : List ℕ) (image : Read) (old new : Option (List ℕ)) (reason : Refused)
+    → IsWritingRefusal reason → IsExplainRefusal config image reason × IsExplanationOf reason old new
+writing_refusal config image old new (Image number) is = absurd is
+writing_refusal config image old new Config is = absurd is
+writing_refusal config image old new (Script number) is = absurd is
+writing_refusal config image old new (Order index) is = absurd is
+writing_refusal config image old new (Step index why) is = absurd is
+writing_refusal config image old new (Trace line rule) is = absurd is
+writing_refusal config image old new (Event index rule) is = absurd is
+writing_refusal config image old new (Prediction index) is = absurd is
+writing_refusal config image old new (Register index) is = absurd is
+writing_refusal config image old new (NoUnit kind) is = absurd is
+writing_refusal config image old new (Limit least) is = absurd is
+writing_refusal config image old new (NoHart hart) is = absurd is
+writing_refusal config image old new (Picture last) is = absurd is
+writing_refusal config image old new Memory is = (tt, tt)
+writing_refusal config image old new Thread is = absurd is
+writing_refusal config image old new File is = absurd is
+writing_refusal config image old new Output is = (tt, tt)
+
+-- An image's file that couldn't be read, behind a configuration.
+pub unread_refusal : (config : List ℕ) (settings : Settings) (image : Read) (why : Unread)
+    (old new : Option (List ℕ)) → IsConfiguration config settings → image ≡ Err why
+    → IsExplainRefusal config image (refusal_of why) × IsExplanationOf (refusal_of why) old new
+unread_refusal config settings image unread.File old new is same = ((settings, is, same), tt)
+unread_refusal config settings image unread.Memory old new is same = (tt, tt)
+
+-- The check that an image fails first, behind a configuration.
+pub image_refusal : (config : List ℕ) (settings : Settings) (file : List ℕ) (number : ℕ) (check : LoadRefused)
+    → IsConfiguration config settings → IsRefusedBy file settings.ram check → number ≡ reason_number check
+    → IsExplainRefusal config (Ok file) (Image number)
+image_refusal config settings file number check is refused same = (
+  settings,
+  is,
+  record {
+    check = check;
+    is_check = refused.is_check;
+    has_number = same;
+    refusal = refused.refusal;
+  },
+)
+
+-- Both are accepted.
+pub both_accepted : (config : List ℕ) (settings : Settings) (file : List ℕ) (old new : Option (List ℕ)) (status : ℕ)
+    → IsConfiguration config settings → IsAccepted file settings.ram → ExplainComesTo old new status
+    → OfProgram (Ok config) (Ok file) (λ settings program. ExplainComesTo old new status)
+both_accepted config settings file old new status is accepted told =
+    (settings, is, (accepted.passes, accepted.image, accepted.is_image, told))
+
+-- ---- Of a line
+
+pub line_refusal : (command : Command) (config : List ℕ) (image second : Read) (reason : Refused)
+    → explains command ≡ true → IsExplainRefusal config image reason
+    → IsRefusal command (Ok config) image second reason
+line_refusal command config image second (Image number) explains is = is
+line_refusal command config image second Config explains is = inl is
+line_refusal command config image second (Script number) explains is = absurd is
+line_refusal command config image second (Order index) explains is = absurd is
+line_refusal command config image second (Step index why) explains is = absurd is
+line_refusal command config image second (Trace line rule) explains is = absurd is
+line_refusal command config image second (Event index rule) explains is = absurd is
+line_refusal command config image second (Prediction index) explains is = absurd is
+line_refusal command config image second (Register index) explains is = absurd is
+line_refusal command config image second (NoUnit kind) explains is = absurd is
+line_refusal command config image second (Limit least) explains is = absurd is
+line_refusal command config image second (NoHart hart) explains is = absurd is
+line_refusal command config image second (Picture last) explains is = absurd is
+line_refusal command config image second Memory explains is = tt
+line_refusal command config image second Thread explains is = absurd is
+line_refusal command config image second File explains is = inr (inl is)
+line_refusal command config image second Output explains is = inr explains
+
+pub line_comes_to : (command : Command) (config : List ℕ) (image second : Read) (Traced : ToWrite → Type 0)
+    (old new : Option (List ℕ)) (status : ℕ) → explains command ≡ true
+    → OfProgram (Ok config) image (λ settings program. ExplainComesTo old new status)
+    → LineComesTo command (Ok config) image second Traced old new status
+line_comes_to (commands.Explain explain) config (Ok file) second Traced old new status is told = (
+  told.0,
+  told.1,
+  (told.2.0, told.2.1, told.2.2, (accepted_of config told.0 told.1, told.2.3)),
+)
+line_comes_to (commands.Explain explain) config (Err why) second Traced old new status is told = absurd told.2
+line_comes_to (commands.Step step) config image second Traced old new status is told = absurd (cc)
+line_comes_to (commands.Run run) config image second Traced old new status is told = absurd (cc)
+line_comes_to (commands.Check check) config image second Traced old new status is told = absurd (cc)
+line_comes_to (commands.Plain plain) config image second Traced old new status is told = absurd (cc)
+line_comes_to (commands.Schedule schedule) config image second Traced old new status is told = absurd (cc)
+line_comes_to (commands.Script script) config image second Traced old new status is told = absurd (cc)
+line_comes_to (commands.List list) config image second Traced old new status is told = absurd (cc)
+line_comes_to (commands.Chart chart) config image second Traced old new status is told = absurd (cc)
+
+pub line_ended : (answer : Result ℕ Refused) (command : Command) (config : List ℕ) (image second : Read)
+    (Traced : ToWrite → Type 0) (old new : Option (List ℕ)) → explains command ≡ true
+    → IfOk answer (λ status. OfProgram (Ok config) image (λ settings program. ExplainComesTo old new status))
+    → IfOk answer (LineComesTo command (Ok config) image second Traced old new)
+line_ended (Ok status) command config image second Traced old new is told =
+    line_comes_to command config image second Traced old new status is told
+line_ended (Err why) command config image second Traced old new is told = tt

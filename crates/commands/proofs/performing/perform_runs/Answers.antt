@@ -1,0 +1,10 @@
+use Rattle.std.proofs.Common.{ap, ◌∙◌}
+use Rattle.commands.proofs.OfStress.{many_performed, one_performed}
+use Rattle.commands.proofs.performing.perform_runs.Goals as goal
+
+pub returns-in-Some : goal.returns-in-Some
+returns-in-Some g c = λ second.
+    let did = c.perform_stress.ensures in
+    many_performed g.S.EndFiles.begins g.S.Sink.written g.S.Sink.has_failed _ _ c.args.run.now c.args.settings.now
+    c.args.image.now second _ _ c.perform_stress.result did.refused did.unbroken did.unreported _ _ c.in-Some.is
+    c.is_some-keep.ensures did.ended did.unwanted

@@ -1,0 +1,51 @@
+-- The command `explain`: why a configuration or an image is refused, or what is in it. (This
+-- project's own choice.)
+use Rattle.std.specs.Prelude.{◌≡◌, ℕ, List, ◌++◌, Option, Ok, Err, codes}
+use Rattle.elf_image.specs.{declared.refusal.LoadRefused.LoadRefused, Refusal.reason_number}
+use Rattle.text_fields.specs.{Printing.Prints}
+use Rattle.explanations.specs.Explained.{Begins, refused_line}
+use Rattle.commands.specs.{declared.refused.Refused.Refused}
+use Rattle.commands.specs.declared.refused.Refused.TheVariants.{Image, Config, Memory, File, Output}
+use Rattle.commands.specs.declared.refused.Unread.TheVariants as unread
+use Rattle.commands.specs.Refused.{IsFirstFailed}
+use Rattle.commands.specs.Inputs.{Read, OfFile, OfSettings, IsNoConfiguration}
+
+-- When each refusal comes: as for every other command, the configuration's before the image's. Of
+-- memory and of the output nothing is said.
+abbrev pub IsExplainRefusal : List ℕ → Read → Refused → Type 0
+IsExplainRefusal config image (Image number) = OfSettings (Ok config)
+    (λ settings. OfFile image (λ file. IsFirstFailed file settings.ram number))
+IsExplainRefusal config image Config = IsNoConfiguration config
+IsExplainRefusal config image Memory = Unit {0}
+IsExplainRefusal config image File = OfSettings (Ok config) (λ settings. image ≡ Err unread.File)
+IsExplainRefusal config image Output = Unit {0}
+IsExplainRefusal config image _ = ⊥
+
+-- No more than memory or the output is refused.
+abbrev pub IsWritingRefusal : Refused → Type 0
+IsWritingRefusal Memory = Unit {0}
+IsWritingRefusal Output = Unit {0}
+IsWritingRefusal _ = ⊥
+
+-- A text has the line of a configuration at its start, and that of an image behind what is said of
+-- the configuration.
+abbrev pub Tells : List ℕ → List ℕ → List ℕ → Type 0
+Tells config image text = (settings : List ℕ) × (rest : List ℕ)
+    × (text ≡ config ++ (settings ++ (image ++ rest)))
+
+-- Some text was printed.
+abbrev pub PrintsSome : Option (List ℕ) → Option (List ℕ) → Type 0
+PrintsSome old new = Prints old new (λ text. Unit {0})
+
+-- What was printed before a refusal: that the configuration is refused; or that it is accepted, and
+-- the number of the check that the image fails.
+abbrev pub IsExplanationOf : Refused → Option (List ℕ) → Option (List ℕ) → Type 0
+IsExplanationOf (Image number) old new =
+    Prints old new (Tells (codes "config accepted\n") (refused_line number))
+IsExplanationOf Config old new = Prints old new (Begins (codes "config refused\n"))
+IsExplanationOf reason old new = Unit {0}
+
+-- What the command comes to: it says that both are accepted, and the exit status is 0.
+pub record ExplainComesTo (old new : Option (List ℕ)) (exit_status : ℕ) : Type 0 where
+  pub printed : Prints old new (Tells (codes "config accepted\n") (codes "image accepted\n"))
+  pub zero : exit_status ≡ 0

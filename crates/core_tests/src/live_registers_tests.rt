@@ -1,0 +1,57 @@
+//! Live registers of small programs, by hand from the ISA.
+
+use crate::rows::holds;
+use decoded_code::Code;
+use live_registers::LiveTable;
+use std::alloc::Global;
+use test_files::{file_of, image_of};
+
+/// `addi x10,x0,5`, `addi x17,x0,93`, `ecall`.
+static EXIT: [u32; 3] = [0x0050_0513, 0x05d0_0893, 0x0000_0073];
+
+/// `beq x5,x6,8`, `addi x10,x0,1`, `ecall`: the branch goes to the ECALL.
+static BRANCH: [u32; 3] = [0x0062_8463, 0x0010_0513, 0x0000_0073];
+
+/// `jalr x0,0(x1)`.
+static RETURN: [u32; 1] = [0x0000_8067];
+
+/// A program, a pc, a register, and whether it is live there.
+type LiveRow = (&'static [u32], u32, u8, bool);
+
+fn rows() -> [LiveRow; 12] {
+    [
+        (&EXIT, 0x8000_0008, 10, true),
+        (&EXIT, 0x8000_0008, 17, true),
+        (&EXIT, 0x8000_0008, 5, false),
+        (&EXIT, 0x8000_0004, 10, true),
+        (&EXIT, 0x8000_0004, 17, false),
+        (&EXIT, 0x8000_0000, 10, false),
+        (&EXIT, 0x8000_000c, 10, false),
+        (&BRANCH, 0x8000_0000, 5, true),
+        (&BRANCH, 0x8000_0000, 10, true),
+        (&BRANCH, 0x8000_0004, 10, false),
+        (&BRANCH, 0x8000_0004, 6, false),
+        (&RETURN, 0x8000_0000, 31, true),
+    ]
+}
+
+/// Whether a register of a program is live at a pc, where there is memory for the answer.
+fn is_live(words: &[u32], pc: u32, register: u8, alloc: Global) -> Option<bool> {
+    let file = file_of(words, 0, alloc).ok()?;
+    let image = image_of(file.as_slice(), 65536, alloc)?;
+    let code = Code::new(&image, alloc).ok()?;
+    let table = LiveTable::of(&code, alloc).ok()?;
+    if register < 32 {
+        Some(table.is_live(pc, register))
+    } else {
+        None
+    }
+}
+
+#[test]
+fn a_register_is_live_where_it_may_be_read_before_it_is_written(rt: HostRuntime) {
+    for (words, pc, register, live) in &rows() {
+        let found = is_live(words, *pc, *register, rt.alloc());
+        holds(&rt, "live", found == Some(*live));
+    }
+}

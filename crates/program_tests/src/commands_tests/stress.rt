@@ -1,0 +1,40 @@
+//! Many runs of one image: the table of their ends, and what is kept of an end.
+
+use super::ENDING;
+use crate::lines::stress_line;
+use crate::performing::{perform_into, read_inputs_of};
+use crate::rows::text_of;
+use actors::StaticPredictor;
+use event_text::Over;
+use test_files::file_of;
+
+/// All of three runs end so.
+const TABLE: &str = "times 3
+end 1 came 3 times
+hart 0 ended 5
+output -
+ends 1
+";
+
+#[test]
+fn runs_of_one_end_are_counted_and_the_first_is_kept(rt: HostRuntime) {
+    let image = file_of(ENDING, 0, rt.alloc()).expect(&rt, "an image");
+    let inputs = read_inputs_of(b"", &image, b"");
+    let mut kept = Over::new(Vec::new(rt.alloc()));
+    let mut out = Vec::new(rt.alloc());
+    let ending = perform_into(
+        &rt,
+        &stress_line(3),
+        &inputs,
+        StaticPredictor,
+        &mut kept,
+        &mut out,
+        rt.alloc(),
+    );
+    assert!(rt; ending.status == 1);
+    assert!(rt; text_of(&out) == TABLE);
+    // A trace of the one end, and behind it its order: three instructions of hart 0.
+    let kept = kept.into_inner();
+    assert!(rt; kept.starts_with(b"smt-trace 1\n"));
+    assert!(rt; kept.ends_with(b"- e00000005 - - -\n0\n0\n0\n"));
+}
