@@ -52,9 +52,9 @@ pub record IsReported (left : RoundsRun) (old new : Option (List ℕ)) (exit_sta
       (plain_report_text left.retired left.statuses.items left.machine.output)
   pub stands : exit_status ≡ status_number left.statuses.items
 
--- What the command comes to. The machine has so many harts, and there are rounds of the definitions' machine, of this image and these
--- settings' harts. What was printed is what is printed of their run; the exit status is that of its
--- harts.
+-- What the command comes to. The machine has so many harts, and there are rounds of the definitions'
+-- machine, of this image and these settings' harts. What was printed is what is printed of their run;
+-- the exit status is that of its harts.
 pub record RoundsComeTo (settings : Settings) (image : ProgramImage) (rounds : Rounds)
     (with_records : Bool) (old new : Option (List ℕ)) (exit_status : ℕ) : Type 0 where
   pub accepted : are_harts settings.config.harts ≡ true
