@@ -7,13 +7,15 @@ ghost use Rattle.rv_instr.specs.Decode.{op_of_word};
 ghost use Rattle.rv_instr.specs.Kinds.{first_source, second_source};
 ghost use Rattle.rv_instr.specs.Table.{OpInRange};
 ghost use Rattle.decoded_code.specs.Code.{IsCodeOf};
+ghost use Rattle.sc_machine.specs.Access.{HasNoFault};
 ghost use Rattle.sc_machine.specs.Execution.{IsNext, IsAllowed};
+ghost use Rattle.sc_machine.specs.Here.{word_here, op_here, computed_here};
 
 use crate::effect::{effect_here, stop_at_fault};
 use crate::hart::Hart;
 use decoded_code::Code;
 use events::Record;
-use rv_execute::execute;
+use rv_execute::{Computed, execute};
 use rv_instr::{Op, Reg};
 use shared_memory::Memory;
 
@@ -26,6 +28,14 @@ pub struct Execution {
     pub record: Record,
 }
 
+/// An instruction that was fetched, and what it computes.
+#[derive(Drop)]
+pub struct NextInstruction {
+    pub word: Option<u32>,
+    pub op: Op,
+    pub computed: Computed,
+}
+
 /// What hart `hart`, with `state` of its own, does next. The code is that of the memory's image.
 pub fn next_execution(memory: &Memory, code: &Code, hart: u8, state: &Hart) -> Execution
     requires hart { hart < most_harts }
@@ -33,15 +43,10 @@ pub fn next_execution(memory: &Memory, code: &Code, hart: u8, state: &Hart) -> E
     ensures is { IsNext memory.now hart state.now result }
     ensures allowed { IsAllowed memory.now result }
 {
-    let (word, op) = fetch(code, state.pc);
-    let first = first_source(op);
-    let second = second_source(op);
+    let NextInstruction { word, op, computed } = next_instruction(memory, code, state);
     let _destination = op.destination();
-    let computed = stop_at_fault(
-        memory,
-        op,
-        execute(op, state.pc, state.read(first), state.read(second)),
-    );
+    let _first = first_source(op);
+    let _second = second_source(op);
     let addr = computed.addr;
     let effect = effect_here(memory, hart, op, computed);
     Execution {
@@ -54,6 +59,28 @@ pub fn next_execution(memory: &Memory, code: &Code, hart: u8, state: &Hart) -> E
             effect,
         },
     }
+}
+
+/// The instruction that a hart has yet to execute, and what it computes of the hart's registers, with
+/// the faults of its access. Neither asks what memory holds now, but for the image.
+pub fn next_instruction(memory: &Memory, code: &Code, state: &Hart) -> NextInstruction
+    requires code { IsCodeOf memory.now.image code.now }
+    ensures word { result.word ≡ word_here memory.now state.now }
+    ensures op { result.op ≡ op_here memory.now state.now }
+    ensures computed { result.computed
+        ≡ computed_here memory.now state.now (op_here memory.now state.now) }
+    ensures no_fault { HasNoFault memory.now.image result.op result.computed }
+    ensures in_range { OpInRange result.op }
+{
+    let (word, op) = fetch(code, state.pc);
+    let first = first_source(op);
+    let second = second_source(op);
+    let computed = stop_at_fault(
+        memory,
+        op,
+        execute(op, state.pc, state.read(first), state.read(second)),
+    );
+    NextInstruction { word, op, computed }
 }
 
 /// The word at a pc and what it is.

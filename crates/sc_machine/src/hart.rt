@@ -8,7 +8,7 @@ use rv_instr::Reg;
 use smt_model::Status;
 
 /// What a hart has of its own. x0 stands in its registers as 0.
-#[derive(Clone, Copy, Drop)]
+#[derive(Clone, Copy, PartialEq, Eq, Hash, Drop)]
 pub struct Hart {
     pub registers: [u32; 32],
     pub pc: u32,

@@ -18,4 +18,5 @@ pub use access::AccessKind;
 pub use accesses::{fault, read};
 pub use commits::commit_access;
 pub use memory::Memory;
+pub use reservations::{Reservations, end_on_word, held_by, is_on_word};
 pub use sharing::touches;

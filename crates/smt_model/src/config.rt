@@ -57,7 +57,7 @@ fn copy_of(roles: &[Role]) -> ArrayVec<Role, MOST_ACTORS>
 }
 
 /// How a hart stands.
-#[derive(Clone, Copy, PartialEq, Eq, Drop)]
+#[derive(Clone, Copy, PartialEq, Eq, Hash, Drop)]
 pub enum Status {
     Going,
     /// It has ended with this number.
