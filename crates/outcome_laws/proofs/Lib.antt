@@ -1,4 +1,5 @@
-mod Paths
-mod Local
-mod Live
-mod Search
+pub mod Paths
+pub mod Local
+pub mod Live
+pub mod Search
+pub mod Settling

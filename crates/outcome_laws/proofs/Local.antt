@@ -122,7 +122,7 @@ apart_at k h g apart = grind (arith, nat_tests)
 apart_writes : (k h g r d e : ℕ) → (g == h) ≡ false → (((k == h) && (r == d)) && ((k == g) && (r == e))) ≡ false
 apart_writes k h g r d e apart = grind (arith, nat_tests)
 
-flipped : (h g : ℕ) → (g == h) ≡ false → (h == g) ≡ false
+pub flipped : (h g : ℕ) → (g == h) ≡ false → (h == g) ≡ false
 flipped h g apart = grind (arith, nat_tests)
 
 -- What hart g finds once another has stepped is what it would have found: its registers and its pc.
@@ -134,11 +134,11 @@ finds : (setup : Setup) (h g : ℕ) (s : Plain) → (g == h) ≡ false
     → computes setup (stepped setup h s) g ≡ computes setup s g
 finds setup h g s apart = rw apart refl
 
-can_still : (setup : Setup) (h g : ℕ) (s : Plain) → (g == h) ≡ false
+pub can_still : (setup : Setup) (h g : ℕ) (s : Plain) → (g == h) ≡ false
     → can_step setup g (stepped setup h s) ≡ can_step setup g s
 can_still setup h g s apart = rw apart refl
 
-local_still : (setup : Setup) (h g : ℕ) (s : Plain) → (g == h) ≡ false
+pub local_still : (setup : Setup) (h g : ℕ) (s : Plain) → (g == h) ≡ false
     → is_local setup g (stepped setup h s) ≡ is_local setup g s
 local_still setup h g s apart = ap₂ is_local_of (finds_op setup h g s apart) (finds setup h g s apart)
 
@@ -254,7 +254,7 @@ swapped h g s op oq a b x y apart quiet = record {
 }
 
 -- The same with the words of a step.
-commutes : (setup : Setup) (h g : ℕ) (s : Plain) → (g == h) ≡ false → is_local setup h s ≡ true
+pub commutes : (setup : Setup) (h g : ℕ) (s : Plain) → (g == h) ≡ false → is_local setup h s ≡ true
     → stepped setup g (stepped setup h s) ≡ stepped setup h (stepped setup g s)
 commutes setup h g s apart local =
     let sh = stepped setup h s in

@@ -1,13 +1,13 @@
 -- Why what a search visits is enough, and is reached.
 use Rattle.std.specs.Prelude.{◌≡◌, ℕ, zero, suc, ◌≤◌, Bool, true, ◌||◌, ◌&&◌, List, [], ◌∷◌}
-use Rattle.std.specs.Prelude.{◌++◌, length, Some, Contains}
+use Rattle.std.specs.Prelude.{◌++◌, length, Some}
 use Rattle.std.proofs.Common.{◌∙◌, refl, sym, ap, ap₂, subst, arith}
-use Rattle.smt_model.specs.{Setup.Setup, Plain.Plain, Plain.start, Plain.is_going_status}
+use Rattle.smt_model.specs.{Setup.Setup, Plain.Plain, Plain.is_going_status}
 use Rattle.smt_laws.proofs.{Done.some_one}
 use Rattle.outcome_laws.specs.Paths.{can_step, stepped, path, IsEnd}
 use Rattle.outcome_laws.specs.{Live.AreAlike, Live.IsLiveTable, Live.matters}
-use Rattle.outcome_laws.specs.Search.{IsLocalPath, IsEnough, HasVisited, EveryEndIsVisited}
-use Rattle.outcome_laws.specs.Search.{WhatSettlesIsReached}
+use Rattle.outcome_laws.specs.Search.{IsLocalPath, Visited, HasWay, IsEnough, SettlesAt, HasVisited}
+use Rattle.outcome_laws.specs.Search.{EveryEndIsVisited, NoEndIsReached, WhatSettlesIsReached}
 use Rattle.outcome_laws.proofs.{Local.local_steps_go_first, Local.first_of, Live.alike_states_step_alike}
 
 -- ---- States that are alike
@@ -17,7 +17,7 @@ matters_too : (watched : ℕ → Bool) (live : ℕ → ℕ → Bool) (s t : Plai
 matters_too watched live s t alike h r =
     ap₂ (λ status pc. watched r || (is_going_status status && live pc r)) (sym (alike.statuses h)) (sym (alike.pcs h))
 
-flip : (watched : ℕ → Bool) (live : ℕ → ℕ → Bool) (s t : Plain) → AreAlike watched live s t
+pub flip : (watched : ℕ → Bool) (live : ℕ → ℕ → Bool) (s t : Plain) → AreAlike watched live s t
     → AreAlike watched live t s
 flip watched live s t alike = record {
   pcs = λ h. sym (alike.pcs h);
@@ -28,7 +28,7 @@ flip watched live s t alike = record {
   registers = λ h r some now. sym (alike.registers h r some (sym (matters_too watched live s t alike h r) ∙ now));
 }
 
-join : (watched : ℕ → Bool) (live : ℕ → ℕ → Bool) (s t u : Plain) → AreAlike watched live s t
+pub join : (watched : ℕ → Bool) (live : ℕ → ℕ → Bool) (s t u : Plain) → AreAlike watched live s t
     → AreAlike watched live t u → AreAlike watched live s u
 join watched live s t u one two = record {
   pcs = λ h. one.pcs h ∙ two.pcs h;
@@ -43,12 +43,12 @@ join watched live s t u one two = record {
 -- ---- Local paths
 
 -- An order with which an alike state goes the same local way.
-record GoesAlike (setup : Setup) (watched : ℕ → Bool) (live : ℕ → ℕ → Bool) (order : List ℕ) (u t : Plain) : Type 0 where
-  there : Plain
-  local : IsLocalPath setup order t there
-  alike : AreAlike watched live u there
+pub record GoesAlike (setup : Setup) (watched : ℕ → Bool) (live : ℕ → ℕ → Bool) (order : List ℕ) (u t : Plain) : Type 0 where
+  pub there : Plain
+  pub local : IsLocalPath setup order t there
+  pub alike : AreAlike watched live u there
 
-goes_alike : (setup : Setup) (watched : ℕ → Bool) (live : ℕ → ℕ → Bool) → IsLiveTable setup.image live
+pub goes_alike : (setup : Setup) (watched : ℕ → Bool) (live : ℕ → ℕ → Bool) → IsLiveTable setup.image live
     → (order : List ℕ) (s t u : Plain) → AreAlike watched live s t → IsLocalPath setup order s u
     → GoesAlike setup watched live order u t
 goes_alike setup watched live table [] s t u alike same = record {
@@ -87,55 +87,79 @@ left_after setup (h ∷ order) way s u e leads end local =
 
 -- ---- Every end is visited
 
+-- The way to where a hart's step leads goes on from there.
+further_way : (visited : Visited) (p h n : ℕ) (s : Plain) → visited.edge p h ≡ Some n → HasWay visited n s
+    → HasWay visited p s
+further_way visited p h n s edge on = record {
+  place = on.place;
+  way = h ∷ on.way;
+  leads = (n, edge, on.leads);
+  at = on.at;
+}
+
 module _ (setup : Setup) (watched : ℕ → Bool) (live : ℕ → ℕ → Bool) (table : IsLiveTable setup.image live)
-    (visited : List Plain) (enough : IsEnough setup watched live visited) where
-  visits : (most : ℕ) (order : List ℕ) (s e a : Plain) → length order ≤ most → path setup order s ≡ Some e
-      → IsEnd setup e → Contains visited a → AreAlike watched live s a → HasVisited watched live visited e
-  visits most [] s e a short leads end here alike =
-      record { state = a; is_visited = here; alike = subst (λ z. AreAlike watched live z a) (some_one s e leads) alike }
-  visits zero (h ∷ order) s e a short leads end here alike = absurd (omega arith)
-  visits (suc most) (h ∷ order) s e a short leads end here alike =
+    (visited : Visited) (enough : IsEnough setup watched live visited) where
+  visits : (most : ℕ) (order : List ℕ) (s e a : Plain) (p : ℕ) → length order ≤ most → path setup order s ≡ Some e
+      → IsEnd setup e → visited.at p ≡ Some a → AreAlike watched live s a → HasVisited watched live visited p e
+  visits most [] s e a p short leads end here alike = record {
+    state = a;
+    reached = record { place = p; way = []; leads = refl; at = here };
+    alike = subst (λ z. AreAlike watched live z a) (some_one s e leads) alike;
+  }
+  visits zero (h ∷ order) s e a p short leads end here alike = absurd (omega arith)
+  visits (suc most) (h ∷ order) s e a p short leads end here alike =
       let split = first_of (can_step setup h s) (path setup order (stepped setup h s)) e leads in
       let one = alike_states_step_alike setup watched live table s a alike h split.0 in
-      let can : can_step setup h a ≡ true = one.can ∙ split.0 in
-      let b = enough.next a h here can in
-      let settles = enough.goes_on a h here can in
+      let on = enough p h a here (one.can ∙ split.0) in
+      let settles = on.settles in
       let same = goes_alike setup watched live table settles.order (stepped setup h a) (stepped setup h s) settles.there
       (flip watched live (stepped setup h s) (stepped setup h a) one.alike) settles.local in
       let left = left_after setup settles.order order (stepped setup h s) same.there e split.1 end same.local in
       let fits = left.short in
-      visits most left.order same.there e b (omega arith) left.leads end (enough.next_visited a h here can)
-      (join watched live same.there settles.there b
-      (flip watched live settles.there same.there same.alike) settles.alike)
-
-  from_start : (order : List ℕ) (e : Plain) → path setup order (start setup) ≡ Some e → IsEnd setup e
-      → HasVisited watched live visited e
-  from_start order e leads end =
-      let begins = enough.begins in
-      let left = left_after setup begins.order order (start setup) begins.there e leads end begins.local in
-      visits (length left.order) left.order begins.there e enough.first (omega arith) left.leads end enough.is_visited
-      begins.alike
+      let rest = visits most left.order same.there e on.state on.place_after (omega arith) left.leads end on.at
+      (join watched live same.there settles.there on.state
+      (flip watched live settles.there same.there same.alike) settles.alike) in
+      record {
+        state = rest.state;
+        reached = further_way visited p h on.place_after rest.state on.edge rest.reached;
+        alike = rest.alike;
+      }
 
 pub every_end_is_visited : EveryEndIsVisited
-every_end_is_visited setup watched live table visited enough order e leads end =
-    from_start setup watched live table visited enough order e leads end
+every_end_is_visited setup watched live table visited enough from s bound order e leads end =
+    let begins = bound.settles in
+    let left = left_after setup begins.order order s begins.there e leads end begins.local in
+    visits setup watched live table visited enough (length left.order) left.order begins.there e bound.state from
+    (omega arith) left.leads end bound.at begins.alike
+
+-- An end that is alike to a state in which some hart can step is none.
+pub no_end_is_reached : NoEndIsReached
+no_end_is_reached setup watched live table visited enough from s bound none order e leads end =
+    let found = every_end_is_visited setup watched live table visited enough from s bound order e leads end in
+    let goes = none found.state found.reached in
+    let h = goes.0 in
+    let can = goes.1 in
+    let one = alike_states_step_alike setup watched live table found.state e (flip watched live e found.state found.alike) h can in
+    let still : can_step setup h e ≡ true = one.can ∙ can in
+    let over = end h in
+    absurd (grind arith)
 
 -- ---- What is visited is reached
 
-path_on : (setup : Setup) (order more : List ℕ) (s u : Plain) → path setup order s ≡ Some u
+pub path_on : (setup : Setup) (order more : List ℕ) (s u : Plain) → path setup order s ≡ Some u
     → path setup (order ++ more) s ≡ path setup more u
 path_on setup [] more s u leads = ap (path setup more) (some_one s u leads)
 path_on setup (h ∷ order) more s u leads =
     let split = first_of (can_step setup h s) (path setup order (stepped setup h s)) u leads in
     rw split.0 (path_on setup order more (stepped setup h s) u split.1)
 
-local_leads : (setup : Setup) (order : List ℕ) (s u : Plain) → IsLocalPath setup order s u
+pub local_leads : (setup : Setup) (order : List ℕ) (s u : Plain) → IsLocalPath setup order s u
     → path setup order s ≡ Some u
 local_leads setup [] s u same = ap Some same
 local_leads setup (h ∷ order) s u way = rw way.0 (local_leads setup order (stepped setup h s) u way.2)
 
 pub what_settles_is_reached : WhatSettlesIsReached
-what_settles_is_reached setup watched live table order s t h reached can settles =
+what_settles_is_reached setup watched live table from order s t h reached can settles =
     let z = reached.state in
     let one = alike_states_step_alike setup watched live table s z (flip watched live z s reached.alike) h can in
     let can_z : can_step setup h z ≡ true = one.can ∙ can in
@@ -145,7 +169,7 @@ what_settles_is_reached setup watched live table order s t h reached can settles
     rw can_z (local_leads setup settles.order (stepped setup h z) same.there same.local) in
     record {
       state = same.there;
-      leads = path_on setup order (h ∷ settles.order) (start setup) z reached.leads ∙ last;
+      leads = path_on setup order (h ∷ settles.order) from z reached.leads ∙ last;
       alike = join watched live same.there settles.there t (flip watched live settles.there same.there same.alike)
           settles.alike;
     }

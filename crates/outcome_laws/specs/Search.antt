@@ -1,7 +1,7 @@
 -- Which states of the plain machine are enough to know every end. A search goes on from a state by a step
 -- of each hart that can step and then by local steps; and it keeps one of several states that are alike.
-use Rattle.std.specs.Prelude.{◌≡◌, ℕ, Bool, true, List, [], ◌∷◌, ◌++◌, Some, Contains}
-use Rattle.smt_model.specs.{Setup.Setup, Plain.Plain, Plain.start}
+use Rattle.std.specs.Prelude.{◌≡◌, ℕ, Bool, true, List, [], ◌∷◌, ◌++◌, Option, Some}
+use Rattle.smt_model.specs.{Setup.Setup, Plain.Plain}
 use Rattle.outcome_laws.specs.Paths.{can_step, stepped, path, IsEnd}
 use Rattle.outcome_laws.specs.{Local.is_local, Live.AreAlike, Live.IsLiveTable}
 
@@ -18,45 +18,103 @@ pub record Settles (setup : Setup) (watched : ℕ → Bool) (live : ℕ → ℕ 
   pub local : IsLocalPath setup order s there
   pub alike : AreAlike watched live there t
 
--- What a search has visited is enough: the start has settled in one of its states, and so has each step of
--- a hart from each of them.
-pub record IsEnough (setup : Setup) (watched : ℕ → Bool) (live : ℕ → ℕ → Bool)
-    (visited : List Plain) : Type 0 where
-  pub first : Plain
-  pub is_visited : Contains visited first
-  pub begins : Settles setup watched live (start setup) first
-  pub next : (s : Plain) (h : ℕ) → Contains visited s → can_step setup h s ≡ true → Plain
-  pub next_visited : (s : Plain) (h : ℕ) (here : Contains visited s) (can : can_step setup h s ≡ true)
-      → Contains visited (next s h here can)
-  pub goes_on : (s : Plain) (h : ℕ) (here : Contains visited s) (can : can_step setup h s ≡ true)
-      → Settles setup watched live (stepped setup h s) (next s h here can)
+-- What a search has visited: a state at each place where there is one, and for a place and a hart the
+-- place of the state to which the hart's step leads.
+pub record Visited : Type 0 where
+  pub at : ℕ → Option Plain
+  pub edge : ℕ → ℕ → Option ℕ
 
--- A state that was visited and is alike to this one.
-pub record HasVisited (watched : ℕ → Bool) (live : ℕ → ℕ → Bool) (visited : List Plain)
+-- The steps of these harts lead along the edges from place p to place q.
+abbrev pub IsWay : Visited → ℕ → List ℕ → ℕ → Type 0
+IsWay visited p [] q = p ≡ q
+IsWay visited p (h ∷ way) q = (n : ℕ) × (visited.edge p h ≡ Some n) × IsWay visited n way q
+
+-- A hart's step from the state s at a place settles in the state to which its edge leads.
+pub record GoesOn (setup : Setup) (watched : ℕ → Bool) (live : ℕ → ℕ → Bool) (visited : Visited)
+    (place h : ℕ) (s : Plain) : Type 0 where
+  pub place_after : ℕ
+  pub state : Plain
+  pub edge : visited.edge place h ≡ Some place_after
+  pub at : visited.at place_after ≡ Some state
+  pub settles : Settles setup watched live (stepped setup h s) state
+
+-- It is enough: each step that a hart can make from a visited state goes on to one.
+abbrev pub IsEnough : Setup → (ℕ → Bool) → (ℕ → ℕ → Bool) → Visited → Type 0
+IsEnough setup watched live visited = (place h : ℕ) (s : Plain) → visited.at place ≡ Some s
+    → can_step setup h s ≡ true → GoesOn setup watched live visited place h s
+
+-- From a place, some way leads to the place of a state.
+pub record HasWay (visited : Visited) (from : ℕ) (s : Plain) : Type 0 where
+  pub place : ℕ
+  pub way : List ℕ
+  pub leads : IsWay visited from way place
+  pub at : visited.at place ≡ Some s
+
+-- A state settles in the one at a place.
+pub record SettlesAt (setup : Setup) (watched : ℕ → Bool) (live : ℕ → ℕ → Bool) (visited : Visited)
+    (place : ℕ) (s : Plain) : Type 0 where
+  pub state : Plain
+  pub at : visited.at place ≡ Some state
+  pub settles : Settles setup watched live s state
+
+-- What holds of each search whose table of live registers is good and that has visited enough, of a
+-- state that settles in the one at a place.
+abbrev pub InEachSearch
+    : ((setup : Setup) → (ℕ → Bool) → (ℕ → ℕ → Bool) → Visited → ℕ → Plain → Type 0) → Type 0
+InEachSearch P = (setup : Setup) (watched : ℕ → Bool) (live : ℕ → ℕ → Bool)
+    → IsLiveTable setup.image live
+    → (visited : Visited) → IsEnough setup watched live visited
+    → (from : ℕ) (s : Plain) → SettlesAt setup watched live visited from s
+    → P setup watched live visited from s
+
+-- A visited state to which a way leads, and that is alike to this one.
+pub record HasVisited (watched : ℕ → Bool) (live : ℕ → ℕ → Bool) (visited : Visited) (from : ℕ)
     (e : Plain) : Type 0 where
   pub state : Plain
-  pub is_visited : Contains visited state
+  pub reached : HasWay visited from state
   pub alike : AreAlike watched live e state
 
--- Whatever order leads from the start to an end, an end alike to it was visited.
+-- Whatever order leads to an end, an end alike to it was visited.
 abbrev pub EveryEndIsVisited : Type 0
-EveryEndIsVisited = (setup : Setup) (watched : ℕ → Bool) (live : ℕ → ℕ → Bool)
-    → IsLiveTable setup.image live
-    → (visited : List Plain) → IsEnough setup watched live visited
-    → (order : List ℕ) (e : Plain) → path setup order (start setup) ≡ Some e → IsEnd setup e
-    → HasVisited watched live visited e
+EveryEndIsVisited = InEachSearch (λ setup watched live visited from s.
+    (order : List ℕ) (e : Plain) → path setup order s ≡ Some e → IsEnd setup e
+    → HasVisited watched live visited from e)
 
--- An order leads from the start to a state that is alike to this one.
-pub record IsReached (setup : Setup) (watched : ℕ → Bool) (live : ℕ → ℕ → Bool) (order : List ℕ)
-    (t : Plain) : Type 0 where
+-- In each state to which a way leads some hart can step.
+abbrev pub NoneIsEnd : Setup → Visited → ℕ → Type 0
+NoneIsEnd setup visited from = (a : Plain) → HasWay visited from a → (h : ℕ) × (can_step setup h a ≡ true)
+
+-- Where a way leads to no end, no order does.
+abbrev pub NoEndIsReached : Type 0
+NoEndIsReached = InEachSearch (λ setup watched live visited from s.
+    NoneIsEnd setup visited from
+    → (order : List ℕ) (e : Plain) → path setup order s ≡ Some e → IsEnd setup e → ⊥)
+
+-- An order leads from one state to a state that is alike to another.
+pub record IsReached (setup : Setup) (watched : ℕ → Bool) (live : ℕ → ℕ → Bool) (from : Plain)
+    (order : List ℕ) (t : Plain) : Type 0 where
   pub state : Plain
-  pub leads : path setup order (start setup) ≡ Some state
+  pub leads : path setup order from ≡ Some state
   pub alike : AreAlike watched live state t
 
 -- What the search goes on to is reached where it goes on from a state that is.
 abbrev pub WhatSettlesIsReached : Type 0
 WhatSettlesIsReached = (setup : Setup) (watched : ℕ → Bool) (live : ℕ → ℕ → Bool)
     → IsLiveTable setup.image live
-    → (order : List ℕ) (s t : Plain) (h : ℕ) → IsReached setup watched live order s
+    → (from : Plain) (order : List ℕ) (s t : Plain) (h : ℕ)
+    → IsReached setup watched live from order s
     → can_step setup h s ≡ true → (settles : Settles setup watched live (stepped setup h s) t)
-    → IsReached setup watched live (order ++ h ∷ settles.order) t
+    → IsReached setup watched live from (order ++ h ∷ settles.order) t
+
+-- Some order leads from a state to an end.
+pub record CanEnd (setup : Setup) (s : Plain) : Type 0 where
+  pub order : List ℕ
+  pub last : Plain
+  pub leads : path setup order s ≡ Some last
+  pub is_end : IsEnd setup last
+
+-- Where each state to which a way leads can go on to an end, each can to which an order leads.
+abbrev pub EachCanEnd : Type 0
+EachCanEnd = InEachSearch (λ setup watched live visited from s.
+    ((a : Plain) → HasWay visited from a → CanEnd setup a)
+    → (order : List ℕ) (u : Plain) → path setup order s ≡ Some u → CanEnd setup u)

@@ -4,6 +4,7 @@ ghost use Rattle.outcome_laws.specs.Paths.{RunsArePaths};
 ghost use Rattle.outcome_laws.specs.Local.{LocalStepsGoFirst};
 ghost use Rattle.outcome_laws.specs.Live.{AlikeStatesStepAlike};
 ghost use Rattle.outcome_laws.specs.Search.{EveryEndIsVisited, WhatSettlesIsReached};
+ghost use Rattle.outcome_laws.specs.Search.{NoEndIsReached, EachCanEnd};
 
 /// A run of the plain machine in an order is the path of that order, from the start.
 pub fn runs_are_paths()
@@ -26,4 +27,10 @@ pub fn alike_states_step_alike()
 pub fn visited_states_are_enough()
     ensures ends { EveryEndIsVisited }
     ensures reached { WhatSettlesIsReached }
+{}
+
+/// Where no visited state is an end, none is reached; and where each can go on to an end, every state can.
+pub fn visited_states_tell_what_can_end()
+    ensures stuck { NoEndIsReached }
+    ensures always { EachCanEnd }
 {}

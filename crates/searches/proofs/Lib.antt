@@ -1,7 +1,11 @@
-mod Places
+mod Numbers
+pub mod Places
+mod Edges
 mod Orders
-mod Reading
 mod Walking
-mod Sweeping
-mod Looking
-mod Locals
+mod Growing
+mod Adding
+mod Noting
+mod Turning
+mod Finding
+mod Marking

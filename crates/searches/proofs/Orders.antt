@@ -1,68 +1,68 @@
--- The order that the origins tell.
-use Rattle.std.proofs.Common.{◌≡◌, ℕ, zero, suc, ◌+◌, ◌<◌, ◌≤◌, ◌⊎◌, List, [], ◌∷◌, ◌++◌, length, get_or}
-use Rattle.std.proofs.Common.{slice_get, Option, None, Some, refl, sym, ap, subst, ◌∙◌, inl, inr, arith, length-append}
-use Rattle.std.proofs.lemmas.Option.{get_or_from_slice_get, slice_get_cases}
-use Rattle.std.proofs.lemmas.List.{get_or_past, reverse-append}
+-- The moves that the origins tell.
+use Rattle.std.proofs.Common.{◌≡◌, ℕ, zero, suc, ◌+◌, ◌≤◌, List, [], ◌∷◌, ◌++◌, length}
+use Rattle.std.proofs.Common.{slice_get, Option, None, Some, refl, sym, ap, subst, ◌∙◌, arith, length-append}
+use Rattle.std.proofs.lemmas.List.{reverse-append}
 use Rattle.std.proofs.Common.{reverse, append_assoc}
+use Rattle.searches.specs.declared.moves.Move.{Move}
 use Rattle.searches.specs.declared.origin.Origin.{Origin}
+use Rattle.searches.specs.declared.step.Step.{Step}
 use Rattle.searches.specs.Orders.{Leads}
-use Rattle.searches.specs.Trails.{AreTrails}
-use Rattle.searches.specs.Found.{order_within, order_at}
+use Rattle.searches.specs.Found.{moves_behind, moves_within, moves_at}
 
--- One more step behind an order.
-pub Leads-push : {S : Type 0} (step : S → ℕ → Option S) (s : S) (order : List ℕ) (t u : S) (h : ℕ)
-    → Leads step s order t → step t h ≡ Some u → Leads step s (order ++ h ∷ []) u
-Leads-push step s [] t u h e next = (u, subst (λ x. step x h ≡ Some u) (sym e) next, refl)
-Leads-push step s (g ∷ order) t u h l next = (l.0, l.1, Leads-push step l.0 order t u h l.2 next)
+abbrev pub move_of : {W : Type 0} → Origin W → Move W
+move_of o = record { hart = o.hart; way = o.way }
 
--- The origin that stands at a place, or the first one's behind the last.
-abbrev pub origin_at : List Origin → ℕ → Origin
-origin_at origins place = get_or origins place (record { parent = 0; hart = 0 })
+-- One more move behind others.
+pub Leads-push : {S W : Type 0} (Steps : S → ℕ → Option (Step S W) → Type 0) (s : S) (moves : List (Move W)) (t u : S)
+    (m : Move W) → Leads Steps s moves t → Steps t m.hart (Some (record { state = u; way = m.way }))
+    → Leads Steps s (moves ++ m ∷ []) u
+Leads-push {S} {W} Steps s [] t u m e next =
+    (u, subst (λ (x : S). Steps x m.hart (Some (record { state = u; way = m.way }))) (sym e) next, refl)
+Leads-push Steps s (g ∷ moves) t u m l next = (l.0, l.1, Leads-push Steps l.0 moves t u m l.2 next)
 
-module _ {S : Type 0} (states : List S) (origins : List Origin) (trails : AreTrails states origins) where
-  pub parent_before : (place : ℕ) → 0 < place → (origin_at origins place).parent < place
-  parent_before place above = by (slice_get_cases origins place).1
-    where
-      by : ((o : Origin) × (place < length origins) × (slice_get origins place ≡ Some o) × (get_or origins place o ≡ o))
-          ⊎ ((length origins ≤ place) × (slice_get origins place ≡ None))
-          → (origin_at origins place).parent < place
-      by (inl c) = rw (get_or_from_slice_get origins place c.0 (record { parent = 0; hart = 0 }) c.2) (trails.before place c.0 above c.2)
-      by (inr c) = rw (get_or_past origins place (record { parent = 0; hart = 0 }) c.0) above
-
+module _ {W : Type 0} (origins : List (Origin W))
+    (before : (k : ℕ) (o : Origin W) → slice_get origins k ≡ Some o → o.parent ≤ k) where
   -- Turns beyond the place change nothing.
-  enough : (m n place : ℕ) → place ≤ m → place ≤ n → order_within m origins place ≡ order_within n origins place
+  enough : (m n place : ℕ) → place ≤ m → place ≤ n → moves_within m origins place ≡ moves_within n origins place
   enough zero zero place a b = refl
   enough zero (suc n) zero a b = refl
-  enough zero (suc n) (suc before) a b = absurd (omega (arith, a))
+  enough zero (suc n) (suc k) a b = absurd (omega (arith, a))
   enough (suc m) zero zero a b = refl
-  enough (suc m) zero (suc before) a b = absurd (omega (arith, b))
+  enough (suc m) zero (suc k) a b = absurd (omega (arith, b))
   enough (suc m) (suc n) zero a b = refl
-  enough (suc m) (suc n) (suc before) a b =
-      let p : (origin_at origins (suc before)).parent < suc before = parent_before (suc before) (omega arith) in
-      ap (λ (l : List ℕ). l ++ (origin_at origins (suc before)).hart ∷ [])
-      (enough m n (origin_at origins (suc before)).parent (omega (arith, p, a)) (omega (arith, p, b)))
+  enough (suc m) (suc n) (suc k) a b = by (slice_get origins k) refl (λ p c d. enough m n p c d)
+    where
+      by : (r : Option (Origin W)) → slice_get origins k ≡ r
+          → ((p : ℕ) → p ≤ m → p ≤ n → moves_within m origins p ≡ moves_within n origins p)
+          → moves_behind (λ parent. moves_within m origins parent) r ≡ moves_behind
+          (λ parent. moves_within n origins parent) r
+      by None e rest = refl
+      by (Some o) e rest =
+          let p = before k o e in
+          ap (λ (l : List (Move W)). l ++ move_of o ∷ []) (rest o.parent (omega (arith, p, a)) (omega (arith, p, b)))
 
-  -- The order to a state is that to its origin, and then the hart's step.
-  pub order_at-step : (place : ℕ) (o : Origin) → 0 < place → slice_get origins place ≡ Some o
-      → order_at origins place ≡ order_at origins o.parent ++ o.hart ∷ []
-  order_at-step zero o above e = absurd (omega (arith, above))
-  order_at-step (suc before) o above e =
-      let p : (origin_at origins (suc before)).parent < suc before = parent_before (suc before) above in
-      let same : origin_at origins (suc before) ≡ o = get_or_from_slice_get origins (suc before) o (record { parent = 0; hart = 0 }) e in
-      ap (λ (l : List ℕ). l ++ (origin_at origins (suc before)).hart ∷ [])
-      (enough before (origin_at origins (suc before)).parent (origin_at origins (suc before)).parent (omega (arith, p)) (omega arith))
-      ∙ ap (λ (x : Origin). order_at origins x.parent ++ x.hart ∷ []) same
+  -- The moves to a state are those to its parent, and then the hart's step.
+  pub moves_at-step : (k : ℕ) (o : Origin W) → slice_get origins k ≡ Some o
+      → moves_at origins (k + 1) ≡ moves_at origins o.parent ++ move_of o ∷ []
+  moves_at-step k o e =
+      ap (λ n. moves_at origins n) step
+      ∙ ap (λ (r : Option (Origin W)). moves_behind (λ parent. moves_within k origins parent) r) e
+      ∙ ap (λ (l : List (Move W)). l ++ move_of o ∷ []) (enough k o.parent o.parent (before k o e) (omega arith))
+    where
+      step : k + 1 ≡ suc k
+      step = omega arith
 
-  pub length-step : (place : ℕ) (o : Origin) → 0 < place → slice_get origins place ≡ Some o
-      → length (order_at origins place) ≡ length (order_at origins o.parent) + 1
-  length-step place o above e =
-      ap length (order_at-step place o above e) ∙ length-append (order_at origins o.parent) (o.hart ∷ [])
+  pub length-step : (k : ℕ) (o : Origin W) → slice_get origins k ≡ Some o
+      → length (moves_at origins (k + 1)) ≡ length (moves_at origins o.parent) + 1
+  length-step k o e = ap length (moves_at-step k o e) ∙ length-append (moves_at origins o.parent) (move_of o ∷ [])
 
   -- One more step back along the origins.
-  pub told_step : (place at : ℕ) (o : Origin) (got : List ℕ) → 0 < at → slice_get origins at ≡ Some o
-      → order_at origins place ≡ order_at origins at ++ reverse got
-      → order_at origins place ≡ order_at origins o.parent ++ reverse (got ++ o.hart ∷ [])
-  told_step place at o got above e told =
-      told ∙ ap (λ (l : List ℕ). l ++ reverse got) (order_at-step at o above e)
-      ∙ append_assoc (order_at origins o.parent) (o.hart ∷ []) (reverse got)
-      ∙ ap (λ (l : List ℕ). order_at origins o.parent ++ l) (sym (reverse-append got (o.hart ∷ [])))
+  pub told_step : (place at k : ℕ) (o : Origin W) (got more : List (Move W)) → at ≡ k + 1 → slice_get origins k ≡ Some o
+      → more ≡ got ++ move_of o ∷ [] → moves_at origins place ≡ moves_at origins at ++ reverse got
+      → moves_at origins place ≡ moves_at origins o.parent ++ reverse more
+  told_step place at k o got more here e pushed told =
+      told ∙ ap (λ n. moves_at origins n ++ reverse got) here
+      ∙ ap (λ (l : List (Move W)). l ++ reverse got) (moves_at-step k o e)
+      ∙ append_assoc (moves_at origins o.parent) (move_of o ∷ []) (reverse got)
+      ∙ ap (λ (l : List (Move W)). moves_at origins o.parent ++ l) (sym (reverse-append got (move_of o ∷ [])))
+      ∙ ap (λ (l : List (Move W)). moves_at origins o.parent ++ reverse l) (sym pushed)

@@ -1,11 +1,11 @@
 -- Elements of a list by their places.
-use Rattle.std.proofs.Common.{◌≡◌, ◌≢◌, ℕ, ◌+◌, ◌<◌, ◌≤◌, ◌⊎◌, List, [], ◌∷◌, ◌++◌, length, get_or}
+use Rattle.std.proofs.Common.{◌≡◌, ℕ, ◌+◌, ◌<◌, ◌≤◌, ◌⊎◌, List, [], ◌∷◌, ◌++◌, length, get_or}
 use Rattle.std.proofs.Common.{slice_get, None, Some, Contains, refl, sym, ap, subst, ◌∙◌, inl, inr, arith}
 use Rattle.std.proofs.Common.{length-append}
-use Rattle.std.specs.List.{AllPairs}
 use Rattle.std.proofs.lemmas.Option.{slice_get_within, slice_get-get_or, get_or_from_slice_get, slice_get_cases}
 use Rattle.std.proofs.lemmas.List.{get_or_push}
 use Rattle.std.proofs.Math.ListN.{get_or-append}
+use Rattle.searches.specs.Sweeps.{Keeps}
 
 module _ {X : Type 0} where
   pub place_of : (xs : List X) (x : X) → Contains xs x → (k : ℕ) × (slice_get xs k ≡ Some x)
@@ -21,11 +21,13 @@ module _ {X : Type 0} where
   pub push-old : (xs : List X) (y : X) (k : ℕ) (x : X) → slice_get xs k ≡ Some x → slice_get (xs ++ y ∷ []) k ≡ Some x
   push-old xs y k x e =
       let within = slice_get_within xs k x e in
-      slice_get-get_or (xs ++ y ∷ []) k x (omega (arith, length-append xs (y ∷ []))) ∙ ap Some (get_or-append xs (y ∷ []) x k within ∙ get_or_from_slice_get xs k x x e)
+      slice_get-get_or (xs ++ y ∷ []) k x (omega (arith, length-append xs (y ∷ [])))
+      ∙ ap Some (get_or-append xs (y ∷ []) x k within ∙ get_or_from_slice_get xs k x x e)
 
   pub push-new : (xs : List X) (y : X) → slice_get (xs ++ y ∷ []) (length xs) ≡ Some y
   push-new xs y =
-      slice_get-get_or (xs ++ y ∷ []) (length xs) y (omega (arith, length-append xs (y ∷ []))) ∙ ap Some (get_or_push xs y y (length xs) refl)
+      slice_get-get_or (xs ++ y ∷ []) (length xs) y (omega (arith, length-append xs (y ∷ [])))
+      ∙ ap Some (get_or_push xs y y (length xs) refl)
 
   inside : (a b : X) → Some a ≡ Some b → a ≡ b
   inside a b e = cc
@@ -37,24 +39,22 @@ module _ {X : Type 0} where
       → (slice_get xs k ≡ Some x) ⊎ ((k ≡ length xs) × (y ≡ x))
   push-cases xs y k x e = by (slice_get_cases xs k).1
     where
-      by : ((z : X) × (k < length xs) × (slice_get xs k ≡ Some z) × (get_or xs k z ≡ z)) ⊎ ((length xs ≤ k) × (slice_get xs k ≡ None))
+      by : ((z : X) × (k < length xs) × (slice_get xs k ≡ Some z) × (get_or xs k z ≡ z))
+          ⊎ ((length xs ≤ k) × (slice_get xs k ≡ None))
           → (slice_get xs k ≡ Some x) ⊎ ((k ≡ length xs) × (y ≡ x))
       by (inl c) = inl (c.2 ∙ ap Some (same_element (xs ++ y ∷ []) k c.0 x (push-old xs y k c.0 c.2) e))
       by (inr c) =
-          let below : k < length xs + 1 = omega (arith, slice_get_within (xs ++ y ∷ []) k x e, length-append xs (y ∷ [])) in
+          let below : k < length xs + 1 =
+          omega (arith, slice_get_within (xs ++ y ∷ []) k x e, length-append xs (y ∷ [])) in
           let here : k ≡ length xs = omega (arith, c.0) in
-          inr (here, same_element (xs ++ y ∷ []) k y x (subst (λ n. slice_get (xs ++ y ∷ []) n ≡ Some y) (sym here) (push-new xs y)) e)
+          inr (
+            here,
+            same_element (xs ++ y ∷ []) k y x
+                (subst (λ n. slice_get (xs ++ y ∷ []) n ≡ Some y) (sym here) (push-new xs y)) e,
+          )
 
-  pub one_place : (xs : List X) (i j : ℕ) (x : X) → AllPairs (λ s t. s ≢ t) xs → slice_get xs i ≡ Some x → slice_get xs j ≡ Some x → i ≡ j
-  one_place xs i j x different a b = by (lt_cases i j)
-    where
-      lt_cases : (m n : ℕ) → (m < n) ⊎ ((n < m) ⊎ (m ≡ n))
-      lt_cases m n = grind arith
-
-      read : (k : ℕ) → slice_get xs k ≡ Some x → get_or xs k x ≡ x
-      read k e = get_or_from_slice_get xs k x x e
-
-      by : (i < j) ⊎ ((j < i) ⊎ (i ≡ j)) → i ≡ j
-      by (inl below) = absurd (different i j x below (slice_get_within xs j x b) (read i a ∙ sym (read j b)))
-      by (inr (inl below)) = absurd (different j i x below (slice_get_within xs i x a) (read j b ∙ sym (read i a)))
-      by (inr (inr same)) = same
+  -- A place that was there is there, where all that was there keeps its place.
+  pub keeps_within : (old new : List X) → Keeps old new → (k : ℕ) → k < length old → k < length new
+  keeps_within old new kept k below =
+      let x = element_at old k below in
+      slice_get_within new k x.0 (kept k x.0 x.1)

@@ -1,5 +1,6 @@
 pub mod Orders
-pub mod Trails
 pub mod Found
+pub mod Ending
+pub mod Whole
 pub mod Sweeps
-pub mod Locals
+pub mod Marks

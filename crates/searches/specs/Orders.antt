@@ -1,16 +1,15 @@
--- Where the orders of a machine's harts lead. `step s h` is the state after hart h's next step,
--- where it has one in state s.
-use Rattle.std.specs.Prelude.{◌≡◌, ℕ, List, [], ◌∷◌, Option, Some, None}
+-- Where the moves of a machine's harts lead. `Steps s h next` says what hart h's next step from state
+-- s comes to: another state and the way there, or nothing, where it has no step.
+use Rattle.std.specs.Prelude.{◌≡◌, ℕ, List, [], ◌∷◌, Option, Some}
+use Rattle.searches.specs.declared.moves.Move.{Move}
+use Rattle.searches.specs.declared.step.Step.{Step}
 
--- The steps of the order are there, in turn, and lead from s to t.
-abbrev pub Leads : {S : Type 0} → (S → ℕ → Option S) → S → List ℕ → S → Type 0
-Leads step s [] t = s ≡ t
-Leads {S} step s (h ∷ order) t = (u : S) × (step s h ≡ Some u) × Leads step u order t
+-- The steps of the moves are there, in turn, and lead from s to t.
+abbrev pub Leads : {S W : Type 0} → (S → ℕ → Option (Step S W) → Type 0) → S → List (Move W) → S → Type 0
+Leads Steps s [] t = s ≡ t
+Leads {S} Steps s (m ∷ moves) t =
+    (u : S) × Steps s m.hart (Some (record { state = u; way = m.way })) × Leads Steps u moves t
 
--- Some order leads from s to t.
-abbrev pub IsReachable : {S : Type 0} → (S → ℕ → Option S) → S → S → Type 0
-IsReachable step s t = (order : List ℕ) × Leads step s order t
-
--- No hart has a step.
-abbrev pub IsEnd : {S : Type 0} → (S → ℕ → Option S) → S → Type 0
-IsEnd step s = (h : ℕ) → step s h ≡ None
+-- Some moves lead from s to t.
+abbrev pub IsReachable : {S W : Type 0} → (S → ℕ → Option (Step S W) → Type 0) → S → S → Type 0
+IsReachable {S} {W} Steps s t = (moves : List (Move W)) × Leads Steps s moves t

@@ -1,59 +1,73 @@
 -- What a search has while it goes on.
-use Rattle.std.specs.Prelude.{◌≡◌, ◌≢◌, ℕ, ◌<◌, ◌≤◌, ◌↔◌, Bool, List, [], ◌∷◌, ◌++◌}
-use Rattle.std.specs.Prelude.{if◌then◌else◌, slice_get, Option, Some, Contains, AllPairs}
+use Rattle.std.specs.Prelude.{◌≡◌, ◌≢◌, ℕ, ◌+◌, ◌*◌, ◌<◌, ◌≤◌, ◌↔◌, ◌⊎◌, Bool, true, false, List, [], ◌∷◌, ◌++◌, length}
+use Rattle.std.specs.Prelude.{slice_get, Option, Some, None, Contains, AllPairs}
 use Rattle.std.specs.List.{list_any}
-use Rattle.indexmap.specs.IndexSet.{insert_key}
 use Rattle.searches.specs.declared.origin.Origin.{Origin}
+use Rattle.searches.specs.declared.step.Step.{Step}
+use Rattle.searches.specs.declared.stopped.SearchStopped.{SearchStopped}
+use Rattle.searches.specs.declared.stopped.SearchStopped.TheVariants.{Budget, Memory}
 use Rattle.searches.specs.declared.sweep.Sweep.{Sweep}
-use Rattle.searches.specs.Orders.{IsEnd}
-use Rattle.searches.specs.Trails.{AreTrails}
-use Rattle.searches.specs.Found.{Found}
+use Rattle.searches.specs.Found.{Found, edge_at, IsEdge, IsStepped}
 
 -- What a sweep has found so far.
-abbrev pub found_by : {S : Type 0} → Sweep S → Found S
-found_by sweep =
-    record { states = sweep.states.keys; origins = sweep.origins.items; ends = sweep.ends.items }
+abbrev pub found_by : {S W : Type 0} → Sweep S W → Found S W
+found_by sweep = record {
+  harts = sweep.harts;
+  states = sweep.states.keys;
+  origins = sweep.origins.items;
+  edges = sweep.edges.items;
+  ends = sweep.ends.items;
+}
+
+-- One more edge; one more state, with its origin.
+abbrev pub with_edge : {S W : Type 0} → Found S W → Option ℕ → Found S W
+with_edge found edge = record found { edges = found.edges ++ edge ∷ [] }
+
+abbrev pub with_state : {S W : Type 0} → Found S W → S → Origin W → Found S W
+with_state found t o = record found { states = found.states ++ t ∷ []; origins = found.origins ++ o ∷ [] }
 
 -- What is old keeps its place.
 abbrev pub Keeps : {A : Type 0} → List A → List A → Type 0
 Keeps {A} old new =
     (place : ℕ) (x : A) → slice_get old place ≡ Some x → slice_get new place ≡ Some x
 
--- A state is noted: it goes last with its origin, unless it is there.
-pub record Notes {S : Type 0} (eq : S → S → Bool) (old : Found S) (state : S) (origin : Origin)
-    (new : Found S) : Type 0 where
-  pub states : new.states ≡ insert_key eq old.states state
-  pub origins : new.origins
-      ≡ (if list_any (eq state) old.states then old.origins else old.origins ++ origin ∷ [])
-  pub ends : new.ends ≡ old.ends
+-- A state is noted at a place: where it was, or last with its origin.
+abbrev pub IsNoted : {S W : Type 0} → (S → S → Bool) → ℕ → Found S W → S → Origin W → Found S W → ℕ → Type 0
+IsNoted {S} eq budget old state origin new place =
+    ((new ≡ old) × ((s : S) × (slice_get old.states place ≡ Some s) × (eq state s ≡ true)))
+    ⊎ ((new ≡ with_state old state origin) × (place ≡ length old.states) × (place < budget)
+    × (list_any (eq state) old.states ≡ false))
 
--- A hart's step from the state at a place leads to a state that is there, and was found no later.
-abbrev pub Follows : {S : Type 0} → (S → ℕ → Option S) → Found S → ℕ → ℕ → Type 0
-Follows {S} step found parent hart =
-    (s t : S) → slice_get found.states parent ≡ Some s → step s hart ≡ Some t
-    → (place : ℕ) × (o : Origin) × (slice_get found.states place ≡ Some t)
-    × (slice_get found.origins place ≡ Some o) × (o.parent ≤ parent)
+-- It isn't: there are as many states already as there may be, and this is another one.
+abbrev pub IsOver : {S W : Type 0} → (S → S → Bool) → ℕ → Found S W → S → SearchStopped → Type 0
+IsOver eq budget old state Budget = (budget ≤ length old.states) × (list_any (eq state) old.states ≡ false)
+IsOver eq budget old state Memory = Unit {0}
 
--- The state at a place is a step of the one at its origin.
-abbrev pub IsStepped : {S : Type 0} → (S → ℕ → Option S) → Found S → ℕ → Type 0
-IsStepped {S} step found place = (t : S) (o : Origin) → slice_get found.states place ≡ Some t
-    → slice_get found.origins place ≡ Some o
-    → (s : S) × (slice_get found.states o.parent ≡ Some s) × (step s o.hart ≡ Some t)
-
--- All states before `place` are swept, and the harts below `hart` of that at `place`.
-pub record IsSwept {S : Type 0} (step : S → ℕ → Option S) (start : S) (place hart : ℕ)
-    (found : Found S) : Type 0 where
-  pub trails : AreTrails found.states found.origins
-  pub first : slice_get found.states 0 ≡ Some start
+-- The lists, where all states before `place` are swept, and the harts below `hart` of that at `place`.
+pub record AreListed {S W : Type 0} (Knows : S → Type 0) (Steps : S → ℕ → Option (Step S W) → Type 0) (place hart : ℕ)
+    (found : Found S W) : Type 0 where
+  pub paired : length found.origins + 1 ≡ length found.states
+  pub filled : length found.edges ≡ place * found.harts + hart
+  pub known : (k : ℕ) (t : S) → slice_get found.states k ≡ Some t → Knows t
   pub different : AllPairs (λ s t. s ≢ t) found.states
-  pub stepped : (k : ℕ) → 0 < k → IsStepped step found k
+  pub stepped : (k : ℕ) (t : S) (o : Origin W) → slice_get found.states (k + 1) ≡ Some t
+      → slice_get found.origins k ≡ Some o → IsStepped Steps found (k + 1) t o
   -- Those found first were found from those that were found first.
-  pub ordered : (i j : ℕ) (a b : Origin) → i ≤ j → slice_get found.origins i ≡ Some a
+  pub ordered : (i j : ℕ) (a b : Origin W) → i ≤ j → slice_get found.origins i ≡ Some a
       → slice_get found.origins j ≡ Some b → a.parent ≤ b.parent
-  pub latest : (k : ℕ) (o : Origin) → slice_get found.origins k ≡ Some o → o.parent ≤ place
-  pub before : (k h : ℕ) → k < place → Follows step found k h
-  pub here : (h : ℕ) → h < hart → Follows step found place h
-  pub ends : (k : ℕ) (t : S) → k < place → slice_get found.states k ≡ Some t
-      → (Contains found.ends k ↔ IsEnd step t)
+  pub latest : (k : ℕ) (o : Origin W) → slice_get found.origins k ≡ Some o → o.parent ≤ place
+  -- An edge that is there is the hart's step, and leads to a state that was found no later.
+  pub along : (k h : ℕ) (s : S) → slice_get found.states k ≡ Some s → h < found.harts
+      → k * found.harts + h < length found.edges → IsEdge Steps found s h (edge_at found k h)
+  pub inside : (at q : ℕ) → slice_get found.edges at ≡ Some (Some q) → q < length found.states
+  pub near : (k h q : ℕ) (o : Origin W) → h < found.harts → edge_at found k h ≡ Some (q + 1)
+      → slice_get found.origins q ≡ Some o → o.parent ≤ k
+  pub end : (k : ℕ) → k < place → (Contains found.ends k ↔ ((h : ℕ) → h < found.harts → edge_at found k h ≡ None))
   pub ends_before : (k : ℕ) → Contains found.ends k → k < place
   pub rising : AllPairs (λ k l. k < l) found.ends
+
+-- And each state was found by an edge that is there.
+pub record IsSwept {S W : Type 0} (Knows : S → Type 0) (Steps : S → ℕ → Option (Step S W) → Type 0) (place hart : ℕ)
+    (found : Found S W) : Type 0 where
+  pub listed : AreListed Knows Steps place hart found
+  pub told : (k : ℕ) (o : Origin W) → slice_get found.origins k ≡ Some o → edge_at found o.parent o.hart ≡ Some (k + 1)

@@ -1,28 +1,58 @@
-ghost use Rattle.std.specs.Prelude.{◌≡◌, ◌≤◌, ◌<◌, ℕ, Option, None, true, IfOk};
+ghost use Rattle.std.specs.Prelude.{◌≡◌, ◌<◌, ℕ, Option, Some, None, true, IfOk, IfSome};
 
+use crate::step::Step;
 use std::alloc::AllocError;
 use std::hash::Hash;
 
-/// A machine that goes from state to state by steps of its harts.
+/// A machine that goes from state to state by steps of its harts. It may learn of new states as it
+/// steps; what it said of a step stays true.
 pub trait Machine {
-    type State: Eq + Hash + Drop;
+    ghost use Rattle.searches.specs.declared.step.Step.{Step};
+
+    /// A state, as the machine numbers them.
+    type State: Copy + Eq + Hash;
+
+    /// What a step was, beside the hart that made it.
+    type Way: Copy;
 
     /// How many harts there are.
     ghost harts: { Self → ℕ };
 
-    /// The state after a hart's next step, where it has one.
-    ghost step: { Self → Self.State → ℕ → Option Self.State };
+    /// The machine knows what this state is.
+    ghost Knows: { Self → Self.State → Type 0 };
+
+    /// A hart's next step from a state leads to another one; or the hart has none.
+    ghost Steps: { Self → Self.State → ℕ → Option (Step Self.State Self.Way) → Type 0 };
+
+    /// The machine has become another by learning.
+    ghost Grows: { Self → Self → Type 0 };
 
     fn harts(&self) -> u8
         ensures { result ≡ harts self.now };
 
     /// The step as it is. Errors: want of memory.
-    fn step(&self, state: &Self::State, hart: u8) -> Result<Option<Self::State>, AllocError>
-        requires { hart < harts self.now }
-        ensures { IfOk result (λ next. next ≡ step self.now state.now hart) };
+    fn step(
+        &mut self,
+        state: Self::State,
+        hart: u8,
+    ) -> Result<Option<Step<Self::State, Self::Way>>, AllocError>
+        requires present { hart < harts self.old }
+        requires known { Knows self.old state }
+        ensures grows { Grows self.old self.new }
+        ensures steps { IfOk result (Steps self.new state hart) }
+        ensures knows { IfOk result (λ next. IfSome next (λ step. Knows self.new step.state)) };
 
-    // A hart that isn't there has no step.
-    ghost absent: { (m : Self) (s : Self.State) (h : ℕ) → harts m ≤ h → step m s h ≡ None };
+    ghost learns_nothing: { (m : Self) → Grows m m };
+
+    ghost learns_more: { (l m n : Self) → Grows l m → Grows m n → Grows l n };
+
+    ghost same_harts: { (m n : Self) → Grows m n → harts m ≡ harts n };
+
+    ghost still_known: { (m n : Self) (s : Self.State) → Grows m n → Knows m s → Knows n s };
+
+    ghost still_true: { (m n : Self) (s : Self.State) (h : ℕ)
+        (next : Option (Step Self.State Self.Way)) → Grows m n → Knows m s
+        → IfSome next (λ step. Knows m step.state) → Steps m s h next → Steps n s h next };
 
     // States that are equal by `==` are one.
     ghost same: { (s t : Self.State) → Self.State.eq s t ≡ true → s ≡ t };

@@ -1,68 +1,90 @@
-ghost use Rattle.std.specs.Prelude.{◌≡◌, ◌<◌, ◌↔◌, length, slice_get, option_copied, IfOk};
-ghost use Rattle.searches.specs.Found.{order_at};
+ghost use Rattle.std.specs.Prelude.{◌≡◌, ◌<◌, length, slice_get, IfOk};
+ghost use Rattle.searches.specs.Found.{edge_at, moves_at};
 
+use crate::moves::Move;
 use crate::origin::Origin;
 use indexmap::IndexSet;
 use std::alloc::{AllocError, Global};
 use std::hash::Hash;
 use std::marker::Model;
 
-/// What a search found: the states visited, in the order in which they were found, and which of
-/// them are ends. A state's place is its index in this order, and the start's is 0.
+/// What a search found: the states, in the order in which they were found, each hart's step from
+/// each of them, and which of them are ends. A state's place is its index in this order, and the
+/// start's is 0.
 #[derive(Drop)]
-pub struct Search<S: Eq + Hash> {
+pub struct Search<S: Copy + Eq + Hash, W: Copy> {
+    pub(crate) harts: u8,
     pub(crate) states: IndexSet<S>,
-    pub(crate) origins: Vec<Origin>,
-    pub(crate) ends: Vec<usize>,
+    pub(crate) origins: Vec<Origin<W>>,
+    pub(crate) edges: Vec<Option<u32>>,
+    pub(crate) ends: Vec<u32>,
 }
 
-impl<S: Eq + Hash> Model for Search<S> {
+impl<S: Copy + Eq + Hash, W: Copy> Model for Search<S, W> {
     ghost use Rattle.searches.specs.Found.{Found};
-    ghost use Rattle.searches.specs.Trails.{AreTrails};
+    ghost use Rattle.searches.specs.Whole.{IsWhole};
 
-    ghost Value = { Found S };
+    ghost Value = { Found S W };
 
-    ghost view = { λ s.
-        record { states = s.states.keys; origins = s.origins.items; ends = s.ends.items } };
+    ghost view = { λ s. record {
+      harts = s.harts;
+      states = s.states.keys;
+      origins = s.origins.items;
+      edges = s.edges.items;
+      ends = s.ends.items;
+    } };
 
-    ghost invariant = { λ s. AreTrails s.states.keys s.origins.items };
+    ghost invariant = { λ s. IsWhole s.harts s.states.keys s.origins.items s.edges.items s.ends.items };
 }
 
-impl<S: Eq + Hash> Search<S> {
-    /// How many states were visited.
-    pub fn states(&self) -> usize
+impl<S: Copy + Eq + Hash, W: Copy> Search<S, W> {
+    /// How many states were found.
+    pub fn states(&self) -> u32
         ensures { result ≡ length self.now.states }
     {
-        self.states.len()
+        self.states.len() as u32
     }
 
     /// The state at a place.
-    pub fn state(&self, place: usize) -> Option<&S>
-        ensures { option_copied result ≡ slice_get self.now.states place }
+    pub fn state(&self, place: u32) -> Option<S>
+        ensures { result ≡ slice_get self.now.states place }
     {
-        self.states.get_index(place)
+        self.states.get_index(place as usize).copied()
     }
 
-    /// The places of the ends: the states in which no hart has a step.
-    pub fn ends(&self) -> &[usize]
+    /// The places of the ends, rising: the states in which no hart has a step.
+    pub fn ends(&self) -> &[u32]
         ensures { result.now ≡ self.now.ends }
     {
         self.ends.as_slice()
     }
 
-    /// The order of harts by which the state at a place was found. Errors: want of memory.
-    pub fn order_to(&self, place: usize, alloc: Global) -> Result<Vec<u8>, AllocError>
-        requires { place < length self.now.states }
-        ensures { IfOk result (λ order. order.items ≡ order_at self.now.origins place) }
+    /// The place of the state after a hart's step from the state at a place, where it has one.
+    pub(crate) fn edge(&self, place: usize, hart: u8) -> Option<u32>
+        requires inside { place < length self.now.states }
+        requires present { hart < self.now.harts }
+        ensures { result ≡ edge_at self.now place hart }
     {
-        let mut order = Vec::new(alloc);
-        let mut at = place;
+        self.edges[place * self.harts as usize + hart as usize]
+    }
+
+    /// The moves by which the state at a place was found, the first move first. Errors: want of
+    /// memory.
+    pub fn moves_to(&self, place: u32, alloc: Global) -> Result<Vec<Move<W>>, AllocError>
+        requires { place < length self.now.states }
+        ensures { IfOk result (λ moves. moves.items ≡ moves_at self.now.origins place) }
+    {
+        let mut moves = Vec::new(alloc);
+        let mut at = place as usize;
         while at > 0 {
-            let origin = self.origins[at];
-            order.push(origin.hart)?;
-            at = origin.parent;
+            let origin = self.origins[at - 1];
+            moves.push(Move {
+                hart: origin.hart,
+                way: origin.way,
+            })?;
+            at = origin.parent as usize;
         }
-        order.as_mut_slice().reverse();
-        Ok(order)
+        moves.as_mut_slice().reverse();
+        Ok(moves)
     }
 }

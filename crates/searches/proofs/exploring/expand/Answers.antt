@@ -1,60 +1,50 @@
-use Rattle.std.proofs.Common.{◌+◌, ℕ, List, sym, subst, arith, inl, inr}
+use Rattle.std.proofs.Common.{sym, subst, arith, inl, inr, ◌∙◌}
 use Rattle.std.proofs.lemmas.Result.{err_from_is_err_and}
-use Rattle.searches.specs.Sweeps.{found_by, IsSwept}
-use Rattle.searches.proofs.Places.{element_at}
-use Rattle.searches.proofs.Looking.{looked_first, looked_more, keeps_length}
-use Rattle.searches.proofs.Sweeping.{moves, rests}
-use Rattle.searches.proofs.exploring.expand.Goals.{then-branch, else-branch}
+use Rattle.searches.specs.Sweeps.{found_by}
+use Rattle.searches.proofs.Turning.{Looked, looked_more, moves, rests}
+use Rattle.searches.proofs.exploring.expand.Goals.{then-is_some, else-is_some}
 use Rattle.searches.proofs.exploring.expand.Goals as goal
 
-pub loop-hart-init : goal.loop-hart-init
-loop-hart-init g c = record {
-  swept = λ start swept. swept;
-  looked = looked_first (g.M.Machine.step c.args.machine.now) c.args.place c.args.sweep.now.states.keys;
-  few = c.requires.few;
-}
-
-pub step_at-requires-clause-inside : goal.step_at-requires-clause-inside
-step_at-requires-clause-inside g c =
-    omega (arith, c.requires.inside, keeps_length c.args.sweep.now.states.keys c.loop-hart.sweep.states.keys c.loop-hart.invariant.looked.kept)
-
-pub returns-in_err-step_at-clause-stopped : goal.returns-in_err-step_at-clause-stopped
-returns-in_err-step_at-clause-stopped g c =
+pub returns-in_err-follow-clause-stopped : goal.returns-in_err-follow-clause-stopped
+returns-in_err-follow-clause-stopped g c =
     let p = err_from_is_err_and c.from_residual.result c.from_residual.ensures.1 in
-    rw (p.1, p.2) (λ start swept. c.in_err-step_at.ensures.stopped start (c.loop-hart.invariant.swept start swept))
+    rw (p.1, p.2) (λ start first. c.in_err-follow.ensures.stopped start (c.loop-hart.invariant.kept 0 start first))
 
 pub loop-hart-preserved : goal.loop-hart-preserved
-loop-hart-preserved g c = record {
-  swept = λ start swept. c.in_ok-step_at.ensures.swept start (c.loop-hart.invariant.swept start swept);
-  looked = looked_more (g.M.Machine.step c.args.machine.now) c.args.place c.args.sweep.now.states.keys c.loop-hart.hart
-      c.loop-hart.sweep.states.keys c.step_at.new.sweep.states.keys c.loop-hart.is_end c.if-branch.is_end c.in_ok-step_at.field-0
-      c.loop-hart.invariant.looked c.in_ok-step_at.ensures.kept c.in_ok-step_at.ensures.moved
-      (elim c.if-branch.branch [ then-branch w ↦ inl (w.if-branch.true, w.is_end-is) | else-branch w ↦ inr (w.if-branch.false, w.is_end-is) ]);
-  few = c.in_ok-step_at.ensures.within;
-}
+loop-hart-preserved g c =
+    let i = c.loop-hart.invariant in
+    let e = c.in_ok-follow.ensures in
+    record {
+      grows = g.met.M.Machine.learns_more c.args.machine.now c.loop-hart.machine c.follow.new.machine i.grows e.grows;
+      harts = e.same ∙ i.harts ∙ g.met.M.Machine.same_harts c.loop-hart.machine c.follow.new.machine e.grows;
+      same = e.same ∙ i.same;
+      swept = e.swept;
+      kept = λ place x at. e.kept place x (i.kept place x at);
+      few = e.within;
+      here = e.kept c.args.place c.index-as_slice-place.result i.here;
+      looked = looked_more (found_by c.loop-hart.sweep) c.args.place c.loop-hart.hart i.swept.listed.filled
+          (found_by c.follow.new.sweep)
+          c.in_ok-follow.field-0 e.same e.edge c.loop-hart.is_end c.if-is_some.is_end i.looked
+          (elim c.if-is_some.branch [
+            | then-is_some w ↦ inl (sym c.is_some.ensures ∙ w.if-is_some.true, w.is_end-is)
+            | else-is_some w ↦ inr (sym c.is_some.ensures ∙ w.if-is_some.false, w.is_end-is)
+          ]);
+    }
 
 pub returns-in-Ok-clause-swept : goal.returns-in-Ok-clause-swept
-returns-in-Ok-clause-swept g c start swept =
-    let x = element_at c.args.sweep.now.states.keys c.args.place c.requires.inside in
-    let r = rests (g.M.Machine.step c.args.machine.now) start c.args.place c.loop-hart.hart (found_by c.loop-hart.sweep)
-    (c.loop-hart.invariant.swept start swept)
-    (λ s h le. g.met.M.Machine.absent c.args.machine.now s h (omega (arith, c.harts-hart-end.ensures, c.loop-hart-test.false, le)))
-    x.0 (c.loop-hart.invariant.looked.kept c.args.place x.0 x.1) (c.loop-hart.invariant.looked.still c.if-is_end.true x.0 x.1) in
-    subst (λ (ends : List ℕ). IsSwept (g.M.Machine.step c.args.machine.now) start (c.args.place + 1) 0
-    (record { states = c.loop-hart.sweep.states.keys; origins = c.loop-hart.sweep.origins.items; ends = ends }))
-    (sym c.in-Ok.ensures.items) r
-
-pub returns-in-Ok-clause-grown : goal.returns-in-Ok-clause-grown
-returns-in-Ok-clause-grown g c = keeps_length c.args.sweep.now.states.keys c.loop-hart.sweep.states.keys c.loop-hart.invariant.looked.kept
+returns-in-Ok-clause-swept g c =
+    let i = c.loop-hart.invariant in
+    let found = found_by c.loop-hart.sweep in
+    rests (g.M.Machine.Knows c.loop-hart.machine) (g.M.Machine.Steps c.loop-hart.machine) c.args.place
+    c.loop-hart.hart found i.swept
+    (omega (arith, c.loop-hart-test.false, c.loop-hart.auto.hart-end, i.same))
+    (subst (λ b. Looked found c.args.place c.loop-hart.hart b) c.if-is_end.true i.looked) c.push.new.self.items
+    c.in-Ok.ensures.items
 
 pub returns-else-is_end-clause-swept : goal.returns-else-is_end-clause-swept
-returns-else-is_end-clause-swept g c start swept =
-    let x = element_at c.args.sweep.now.states.keys c.args.place c.requires.inside in
-    let m = c.loop-hart.invariant.looked.moved c.if-is_end.false x.0 x.1 in
-    moves (g.M.Machine.step c.args.machine.now) start c.args.place c.loop-hart.hart (found_by c.loop-hart.sweep)
-    (c.loop-hart.invariant.swept start swept)
-    (λ s h le. g.met.M.Machine.absent c.args.machine.now s h (omega (arith, c.harts-hart-end.ensures, c.loop-hart-test.false, le)))
-    x.0 (c.loop-hart.invariant.looked.kept c.args.place x.0 x.1) m.0 m.1
-
-pub returns-else-is_end-clause-grown : goal.returns-else-is_end-clause-grown
-returns-else-is_end-clause-grown g c = keeps_length c.args.sweep.now.states.keys c.loop-hart.sweep.states.keys c.loop-hart.invariant.looked.kept
+returns-else-is_end-clause-swept g c =
+    let i = c.loop-hart.invariant in
+    let found = found_by c.loop-hart.sweep in
+    moves (g.M.Machine.Knows c.loop-hart.machine) (g.M.Machine.Steps c.loop-hart.machine) c.args.place
+    c.loop-hart.hart found i.swept (omega (arith, c.loop-hart-test.false, c.loop-hart.auto.hart-end, i.same))
+    (subst (λ b. Looked found c.args.place c.loop-hart.hart b) c.if-is_end.false i.looked)
