@@ -1,0 +1,5 @@
+pub mod Shared
+pub mod Places
+pub mod Same
+pub mod SameLaws
+pub mod Keeping

@@ -1,0 +1,141 @@
+-- What one instruction of a hart comes to in a state in which it is hart h.
+use Rattle.std.proofs.Common.{◌≡◌, ℕ, ◌<◌, Bool, true, false, refl, sym, ap, subst, ◌∙◌, arith}
+use Rattle.std.specs.Prelude.{◌&&◌, ◌==◌, nat_lt, slice_index}
+use Rattle.std.proofs.{lemmas.Bool.Decides.nat_tests, Math.Path.fun_ext}
+use Rattle.smt_model.specs.Words.{Op, Effect}
+use Rattle.smt_model.specs.{Setup.Setup, Exec.Computed, Nexts.pc_after, Kinds.destination, Bytes.byte_after}
+use Rattle.smt_model.specs.{Bytes.read, Effects.effect_of, Reservations.holds_word}
+use Rattle.smt_model.specs.Plain.{Plain, after, op_at_pc, computes, effect_at, is_going_status, status_after}
+use Rattle.smt_model.specs.Plain.{output_after}
+use Rattle.outcome_laws.specs.{Paths.can_step, Paths.stepped, Local.is_local, Local.is_local_of}
+use Rattle.outcome_laws.proofs.Local.{IsQuiet, local_step}
+use Rattle.sc_machine.specs.{Harts.HartAgrees, Harts.register_written, declared.hart.Hart.Hart}
+use Rattle.sc_machine.proofs.Harts.{own_hart}
+use Rattle.sc_machine.specs.Here.{op_here, computed_here}
+use Rattle.shared_memory.specs.Contents.{Contents}
+use Rattle.changed_memory.specs.Shared.{Shared, byte_at, reserved_at}
+use Rattle.condensed_machine.specs.Settling.{HartsStay, OthersStay, GoesOn}
+use Rattle.condensed_machine.specs.Executing.{SharedAgrees, IsExecuted}
+use Rattle.condensed_machine.specs.declared.executed.Executed.{Executed}
+use Rattle.condensed_machine.proofs.Finding.{op_same, computed_same}
+
+both : (a b : Bool) → a ≡ true → b ≡ true → (a && b) ≡ true
+both a b first second = rw (first, second) refl
+
+pub can_go : (setup : Setup) (s : Plain) (h : ℕ) (x : Hart) → h < setup.harts → HartAgrees s h x
+    → is_going_status x.status ≡ true → can_step setup h s ≡ true
+can_go setup s h x inside is going =
+    let there : nat_lt h setup.harts ≡ true = grind (arith, nat_tests) in
+    both (nat_lt h setup.harts) (is_going_status (s.statuses h)) there (ap is_going_status (sym is.status) ∙ going)
+
+either_no : (a b c : Bool) → b ≡ false → ((a && b) && c) ≡ false
+either_no true b c off = rw off refl
+either_no false b c off = refl
+
+second_no : (a b : Bool) → b ≡ false → (a && b) ≡ false
+second_no true b off = off
+second_no false b off = refl
+
+-- A hart that doesn't go makes no local step, and so does one whose next step isn't local.
+pub stands_over : (setup : Setup) (s : Plain) (h : ℕ) (x : Hart) → HartAgrees s h x
+    → is_going_status x.status ≡ false → (can_step setup h s && is_local setup h s) ≡ false
+stands_over setup s h x is over =
+    either_no (nat_lt h setup.harts) (is_going_status (s.statuses h)) (is_local setup h s)
+    (ap is_going_status (sym is.status) ∙ over)
+
+pub stands_at : (setup : Setup) (s : Plain) (h : ℕ) (op : Op) (c : Computed) → op ≡ op_at_pc setup s h
+    → c ≡ computes setup s h → is_local_of op c ≡ false → (can_step setup h s && is_local setup h s) ≡ false
+stands_at setup s h op c of_op of_computed seen =
+    second_no (can_step setup h s) (is_local setup h s)
+    (ap (λ o. is_local_of o (computes setup s h)) (sym of_op) ∙ ap (is_local_of op) (sym of_computed) ∙ seen)
+
+-- The state behind an instruction, told by what was executed.
+pub after_same : (setup : Setup) (s : Plain) (h : ℕ) (op : Op) (addr : ℕ) (e : Effect) → op ≡ op_at_pc setup s h
+    → addr ≡ (computes setup s h).addr → e ≡ effect_at setup s h → after s h op addr e ≡ stepped setup h s
+after_same setup s h op addr e of_op of_addr of_effect =
+    ap (λ o. after s h o addr e) of_op ∙ ap (λ a. after s h (op_at_pc setup s h) a e) of_addr
+    ∙ ap (after s h (op_at_pc setup s h) (computes setup s h).addr) of_effect
+
+-- Any instruction changes its own hart alone.
+pub harts_after : (s : Plain) (h : ℕ) (op : Op) (addr : ℕ) (e : Effect) → HartsStay h s (after s h op addr e)
+harts_after s h op addr e = record {
+  registers = λ g r apart. rw apart refl;
+  pcs = λ g apart. rw apart refl;
+  statuses = λ g apart. rw apart refl;
+}
+
+quiet_stays : (s : Plain) (h : ℕ) (op : Op) (addr : ℕ) (e : Effect) → IsQuiet op addr e
+    → OthersStay h s (after s h op addr e)
+quiet_stays s h op addr e quiet = record {
+  harts = harts_after s h op addr e;
+  reserved = λ g. quiet.reserved (g == h) (s.reserved g);
+  bytes = λ a. ap (λ w. byte_after w a (s.bytes a)) quiet.write;
+  output = ap (λ out. output_after out s.output) quiet.out;
+}
+
+-- What was executed of hart x, and the hart y that it has made.
+pub record HasAdvanced (op : Op) (e : Effect) (x y : Hart) : Type 0 where
+  pub registers : (r : ℕ)
+      → slice_index y.registers r ≡ register_written (destination op) e.value r (slice_index x.registers r)
+  pub pc : y.pc ≡ pc_after e.next x.pc
+  pub status : y.status ≡ status_after e.next x.status
+
+pub hart_behind : (setup : Setup) (s : Plain) (h : ℕ) (op : Op) (addr : ℕ) (e : Effect) (x y : Hart)
+    → HartAgrees s h x → HasAdvanced op e x y → after s h op addr e ≡ stepped setup h s
+    → HartAgrees (stepped setup h s) h y
+hart_behind setup s h op addr e x y is advanced same =
+    subst (λ t. HartAgrees t h y) same
+    (own_hart s h op addr e x y is advanced.registers advanced.pc advanced.status)
+
+module _ (setup : Setup) (s : Plain) (h : ℕ) (op : Op) (c : Computed) (e : Effect)
+    (of_op : op ≡ op_at_pc setup s h) (of_computed : c ≡ computes setup s h) where
+  pub effect_same : e ≡ effect_of op c (read op s.bytes c.addr) (holds_word (s.reserved h) c.addr)
+      → e ≡ effect_at setup s h
+  effect_same is =
+      is ∙ ap (λ o. effect_of o c (read o s.bytes c.addr) (holds_word (s.reserved h) c.addr)) of_op
+      ∙ ap (λ (d : Computed). effect_of (op_at_pc setup s h) d (read (op_at_pc setup s h) s.bytes d.addr)
+      (holds_word (s.reserved h) d.addr)) of_computed
+
+  -- A local step.
+  pub goes_by_one : (x y : Hart) → h < setup.harts → HartAgrees s h x → is_going_status x.status ≡ true
+      → is_local_of op c ≡ true → ((now : ℕ) (held : Bool) → e ≡ effect_of op c now held) → HasAdvanced op e x y
+      → GoesOn setup h 1 s y
+  goes_by_one x y inside is going local effect advanced =
+      let same = after_same setup s h op c.addr e of_op (ap (λ (d : Computed). d.addr) of_computed)
+      (effect_same (effect (read op s.bytes c.addr) (holds_word (s.reserved h) c.addr))) in
+      let here : is_local setup h s ≡ true =
+      ap (λ o. is_local_of o (computes setup s h)) (sym of_op) ∙ ap (is_local_of op) (sym of_computed) ∙ local in
+      let quiet : IsQuiet op c.addr e =
+      subst (IsQuiet op c.addr) (sym (effect 0 false)) ((local_step op c local).quiet c.addr 0 false) in
+      record {
+        there = stepped setup h s;
+        local = (can_go setup s h x inside is going, here, refl);
+        agrees = hart_behind setup s h op c.addr e x y is advanced same;
+        others = subst (OthersStay h s) same (quiet_stays s h op c.addr e quiet);
+      }
+
+-- What was executed, on memory as the image has it with what has changed since.
+pub is_executed : (setup : Setup) (s : Plain) (h : ℕ) (m : Contents) (x : Hart) (shared : Shared) (op : Op)
+    (c : Computed) (addr : ℕ) (e : Effect) → m.image ≡ setup.image → HartAgrees s h x → SharedAgrees m.image s shared
+    → op ≡ op_here m x
+    → c ≡ computed_here m x (op_here m x) → addr ≡ c.addr
+    → e ≡ effect_of op c (read op (byte_at m.image shared) c.addr) (holds_word (reserved_at shared h) c.addr)
+    → IsExecuted setup s h (record { op = op; addr = addr; effect = e })
+is_executed setup s h m x shared op c addr e image is agrees found computed at effect =
+    let of_op = found ∙ op_same setup s m h x image is in
+    let of_computed = computed ∙ computed_same setup s m h x image is in
+    let bytes : byte_at m.image shared ≡ s.bytes = fun_ext agrees.bytes in
+    record {
+      op = of_op;
+      addr = at ∙ ap (λ (d : Computed). d.addr) of_computed;
+      effect = effect_same setup s h op c e of_op of_computed
+          (effect
+          ∙ ap (λ f. effect_of op c (read op f c.addr) (holds_word (reserved_at shared h) c.addr)) bytes
+          ∙ ap (λ held. effect_of op c (read op s.bytes c.addr) (holds_word held c.addr)) (agrees.reserved h));
+    }
+
+pub is_behind : (setup : Setup) (s : Plain) (h : ℕ) (e : Executed) (x y : Hart) → HartAgrees s h x
+    → HasAdvanced e.op e.effect x y → IsExecuted setup s h e → HartAgrees (stepped setup h s) h y
+is_behind setup s h e x y is advanced executed =
+    hart_behind setup s h e.op e.addr e.effect x y is advanced
+    (after_same setup s h e.op e.addr e.effect executed.op executed.addr executed.effect)

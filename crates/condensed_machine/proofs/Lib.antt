@@ -1,0 +1,10 @@
+pub mod Finding
+pub mod Following
+pub mod Instructions
+pub mod Alike
+pub mod Numbers
+pub mod Moving
+pub mod Made
+pub mod Zero
+pub mod Starting
+pub mod Turns

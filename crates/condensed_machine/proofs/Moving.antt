@@ -1,0 +1,127 @@
+-- A step of a hart, from the parts of the state before it to those behind it.
+use Rattle.std.proofs.Common.{◌≡◌, ◌≢◌, ℕ, ◌<◌, true, false, replicate, refl, sym, ap, subst, ◌∙◌, arith, inl, inr}
+use Rattle.std.specs.Prelude.{◌==◌, if◌then◌else◌, nat_lt, slice_index}
+use Rattle.std.proofs.lemmas.Bool.{cases_eq, Decides.nat_tests}
+use Rattle.smt_model.specs.{declared.config.Status.TheVariants.Going}
+use Rattle.smt_model.specs.{Setup.Setup, Setup.first_number, Bytes.byte_after, Reservations.reservation_after}
+use Rattle.smt_model.specs.Plain.{Plain, after, output_after}
+use Rattle.outcome_laws.specs.{Paths.stepped}
+use Rattle.sc_machine.specs.{Harts.HartAgrees, declared.hart.Hart.Hart}
+use Rattle.changed_memory.specs.Shared.{Shared}
+use Rattle.condensed_machine.specs.{Settling.HartsStay, Settling.OthersStay, Settling.GoesOn}
+use Rattle.condensed_machine.specs.{Machine.Program, Machine.IsSound, Steps.SettlesBy}
+use Rattle.condensed_machine.specs.Decoded.{Decoded, full, hart_at, register_of}
+use Rattle.condensed_machine.specs.Executing.{SharedAgrees, SharedAfter, IsExecuted, IsBehind, ComesToRest, InEachState}
+use Rattle.condensed_machine.specs.declared.executed.Executed.{Executed}
+use Rattle.condensed_machine.proofs.Alike.{IsKeptAs, alike_by_harts, rests_as, stays_as, full_as}
+use Rattle.condensed_machine.proofs.Instructions.{after_same, harts_after}
+
+inside_test : (h harts : ℕ) → h < harts → nat_lt h harts ≡ true
+inside_test h harts inside = grind (arith, nat_tests)
+
+-- Hart h of a state, where it is there.
+pub hart_is : (p : Program) (d : Decoded) (h : ℕ) → h < p.harts → slice_index (hart_at d.harts h).registers 0 ≡ 0
+    → HartAgrees (full p d) h (hart_at d.harts h)
+hart_is p d h inside zero =
+    let x = hart_at d.harts h in
+    let there = inside_test h p.harts inside in
+    record {
+      registers = λ r below.
+          register_reads r (slice_index x.registers r) (register_of p h x r) (zero_there r zero)
+          (sym (ap (λ b. if b then slice_index x.registers r else first_number p.harts h r) there));
+      pc = sym (ap (λ b. if b then x.pc else p.image.entry) there);
+      status = sym (ap (λ b. if b then x.status else Going) there);
+    }
+  where
+    zero_there : (r : ℕ) → slice_index (hart_at d.harts h).registers 0 ≡ 0 → r ≡ 0
+        → slice_index (hart_at d.harts h).registers r ≡ 0
+    zero_there r at_zero is = subst (λ (k : ℕ). slice_index (hart_at d.harts h).registers k ≡ 0) (sym is) at_zero
+
+    register_reads : (r n m : ℕ) → (r ≡ 0 → n ≡ 0) → n ≡ m → n ≡ (if r == 0 then 0 else m)
+    register_reads r n m at_zero same = grind (arith, nat_tests)
+
+pub shared_is : (p : Program) (d : Decoded) → SharedAgrees p.image (full p d) d.shared
+shared_is p d = record { reserved = λ h. refl; bytes = λ a. refl; output = refl }
+
+-- What harts share behind an instruction.
+shared_behind : (setup : Setup) (p : Program) (s : Plain) (h : ℕ) (e : Executed) (old new : Shared)
+    → SharedAgrees p.image s old → SharedAfter p.image h e old new
+    → SharedAgrees p.image (after s h e.op e.addr e.effect) new
+shared_behind setup p s h e old new agrees is = record {
+  reserved = λ g. is.reserved g ∙ ap (reservation_after e.op e.addr e.effect (g == h)) (agrees.reserved g);
+  bytes = λ a. is.bytes a ∙ ap (byte_after e.effect.write a) (agrees.bytes a);
+  output = is.output ∙ ap (output_after e.effect.out) agrees.output;
+}
+
+shared_stays : (p : Program) (h : ℕ) (s t : Plain) (shared : Shared) → OthersStay h s t → SharedAgrees p.image s shared
+    → SharedAgrees p.image t shared
+shared_stays p h s t shared others agrees = record {
+  reserved = λ g. agrees.reserved g ∙ sym (others.reserved g);
+  bytes = λ a. agrees.bytes a ∙ sym (others.bytes a);
+  output = agrees.output ∙ sym others.output;
+}
+
+-- Hart h of d has stepped and come to rest as y, and the parts of e are those behind it.
+pub record IsNext (p : Program) (d e : Decoded) (h : ℕ) (done : Executed) (steps : ℕ) (y : Hart) : Type 0 where
+  pub behind : Hart
+  pub executed : InEachState p h (hart_at d.harts h) d.shared (λ setup s. IsExecuted setup s h done)
+  pub is_behind : InEachState p h (hart_at d.harts h) d.shared (λ setup s. IsBehind setup s h behind)
+  pub rests : ComesToRest p behind steps y
+  pub own : hart_at e.harts h ≡ y
+  pub others : (g : ℕ) → g ≢ h → hart_at e.harts g ≡ hart_at d.harts g
+  pub shared : SharedAfter p.image h done d.shared e.shared
+
+module _ (p : Program) (d e : Decoded) (h steps : ℕ) (done : Executed) (y : Hart) (sound : IsSound p)
+    (inside : h < p.harts) (zero : slice_index (hart_at d.harts h).registers 0 ≡ 0)
+    (next : IsNext p d e h done steps y) (setup : Setup) (image : setup.image ≡ p.image)
+    (harts : setup.harts ≡ p.harts) where
+  abbrev behind : Plain
+  behind = stepped setup h (full p d)
+
+  there : h < setup.harts
+  there = omega (arith, harts)
+
+  executed : IsExecuted setup (full p d) h done
+  executed = next.executed setup (full p d) image there (hart_is p d h inside zero) (shared_is p d)
+
+  same : after (full p d) h done.op done.addr done.effect ≡ behind
+  same = after_same setup (full p d) h done.op done.addr done.effect executed.op executed.addr executed.effect
+
+  goes : GoesOn setup h steps behind next.rests.moved
+  goes =
+      next.rests.settles.leads setup h behind image there
+      (next.is_behind setup (full p d) image there (hart_is p d h inside zero) (shared_is p d))
+
+  shared : SharedAgrees p.image goes.there e.shared
+  shared =
+      shared_stays p h behind goes.there e.shared goes.others
+      (subst (λ s. SharedAgrees p.image s e.shared) same
+      (shared_behind setup p (full p d) h done d.shared e.shared (shared_is p d) next.shared))
+
+  stayed : HartsStay h (full p d) behind
+  stayed = subst (HartsStay h (full p d)) same (harts_after (full p d) h done.op done.addr done.effect)
+
+  kept : (g : ℕ) → IsKeptAs p goes.there g (hart_at e.harts g)
+  kept g = elim (cases_eq g h) [
+    | inl own ↦
+        subst (λ k. IsKeptAs p goes.there k (hart_at e.harts k)) (sym own)
+        (subst (IsKeptAs p goes.there h) (sym next.own)
+        (rests_as p goes.there h next.rests.moved y (inside_test h p.harts inside) goes.agrees next.rests.rested
+        sound.registers))
+    | inr other ↦
+        let apart : (g == h) ≡ false = grind (arith, nat_tests) in
+        subst (IsKeptAs p goes.there g) (sym (next.others g other))
+        (stays_as p h g behind goes.there (hart_at d.harts g) apart goes.others.harts
+        (stays_as p h g (full p d) behind (hart_at d.harts g) apart stayed (full_as p d g)))
+  ]
+
+  pub settles_by : SettlesBy setup p (replicate steps h) behind (full p e)
+  settles_by = record {
+    settles = record {
+      order = replicate steps h;
+      there = goes.there;
+      local = goes.local;
+      alike = alike_by_harts p goes.there e kept shared;
+    };
+    by = refl;
+  }

@@ -1,0 +1,125 @@
+use Rattle.std.proofs.Common.{◌≡◌, ℕ, ◌<◌, length, refl, sym, ap, subst, ◌∙◌, arith}
+use Rattle.std.specs.Prelude.{slice_index}
+use Rattle.elf_image.specs.Image.{ProgramImage}
+use Rattle.sc_machine.specs.declared.hart.Hart.{Hart}
+use Rattle.changed_memory.specs.Shared.{Shared}
+use Rattle.condensed_machine.specs.Machine.{Machine, Grows, HaveZero}
+use Rattle.condensed_machine.specs.MachineInside.{machine_of}
+use Rattle.condensed_machine.specs.Decoded.{Knows, decoded, hart_in}
+use Rattle.condensed_machine.specs.Tables.{IsSharedAfter}
+use Rattle.condensed_machine.proofs.Made.{HasMoved, moved_from, made, known}
+use Rattle.condensed_machine.proofs.Numbers.{zero_in}
+use Rattle.condensed_machine.proofs.Zero.{zero_behind, zero_rests}
+use Rattle.condensed_machine.proofs.machine.CondensedMachine.make_step.Goals as goal
+use Rattle.condensed_machine.proofs.machine.CondensedMachine.make_step.Goals.{After-number_hart, After-with}
+
+knows : (c : After-number_hart) → Knows (machine_of c.self.inside) c.args.state
+knows c = subst (λ m. Knows m c.args.state) (sym c.self.view_is) c.requires.known
+
+inside : (c : After-number_hart) → c.args.hart < c.self.inside.program.harts
+inside c = subst (λ (m : Machine). c.args.hart < m.program.harts) (sym c.self.view_is) c.requires.hart
+
+hart_is : (c : After-number_hart) → c.hart.result.now ≡ hart_in (machine_of c.self.inside) c.args.state c.args.hart
+hart_is c = c.hart.ensures ∙ ap (λ m. hart_in m c.args.state c.args.hart) (sym c.self.view_is)
+
+zero_before : (c : After-number_hart) → slice_index c.hart.result.now.registers 0 ≡ 0
+zero_before c =
+    let there : c.args.hart < length c.args.state.harts =
+    omega (arith, inside c, c.self.invariant.sound.few, c.requires.known.room) in
+    subst (λ (x : Hart). slice_index x.registers 0 ≡ 0) (sym (hart_is c))
+    (zero_in (machine_of c.self.inside) c.args.state c.args.hart c.self.invariant.zero (knows c) there)
+
+zeros : (c : After-number_hart) → HaveZero c.number_hart.new.harts.keys
+zeros c =
+    let p = c.self.inside.program in
+    c.number_hart.ensures.zero c.self.invariant.zero
+    (zero_rests p c.execute-executed.new.state c.come_to_rest-way.new.state c.come_to_rest-way.result
+    c.come_to_rest-way.ensures
+    (zero_behind p c.args.hart c.hart.result.now c.execute-executed.new.state c.shared-shared.result.now
+    c.execute-executed.ensures.behind (zero_before c)))
+
+pub invariant_of-self : goal.invariant_of-self
+invariant_of-self c =
+    record { sound = c.self.invariant.sound; zero = zeros (goal.at.invariant_of-self c).After-number_hart }
+
+pub invariant_of-self-in_err-shared_number : goal.invariant_of-self-in_err-shared_number
+invariant_of-self-in_err-shared_number c =
+    record {
+      sound = c.self.invariant.sound;
+      zero = zeros (goal.at.invariant_of-self-in_err-shared_number c).After-number_hart;
+    }
+
+pub invariant_of-self-2 : goal.invariant_of-self-2
+invariant_of-self-2 c =
+    record { sound = c.self.invariant.sound; zero = zeros (goal.at.invariant_of-self-2 c).After-number_hart }
+
+abbrev after : After-with → Machine
+after c = record {
+  program = c.self.inside.program;
+  hart_states = c.number_hart.new.harts.keys;
+  shared_states = c.number_shared.new.shared.keys;
+}
+
+grows : (c : After-with) → Grows (machine_of c.self.inside) (after c)
+grows c = record {
+  program = refl;
+  hart_states = c.number_hart.ensures.kept;
+  shared_states = c.number_shared.ensures.kept;
+}
+
+shared_is : (c : After-with) → c.shared-shared.result.now ≡ (decoded (machine_of c.self.inside) c.args.state).shared
+shared_is c = c.shared-shared.ensures ∙ ap (λ m. (decoded m c.args.state).shared) (sym c.self.view_is)
+
+shared_after : (c : After-with)
+    → IsSharedAfter c.self.inside.program.image c.args.hart c.execute-executed.result c.shared-shared.result.now
+    c.number_shared.new.shared.keys c.with.result.shared
+shared_after c =
+    let e = c.execute-executed.result in
+    let table = c.number_shared.new.shared.keys in
+    let before = (decoded (machine_of c.self.inside) c.args.state).shared in
+    subst (λ (i : ProgramImage). IsSharedAfter i c.args.hart e c.shared-shared.result.now table c.with.result.shared)
+    c.start.ensures.image
+    (subst (λ (old : Shared). IsSharedAfter c.start.result.now.image c.args.hart e old table c.with.result.shared)
+    (sym (shared_is c))
+    (subst (λ (n : ℕ). IsSharedAfter c.start.result.now.image c.args.hart e before table n) (sym c.with.ensures.shared)
+    c.in_ok-shared_number.ensures.number))
+
+moved : (c : After-with) → slice_index c.hart.result.now.registers 0 ≡ 0
+    → c.hart.result.now ≡ hart_in (machine_of c.self.inside) c.args.state c.args.hart
+    → HasMoved (machine_of c.self.inside) (after c) c.args.state c.with.result c.args.hart c.come_to_rest-way.result
+moved c zero of_hart =
+    moved_from (machine_of c.self.inside) (after c) c.args.state c.with.result c.args.hart c.come_to_rest-way.result
+    c.hart.result.now c.shared-shared.result.now of_hart (shared_is c)
+    (record {
+      zero = zero;
+      going = sym c.is_going.ensures ∙ c.if-not-is_going.false;
+      done = c.execute-executed.result;
+      behind = c.execute-executed.new.state;
+      moved = c.come_to_rest-way.new.state;
+      number = c.in_ok-number.number;
+      executed = c.execute-executed.ensures.executed;
+      is_behind = c.execute-executed.ensures.behind;
+      rests = c.come_to_rest-way.ensures;
+      has = c.in_ok-number.ensures.number;
+      numbered = c.with.ensures.harts;
+      shared = shared_after c;
+    })
+
+pub returns-clause-grows : goal.returns-clause-grows
+returns-clause-grows c =
+    let at = (goal.at.returns-clause-grows c).After-with in
+    subst (λ m. Grows m (after at)) c.self.view_is (grows at)
+
+pub returns-clause-steps : goal.returns-clause-steps
+returns-clause-steps c =
+    let early = (goal.at.returns-clause-steps c).After-number_hart in
+    let at = (goal.at.returns-clause-steps c).After-with in
+    made (machine_of c.self.inside) (after at) c.args.state c.with.result c.args.hart c.come_to_rest-way.result
+    c.self.invariant.sound (grows at) (knows early) (inside early) (moved at (zero_before early) (hart_is early))
+
+pub returns-clause-knows : goal.returns-clause-knows
+returns-clause-knows c =
+    let early = (goal.at.returns-clause-knows c).After-number_hart in
+    let at = (goal.at.returns-clause-knows c).After-with in
+    known (machine_of c.self.inside) (after at) c.args.state c.with.result c.args.hart c.come_to_rest-way.result
+    c.self.invariant.sound (grows at) (knows early) (inside early) (moved at (zero_before early) (hart_is early))

@@ -1,0 +1,38 @@
+use Rattle.std.proofs.Common.{◌≡◌, ℕ, Bool, false, sym, subst, arith}
+use Rattle.condensed_machine.specs.Settling.{LeadsLocally, SettlesAs, StepsLocally}
+use Rattle.condensed_machine.proofs.Following.{stays_put, goes_further}
+use Rattle.condensed_machine.proofs.settling.settle.Goals as goal
+
+pub loop-steps-init : goal.loop-steps-init
+loop-steps-init c = λ setup h s image inside is. stays_put setup h s c.args.hart.now is
+
+pub loop-steps-preserved : goal.loop-steps-preserved
+loop-steps-preserved c = λ setup h s image inside is.
+    let now = c.args.start.now.image in
+    let y = c.loop-steps.hart in
+    let z = c.step_locally.new.hart in
+    let step : LeadsLocally now y 1 z =
+    subst (λ (made : Bool). StepsLocally now y made z) c.if-not-step_locally.false c.step_locally.ensures in
+    let first = c.loop-steps.invariant setup h s image inside is in
+    goes_further setup h c.loop-steps.steps s y z first (step setup h first.there image inside first.agrees)
+
+pub returns : goal.returns
+returns c =
+    let all : c.loop-steps.steps ≡ 1000 = omega arith in
+    record {
+      leads =
+          subst (λ (steps : ℕ). LeadsLocally c.args.start.now.image c.args.hart.now steps c.loop-steps.hart) all
+          c.loop-steps.invariant;
+      few = omega arith;
+      settled = λ fewer. absurd (omega arith);
+    }
+
+pub returns-then-not-step_locally : goal.returns-then-not-step_locally
+returns-then-not-step_locally c =
+    let image = c.args.start.now.image in
+    let y = c.loop-steps.hart in
+    let z = c.step_locally.new.hart in
+    let stands : StepsLocally image y false z =
+    subst (λ (made : Bool). StepsLocally image y made z) c.if-not-step_locally.true c.step_locally.ensures in
+    subst (SettlesAs image c.args.hart.now c.loop-steps.steps) (sym stands.1)
+    (record { leads = c.loop-steps.invariant; few = omega arith; settled = λ fewer. stands.0 })

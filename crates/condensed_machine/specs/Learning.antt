@@ -1,0 +1,117 @@
+-- A machine that learns: what it has said stays true. These are laws of an impl, so they stand here.
+use Rattle.std.specs.Prelude.{◌≡◌, ℕ, suc, ◌<◌, Bool, true, ◌&&◌, nat_eq, List, [], ◌∷◌, map, length, replicate}
+use Rattle.std.specs.Prelude.{slice_index, slice_index_or, Option, Some, None, IfSome}
+use Rattle.std.proofs.Common.{refl, sym, ap, ap₂, subst, ◌∙◌, suc-le-suc, zero-le}
+use Rattle.std.proofs.lemmas.Option.{slice_get-get_or, get_or_from_slice_get, slice_get_within}
+use Rattle.std.specs.Cmp.{first_so, second_so, unsigned_Decides}
+use Rattle.std.specs.Cmp.Lexicographic.{pointwise, pointwise_decides}
+use Rattle.smt_model.specs.{Setup.Setup, Plain.Plain}
+use Rattle.outcome_laws.specs.{Paths.can_step, Paths.stepped}
+use Rattle.sc_machine.specs.declared.hart.Hart.{Hart}
+use Rattle.changed_memory.specs.Shared.{Shared}
+use Rattle.searches.specs.declared.step.Step.{Step}
+use Rattle.condensed_machine.specs.Machine.{Program, Machine, Grows, Keeps}
+use Rattle.condensed_machine.specs.Decoded.{Decoded, decoded, full, hart_at, no_hart, no_shared, state_of, Knows}
+use Rattle.condensed_machine.specs.Steps.{SettlesBy, MakesStep, Steps}
+use Rattle.condensed_machine.specs.declared.state.State.{State}
+
+-- ---- A table that grows
+
+pub kept_at : {A : Type 0} → (old new : List A) (n : ℕ) (d : A) → Keeps old new → n < length old
+    → slice_index_or new n d ≡ slice_index_or old n d
+kept_at old new n d keeps inside =
+    get_or_from_slice_get new n (slice_index_or old n d) d
+    (keeps n (slice_index_or old n d) (slice_get-get_or old n d inside))
+
+pub kept_within : {A : Type 0} → (old new : List A) (n : ℕ) (d : A) → Keeps old new → n < length old → n < length new
+kept_within old new n d keeps inside =
+    slice_get_within new n (slice_index_or old n d) (keeps n (slice_index_or old n d) (slice_get-get_or old n d inside))
+
+maps_same : {A : Type 0} → (f g : ℕ → A) (xs : List ℕ)
+    → ((i : ℕ) → i < length xs → f (slice_index xs i) ≡ g (slice_index xs i))
+    → map f xs ≡ map g xs
+maps_same f g [] same = refl
+maps_same f g (x ∷ xs) same =
+    ap₂ ◌∷◌ (same 0 (suc-le-suc zero-le)) (maps_same f g xs (λ i inside. same (suc i) (suc-le-suc inside)))
+
+abbrev made_of : List Hart → Shared → Decoded
+made_of harts shared = record { harts = harts; shared = shared }
+
+pub still_decoded : (m n : Machine) (s : State) → Grows m n → Knows m s → decoded n s ≡ decoded m s
+still_decoded m n s grows knows =
+    ap₂ made_of
+    (maps_same (hart_at n.hart_states) (hart_at m.hart_states) s.harts
+    (λ i inside. kept_at m.hart_states n.hart_states (slice_index s.harts i) no_hart grows.hart_states
+    (knows.harts i inside)))
+    (kept_at m.shared_states n.shared_states s.shared no_shared grows.shared_states knows.shared)
+
+pub still_knows : (m n : Machine) (s : State) → Grows m n → Knows m s → Knows n s
+still_knows m n s grows knows = record {
+  room = knows.room;
+  harts = λ h inside.
+      kept_within m.hart_states n.hart_states (slice_index s.harts h) no_hart grows.hart_states (knows.harts h inside);
+  shared = kept_within m.shared_states n.shared_states s.shared no_shared grows.shared_states knows.shared;
+}
+
+pub learns_nothing : (m : Machine) → Grows m m
+learns_nothing m = record {
+  program = refl;
+  hart_states = λ n x is. is;
+  shared_states = λ n x is. is;
+}
+
+pub learns_more : (l m n : Machine) → Grows l m → Grows m n → Grows l n
+learns_more l m n first second = record {
+  program = second.program ∙ first.program;
+  hart_states = λ k x is. second.hart_states k x (first.hart_states k x is);
+  shared_states = λ k x is. second.shared_states k x (first.shared_states k x is);
+}
+
+pub same_harts : (m n : Machine) → Grows m n → m.program.harts ≡ n.program.harts
+same_harts m n grows = ap (λ (p : Program). p.harts) (sym grows.program)
+
+-- ---- What was said of a step
+
+pub state_same : (m n : Machine) (s : State) → Grows m n → Knows m s → state_of n s ≡ state_of m s
+state_same m n s grows knows = ap₂ full grows.program (still_decoded m n s grows knows)
+
+still_makes : (m n : Machine) (s : State) (h : ℕ) (step : Step State ℕ) (setup : Setup) → Grows m n → Knows m s
+    → Knows m step.state → MakesStep setup m s h step → MakesStep setup n s h step
+still_makes m n s h step setup grows knows next makes =
+    let here = state_same m n s grows knows in
+    let there = state_same m n step.state grows next in
+    let order = replicate step.way h in
+    record {
+      can = ap (can_step setup h) here ∙ makes.can;
+      leads =
+          subst (λ (p : Program). SettlesBy setup p order (stepped setup h (state_of n s)) (state_of n step.state))
+          (sym grows.program)
+          (subst (λ (u : Plain). SettlesBy setup m.program order (stepped setup h u) (state_of n step.state)) (sym here)
+          (subst (λ (u : Plain). SettlesBy setup m.program order (stepped setup h (state_of m s)) u) (sym there)
+          makes.leads));
+    }
+
+pub still_true : (m n : Machine) (s : State) (h : ℕ) (next : Option (Step State ℕ)) → Grows m n → Knows m s
+    → IfSome next (λ step. Knows m step.state) → Steps m s h next → Steps n s h next
+still_true m n s h None grows knows next steps = λ setup image harts.
+    ap (can_step setup h) (state_same m n s grows knows)
+    ∙ steps setup (image ∙ ap (λ (p : Program). p.image) grows.program)
+    (harts ∙ ap (λ (p : Program). p.harts) grows.program)
+still_true m n s h (Some step) grows knows next steps = λ setup image harts.
+    still_makes m n s h step setup grows knows next
+    (steps setup (image ∙ ap (λ (p : Program). p.image) grows.program)
+    (harts ∙ ap (λ (p : Program). p.harts) grows.program))
+
+-- ---- States
+
+-- States that are equal by `==` are one.
+abbrev pub is_same : State → State → Bool
+is_same s t = pointwise nat_eq s.harts t.harts && nat_eq s.shared t.shared
+
+pub equal_is_one : (s t : State) → is_same s t ≡ true → s ≡ t
+equal_is_one s t e =
+    let a = pointwise nat_eq s.harts t.harts in
+    let b = nat_eq s.shared t.shared in
+    let harts = (pointwise_decides unsigned_Decides s.harts t.harts).0 (first_so a b e) in
+    let shared = (unsigned_Decides s.shared t.shared).0 (second_so a b e) in
+    λ i. record { harts = harts i; shared = shared i }

@@ -1,0 +1,11 @@
+pub mod Settling
+pub mod Resting
+pub mod Machine
+pub mod ProgramInside
+pub mod MachineInside
+pub mod Decoded
+pub mod Executing
+pub mod Tables
+pub mod Steps
+pub mod Beginning
+pub mod Learning

@@ -1,0 +1,57 @@
+-- What a machine has that numbers the parts of its states.
+use Rattle.std.specs.Prelude.{◌≡◌, ℕ, ◌<◌, ◌≤◌, Bool, List, length, Some, slice_index, slice_get}
+use Rattle.numbers.specs.Sizes.{most_harts}
+use Rattle.elf_image.specs.Image.{ProgramImage}
+use Rattle.smt_model.specs.{Setup.Setup}
+use Rattle.outcome_laws.specs.Live.{IsLiveTable}
+use Rattle.live_registers.specs.Table.{live_of}
+use Rattle.live_registers.specs.declared.table.LiveTable.{LiveTable}
+use Rattle.sc_machine.specs.declared.hart.Hart.{Hart}
+use Rattle.changed_memory.specs.Shared.{Shared}
+
+-- What is searched: an image, how many harts run it, which registers are wanted of each at its end, by their
+-- numbers, and which registers may be read yet at each pc.
+pub record Program : Type 0 where
+  pub image : ProgramImage
+  pub harts : ℕ
+  pub watched : List Bool
+  pub live : LiveTable
+
+-- There are harts, and no more than there may be; each register is watched or isn't; the table of live
+-- registers is good.
+pub record IsSound (p : Program) : Type 0 where
+  pub some : 0 < p.harts
+  pub few : p.harts ≤ most_harts
+  pub registers : length p.watched ≡ 32
+  pub live : IsLiveTable p.image (live_of p.live)
+
+-- The program, and the harts and shared parts found so far. The number of one is its place.
+pub record Machine : Type 0 where
+  pub program : Program
+  pub hart_states : List Hart
+  pub shared_states : List Shared
+
+-- x0 stands as 0 in each hart.
+abbrev pub HaveZero : List Hart → Type 0
+HaveZero xs = (n : ℕ) (x : Hart) → slice_get xs n ≡ Some x → slice_index x.registers 0 ≡ 0
+
+-- What is old keeps its place.
+abbrev pub Keeps : {A : Type 0} → List A → List A → Type 0
+Keeps {A} old new = (n : ℕ) (x : A) → slice_get old n ≡ Some x → slice_get new n ≡ Some x
+
+-- The machine has learned: it has the same program, and what it had keeps its place.
+pub record Grows (m n : Machine) : Type 0 where
+  pub program : n.program ≡ m.program
+  pub hart_states : Keeps m.hart_states n.hart_states
+  pub shared_states : Keeps m.shared_states n.shared_states
+
+-- It is so of each setup with the program's image and harts.
+abbrev pub InEachSetup : Program → (Setup → Type 0) → Type 0
+InEachSetup p P = (setup : Setup) → setup.image ≡ p.image → setup.harts ≡ p.harts → P setup
+
+-- The machine of so many harts that run an image, and of which these registers are watched.
+pub record IsNew (image : ProgramImage) (harts : ℕ) (watched : List Bool) (m : Machine) : Type 0 where
+  pub image_is : m.program.image ≡ image
+  pub count : m.program.harts ≡ harts
+  pub watched_are : m.program.watched ≡ watched
+  pub sound : IsSound m.program

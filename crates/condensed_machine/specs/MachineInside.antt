@@ -1,0 +1,16 @@
+-- How the machine keeps its parts.
+use Rattle.condensed_machine.specs.Machine.{Machine, IsSound, HaveZero}
+use Rattle.condensed_machine.specs.declared.machine.CondensedMachine.TheInside.{Inside}
+
+-- What callers see of a machine.
+abbrev pub machine_of : Inside → Machine
+machine_of a = record {
+  program = a.program;
+  hart_states = a.hart_states.keys;
+  shared_states = a.shared_states.keys;
+}
+
+-- The program is sound, and x0 is 0 in each hart.
+pub record IsMachine (a : Inside) : Type 0 where
+  pub sound : IsSound a.program
+  pub zero : HaveZero a.hart_states.keys

@@ -1,0 +1,51 @@
+-- What a hart that follows its local steps comes to, in the words of the definitions' machine.
+use Rattle.std.specs.Prelude.{◌≡◌, ℕ, ◌<◌, ◌≤◌, ◌==◌, ◌&&◌, Bool, true, false, replicate}
+use Rattle.elf_image.specs.Image.{ProgramImage}
+use Rattle.smt_model.specs.{Setup.Setup, Plain.Plain}
+use Rattle.sc_machine.specs.{Harts.HartAgrees, declared.hart.Hart.Hart}
+use Rattle.outcome_laws.specs.{Paths.can_step, Local.is_local, Search.IsLocalPath}
+
+-- How many local steps are followed at once.
+abbrev pub most_local_steps : ℕ
+most_local_steps = 1000
+
+-- From s to t no hart has changed but hart h.
+pub record HartsStay (h : ℕ) (s t : Plain) : Type 0 where
+  pub registers : (g r : ℕ) → (g == h) ≡ false → t.registers g r ≡ s.registers g r
+  pub pcs : (g : ℕ) → (g == h) ≡ false → t.pcs g ≡ s.pcs g
+  pub statuses : (g : ℕ) → (g == h) ≡ false → t.statuses g ≡ s.statuses g
+
+-- From s to t nothing has changed but hart h.
+pub record OthersStay (h : ℕ) (s t : Plain) : Type 0 where
+  pub harts : HartsStay h s t
+  pub reserved : (g : ℕ) → t.reserved g ≡ s.reserved g
+  pub bytes : (a : ℕ) → t.bytes a ≡ s.bytes a
+  pub output : t.output ≡ s.output
+
+-- So many local steps of hart h lead from s to a state in which the hart is y, and nothing else has changed.
+pub record GoesOn (setup : Setup) (h steps : ℕ) (s : Plain) (y : Hart) : Type 0 where
+  pub there : Plain
+  pub local : IsLocalPath setup (replicate steps h) s there
+  pub agrees : HartAgrees there h y
+  pub others : OthersStay h s there
+
+-- Whichever hart x is, in whatever state, so many local steps make y of it.
+abbrev pub LeadsLocally : ProgramImage → Hart → ℕ → Hart → Type 0
+LeadsLocally image x steps y = (setup : Setup) (h : ℕ) (s : Plain) → setup.image ≡ image → h < setup.harts
+    → HartAgrees s h x → GoesOn setup h steps s y
+
+-- Whichever hart x is, in whatever state, it doesn't go or its next step isn't local.
+abbrev pub StandsStill : ProgramImage → Hart → Type 0
+StandsStill image x = (setup : Setup) (h : ℕ) (s : Plain) → setup.image ≡ image → HartAgrees s h x
+    → (can_step setup h s && is_local setup h s) ≡ false
+
+-- One local step makes y of x, where one was made; else there is none, and y is x.
+abbrev pub StepsLocally : ProgramImage → Hart → Bool → Hart → Type 0
+StepsLocally image x true y = LeadsLocally image x 1 y
+StepsLocally image x false y = StandsStill image x × (y ≡ x)
+
+-- So many local steps make y of x, and no more than may be made; where more may, there is no other.
+pub record SettlesAs (image : ProgramImage) (x : Hart) (steps : ℕ) (y : Hart) : Type 0 where
+  pub leads : LeadsLocally image x steps y
+  pub few : steps ≤ most_local_steps
+  pub settled : steps < most_local_steps → StandsStill image y

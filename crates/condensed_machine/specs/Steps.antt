@@ -1,0 +1,37 @@
+-- What a step of the machine comes to, in the words of the definitions' machine.
+use Rattle.std.specs.Prelude.{◌≡◌, ℕ, zero, suc, true, false, List, [], ◌++◌, replicate}
+use Rattle.std.specs.Prelude.{Option, Some, None, slice_index}
+use Rattle.smt_model.specs.{Setup.Setup, Plain.Plain, Plain.start}
+use Rattle.outcome_laws.specs.{Paths.can_step, Paths.stepped, Search.Settles}
+use Rattle.live_registers.specs.Table.{live_of}
+use Rattle.searches.specs.declared.step.Step.{Step}
+use Rattle.condensed_machine.specs.{Resting.is_watched, Machine.Program, Machine.Machine}
+use Rattle.condensed_machine.specs.{Machine.InEachSetup, Decoded.state_of}
+use Rattle.condensed_machine.specs.declared.begun.Begun.{Begun}
+use Rattle.condensed_machine.specs.declared.state.State.{State}
+
+-- These local steps lead from s to a state that is alike to t.
+pub record SettlesBy (setup : Setup) (p : Program) (order : List ℕ) (s t : Plain) : Type 0 where
+  pub settles : Settles setup (is_watched p.watched) (live_of p.live) s t
+  pub by : settles.order ≡ order
+
+-- Hart h can step, and after its step and so many local ones of its own the state is the next.
+pub record MakesStep (setup : Setup) (m : Machine) (s : State) (h : ℕ) (step : Step State ℕ) : Type 0 where
+  pub can : can_step setup h (state_of m s) ≡ true
+  pub leads : SettlesBy setup m.program (replicate step.way h) (stepped setup h (state_of m s))
+      (state_of m step.state)
+
+-- Hart h has no step, or this one.
+abbrev pub Steps : Machine → State → ℕ → Option (Step State ℕ) → Type 0
+Steps m s h None = InEachSetup m.program (λ setup. can_step setup h (state_of m s) ≡ false)
+Steps m s h (Some step) = InEachSetup m.program (λ setup. MakesStep setup m s h step)
+
+-- The order of harts in turn, each as often as it is told.
+abbrev pub turns : List ℕ → ℕ → List ℕ
+turns ways zero = []
+turns ways (suc h) = turns ways h ++ replicate (slice_index ways h) h
+
+-- The start has settled: each hart in turn has gone on by so many local steps of its own.
+pub record HasBegun (m : Machine) (begun : Begun) : Type 0 where
+  pub leads : InEachSetup m.program (λ setup.
+      SettlesBy setup m.program (turns begun.ways m.program.harts) (start setup) (state_of m begun.state))

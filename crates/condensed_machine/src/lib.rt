@@ -1,0 +1,25 @@
+//! The plain machine for a search over its states, of which it keeps few: those in which each hart that goes
+//! has a step next that other harts may see, with 0 in each register that nobody reads again.
+//!
+//! Read in this order: `local` (a step that other harts don't see), `settling` (how a hart follows its own),
+//! `resting` (which registers it keeps), `program` (what is searched), `executed` and `tables` (what a step
+//! does, and the numbers of the parts of states), `state`, `machine`, `stepping`, `begun` and `beginning` (the
+//! first state), `searching` (the machine as one that is searched).
+#![tactic(auto)]
+
+mod beginning;
+mod begun;
+mod executed;
+mod local;
+mod machine;
+mod program;
+mod resting;
+mod searching;
+mod settling;
+mod state;
+mod stepping;
+mod tables;
+
+pub use begun::Begun;
+pub use machine::CondensedMachine;
+pub use state::State;

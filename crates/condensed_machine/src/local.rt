@@ -1,0 +1,52 @@
+//! Steps that no other hart sees, and that see none: what such a step does needs no memory.
+
+ghost use Rattle.std.specs.Prelude.{◌≡◌, ℕ, Bool, true, IfSome, is_some};
+ghost use Rattle.decoded_code.specs.Code.{IsCodeOf};
+ghost use Rattle.outcome_laws.specs.Local.{is_local_of};
+ghost use Rattle.smt_model.specs.Effects.{effect_of};
+ghost use Rattle.condensed_machine.specs.Settling.{StepsLocally};
+
+use decoded_code::Code;
+use events::Effect;
+use rv_execute::{Computed, effect_of, is_last, last_effect};
+use rv_instr::Op;
+use sc_machine::{Hart, NextInstruction, next_instruction};
+use shared_memory::Memory;
+
+/// The effect of an instruction that ends or stops its hart, or neither touches memory nor puts a byte out:
+/// it is the same whatever memory holds. None for any other.
+fn local_effect(op: Op, computed: Computed) -> Option<Effect>
+    ensures local { is_some result ≡ is_local_of op computed }
+    ensures effect { IfSome result (λ effect. (now : ℕ) (held : Bool)
+        → effect ≡ effect_of op computed now held) }
+{
+    if is_last(computed.next) {
+        return Some(last_effect(computed.next));
+    }
+    if op.kind().touches_memory() || computed.out.is_some() {
+        return None;
+    }
+    Some(effect_of(op, computed, 0, false))
+}
+
+/// Makes the next step of a hart where the hart goes and the step is local. Answers whether it was made.
+pub(crate) fn step_locally(start: &Memory, code: &Code, hart: &mut Hart) -> bool
+    requires { IsCodeOf start.now.image code.now }
+    ensures { StepsLocally start.now.image hart.old result hart.new }
+{
+    if !hart.is_going() {
+        return false;
+    }
+    let NextInstruction {
+        word: _,
+        op,
+        computed,
+    } = next_instruction(start, code, hart);
+    match local_effect(op, computed) {
+        None => false,
+        Some(effect) => {
+            hart.advance(op.destination(), effect);
+            true
+        }
+    }
+}

@@ -1,0 +1,154 @@
+ghost use Rattle.std.specs.Prelude.{◌≡◌, ◌↔◌, ◌<◌, ◌≤◌, ℕ, Err, false, IfOk, None, IsTrue, length};
+ghost use Rattle.numbers.specs.Sizes.{most_harts};
+ghost use Rattle.sc_machine.specs.Steps.{are_harts};
+ghost use Rattle.sc_machine.specs.declared.refused.PlainRefused.TheVariants.{Harts};
+ghost use Rattle.smt_model.specs.Bytes.{number_at};
+ghost use Rattle.smt_model.specs.Faults.{read_fault};
+ghost use Rattle.condensed_machine.specs.Decoded.{Knows, decoded, hart_in, state_of};
+ghost use Rattle.condensed_machine.specs.Machine.{IsNew};
+
+use crate::program::Program;
+use crate::resting::REGISTERS;
+use crate::state::State;
+use changed_memory::SharedState;
+use elf_image::Image;
+use indexmap::IndexSet;
+use numbers::Reg;
+use numbers::sizes::MOST_HARTS;
+use sc_machine::{Hart, PlainRefused};
+use shared_memory::AccessKind;
+use smt_model::Status;
+use std::alloc::{AllocError, Global};
+use std::marker::Model;
+
+/// The plain machine of a program, with the harts and the shared parts of all states that it has come to,
+/// each once. A state names them by their numbers.
+#[derive(Drop)]
+pub struct CondensedMachine {
+    pub(crate) program: Program,
+    pub(crate) hart_states: IndexSet<Hart>,
+    pub(crate) shared_states: IndexSet<SharedState>,
+    /// Where the shared parts behind a step are made, before they are looked up.
+    pub(crate) scratch: SharedState,
+    pub(crate) alloc: Global,
+}
+
+impl Model for CondensedMachine {
+    ghost use Rattle.condensed_machine.specs.Machine.{Machine};
+
+    ghost Value = { Machine };
+
+    ghost use Rattle.condensed_machine.specs.MachineInside.{machine_of, IsMachine};
+
+    ghost view = { machine_of };
+
+    ghost invariant = { IsMachine };
+}
+
+impl CondensedMachine {
+    /// The machine of an image with `harts` harts, 1 to `MOST_HARTS`. The registers that are watched are
+    /// those whose numbers count at an end of a hart: all other registers count while they may be read yet.
+    /// Refused: another number of harts, or want of memory.
+    pub fn new(
+        image: &Image,
+        harts: u8,
+        watched: [bool; REGISTERS],
+        alloc: Global,
+    ) -> Result<CondensedMachine, PlainRefused>
+        ensures ok { IfOk result (IsNew image.now harts watched) }
+        ensures harts { (result ≡ Err Harts) ↔ (are_harts harts ≡ false) }
+    {
+        if harts == 0 || harts > MOST_HARTS {
+            return Err(PlainRefused::Harts);
+        }
+        match Program::new(image, harts, watched, alloc) {
+            Ok(program) => Ok(Self::of(program, alloc)),
+            Err(_) => Err(PlainRefused::Memory),
+        }
+    }
+
+    /// The machine of a program that knows no state.
+    fn of(program: Program, alloc: Global) -> CondensedMachine
+        ensures { result.program ≡ program }
+    {
+        let _harts = program.harts();
+        CondensedMachine {
+            program,
+            hart_states: IndexSet::new(alloc),
+            shared_states: IndexSet::new(alloc),
+            scratch: SharedState::start(alloc),
+            alloc,
+        }
+    }
+
+    /// How many harts there are, 1 to `MOST_HARTS`.
+    pub fn harts(&self) -> u8
+        ensures value { result ≡ self.now.program.harts }
+        ensures few { result ≤ most_harts }
+    {
+        self.program.harts()
+    }
+
+    /// How a hart stands in a state.
+    pub fn status(&self, state: State, hart: u8) -> Status
+        requires known { Knows self.now state }
+        requires hart { hart < self.now.program.harts }
+        ensures { result ≡ (state_of self.now state).statuses hart }
+    {
+        self.hart(state, hart).status
+    }
+
+    /// What a register of a hart holds in a state: 0 where nobody reads it again.
+    pub fn register(&self, state: State, hart: u8, register: Reg) -> u32
+        requires known { Knows self.now state }
+        requires hart { hart < self.now.program.harts }
+        requires register { register < 32 }
+        ensures { result ≡ (state_of self.now state).registers hart register }
+    {
+        self.hart(state, hart).registers[usize::from(register)]
+    }
+
+    /// The word at an address in a state, where a load of it has no fault.
+    pub fn word(&self, state: State, addr: u32) -> u32
+        requires known { Knows self.now state }
+        requires no_fault { read_fault self.now.program.image addr 4 ≡ None }
+        ensures { result ≡ number_at (state_of self.now state).bytes addr 4 }
+    {
+        self.shared(state).word(self.program.start(), addr)
+    }
+
+    /// Whether a word can be loaded at an address.
+    pub fn is_word(&self, addr: u32) -> bool
+        ensures { IsTrue result ↔ (read_fault self.now.program.image addr 4 ≡ None) }
+    {
+        self.program
+            .start()
+            .fault(addr, 4, AccessKind::Load)
+            .is_none()
+    }
+
+    /// The bytes put out before a state, the first one first.
+    pub fn output(&self, state: State) -> &[u8]
+        requires { Knows self.now state }
+        ensures { result.now ≡ (state_of self.now state).output }
+    {
+        self.shared(state).output()
+    }
+
+    /// A hart of a state.
+    pub(crate) fn hart(&self, state: State, hart: u8) -> &Hart
+        requires known { Knows self.now state }
+        requires hart { hart < self.now.program.harts }
+        ensures { result.now ≡ hart_in self.now state hart }
+    {
+        &self.hart_states.as_slice()[state.harts[usize::from(hart)] as usize]
+    }
+
+    /// What the harts of a state share.
+    pub(crate) fn shared(&self, state: State) -> &SharedState
+        requires { Knows self.now state }
+        ensures { result.now ≡ (decoded self.now state).shared }
+    {
+        &self.shared_states.as_slice()[state.shared as usize]
+    }
+}

@@ -1,0 +1,125 @@
+//! What is searched: a program, how many harts run it, and which of their registers matter.
+
+ghost use Rattle.std.specs.Prelude.{◌≡◌, ℕ, ◌<◌, ◌≤◌, IfOk, IfSome};
+ghost use Rattle.numbers.specs.Sizes.{most_harts};
+ghost use Rattle.shared_memory.specs.Contents.{CanWrite, IsStart};
+ghost use Rattle.sc_machine.specs.Harts.{IsFirst};
+ghost use Rattle.condensed_machine.specs.Machine.{IsSound};
+ghost use Rattle.condensed_machine.specs.Executing.{InEachState, IsExecuted, IsBehind, ComesToRest};
+
+use crate::executed::Executed;
+use crate::resting::{REGISTERS, rest};
+use crate::settling::settle;
+use changed_memory::SharedState;
+use decoded_code::Code;
+use elf_image::Image;
+use live_registers::LiveTable;
+use sc_machine::{Hart, NextInstruction, next_instruction};
+use shared_memory::Memory;
+use std::alloc::{AllocError, Global};
+use std::marker::Model;
+
+/// A program to be searched.
+#[derive(Drop)]
+pub(crate) struct Program {
+    code: Code,
+    /// Memory as the image has it.
+    start: Memory,
+    live: LiveTable,
+    watched: [bool; REGISTERS],
+    harts: u8,
+}
+
+impl Model for Program {
+    ghost use Rattle.condensed_machine.specs.Machine.{Program as ProgramView};
+
+    ghost Value = { ProgramView };
+
+    ghost use Rattle.condensed_machine.specs.ProgramInside.{program_of, IsProgram};
+
+    ghost view = { program_of };
+
+    ghost invariant = { IsProgram };
+}
+
+impl Program {
+    /// The program of an image. Errors: want of memory.
+    pub(crate) fn new(
+        image: &Image,
+        harts: u8,
+        watched: [bool; REGISTERS],
+        alloc: Global,
+    ) -> Result<Program, AllocError>
+        requires some { 0 < harts }
+        requires few { harts ≤ most_harts }
+        ensures image { IfOk result (λ program. program.image ≡ image.now) }
+        ensures harts { IfOk result (λ program. program.harts ≡ harts) }
+        ensures watched { IfOk result (λ program. program.watched ≡ watched) }
+        ensures sound { IfOk result IsSound }
+    {
+        let code = Code::new(image, alloc)?;
+        let live = LiveTable::of(&code, alloc)?;
+        Ok(Program {
+            start: Memory::new(image, alloc)?,
+            code,
+            live,
+            watched,
+            harts,
+        })
+    }
+
+    /// How many harts there are.
+    pub(crate) fn harts(&self) -> u8
+        ensures value { result ≡ self.now.harts }
+        ensures some { 0 < result }
+        ensures few { result ≤ most_harts }
+    {
+        self.harts
+    }
+
+    /// Memory as the image has it.
+    pub(crate) fn start(&self) -> &Memory
+        ensures image { result.now.image ≡ self.now.image }
+        ensures start { IsStart self.now.image result.now }
+        ensures sound { IsSound self.now }
+    {
+        &self.start
+    }
+
+    /// A hart as it begins.
+    pub(crate) fn first_hart(&self, hart: u8) -> Hart
+        ensures { IsFirst hart self.now.harts self.now.image.entry result }
+    {
+        Hart::new(hart, self.harts, self.start.image().entry())
+    }
+
+    /// Makes the next instruction of a hart, whatever it is, on what the harts share. Answers what it was.
+    pub(crate) fn execute(&self, shared: &SharedState, hart: u8, state: &mut Hart) -> Executed
+        requires { hart < most_harts }
+        ensures executed { InEachState self.now hart state.old shared.now
+            (λ setup s. IsExecuted setup s hart result) }
+        ensures behind { InEachState self.now hart state.old shared.now
+            (λ setup s. IsBehind setup s hart state.new) }
+        ensures allowed { IfSome result.effect.write (CanWrite self.now.image) }
+    {
+        let NextInstruction {
+            word: _,
+            op,
+            computed,
+        } = next_instruction(&self.start, &self.code, state);
+        let addr = computed.addr;
+        let effect = shared.effect(&self.start, hart, op, computed);
+        state.advance(op.destination(), effect);
+        Executed { op, addr, effect }
+    }
+
+    /// Follows a hart's local steps, and puts 0 into the registers that nobody reads again. Answers how many
+    /// steps there were.
+    pub(crate) fn come_to_rest(&self, state: &mut Hart) -> u16
+        ensures { ComesToRest self.now state.old result state.new }
+    {
+        let steps = settle(&self.start, &self.code, state);
+        rest(&self.live, &self.watched, state);
+        steps
+    }
+}

@@ -1,0 +1,27 @@
+//! How a hart follows its local steps, which may go first in any order that leads to an end.
+
+ghost use Rattle.std.specs.Prelude.{◌≡◌};
+ghost use Rattle.decoded_code.specs.Code.{IsCodeOf};
+ghost use Rattle.condensed_machine.specs.Settling.{SettlesAs};
+
+use crate::local::step_locally;
+use decoded_code::Code;
+use sc_machine::Hart;
+use shared_memory::Memory;
+
+/// How many local steps are followed at once. There are more where a hart runs in a circle for ever; where
+/// they are cut off is no matter, as a state may be kept after any of them.
+const MOST_LOCAL_STEPS: u16 = 1_000;
+
+/// Follows a hart's local steps. Answers how many there were.
+pub(crate) fn settle(start: &Memory, code: &Code, hart: &mut Hart) -> u16
+    requires { IsCodeOf start.now.image code.now }
+    ensures { SettlesAs start.now.image hart.old result hart.new }
+{
+    for steps in 0..MOST_LOCAL_STEPS {
+        if !step_locally(start, code, hart) {
+            return steps;
+        }
+    }
+    MOST_LOCAL_STEPS
+}

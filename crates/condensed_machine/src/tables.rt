@@ -1,0 +1,87 @@
+//! The harts and the shared parts that were found, by their numbers.
+
+ghost use Rattle.std.specs.Prelude.{◌≡◌, ℕ, ◌<◌, Some, IfOk, IfSome, slice_index, slice_get, length};
+ghost use Rattle.numbers.specs.Sizes.{most_harts};
+ghost use Rattle.shared_memory.specs.Contents.{CanWrite, IsStart};
+ghost use Rattle.condensed_machine.specs.Machine.{HaveZero, Keeps};
+ghost use Rattle.condensed_machine.specs.Decoded.{shared_at};
+ghost use Rattle.condensed_machine.specs.Tables.{HasNumber, IsSharedAfter};
+
+use crate::executed::Executed;
+use changed_memory::{SharedState, keeps_shared};
+use indexmap::IndexSet;
+use sc_machine::Hart;
+use shared_memory::Memory;
+use std::alloc::{AllocError, Global};
+
+/// The number of a hart: its place, which is the last where it wasn't there. Errors: want of memory.
+pub(crate) fn number_hart(harts: &mut IndexSet<Hart>, hart: Hart) -> Result<u32, AllocError>
+    ensures kept { Keeps harts.old.keys harts.new.keys }
+    ensures number { IfOk result (HasNumber harts.new.keys hart) }
+    ensures zero { HaveZero harts.old.keys → slice_index hart.registers 0 ≡ 0
+        → HaveZero harts.new.keys }
+{
+    let (place, _) = harts.insert_full(hart)?;
+    number_of(place)
+}
+
+/// The number of what the harts share behind an instruction of a hart, from what they shared before, which
+/// has a number. Errors: want of memory.
+pub(crate) fn number_shared(
+    shared: &mut IndexSet<SharedState>,
+    scratch: &mut SharedState,
+    start: &Memory,
+    before: u32,
+    hart: u8,
+    executed: Executed,
+    alloc: Global,
+) -> Result<u32, AllocError>
+    requires inside { before < length shared.old.keys }
+    requires hart { hart < most_harts }
+    requires start { IsStart start.now.image start.now }
+    requires allowed { IfSome executed.effect.write (CanWrite start.now.image) }
+    ensures kept { Keeps shared.old.keys shared.new.keys }
+    ensures number { IfOk result (λ number. IsSharedAfter start.now.image hart executed
+        (shared_at shared.old.keys before) shared.new.keys number) }
+{
+    let Executed { op, addr, effect } = executed;
+    if keeps_shared(op, effect) {
+        return Ok(before);
+    }
+    scratch.copy_from(&shared.as_slice()[before as usize])?;
+    scratch.advance(start, hart, op, addr, effect)?;
+    number_of_shared(shared, scratch, alloc)
+}
+
+/// The number of shared parts: their place, which is the last where they weren't there. They are copied only
+/// then. Errors: want of memory.
+pub(crate) fn number_of_shared(
+    shared: &mut IndexSet<SharedState>,
+    wanted: &SharedState,
+    alloc: Global,
+) -> Result<u32, AllocError>
+    ensures kept { Keeps shared.old.keys shared.new.keys }
+    ensures number { IfOk result (HasNumber shared.new.keys wanted.now) }
+{
+    if let Some(place) = shared.get_index_of(wanted) {
+        return number_of(place);
+    }
+    let copy = wanted.try_clone(alloc)?;
+    number_new(shared, copy)
+}
+
+/// The number of shared parts, which are taken in unless they are there. Errors: want of memory.
+fn number_new(shared: &mut IndexSet<SharedState>, new: SharedState) -> Result<u32, AllocError>
+    ensures kept { Keeps shared.old.keys shared.new.keys }
+    ensures number { IfOk result (HasNumber shared.new.keys new) }
+{
+    let (place, _) = shared.insert_full(new)?;
+    number_of(place)
+}
+
+/// A place as a number. Fails where there are more places than numbers, for which there is no memory.
+fn number_of(place: usize) -> Result<u32, AllocError>
+    ensures { IfOk result (λ number. number ≡ place) }
+{
+    u32::try_from(place).map_err(|_| AllocError)
+}
