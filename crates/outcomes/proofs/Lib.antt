@@ -1,0 +1,11 @@
+mod Graph
+mod Listing
+mod Endings
+mod Watching
+mod Growing
+mod Same
+mod Collected
+mod Telling
+mod Cores
+mod Reading
+mod Programs

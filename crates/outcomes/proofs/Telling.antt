@@ -1,0 +1,122 @@
+-- What a search has found is all that there is.
+use Rattle.std.specs.Prelude.{◌≡◌, ℕ, ◌<◌, List, Contains, Option, Some, None, IfSome, map, option_map, length}
+use Rattle.std.proofs.Common.{◌∙◌, refl, sym, ap, subst}
+use Rattle.smt_model.specs.{Setup.Setup, Plain.Plain, Plain.start}
+use Rattle.outcome_laws.specs.Paths.{IsEnd}
+use Rattle.outcome_laws.proofs.Search.{flip, every_end_is_visited}
+use Rattle.outcome_laws.proofs.Settling.{end_alike}
+use Rattle.searches.specs.{Found.Found as Graph, Found.IsGraph, Ending.IsLeastStuck}
+use Rattle.condensed_machine.specs.{Machine.Machine, Machine.IsSound as IsSoundProgram, Decoded.state_of}
+use Rattle.condensed_machine.specs.Steps.{Steps, HasBegun}
+use Rattle.condensed_machine.specs.declared.{begun.Begun.Begun, state.State.State}
+use Rattle.outcomes.specs.declared.{watch.Watch.Watch, listed.Listed.Listed}
+use Rattle.outcomes.specs.{Endings.Ending, Endings.ending_of, Lists.HasEnding, Watching.AreThere, Refusals.AreWatched}
+use Rattle.outcomes.specs.Collected.{ending_at, IsOfEnd, AreOutcomes}
+use Rattle.outcomes.specs.Found.{Found, Told, EndsSo, HasOutcome, IsComplete, IsSound, AreAll}
+use Rattle.outcomes.specs.Told.{told_of, order_at}
+use Rattle.outcomes.proofs.{Listing.contains_map, Listing.mapped_from, Endings.alike_ends}
+use Rattle.outcomes.proofs.Graph.{watched, live, visited, table, enough, start_settles, state_at, is_listed, is_end}
+use Rattle.outcomes.proofs.Graph.{reached, stuck_told}
+
+module _ (setup : Setup) (m : Machine) (begun : Begun) (graph_of : Graph State ℕ) (sound : IsSoundProgram m.program)
+    (graph : IsGraph (Steps m) m.program.harts begun.state graph_of) (begins : HasBegun m begun)
+    (image : setup.image ≡ m.program.image) (harts : setup.harts ≡ m.program.harts)
+    (watch : Watch) (marked : AreWatched m.program.watched watch) (there : AreThere m.program.harts watch)
+    (listed : List Listed) (outcomes : AreOutcomes m watch graph_of.states graph_of.ends listed)
+    (stuck : Option ℕ) (least : IsLeastStuck graph_of stuck) where
+  abbrev found : Found
+  found = record {
+    listed = map (told_of begun.ways m.program.harts graph_of.origins) listed;
+    states = length graph_of.states;
+    stuck = option_map (order_at begun.ways m.program.harts graph_of.origins) stuck;
+  }
+
+  same_harts : (s : Plain) → ending_of setup.harts watch s ≡ ending_of m.program.harts watch s
+  same_harts s = ap (λ n. ending_of n watch s) harts
+
+  told_outcome : (e : Ending) → HasEnding listed e → HasOutcome found e
+  told_outcome e has = (
+    told_of begun.ways m.program.harts graph_of.origins has.0,
+    contains_map (told_of begun.ways m.program.harts graph_of.origins) listed has.0 has.1,
+    has.2,
+  )
+
+  pub complete : IsComplete setup watch found
+  complete order e ends =
+      let seen = every_end_is_visited setup (watched setup m begun graph_of sound graph begins image harts)
+      (live setup m begun graph_of sound graph begins image harts)
+      (table setup m begun graph_of sound graph begins image harts)
+      (visited setup m begun graph_of sound graph begins image harts)
+      (enough setup m begun graph_of sound graph begins image harts) 0 (start setup)
+      (start_settles setup m begun graph_of sound graph begins image harts) order ends.last ends.leads ends.is_end in
+      let t = state_at setup m begun graph_of sound graph begins image harts seen.reached.place seen.state seen.reached.at in
+      let over : IsEnd setup (state_of m t.0) =
+      subst (IsEnd setup) (sym t.2)
+      (end_alike setup (watched setup m begun graph_of sound graph begins image harts)
+      (live setup m begun graph_of sound graph begins image harts)
+      (table setup m begun graph_of sound graph begins image harts) ends.last seen.state seen.alike ends.is_end) in
+      let has = outcomes.all seen.reached.place t.0
+      (is_listed setup m begun graph_of sound graph begins image harts seen.reached.place t.0 t.1 over) t.1 in
+      let same : ending_at m watch t.0 ≡ e =
+      ap (ending_of m.program.harts watch) t.2
+      ∙ (sym (alike_ends m.program.harts m.program.harts m.program.watched
+      (live setup m begun graph_of sound graph begins image harts) watch ends.last seen.state marked there seen.alike)
+      ∙ (sym (same_harts ends.last) ∙ sym ends.is)) in
+      told_outcome e (subst (HasEnding listed) same has)
+
+  ends_so : (l : Listed) → IsOfEnd m watch graph_of.states graph_of.ends l
+      → EndsSo setup watch (order_at begun.ways m.program.harts graph_of.origins l.place) l.outcome
+  ends_so l end =
+      let z = reached setup m begun graph_of sound graph begins image harts l.place end.state end.at in
+      record {
+        last = z.state;
+        leads = z.leads;
+        is_end = end_alike setup (watched setup m begun graph_of sound graph begins image harts)
+            (live setup m begun graph_of sound graph begins image harts)
+            (table setup m begun graph_of sound graph begins image harts) (state_of m end.state) z.state
+            (flip (watched setup m begun graph_of sound graph begins image harts)
+            (live setup m begun graph_of sound graph begins image harts) z.state (state_of m end.state) z.alike)
+            (is_end setup m begun graph_of sound graph begins image harts l.place end.state end.at end.is_end);
+        is = end.is
+            ∙ (sym (alike_ends m.program.harts m.program.harts m.program.watched
+            (live setup m begun graph_of sound graph begins image harts) watch z.state (state_of m end.state) marked there
+            z.alike)
+            ∙ sym (same_harts z.state));
+      }
+
+  pub is_sound : IsSound setup watch found
+  is_sound t c =
+      let from = mapped_from (told_of begun.ways m.program.harts graph_of.origins) listed t c in
+      subst (λ (t : Told). EndsSo setup watch t.order t.ending) from.2 (ends_so from.0 (outcomes.each from.0 from.1))
+
+  pub are_all : AreAll setup watch found
+  are_all = record {
+    complete = complete;
+    sound = is_sound;
+    stuck = stuck_told setup m begun graph_of sound graph begins image harts stuck least;
+  }
+
+-- It is so for whoever counts the harts alike.
+pub all_told : (setup : Setup) (m : Machine) (begun : Begun) (graph_of : Graph State ℕ) → IsSoundProgram m.program
+    → IsGraph (Steps m) m.program.harts begun.state graph_of → HasBegun m begun → setup.image ≡ m.program.image
+    → setup.harts ≡ m.program.harts → (watch : Watch) → AreWatched m.program.watched watch
+    → AreThere m.program.harts watch → (listed : List Listed)
+    → AreOutcomes m watch graph_of.states graph_of.ends listed → (stuck : Option ℕ) → IsLeastStuck graph_of stuck
+    → (n : ℕ) → n ≡ m.program.harts
+    → AreAll setup watch (record {
+      listed = map (told_of begun.ways n graph_of.origins) listed;
+      states = length graph_of.states;
+      stuck = option_map (order_at begun.ways n graph_of.origins) stuck;
+    })
+all_told setup m begun graph_of sound graph begins image harts watch marked there listed outcomes stuck least n same =
+    subst (λ k. AreAll setup watch (record {
+      listed = map (told_of begun.ways k graph_of.origins) listed;
+      states = length graph_of.states;
+      stuck = option_map (order_at begun.ways k graph_of.origins) stuck;
+    })) (sym same)
+    (are_all setup m begun graph_of sound graph begins image harts watch marked there listed outcomes stuck least)
+
+pub stuck_inside : (graph_of : Graph State ℕ) (stuck : Option ℕ) → IsLeastStuck graph_of stuck
+    → IfSome stuck (λ place. place < length graph_of.states)
+stuck_inside graph_of None each = tt
+stuck_inside graph_of (Some place) least = least.0

@@ -1,0 +1,29 @@
+use Rattle.std.proofs.Common.{◌∙◌, sym, ap, length, slice_index_or, refl, arith}
+use Rattle.std.proofs.lemmas.Option.{slice_get-get_or}
+use Rattle.outcomes.proofs.Collected.{one_more, no_more, all_listed, end_at}
+use Rattle.outcomes.proofs.collecting.list_outcomes.Goals as goal
+use Rattle.outcomes.proofs.collecting.list_outcomes.Goals.{in-Some+in_ok-outcome+in_ok-put, in_default}
+
+pub loop-index-preserved : goal.loop-index-preserved
+loop-index-preserved c =
+    let ends = c.args.search.now.ends in
+    let k = c.loop-index.index in
+    let p = slice_index_or c.ends.result.now k 0 in
+    let at_end = end_at ends c.ends-index-end.result.now c.ends.result.now k c.ends-index-end.ensures c.ends.ensures
+    c.loop-index-test.true in
+    elim c.match-state.branch [
+      | in-Some+in_ok-outcome+in_ok-put w ↦
+          rw w.listed-is
+          (one_more c.args.machine.now c.args.watch.now c.args.search.now.states ends k p w.in-Some.state _ _ _ at_end
+          (sym c.state.ensures ∙ w.in-Some.is) refl w.in_ok-outcome.ensures w.in_ok-put.ensures c.loop-index.invariant)
+      | in_default w ↦
+          rw w.listed-is
+          (no_more c.args.machine.now c.args.watch.now c.args.search.now.states ends k p _ at_end
+          (sym c.state.ensures ∙ w.in_default.is) c.loop-index.invariant)
+    ]
+
+pub returns : goal.returns
+returns c =
+    all_listed c.args.machine.now c.args.watch.now c.args.search.now.states c.args.search.now.ends c.loop-index.index
+    c.loop-index.listed.items
+    (omega (arith, ap length c.ends-index-end.ensures, c.loop-index-test.false)) c.loop-index.invariant

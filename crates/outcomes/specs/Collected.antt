@@ -1,0 +1,23 @@
+-- The outcomes of a search's ends.
+use Rattle.std.specs.Prelude.{◌≡◌, ℕ, List, Contains, Some, slice_get}
+use Rattle.condensed_machine.specs.{Machine.Machine, Decoded.state_of, declared.state.State.State}
+use Rattle.outcomes.specs.declared.{watch.Watch.Watch, listed.Listed.Listed}
+use Rattle.outcomes.specs.{Endings.Ending, Endings.ending_of, Lists.HasEnding}
+
+-- What a state is as an end.
+abbrev pub ending_at : Machine → Watch → State → Ending
+ending_at m watch s = ending_of m.program.harts watch (state_of m s)
+
+-- It is the outcome of the end at its place.
+pub record IsOfEnd (m : Machine) (watch : Watch) (states : List State) (ends : List ℕ) (l : Listed) : Type 0 where
+  pub state : State
+  pub is_end : Contains ends l.place
+  pub at : slice_get states l.place ≡ Some state
+  pub is : l.outcome ≡ ending_at m watch state
+
+-- Each end's outcome is listed, and nothing else.
+pub record AreOutcomes (m : Machine) (watch : Watch) (states : List State) (ends : List ℕ)
+    (listed : List Listed) : Type 0 where
+  pub all : (place : ℕ) (s : State) → Contains ends place → slice_get states place ≡ Some s
+      → HasEnding listed (ending_at m watch s)
+  pub each : (l : Listed) → Contains listed l → IsOfEnd m watch states ends l

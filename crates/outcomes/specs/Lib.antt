@@ -1,0 +1,7 @@
+pub mod Watching
+pub mod Endings
+pub mod Lists
+pub mod Collected
+pub mod Found
+pub mod Told
+pub mod Refusals

@@ -1,0 +1,43 @@
+-- When outcomes aren't found.
+use Rattle.std.specs.Prelude.{◌≡◌, ◌≢◌, ℕ, ◌<◌, true, false, List, Bool, None, Some, length, slice_get, slice_index}
+use Rattle.std.specs.Prelude.{slice_index_or}
+use Rattle.elf_image.specs.Image.{ProgramImage}
+use Rattle.smt_model.specs.Faults.{read_fault}
+use Rattle.sc_machine.specs.Steps.{are_harts}
+use Rattle.searches.specs.Found.{Exceeds}
+use Rattle.condensed_machine.specs.Machine.{Machine}
+use Rattle.condensed_machine.specs.{Steps.Steps, Steps.HasBegun}
+use Rattle.condensed_machine.specs.declared.begun.Begun.{Begun}
+use Rattle.outcomes.specs.declared.{watch.Watch.Watch, watch.WatchedRegister.WatchedRegister}
+use Rattle.outcomes.specs.declared.refused.OutcomesRefused.{OutcomesRefused}
+use Rattle.outcomes.specs.declared.refused.OutcomesRefused.TheVariants.{Harts, Register, Word, Budget, Memory}
+use Rattle.outcomes.specs.Watching.{IsAbsentRegister}
+
+-- A word can be loaded at each address that is watched.
+abbrev pub AreWords : ProgramImage → Watch → Type 0
+AreWords image watch = (k : ℕ) → k < length watch.words.items
+    → read_fault image (slice_index watch.words.items k) 4 ≡ None
+
+-- The number of each watched register is marked.
+abbrev pub AreWatched : List Bool → Watch → Type 0
+AreWatched watched watch = (k : ℕ) (w : WatchedRegister) → slice_get watch.registers.items k ≡ Some w
+    → w.register < 32 → slice_index_or watched w.register false ≡ true
+
+-- No word can be loaded at the address that is watched at an index.
+abbrev pub IsAbsentWord : ProgramImage → Watch → ℕ → Type 0
+IsAbsentWord image watch index =
+    (index < length watch.words.items) × (read_fault image (slice_index watch.words.items index) 4 ≢ None)
+
+-- More states than the budget, pairwise different, can be reached.
+abbrev pub IsBeyond : ProgramImage → ℕ → ℕ → Type 0
+IsBeyond image harts budget =
+    (m : Machine) × (begun : Begun) × (m.program.image ≡ image) × (m.program.harts ≡ harts) × HasBegun m begun
+    × Exceeds (Steps m) begun.state budget
+
+-- When each refusal comes. Of memory nothing is said.
+abbrev pub IsRefusedFor : ProgramImage → ℕ → Watch → ℕ → OutcomesRefused → Type 0
+IsRefusedFor image harts watch budget Harts = are_harts harts ≡ false
+IsRefusedFor image harts watch budget (Register index) = IsAbsentRegister harts watch index
+IsRefusedFor image harts watch budget (Word index) = IsAbsentWord image watch index
+IsRefusedFor image harts watch budget Budget = IsBeyond image harts budget
+IsRefusedFor image harts watch budget Memory = Unit {0}

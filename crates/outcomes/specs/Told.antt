@@ -1,0 +1,41 @@
+-- What callers see of the outcomes that a search has found.
+use Rattle.std.specs.Prelude.{◌≡◌, ℕ, ◌<◌, ◌≤◌, List, ◌∷◌, ◌++◌, Contains, replicate, map, flat_map, length}
+use Rattle.std.specs.Prelude.{option_map, slice_get, IfSome, Option}
+use Rattle.numbers.specs.Sizes.{most_harts}
+use Rattle.searches.specs.declared.{moves.Move.Move, origin.Origin.Origin}
+use Rattle.searches.specs.Found.{moves_at}
+use Rattle.condensed_machine.specs.Steps.{turns}
+use Rattle.outcomes.specs.declared.listed.Listed.{Listed}
+use Rattle.outcomes.specs.declared.outcomes.Outcomes.TheInside.{Inside}
+use Rattle.outcomes.specs.{Endings.Ending, Found.Told, Found.Found}
+
+-- The order of harts that moves come to: each hart's step, and the local ones behind it.
+abbrev pub moved : List (Move ℕ) → List ℕ
+moved moves = flat_map (λ m. m.hart ∷ replicate m.way m.hart) moves
+
+-- The order by which the state at a place was found: the local steps of each hart in turn, and then the
+-- moves that lead there.
+abbrev pub order_at : List ℕ → ℕ → List (Origin ℕ) → ℕ → List ℕ
+order_at ways harts origins place = turns ways harts ++ moved (moves_at origins place)
+
+abbrev pub told_of : List ℕ → ℕ → List (Origin ℕ) → Listed → Told
+told_of ways harts origins l = record { ending = l.outcome; order = order_at ways harts origins l.place }
+
+abbrev pub found_of : Inside → Found
+found_of a = record {
+  listed = map (told_of a.ways a.harts a.search.origins) a.listed.items;
+  states = length a.search.states;
+  stuck = option_map (order_at a.ways a.harts a.search.origins) a.stuck;
+}
+
+-- The states are there, of which it tells.
+pub record IsInside (a : Inside) : Type 0 where
+  pub harts : a.harts ≤ most_harts
+  pub places : (l : Listed) → Contains a.listed.items l → l.place < length a.search.states
+  pub stuck : IfSome a.stuck (λ place. place < length a.search.states)
+
+abbrev pub ending_listed : List Told → ℕ → Option Ending
+ending_listed listed index = option_map (λ (t : Told). t.ending) (slice_get listed index)
+
+abbrev pub order_listed : List Told → ℕ → Option (List ℕ)
+order_listed listed index = option_map (λ (t : Told). t.order) (slice_get listed index)

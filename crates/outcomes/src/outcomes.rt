@@ -1,0 +1,128 @@
+ghost use Rattle.std.specs.Prelude.{◌≡◌, ◌<◌, ◌≤◌, ◌++◌, IfOk, OnOk, Some, length, replicate, option_map};
+ghost use Rattle.numbers.specs.Sizes.{most_harts};
+ghost use Rattle.outcomes.specs.Told.{ending_listed, order_listed, order_at, moved};
+
+use crate::listed::Listed;
+use crate::outcome::Outcome;
+use condensed_machine::State;
+use numbers::sizes::HART_ROOM;
+use searches::{Move, Search};
+use std::alloc::{AllocError, Global};
+use std::marker::Model;
+
+/// All outcomes of a program, sorted, each once and each with an order of harts that leads to it.
+#[derive(Drop)]
+pub struct Outcomes {
+    pub(crate) harts: u8,
+    /// By how many local steps each hart in turn has come to the first state.
+    pub(crate) ways: [u16; HART_ROOM],
+    pub(crate) search: Search<State, u16>,
+    pub(crate) listed: Vec<Listed>,
+    /// The place of a state that has no way to an end.
+    pub(crate) stuck: Option<u32>,
+}
+
+impl Model for Outcomes {
+    ghost use Rattle.outcomes.specs.Found.{Found};
+    ghost use Rattle.outcomes.specs.Told.{found_of, IsInside};
+
+    ghost Value = { Found };
+
+    ghost view = { found_of };
+
+    ghost invariant = { IsInside };
+}
+
+impl Outcomes {
+    /// How many outcomes there are.
+    pub fn count(&self) -> usize
+        ensures { result ≡ length self.now.listed }
+    {
+        self.listed.len()
+    }
+
+    /// An outcome by its index.
+    pub fn outcome(&self, index: usize) -> Option<&Outcome>
+        ensures { option_map (λ outcome. outcome.now) result ≡ ending_listed self.now.listed index }
+    {
+        match self.listed.get(index) {
+            Some(listed) => Some(&listed.outcome),
+            None => None,
+        }
+    }
+
+    /// How many states of the plain machine were visited.
+    pub fn states(&self) -> u32
+        ensures { result ≡ self.now.states }
+    {
+        self.search.states()
+    }
+
+    /// An order of harts that leads to an outcome, the first step first: of those that the search has seen
+    /// one with the fewest steps that other harts can see. Errors: want of memory.
+    pub fn witness(&self, index: usize, alloc: Global) -> Result<Vec<u8>, AllocError>
+        requires { index < length self.now.listed }
+        ensures { IfOk result (λ order. order_listed self.now.listed index ≡ Some order.items) }
+    {
+        let place = self.listed[index].place;
+        let order = order_to(self.harts, &self.ways, &self.search, place, alloc)?;
+        Ok(order)
+    }
+
+    /// An order of harts that leads to where no order leads on to an end; none where some order does from
+    /// every state. Errors: want of memory.
+    pub fn stuck(&self, alloc: Global) -> Result<Option<Vec<u8>>, AllocError>
+        ensures { IfOk result (λ order. option_map (λ it. it.items) order ≡ self.now.stuck) }
+    {
+        match self.stuck {
+            Some(place) => {
+                let order = order_to(self.harts, &self.ways, &self.search, place, alloc)?;
+                Ok(Some(order))
+            }
+            None => Ok(None),
+        }
+    }
+}
+
+/// The order of harts by which the state at a place was found: the local steps of each hart in turn, and then
+/// the moves. Errors: want of memory.
+fn order_to(
+    harts: u8,
+    ways: &[u16; HART_ROOM],
+    search: &Search<State, u16>,
+    place: u32,
+    alloc: Global,
+) -> Result<Vec<u8>, AllocError>
+    requires harts { harts ≤ most_harts }
+    requires place { place < length search.now.states }
+    ensures { IfOk result (λ order. order.items ≡ order_at ways.now harts search.now.origins place) }
+{
+    let mut order = Vec::new(alloc);
+    for hart in 0..harts {
+        push_turns(&mut order, hart, ways[usize::from(hart)])?;
+    }
+    let moves = search.moves_to(place, alloc)?;
+    push_moves(&mut order, moves.as_slice())?;
+    Ok(order)
+}
+
+/// Each move's hart, and that again for each local step behind it. Errors: want of memory.
+fn push_moves(order: &mut Vec<u8>, moves: &[Move<u16>]) -> Result<(), AllocError>
+    ensures { OnOk result (order.new.items ≡ order.old.items ++ moved moves.now) }
+{
+    for step in moves {
+        order.push(step.hart)?;
+        push_turns(order, step.hart, step.way)?;
+    }
+    Ok(())
+}
+
+/// A hart's turn, so many times. Errors: want of memory.
+fn push_turns(order: &mut Vec<u8>, hart: u8, turns: u16) -> Result<(), AllocError>
+    ensures { OnOk result (order.new.items ≡ order.old.items ++ replicate turns hart) }
+{
+    for _turn in 0..turns {
+        order.push(hart)?;
+    }
+    Ok(())
+}
