@@ -25,6 +25,6 @@ pub use json::report_json;
 pub use listing::list;
 pub use looks::report_looks;
 pub use records::{report_records, write_record};
-pub use reporting::{report, report_end, report_plain, report_standing};
+pub use reporting::{report, report_end, report_plain, report_standing, write_bytes};
 pub use statuses::status_of;
 pub use tables::write_tables;

@@ -124,7 +124,8 @@ fn report_output<W: Write>(output: &[u8], out: &mut W) -> io::Result<()>
     out.write_all(b"\n")
 }
 
-pub(crate) fn write_bytes<W: Write>(bytes: &[u8], out: &mut W) -> io::Result<()>
+/// Writes bytes, two hexadecimal digits each.
+pub fn write_bytes<W: Write>(bytes: &[u8], out: &mut W) -> io::Result<()>
     ensures { OnOk result
         (Appends (W.contents out.old) (W.contents out.new) (flat_map (hex 2) bytes.now)) }
 {

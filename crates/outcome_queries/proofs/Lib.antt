@@ -1,0 +1,4 @@
+pub mod Reading
+pub mod TermReading
+pub mod Separating
+pub mod WatchLists

@@ -1,0 +1,213 @@
+-- What is watched, read where its text is cut.
+use Rattle.std.proofs.Common.{◌≡◌, ◌≢◌, ℕ, zero, suc, ◌+◌, ◌-◌, ◌*◌, ◌^◌, ◌≤◌, ◌<◌, ◌⊎◌, Bool, true, false, nat_lt, ◌==◌}
+use Rattle.std.proofs.Common.{if◌then◌else◌, List, [], ◌∷◌, ◌++◌, length, Result, Ok, Err, inl, inr, refl, sym, ap, subst, ◌∙◌}
+use Rattle.std.proofs.Common.{arith, codes, not}
+use Rattle.std.specs.{Char.is_ascii_digit, List.list_all}
+use Rattle.std.specs.Fmt.{decimal}
+use Rattle.text_fields.specs.{Reading.decimal_field, Reading.hex_field, Reading.is_hex_digit, Spelling.hex}
+use Rattle.text_fields.specs.Splitting.{field, field_count, rest, Lacks}
+use Rattle.text_fields.proofs.{DecimalLaws.decimal_field-decimal, DecimalLaws.decimal_field_only}
+use Rattle.text_fields.proofs.{HexLaws.hex_field-hex, HexLaws.hex_field_only}
+use Rattle.text_fields.proofs.{LacksLaws.Lacks-decimal, LacksLaws.Lacks-hex}
+use Rattle.text_fields.proofs.SplittingLaws.{Parts, parts_of, field-cut, rest-cut, rest-alone}
+use Rattle.text_fields.specs.declared.read.FieldError.{FieldError}
+use Rattle.outcome_queries.specs.Names.{abi_name, x_name, lettered, pointer_name, IsNameOf}
+use Rattle.outcome_queries.specs.Watched.{Spells, SpellsRegister, SpellsWord}
+use Rattle.outcome_queries.specs.declared.watched.Watched.{Watched}
+use Rattle.outcome_queries.specs.declared.watched.Watched.TheVariants as watched
+
+-- a turn of the search for the register of a name
+pub another_name : (name : List ℕ) (k : ℕ) → ((r : ℕ) → IsNameOf r name → k ≤ r)
+    → ((name ≡ abi_name k) ⊎ (name ≡ x_name k) → ⊥) → (r : ℕ) → IsNameOf r name → k + 1 ≤ r
+another_name name k below other r is = by_test (r == k) refl
+  where
+    by_test : (b : Bool) → (r == k) ≡ b → k + 1 ≤ r
+    by_test true same = let is_k : r ≡ k = grind arith in absurd (other (rw is_k at is.name))
+    by_test false apart =
+        let least = below r is in
+        let not_k : r ≢ k = grind arith in grind arith
+
+-- a byte that stands in no name, no number and no address
+pub record IsMark (s : ℕ) : Type 0 where
+  pub digit : is_ascii_digit s ≡ false
+  pub hex : is_hex_digit s ≡ false
+  pub letters : list_all (λ byte. not (byte == s)) (116 ∷ 115 ∷ 97 ∷ 120 ∷ 114 ∷ 112 ∷ 103 ∷ []) ≡ true
+
+pub at_mark : IsMark 64
+at_mark = record { digit = refl; hex = refl; letters = refl }
+
+pub equals_mark : IsMark 61
+equals_mark = record { digit = refl; hex = refl; letters = refl }
+
+pub and_mark : IsMark 38
+and_mark = record { digit = refl; hex = refl; letters = refl }
+
+test_lacks : (s : ℕ) (b : Bool) (x y : List ℕ) → Lacks s x → Lacks s y → Lacks s (if b then x else y)
+test_lacks s true x y first second = first
+test_lacks s false x y first second = second
+
+record Letters (s : ℕ) : Type 0 where
+  pub t : (116 == s) ≡ false
+  pub sp : (115 == s) ≡ false
+  pub a : (97 == s) ≡ false
+  pub x : (120 == s) ≡ false
+  pub r : (114 == s) ≡ false
+  pub p : (112 == s) ≡ false
+  pub g : (103 == s) ≡ false
+
+letters_of : (s : ℕ) → IsMark s → Letters s
+letters_of s mark = let all = mark.letters in record {
+  t = grind arith;
+  sp = grind arith;
+  a = grind arith;
+  x = grind arith;
+  r = grind arith;
+  p = grind arith;
+  g = grind arith;
+}
+
+lettered_lacks : (s letter k : ℕ) → IsMark s → (letter == s) ≡ false → k ≤ 31 → Lacks s (lettered letter k)
+lettered_lacks s letter k mark other small = rw other (Lacks-decimal s k mark.digit (grind arith))
+
+pointer_lacks : (s r : ℕ) → Letters s → Lacks s (pointer_name r)
+unfolding pointer_name
+pointer_lacks s r l =
+    test_lacks s (r == 1) _ _ (rw (l.r, l.a) refl) (test_lacks s (r == 2) _ _ (rw (l.sp, l.p) refl)
+    (test_lacks s (r == 3) _ _ (rw (l.g, l.p) refl) (rw (l.t, l.p) refl)))
+
+abi_lacks : (s r : ℕ) → IsMark s → r ≤ 31 → Lacks s (abi_name r)
+unfolding abi_name
+abi_lacks s r mark small =
+    let l = letters_of s mark in
+    test_lacks s (nat_lt r 5) _ _ (pointer_lacks s r l)
+    (test_lacks s (nat_lt r 8) _ _ (lettered_lacks s 116 (r - 5) mark l.t (omega arith))
+    (test_lacks s (nat_lt r 10) _ _ (lettered_lacks s 115 (r - 8) mark l.sp (omega arith))
+    (test_lacks s (nat_lt r 18) _ _ (lettered_lacks s 97 (r - 10) mark l.a (omega arith))
+    (test_lacks s (nat_lt r 28) _ _ (lettered_lacks s 115 (r - 16) mark l.sp (omega arith))
+    (lettered_lacks s 116 (r - 25) mark l.t (omega arith))))))
+
+pub either_lacks : (s r : ℕ) (name : List ℕ) → IsMark s → r ≤ 31 → (name ≡ abi_name r) ⊎ (name ≡ x_name r)
+    → Lacks s name
+either_lacks s r name mark small (inl is) = rw is (abi_lacks s r mark small)
+either_lacks s r name mark small (inr is) = rw is (lettered_lacks s 120 r mark (letters_of s mark).x small)
+
+-- a text that is cut: what stands behind the cut isn't nothing
+pub cut_where : (s : ℕ) (text : List ℕ) → rest s text ≢ [] → text ≡ field s text ++ s ∷ rest s text
+cut_where s text some = by_count (field_count s text) refl
+  where
+    parts : Parts s text
+    parts = parts_of s text
+
+    by_count : (n : ℕ) → field_count s text ≡ n → text ≡ field s text ++ s ∷ rest s text
+    by_count zero is = let count = parts.count in absurd (omega (arith, count, is))
+    by_count (suc zero) is =
+        let whole : Lacks s text = rw (parts.alone is) parts.lacks in absurd (some (rest-alone s text whole))
+    by_count (suc (suc n)) is = (parts.cut (omega (arith, is))).0
+
+pub no_number : (max n : ℕ) → decimal_field max [] ≢ Ok n
+unfolding decimal_field
+no_number max n = λ is. cc
+
+-- what is cut from a text that is put together
+pub parts_at : (s : ℕ) (text first others : List ℕ) → text ≡ first ++ s ∷ others → Lacks s first
+    → (field s text ≡ first) × (rest s text ≡ others)
+parts_at s text first others is lacks =
+    (rw is (field-cut s first others lacks), rw is (rest-cut s first others lacks))
+
+-- a number behind a cut
+pub number_found : (s max n : ℕ) (text lead others : List ℕ) → lead ≡ field s text → others ≡ rest s text
+    → max < 2 ^ 64 → Ok n ≡ decimal_field max others → (n ≤ max) × (text ≡ lead ++ s ∷ decimal n)
+number_found s max n text lead others first behind small read =
+    let has : decimal_field max (rest s text) ≡ Ok n = rw (← behind) (sym read) in
+    let some : rest s text ≢ [] = λ none. no_number max n (rw none at has) in
+    let number = decimal_field_only max n (rest s text) small has in
+    (number.0, rw first (subst (λ t. text ≡ field s text ++ s ∷ t) number.1 (cut_where s text some)))
+
+pub number_none : (s max n : ℕ) (text lead others : List ℕ) (error : FieldError) → others ≡ rest s text
+    → max < 2 ^ 64 → Err error ≡ decimal_field max others → n ≤ max → Lacks s lead
+    → text ≡ lead ++ s ∷ decimal n → ⊥
+number_none s max n text lead others error behind small read within lacks is =
+    let number : decimal_field max others ≡ Ok n =
+    rw (behind, (parts_at s text lead (decimal n) is lacks).1) (decimal_field-decimal max n within small) in
+    let never : Err error ≡ Ok n = read ∙ number in cc
+
+-- a register at a hart
+pub register_is : (text hart : List ℕ) (h r : ℕ) → hart ≡ rest 64 text → IsNameOf r (field 64 text)
+    → decimal_field 255 hart ≡ Ok h → SpellsRegister text h r
+register_is text hart h r behind named read =
+    let has : decimal_field 255 (rest 64 text) ≡ Ok h = rw (← behind) read in
+    let some : rest 64 text ≢ [] = λ none. no_number 255 h (rw none at has) in
+    let number = decimal_field_only 255 h (rest 64 text) (grind arith) has in
+    record {
+      name = field 64 text;
+      names = named;
+      in_range = number.0;
+      spelled = subst (λ t. text ≡ field 64 text ++ 64 ∷ t) number.1 (cut_where 64 text some);
+    }
+
+pub register_parts : (text : List ℕ) (h r : ℕ) (is : SpellsRegister text h r)
+    → (IsNameOf r (field 64 text)) × (decimal_field 255 (rest 64 text) ≡ Ok h)
+register_parts text h r is =
+    let lacks : Lacks 64 is.name = either_lacks 64 r is.name at_mark is.names.last is.names.name in
+    let first : field 64 text ≡ is.name = rw is.spelled (field-cut 64 is.name (decimal h) lacks) in
+    let others : rest 64 text ≡ decimal h = rw is.spelled (rest-cut 64 is.name (decimal h) lacks) in
+    (rw first is.names, rw others (decimal_field-decimal 255 h is.in_range (grind arith)))
+
+-- the word at an address
+pub word_is : (text : List ℕ) (a : ℕ) → rest 58 text ≡ codes "4" → hex_field 8 (field 58 text) ≡ Ok a
+    → SpellsWord text a
+word_is text a behind read =
+    let some : rest 58 text ≢ [] = λ none. let nothing = rw behind at none in cc in
+    let number = hex_field_only 8 a (field 58 text) read in
+    let cut : text ≡ field 58 text ++ 58 ∷ codes "4" =
+    subst (λ t. text ≡ field 58 text ++ 58 ∷ t) behind (cut_where 58 text some) in
+    record {
+      in_range = number.0;
+      spelled = subst (λ t. text ≡ t ++ 58 ∷ codes "4") number.1 cut;
+    }
+
+pub word_parts : (text : List ℕ) (a : ℕ) (is : SpellsWord text a)
+    → (rest 58 text ≡ codes "4") × (hex_field 8 (field 58 text) ≡ Ok a)
+word_parts text a is =
+    let lacks : Lacks 58 (hex 8 a) = Lacks-hex 58 8 a refl in
+    let first : field 58 text ≡ hex 8 a = rw is.spelled (field-cut 58 (hex 8 a) (codes "4") lacks) in
+    let others : rest 58 text ≡ codes "4" = rw is.spelled (rest-cut 58 (hex 8 a) (codes "4") lacks) in
+    (others, rw first (hex_field-hex 8 a is.in_range))
+
+-- a text that is none of both
+pub spells_none : (text : List ℕ) → ((h r : ℕ) → SpellsRegister text h r → ⊥)
+    → ((a : ℕ) → SpellsWord text a → ⊥) → (one : Watched) → Spells text one → ⊥
+spells_none text no_register no_word (watched.Register h r) is = no_register h r is
+spells_none text no_register no_word (watched.Word a) is = no_word a is
+
+-- what the readers' own cuts say of it
+pub no_register_named : (text name : List ℕ) → name ≡ field 64 text → ((r : ℕ) → IsNameOf r name → ⊥)
+    → (h r : ℕ) → SpellsRegister text h r → ⊥
+no_register_named text name cut none h r is =
+    none r (subst (λ t. IsNameOf r t) (sym cut) (register_parts text h r is).0)
+
+pub no_hart : (text hart : List ℕ) (error : FieldError) → hart ≡ rest 64 text → Err error ≡ decimal_field 255 hart
+    → (h r : ℕ) → SpellsRegister text h r → ⊥
+no_hart text hart error cut read h r is =
+    let number : decimal_field 255 hart ≡ Ok h = rw cut (register_parts text h r is).1 in
+    let never : Err error ≡ Ok h = read ∙ number in cc
+
+pub register_found : (text name hart : List ℕ) (h r : ℕ) → name ≡ field 64 text → hart ≡ rest 64 text
+    → IsNameOf r name → Ok h ≡ decimal_field 255 hart → SpellsRegister text h r
+register_found text name hart h r first others named read =
+    register_is text hart h r others (subst (λ t. IsNameOf r t) first named) (sym read)
+
+pub no_size : (text size : List ℕ) → size ≡ rest 58 text → (size ≡ codes "4" → ⊥)
+    → (a : ℕ) → SpellsWord text a → ⊥
+no_size text size cut other a is = other (cut ∙ (word_parts text a is).0)
+
+pub no_address : (text address : List ℕ) (error : FieldError) → address ≡ field 58 text
+    → Err error ≡ hex_field 8 address → (a : ℕ) → SpellsWord text a → ⊥
+no_address text address error cut read a is =
+    let number : hex_field 8 address ≡ Ok a = rw cut (word_parts text a is).1 in
+    let never : Err error ≡ Ok a = read ∙ number in cc
+
+pub word_found : (text address size : List ℕ) (a : ℕ) → address ≡ field 58 text → size ≡ rest 58 text
+    → size ≡ codes "4" → Ok a ≡ hex_field 8 address → SpellsWord text a
+word_found text address size a first others is read =
+    word_is text a (sym others ∙ is) (rw (← first) (sym read))

@@ -1,0 +1,10 @@
+use Rattle.std.proofs.Common.{length}
+use Rattle.outcome_queries.specs.Watched.{Spells}
+use Rattle.outcome_queries.proofs.Separating.{IsRead}
+use Rattle.outcome_queries.proofs.list.read_watch_list.Given as goal
+
+abbrev pub invariant-loop-first : goal.invariant-loop-first
+invariant-loop-first l = IsRead Spells 44 l.text l.rest l.list.items
+
+abbrev pub decreases-loop-first : goal.decreases-loop-first
+decreases-loop-first l = length l.rest

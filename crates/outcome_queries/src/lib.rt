@@ -1,0 +1,27 @@
+//! What is asked of the outcomes of a program: which registers and words tell them apart, and which of
+//! them a condition holds of. Both are read from text.
+//!
+//! Read in this order: `names` (the names of registers), `watched` (a register at a hart, or a word),
+//! `refused` (why a text is refused), `list` (a list of what is watched), `term` (a term of a condition,
+//! with its `value`), `condition` (how one is read), `watching` (what is watched for both), `holding`
+//! (whether a condition holds of an outcome).
+#![tactic(auto)]
+
+mod condition;
+mod holding;
+mod list;
+mod names;
+mod refused;
+mod term;
+mod value;
+mod watched;
+mod watching;
+
+pub use condition::{Condition, read_condition};
+pub use holding::holds;
+pub use list::{WatchList, read_watch_list};
+pub use names::push_abi_name;
+pub use refused::{Expected, QueryRefused};
+pub use term::Term;
+pub use watched::{Watched, read_watched};
+pub use watching::{watch_of, with_terms};

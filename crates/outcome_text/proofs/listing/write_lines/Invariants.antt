@@ -1,0 +1,9 @@
+use Rattle.std.proofs.Common.{take}
+use Rattle.std.specs.Io.KnownBytes.{Appends}
+use Rattle.outcome_text.specs.{Line.each_from, Listing.told_line}
+use Rattle.outcome_text.proofs.listing.write_lines.Given as goal
+
+-- so many are written
+abbrev pub invariant-loop-index : goal.invariant-loop-index
+invariant-loop-index g l =
+    Appends (g.W.Write.contents l.fn.out) (g.W.Write.contents l.out) (each_from (told_line l.watch) 0 (take l.index l.outcomes.listed))

@@ -1,0 +1,84 @@
+//! The text of what was found.
+
+ghost use Rattle.std.specs.Prelude.{◌≡◌, ◌<◌, length, Some, slice_get, OnOk};
+ghost use Rattle.std.specs.Io.KnownBytes.{Appends};
+ghost use Rattle.outcomes.specs.Found.{Told};
+ghost use Rattle.outcome_text.specs.Line.{each_from};
+ghost use Rattle.outcome_text.specs.Listing.{told_line, ends_text, outcomes_text, incomplete_text};
+
+use crate::line::write_line;
+use arrayvec::ArrayString;
+use outcomes::{Outcomes, Watch};
+use reports::report_count;
+use std::io;
+use std::io::Write;
+use text_fields::push_decimal;
+
+/// Writes all outcomes of a program, of which these registers and words were watched: a line for each, how
+/// many there are, how many states were looked at, and whether one of them can't go on to an end. Where it
+/// answers Ok, it has written exactly these lines.
+#[tactic(auto, unfolding(crate::specs::Listing::outcomes_text))]
+pub fn write_outcomes<W: Write>(
+    outcomes: &Outcomes,
+    watch: &Watch,
+    is_stuck: bool,
+    out: &mut W,
+) -> io::Result<()>
+    ensures { OnOk result (Appends (W.contents out.old) (W.contents out.new)
+        (outcomes_text watch.now outcomes.now is_stuck)) }
+{
+    write_lines(outcomes, watch, out)?;
+    report_count("outcomes", outcomes.count() as u64, out)?;
+    report_count("states", u64::from(outcomes.states()), out)?;
+    out.write_all(b"complete\n")?;
+    out.write_all(ends_text(is_stuck).as_bytes())
+}
+
+/// Writes that there are more states than these, which were to be looked at.
+#[tactic(auto, unfolding(crate::specs::Listing::incomplete_text))]
+pub fn write_incomplete<W: Write>(states: u32, out: &mut W) -> io::Result<()>
+    ensures { OnOk result (Appends (W.contents out.old) (W.contents out.new)
+        (incomplete_text states)) }
+{
+    let mut line = ArrayString::<64>::new();
+    line.push_str("not complete: more than ");
+    push_decimal(&mut line, states);
+    line.push_str(" states\n");
+    out.write_all(line.as_bytes())
+}
+
+fn ends_text(is_stuck: bool) -> &'static str
+    ensures { result.now ≡ ends_text is_stuck }
+{
+    match is_stuck {
+        true => "stuck\n",
+        false => "always can end\n",
+    }
+}
+
+fn write_lines<W: Write>(outcomes: &Outcomes, watch: &Watch, out: &mut W) -> io::Result<()>
+    ensures { OnOk result (Appends (W.contents out.old) (W.contents out.new)
+        (each_from (told_line watch.now) 0 outcomes.now.listed)) }
+{
+    for index in 0..outcomes.count() {
+        write_line_at(outcomes, watch, index, out)?;
+    }
+    Ok(())
+}
+
+/// Writes the line of the outcome with this index.
+fn write_line_at<W: Write>(
+    outcomes: &Outcomes,
+    watch: &Watch,
+    index: usize,
+    out: &mut W,
+) -> io::Result<()>
+    requires { index < length outcomes.now.listed }
+    ensures { OnOk result ((told : Told) → slice_get outcomes.now.listed index ≡ Some told
+        → Appends (W.contents out.old) (W.contents out.new) (told_line watch.now index told)) }
+{
+    match outcomes.outcome(index) {
+        Some(outcome) => write_line(watch, outcome, out),
+        None => Ok(()),
+    }
+}
