@@ -20,11 +20,17 @@ pub trait Gate {
     /// A run begins whose history has room for so many events. No actor has asked yet.
     fn begin(&self, _limit: u32) {}
 
+    /// Rounds of the plain machine begin, which has no actors.
+    fn begin_rounds(&self) {}
+
+    /// So many steps of the rounds were made, and so many harts go. It comes every so many steps.
+    fn at_step(&self, _steps: u64, _going: usize) {}
+
     /// Whether actor `actor` may go on. `seen` is what it read of the board before this turn.
     /// Where it may not, it asks all actors to stop.
     fn at(&self, actor: u8, point: Point, seen: &BoardView) -> bool;
 
-    /// The run that began is over: all threads are joined, and no actor asks any more.
+    /// The run that began, or the rounds, are over: all threads are joined, and nobody asks any more.
     fn end(&self) {}
 
     /// The runs that began are over, or no other is made since one was refused.

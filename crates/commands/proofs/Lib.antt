@@ -1,5 +1,6 @@
 pub mod OfAnswer
 pub mod OfImage
+pub mod OfOutcomes
 pub mod OfAccount
 pub mod OfStep
 pub mod OfRun
@@ -16,3 +17,4 @@ pub mod OfExplain
 pub mod OneImage
 pub mod Retired
 pub mod OfStress
+pub mod OfPrompt

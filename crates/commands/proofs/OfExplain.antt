@@ -16,6 +16,8 @@ use Rattle.commands.specs.declared.refused.Refused.{Refused}
 use Rattle.commands.specs.declared.refused.Refused.TheVariants.{Image, Config, Script, Order, Step, Memory, File}
 use Rattle.commands.specs.declared.refused.Refused.TheVariants.{Output, Thread, Trace, Event, NoUnit, Limit, NoHart}
 use Rattle.commands.specs.declared.refused.Refused.TheVariants.{Prediction, Register, Picture}
+use Rattle.commands.specs.declared.refused.Refused.TheVariants.{Watch, Condition, ManyWatched, NoWord}
+use Rattle.commands.specs.declared.refused.Refused.TheVariants.{NoOutcome, NotStuck}
 use Rattle.commands.specs.declared.refused.Unread.{Unread}
 use Rattle.commands.specs.declared.refused.Unread.TheVariants as unread
 use Rattle.commands.specs.Refused.{refusal_of, IsFirstFailed, AreAccepted}
@@ -120,6 +122,12 @@ writing_refusal config image old new (NoUnit kind) is = absurd is
 writing_refusal config image old new (Limit least) is = absurd is
 writing_refusal config image old new (NoHart hart) is = absurd is
 writing_refusal config image old new (Picture last) is = absurd is
+writing_refusal config image old new (Watch why) is = absurd is
+writing_refusal config image old new (Condition why) is = absurd is
+writing_refusal config image old new ManyWatched is = absurd is
+writing_refusal config image old new (NoWord address) is = absurd is
+writing_refusal config image old new (NoOutcome number) is = absurd is
+writing_refusal config image old new NotStuck is = absurd is
 writing_refusal config image old new Memory is = (tt, tt)
 writing_refusal config image old new Thread is = absurd is
 writing_refusal config image old new File is = absurd is
@@ -172,6 +180,12 @@ line_refusal command config image second (NoUnit kind) explains is = absurd is
 line_refusal command config image second (Limit least) explains is = absurd is
 line_refusal command config image second (NoHart hart) explains is = absurd is
 line_refusal command config image second (Picture last) explains is = absurd is
+line_refusal command config image second (Watch why) explains is = absurd is
+line_refusal command config image second (Condition why) explains is = absurd is
+line_refusal command config image second ManyWatched explains is = absurd is
+line_refusal command config image second (NoWord address) explains is = absurd is
+line_refusal command config image second (NoOutcome number) explains is = absurd is
+line_refusal command config image second NotStuck explains is = absurd is
 line_refusal command config image second Memory explains is = tt
 line_refusal command config image second Thread explains is = absurd is
 line_refusal command config image second File explains is = inr (inl is)
@@ -194,6 +208,7 @@ line_comes_to (commands.Plain plain) config image second Traced old new status i
 line_comes_to (commands.Schedule schedule) config image second Traced old new status is told = absurd (cc)
 line_comes_to (commands.Script script) config image second Traced old new status is told = absurd (cc)
 line_comes_to (commands.List list) config image second Traced old new status is told = absurd (cc)
+line_comes_to (commands.Outcomes outcomes) config image second Traced old new status is told = absurd (cc)
 line_comes_to (commands.Chart chart) config image second Traced old new status is told = absurd (cc)
 
 pub line_ended : (answer : Result ℕ Refused) (command : Command) (config : List ℕ) (image second : Read)

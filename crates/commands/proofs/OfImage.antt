@@ -4,6 +4,8 @@ use Rattle.commands.specs.declared.refused.Refused.{Refused}
 use Rattle.commands.specs.declared.refused.Refused.TheVariants.{Image, Config, Script, Order, Step, Memory, File}
 use Rattle.commands.specs.declared.refused.Refused.TheVariants.{Output, Thread, Trace, Event, NoUnit, Limit, NoHart}
 use Rattle.commands.specs.declared.refused.Refused.TheVariants.{Prediction, Register, Picture}
+use Rattle.commands.specs.declared.refused.Refused.TheVariants.{Watch, Condition, ManyWatched, NoWord}
+use Rattle.commands.specs.declared.refused.Refused.TheVariants.{NoOutcome, NotStuck}
 use Rattle.commands.specs.Refused.{PassesAll, BehindImage}
 
 -- What is refused of what comes behind it, where that never refuses the image.
@@ -22,6 +24,12 @@ refusal_behind file ram P (NoUnit kind) never passes is = (passes, is)
 refusal_behind file ram P (Limit least) never passes is = (passes, is)
 refusal_behind file ram P (NoHart hart) never passes is = (passes, is)
 refusal_behind file ram P (Picture last) never passes is = (passes, is)
+refusal_behind file ram P (Watch why) never passes is = (passes, is)
+refusal_behind file ram P (Condition why) never passes is = (passes, is)
+refusal_behind file ram P ManyWatched never passes is = (passes, is)
+refusal_behind file ram P (NoWord address) never passes is = (passes, is)
+refusal_behind file ram P (NoOutcome number) never passes is = (passes, is)
+refusal_behind file ram P NotStuck never passes is = (passes, is)
 refusal_behind file ram P Memory never passes is = tt
 refusal_behind file ram P Thread never passes is = (passes, is)
 refusal_behind file ram P File never passes is = (passes, is)

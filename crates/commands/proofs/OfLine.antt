@@ -15,6 +15,8 @@ use Rattle.commands.specs.declared.refused.Refused.{Refused}
 use Rattle.commands.specs.declared.refused.Refused.TheVariants.{Image, Config, Script, Order, Step, Memory, File}
 use Rattle.commands.specs.declared.refused.Refused.TheVariants.{Output, Thread, Trace, Event, NoUnit, Limit, NoHart}
 use Rattle.commands.specs.declared.refused.Refused.TheVariants.{Prediction, Register, Picture}
+use Rattle.commands.specs.declared.refused.Refused.TheVariants.{Watch, Condition, ManyWatched, NoWord}
+use Rattle.commands.specs.declared.refused.Refused.TheVariants.{NoOutcome, NotStuck}
 use Rattle.commands.specs.declared.refused.Unread.{Unread}
 use Rattle.commands.specs.declared.refused.Unread.TheVariants as unread
 use Rattle.commands.specs.Refused.{exit_status_of, refusal_of, AreAccepted, PassesAll}
@@ -50,6 +52,12 @@ module _ (command : Command) (text : List ℕ) (settings : Settings) (file : Lis
   command_refusal (Limit least) is = (settings, configured, (passes, program, loaded, is))
   command_refusal (NoHart hart) is = (settings, configured, (passes, program, loaded, is))
   command_refusal (Picture last) is = (settings, configured, (passes, program, loaded, is))
+  command_refusal (Watch why) is = (settings, configured, (passes, program, loaded, is))
+  command_refusal (Condition why) is = (settings, configured, (passes, program, loaded, is))
+  command_refusal ManyWatched is = (settings, configured, (passes, program, loaded, is))
+  command_refusal (NoWord address) is = (settings, configured, (passes, program, loaded, is))
+  command_refusal (NoOutcome number) is = (settings, configured, (passes, program, loaded, is))
+  command_refusal NotStuck is = (settings, configured, (passes, program, loaded, is))
   command_refusal Memory is = tt
   command_refusal Thread is = (settings, configured, (passes, program, loaded, is))
   command_refusal File is = inr (inr (settings, configured, (passes, program, loaded, is)))
@@ -106,6 +114,12 @@ known_refusal (NoUnit kind) status is = inr (inl is)
 known_refusal (Limit least) status is = inr (inl is)
 known_refusal (NoHart hart) status is = inr (inl is)
 known_refusal (Picture last) status is = inr (inl is)
+known_refusal (Watch why) status is = inr (inl is)
+known_refusal (Condition why) status is = inr (inl is)
+known_refusal ManyWatched status is = inr (inl is)
+known_refusal (NoWord address) status is = inr (inl is)
+known_refusal (NoOutcome number) status is = inr (inl is)
+known_refusal NotStuck status is = inr (inl is)
 known_refusal Memory status is = inr (inr (inr is))
 known_refusal Thread status is = inr (inr (inr is))
 known_refusal File status is = inr (inr (inr is))
@@ -125,6 +139,12 @@ never_says (NoUnit kind) = refl
 never_says (Limit least) = refl
 never_says (NoHart hart) = refl
 never_says (Picture last) = refl
+never_says (Watch why) = refl
+never_says (Condition why) = refl
+never_says ManyWatched = refl
+never_says (NoWord address) = refl
+never_says (NoOutcome number) = refl
+never_says NotStuck = refl
 never_says Memory = refl
 never_says Thread = refl
 never_says File = refl

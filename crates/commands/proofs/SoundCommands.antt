@@ -19,6 +19,7 @@ use Rattle.sim_inputs.specs.declared.line.ScriptCommand.{ScriptCommand}
 use Rattle.sim_inputs.specs.declared.line.ListCommand.{ListCommand}
 use Rattle.sim_inputs.specs.declared.line.ChartCommand.{ChartCommand}
 use Rattle.sim_inputs.specs.declared.line.ExplainCommand.{ExplainCommand}
+use Rattle.sim_inputs.specs.declared.line.OutcomesCommand.{OutcomesCommand}
 use Rattle.reports.specs.{Report.status_number, Statuses.says_harts}
 use Rattle.stress_runs.specs.{End.EndView, Ends.end_of, Ends.worst_of}
 use Rattle.commands.specs.Refused.{AreAccepted, AreRefused}
@@ -304,6 +305,40 @@ of_chart chart settings program (Err why) = record {
   says = λ Traced old new status is. absurd is;
 }
 
+of_outcomes : (outcomes : OutcomesCommand) (settings : Settings) (program : ProgramImage) (second : Read)
+    → IsSound (commands.Outcomes outcomes) settings program second
+of_outcomes outcomes settings program second = record {
+  no_image = λ number is. is;
+  unfit = λ accepted is. elim is [
+    | inl few ↦ absurd (never_without_harts settings accepted few)
+    | inr lacks ↦ absurd (true≢false (sym (accepted program) ∙ lacks.2))
+  ];
+  output = λ Traced old new status is. tt;
+  flushed = λ Traced old mid new status flushed is. elim is [
+    | inl all ↦ inl (record {
+      watch = all.watch;
+      terms = all.terms;
+      found = all.found;
+      asked = all.asked;
+      is_found = all.is_found;
+      printed = kept old mid new _ all.printed flushed;
+      zero = all.zero;
+    })
+    | inr more ↦ inr (record {
+      watch = more.watch;
+      terms = more.terms;
+      asked = more.asked;
+      beyond = more.beyond;
+      printed = kept old mid new _ more.printed flushed;
+      three = more.three;
+    })
+  ];
+  says = λ Traced old new status is. elim is [
+    | inl all ↦ zero_says status all.zero
+    | inr more ↦ ap says_harts more.three
+  ];
+}
+
 pub sound : (command : Command) (settings : Settings) (program : ProgramImage) (second : Read)
     → IsSound command settings program second
 sound (commands.Step step) settings program second = of_step step settings program second
@@ -314,4 +349,5 @@ sound (commands.Schedule schedule) settings program second = of_schedule schedul
 sound (commands.Script script) settings program second = of_script script settings program second
 sound (commands.List list) settings program second = of_list list settings program second
 sound (commands.Explain explain) settings program second = of_explain explain settings program second
+sound (commands.Outcomes outcomes) settings program second = of_outcomes outcomes settings program second
 sound (commands.Chart chart) settings program second = of_chart chart settings program second

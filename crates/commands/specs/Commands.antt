@@ -22,6 +22,7 @@ use Rattle.commands.specs.Schedule.{IsScheduleRefusal, ScheduleComesTo}
 use Rattle.commands.specs.Script.{IsScriptingRefusal, ScriptComesTo}
 use Rattle.commands.specs.List.{IsListRefusal, ListComesTo}
 use Rattle.commands.specs.Explain.{ExplainComesTo}
+use Rattle.commands.specs.Outcomes.{IsOutcomesRefusal, OutcomesComeTo, wants_order}
 
 -- When each refusal of a command comes. One that has a second file is refused where that is unread;
 -- rounds have none.
@@ -40,6 +41,8 @@ IsCommandRefusal (commands.Script script) settings image second reason =
     BehindFile second (IsScriptingRefusal settings image) reason
 IsCommandRefusal (commands.List list) settings image second reason = IsListRefusal reason
 IsCommandRefusal (commands.Explain explain) settings image second reason = IsListRefusal reason
+IsCommandRefusal (commands.Outcomes outcomes) settings image second reason =
+    IsOutcomesRefusal settings image outcomes reason
 IsCommandRefusal (commands.Chart chart) settings image second reason =
     BehindFile second (λ trace. IsChartRefusal settings image trace chart) reason
 
@@ -74,6 +77,8 @@ CommandComesTo (commands.List list) settings image second Traced old new status 
     ListComesTo image old new status
 CommandComesTo (commands.Explain explain) settings image second Traced old new status =
     ExplainComesTo old new status
+CommandComesTo (commands.Outcomes outcomes) settings image second Traced old new status =
+    OutcomesComeTo settings image outcomes old new status
 CommandComesTo (commands.Chart chart) settings image second Traced old new status =
     OfFile second (λ trace. ChartComesTo settings image trace chart status)
 
@@ -92,20 +97,23 @@ AreUnfit _ settings image second = ⊥
 
 -- What a command prints that doesn't come to its report since its file couldn't be written: a
 -- core's answers to the asks, or what explains them, where it makes steps; nothing, where it runs
--- threads, or where the file is that of a chart. No other command writes a file.
+-- threads, or where the file is that of a chart or of an order. No other command writes a file.
 abbrev pub IsUnreported : Command → Read → Option (List ℕ) → Option (List ℕ) → Type 0
 IsUnreported (commands.Step step) second old new =
     (core : CoreView)
     × Prints old new (λ text. OfFile second (λ script. ArePrinted step.why script core text))
 IsUnreported (commands.Run run) second old new = new ≡ old
 IsUnreported (commands.Chart chart) second old new = new ≡ old
+IsUnreported (commands.Outcomes outcomes) second old new = new ≡ old
 IsUnreported _ second old new = ⊥
 
--- The command names a file for the trace of its core, or for its chart, or a folder for ends.
+-- The command names a file for the trace of its core, for its chart or for an order, or a folder for
+-- ends.
 abbrev pub wants_trace : Command → Bool
 wants_trace (commands.Step step) = is_some step.trace
 wants_trace (commands.Run run) = if is_some run.times then is_some run.keep else is_some run.trace
 wants_trace (commands.Chart chart) = has_file chart
+wants_trace (commands.Outcomes outcomes) = wants_order outcomes
 wants_trace _ = false
 
 -- The command explains its files: it answers before they are refused.

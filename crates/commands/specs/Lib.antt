@@ -3,6 +3,7 @@ pub mod Inputs
 pub mod Account
 pub mod Wanted
 pub mod Step
+pub mod Prompt
 pub mod Run
 pub mod Check
 pub mod Chart
@@ -11,6 +12,7 @@ pub mod PlainRounds
 pub mod Schedule
 pub mod Script
 pub mod List
+pub mod Outcomes
 pub mod Explain
 pub mod Commands
 pub mod Perform

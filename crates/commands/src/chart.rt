@@ -150,7 +150,7 @@ fn put_chart<S: Sink, W: Write>(
 }
 
 /// Puts the whole of a text into a sink. Answers the exit status, 0.
-fn put_all<S: Sink>(text: &[u8], file: &mut S) -> Result<u8, Refused>
+pub(crate) fn put_all<S: Sink>(text: &[u8], file: &mut S) -> Result<u8, Refused>
     requires works { S.has_failed file.old ≡ false }
     ensures refused { IfErr result (λ reason. reason ≡ Output) }
     ensures zero { IfOk result (λ status. status ≡ 0) }

@@ -3,14 +3,16 @@
 //! Read in this order: `refused` (why there is no report), `inputs` (the files of a line as they were
 //! read, and what is made of the first two), `wanted` (what is wanted of a core), `account` (what is
 //! reported of one), then a module a command: `step`, `run`, `stress` (many runs), `check`, `plain`,
-//! `plain_rounds`, `schedule`, `script`, `list`, `chart`, `explain`; and `performing` (all of it: the
-//! files taken in their order, the command, the exit status).
+//! `plain_rounds`, `schedule`, `script`, `list`, `chart`, `explain`, `all_outcomes`; `performing` (all of
+//! it: the files taken in their order, the command, the exit status); and `prompt` (the same of a
+//! script that is typed).
 //! `retiring` has the law that a printed schedule is retired.
 //! What each command comes to, and when each of its refusals comes, stands in `specs` under the
 //! command's name; what a line comes to, in `specs/Perform`.
 #![tactic(auto)]
 
 mod account;
+mod all_outcomes;
 mod chart;
 mod check;
 mod explain;
@@ -19,6 +21,7 @@ mod list;
 mod performing;
 mod plain;
 mod plain_rounds;
+mod prompt;
 mod refused;
 pub mod retiring;
 mod run;
@@ -28,6 +31,7 @@ mod step;
 mod stress;
 mod wanted;
 
+pub use all_outcomes::perform_outcomes;
 pub use chart::perform_chart;
 pub use check::perform_check;
 pub use explain::perform_explain;
@@ -36,6 +40,7 @@ pub use list::perform_list;
 pub use performing::perform;
 pub use plain::perform_plain;
 pub use plain_rounds::{MOST_STEPS, perform_rounds};
+pub use prompt::{perform_prompt, perform_typed};
 pub use refused::{Refused, Unread, refuse};
 pub use run::{perform_run, run_bytes};
 pub use schedule::perform_schedule;

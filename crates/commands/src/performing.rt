@@ -10,6 +10,7 @@ ghost use Rattle.commands.specs.Commands.{IsUnreported, wants_trace, explains};
 ghost use Rattle.commands.specs.Perform.{IsRefusal, LineComesTo, IsPerformed};
 ghost use Rattle.commands.specs.Written.{IsWritten};
 
+use crate::all_outcomes::perform_outcomes;
 use crate::chart::perform_chart;
 use crate::check::perform_check;
 use crate::explain::{perform_explain, point_to_explain};
@@ -85,7 +86,12 @@ pub fn perform<
 
 /// Says why a line is refused, and on a terminal which command says more of it. Answers the exit
 /// status.
-fn refuse_line<E: Write>(refused: Refused, line: &Line<'_>, on_terminal: bool, err: &mut E) -> u8
+pub(crate) fn refuse_line<E: Write>(
+    refused: Refused,
+    line: &Line<'_>,
+    on_terminal: bool,
+    err: &mut E,
+) -> u8
     ensures { result ≡ exit_status_of refused }
 {
     let status = refuse(refused, err);
@@ -194,7 +200,7 @@ fn perform_command<
         }
         Command::Plain(plain) => {
             if let Some(rounds) = rounds_of(plain) {
-                return perform_rounds(image, settings, rounds, plain.records, out, alloc);
+                return perform_rounds(image, settings, rounds, plain.records, gate, out, alloc);
             }
             let order = second?;
             perform_plain(image, settings, order, plain.records, out, alloc)
@@ -209,6 +215,9 @@ fn perform_command<
         }
         Command::List(_) => perform_list(image, out),
         Command::Explain(_) => unreachable!(),
+        Command::Outcomes(outcomes) => {
+            perform_outcomes(image, settings, outcomes, &(), trace, out, alloc)
+        }
         Command::Chart(chart) => {
             let text = second?;
             perform_chart(image, settings, text, chart, trace, out, alloc)

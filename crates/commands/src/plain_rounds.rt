@@ -6,9 +6,11 @@ ghost use Rattle.commands.specs.PlainRounds.{IsRoundsRefusal, RoundsComeTo};
 ghost use Rattle.commands.specs.declared.refused.Refused.TheVariants.{Output};
 
 use crate::refused::Refused;
+use actors::Gate;
 use elf_image::Image;
 use reports::{report_standing, status_of};
-use rounds::{Rounds, RoundsRun, RoundsStopped, run_rounds};
+use rounds::{Rounds, RoundsRun, RoundsStopped, Watch, count_going, run_rounds};
+use sc_machine::Plain;
 use sim_inputs::{PlainCommand, Settings};
 use std::alloc::Global;
 use std::io::Write;
@@ -39,17 +41,38 @@ fn steps_of(steps: Option<u32>) -> u64
     }
 }
 
+/// How many steps are made from one look of the gate to the next.
+const STEPS_A_LOOK: u64 = 65_536;
+
+/// Shows a gate how far rounds are.
+#[derive(Drop)]
+struct Shown<'a, G: Gate> {
+    gate: &'a G,
+    steps: u64,
+}
+
+impl<G: Gate> Watch for Shown<'_, G> {
+    fn before_step(&mut self, machine: &Plain) {
+        if self.steps % STEPS_A_LOOK == 0 {
+            self.gate.at_step(self.steps, count_going(machine));
+        }
+        self.steps = self.steps.wrapping_add(1);
+    }
+}
+
 /// Runs the plain machine of an image in rounds, and writes what it comes to: the records where they
-/// are wanted, as they are made, and the report. Answers the exit status: how the harts stand.
+/// are wanted, as they are made, and the report. Answers the exit status: how the harts stand. Where no
+/// records are wanted, `gate` is shown how far it is.
 ///
 /// Refused is a number of harts that the machine doesn't have; then nothing is printed. `Output` is
 /// answered where `out` failed.
 #[inline(never)]
-pub fn perform_rounds<W: Write>(
+pub fn perform_rounds<G: Gate, W: Write>(
     image: &Image,
     settings: &Settings,
     rounds: Rounds,
     records: bool,
+    gate: &G,
     out: &mut W,
     alloc: Global,
 ) -> Result<u8, Refused>
@@ -59,7 +82,14 @@ pub fn perform_rounds<W: Write>(
         (W.contents out.old) (W.contents out.new)) }
 {
     let harts = settings.config.harts;
-    let left = match run_rounds(image, harts, rounds, records, out, alloc) {
+    let mut shown = Shown { gate, steps: 0 };
+    // Records on a terminal show how far it is, and a line among them would be in their way.
+    if !records {
+        gate.begin_rounds();
+    }
+    let ran = run_rounds(image, harts, rounds, records, &mut shown, out, alloc);
+    gate.end();
+    let left = match ran {
         Ok(left) => left,
         Err(why) => return Err(refused_rounds(why)),
     };

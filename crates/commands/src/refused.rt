@@ -4,6 +4,7 @@ ghost use Rattle.std.specs.Prelude.{◌≡◌, false};
 ghost use Rattle.reports.specs.Statuses.{says_harts};
 ghost use Rattle.commands.specs.Refused.{exit_status_of, refusal_of};
 
+use outcome_queries::QueryRefused;
 use rv_instr::{UnitKind, unit_name};
 use sc_machine::Stopped;
 use std::io::Write;
@@ -54,6 +55,24 @@ pub enum Refused {
     /// A picture would have too many instructions; one up to this event has few enough.
     #[error("picture of more than 4000 instructions: --to {0} would do")]
     Picture(u32),
+    /// The list of what is watched is misspelled.
+    #[error("watch refused at column {}: expected {}", .0.column, .0.expected)]
+    Watch(QueryRefused),
+    /// The condition is misspelled.
+    #[error("condition refused at column {}: expected {}", .0.column, .0.expected)]
+    Condition(QueryRefused),
+    /// More registers and words are named than can be watched.
+    #[error("more than 64 watched")]
+    ManyWatched,
+    /// No word of memory is at this address, which was to be watched.
+    #[error("no word at {0:08x}")]
+    NoWord(u32),
+    /// There is no outcome with this number, whose order was to be written.
+    #[error("no outcome {0}")]
+    NoOutcome(u32),
+    /// Each state can go on to an end, and the order to one that can't was to be written.
+    #[error("no stuck state")]
+    NotStuck,
     /// There isn't enough memory.
     #[error("memory")]
     Memory,
@@ -81,6 +100,8 @@ impl Refused {
             Refused::Script(_) | Refused::Order(_) | Refused::Step { .. } => 2,
             Refused::NoUnit(_) | Refused::Limit(_) => 2,
             Refused::NoHart(_) | Refused::Picture(_) => 2,
+            Refused::Watch(_) | Refused::Condition(_) | Refused::ManyWatched => 2,
+            Refused::NoWord(_) | Refused::NoOutcome(_) | Refused::NotStuck => 2,
             Refused::Trace { .. } | Refused::Event { .. } => 4,
             Refused::Prediction(_) | Refused::Register(_) => 4,
             Refused::Memory | Refused::Thread | Refused::File | Refused::Output => 5,

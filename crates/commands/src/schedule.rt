@@ -44,7 +44,7 @@ pub fn perform_schedule<W: Write>(
 }
 
 /// The schedule of an order, for the core of an image and some settings.
-fn schedule_of<'a>(
+pub(crate) fn schedule_of<'a>(
     image: &Image,
     settings: &Settings,
     order: &'a [u8],

@@ -19,6 +19,13 @@ events_text events limit = decimal events ++ (codes " of " ++ (decimal limit ++ 
 abbrev pub seconds_text : ℕ → List ℕ
 seconds_text seconds = decimal seconds ++ (codes " s" ++ erase)
 
+-- How many steps of rounds there are, and how many harts go.
+abbrev pub steps_text : ℕ → ℕ → List ℕ
+steps_text steps going = decimal steps ++ (codes " steps, " ++ (decimal going ++ codes " harts going, "))
+
+abbrev pub rounds_line : ℕ → ℕ → ℕ → List ℕ
+rounds_line steps going seconds = 13 ∷ (codes "smtsim: " ++ (steps_text steps going ++ seconds_text seconds))
+
 -- From the beginning of the line on.
 abbrev pub progress_line : ℕ → ℕ → ℕ → ℕ → ℕ → List ℕ
 progress_line events limit seconds run times =

@@ -6,14 +6,17 @@ ghost use Rattle.sim_inputs.specs.CommandLine.{AreWordsRefusedFor};
 ghost use Rattle.commands.specs.Inputs.{as_read};
 ghost use Rattle.reports.specs.Statuses.{says_harts};
 ghost use Rattle.program.specs.Performed.{read_of, IsReadAs, HasPerformed, HavePerformed, HaveEnded};
+ghost use Rattle.program.specs.Performed.{typed_step};
 ghost use Rattle.program.specs.Words.{words_refused, IsWordsStatus};
 
 use crate::files::read_file;
 use crate::trace_file::{Places, TraceFile};
 use crate::words::{refuse_words, take_words, texts};
 use actors::Gate;
-use commands::{Inputs, Refused, Unread, perform, refuse};
-use sim_inputs::{Command, Files as NamedFiles, Line, WordsRefused, read_words};
+use commands::{Inputs, Refused, Unread, perform, perform_typed, refuse};
+use sim_inputs::{
+    Command, Files as NamedFiles, Line, StepCommand, WordsRefused, is_standard_input, read_words,
+};
 use smt_core::Predict;
 use std::alloc::{AllocError, Global};
 use std::env::Args;
@@ -27,8 +30,9 @@ use std::thread::Threads;
 /// what the words ask for is printed on `out`, and why it isn't on `err`. 0 for help, 2 for a wrong
 /// command line, 5 for want of memory and where `out` fails; else that of the command that is
 /// performed, with this gate and this predictor. Words that are no text are a wrong command line. A
-/// trace is written to the file that the words name. The file named by a dash is standard input. Where `err` is a terminal, a refused configuration
-/// or image is told of on two lines.
+/// trace is written to the file that the words name. The file named by a dash is standard input; a
+/// script is typed there, and asked as it comes, where that is a terminal (`at_terminal`). Where `err`
+/// is a terminal (`on_terminal`), a refused configuration or image is told of on two lines.
 pub fn perform_words<
     S: Files + Input + Threads + Wait + Sync,
     G: Gate + Sync,
@@ -42,6 +46,7 @@ pub fn perform_words<
     predict: P,
     out: io::Result<W>,
     err: &mut E,
+    at_terminal: bool,
     on_terminal: bool,
     alloc: Global,
 ) -> u8
@@ -50,12 +55,13 @@ pub fn perform_words<
     ensures unread { IfOk out (λ opened. IfErr words
         (λ error. IsWordsStatus (words_refused (error_kind error)) result)) }
     ensures read { IfOk out (λ opened. IfOk words
-        (λ args. HaveEnded (map string_bytes (into_iter_items args)) result)) }
+        (λ args. HaveEnded at_terminal (map string_bytes (into_iter_items args)) result)) }
 {
     let program = Program {
         system,
         gate,
         predict,
+        at_terminal,
         on_terminal,
         alloc,
     };
@@ -71,6 +77,8 @@ struct Program<'a, S, G, P> {
     system: &'a S,
     gate: &'a G,
     predict: P,
+    /// Whether standard input is a terminal.
+    at_terminal: bool,
     /// Whether standard error is a terminal.
     on_terminal: bool,
     alloc: Global,
@@ -93,7 +101,7 @@ impl<S: Files + Input + Threads + Wait + Sync, G: Gate + Sync, P: Predict + Copy
         ensures unread { IfErr words
             (λ error. IsWordsStatus (words_refused (error_kind error)) result) }
         ensures read { IfOk words
-            (λ args. HaveEnded (map string_bytes (into_iter_items args)) result) }
+            (λ args. HaveEnded self.now.at_terminal (map string_bytes (into_iter_items args)) result) }
     {
         let words = match take_words(words, self.alloc) {
             Ok(words) => words,
@@ -114,7 +122,8 @@ impl<S: Files + Input + Threads + Wait + Sync, G: Gate + Sync, P: Predict + Copy
     ) -> Result<u8, WordsRefused>
         ensures known { IfOk result
             (λ status. IsTrue (says_harts status) ⊎ (status ≡ 2) ⊎ (status ≡ 4) ⊎ (status ≡ 5)) }
-        ensures performed { IfOk result (HavePerformed (map string_bytes words.now)) }
+        ensures performed { IfOk result
+            (HavePerformed self.now.at_terminal (map string_bytes words.now)) }
         ensures refused { IfErr result (AreWordsRefusedFor (map string_bytes words.now)) }
     {
         let texts = match texts(words, self.alloc) {
@@ -130,8 +139,11 @@ impl<S: Files + Input + Threads + Wait + Sync, G: Gate + Sync, P: Predict + Copy
     /// Reads the files that a line names, and performs its command.
     fn read_and_perform<W: Write, E: Write>(&self, line: &Line<'_>, out: &mut W, err: &mut E) -> u8
         ensures known { IsTrue (says_harts result) ⊎ (result ≡ 2) ⊎ (result ≡ 4) ⊎ (result ≡ 5) }
-        ensures performed { HasPerformed line.now result }
+        ensures performed { HasPerformed self.now.at_terminal line.now result }
     {
+        if let Some(step) = typed_step(line, self.at_terminal) {
+            return self.read_and_prompt(line, &step, out, err);
+        }
         let files = line.files();
         let read = ReadInputs::of(self.system, &files, self.alloc);
         let places = Places {
@@ -151,6 +163,52 @@ impl<S: Files + Input + Threads + Wait + Sync, G: Gate + Sync, P: Predict + Copy
             self.on_terminal,
             self.alloc,
         )
+    }
+
+    /// Reads the files that a line of `step` names but its script, which is typed, and performs it.
+    fn read_and_prompt<W: Write, E: Write>(
+        &self,
+        line: &Line<'_>,
+        step: &StepCommand<'_>,
+        out: &mut W,
+        err: &mut E,
+    ) -> u8
+        requires { typed_step self.now.at_terminal line.now.command ≡ Some step.now }
+        ensures known { IsTrue (says_harts result) ⊎ (result ≡ 2) ⊎ (result ≡ 4) ⊎ (result ≡ 5) }
+        ensures performed { HasPerformed self.now.at_terminal line.now result }
+    {
+        let mut files = line.files();
+        files.second = None;
+        let read = ReadInputs::of(self.system, &files, self.alloc);
+        let places = Places {
+            file: files.trace,
+            folder: None,
+        };
+        let mut trace = TraceFile::new(self.system, places, self.alloc);
+        let mut reader = self.system.reader();
+        perform_typed(
+            line,
+            step,
+            &read.lent(),
+            self.predict,
+            &mut reader,
+            &mut trace,
+            out,
+            err,
+            self.on_terminal,
+            self.alloc,
+        )
+    }
+}
+
+/// The command of a line whose script is typed: in its place stands standard input, which is a
+/// terminal.
+fn typed_step<'a>(line: &Line<'a>, at_terminal: bool) -> Option<StepCommand<'a>>
+    ensures { result ≡ typed_step at_terminal line.now.command }
+{
+    match line.command {
+        Command::Step(step) if at_terminal && is_standard_input(step.script) => Some(step),
+        _ => None,
     }
 }
 

@@ -2,6 +2,7 @@ ghost use Rattle.std.specs.Prelude.{◌≡◌, ◌≤◌, ◌%◌, ◌^◌, ◌+
 ghost use Rattle.arrayvec.specs.ArrayString.{array_string_len};
 ghost use Rattle.std.specs.Bool.{then_some};
 ghost use Rattle.program.specs.ProgressLine.{progress_line, run_text, events_text, seconds_text};
+ghost use Rattle.program.specs.ProgressLine.{rounds_line, steps_text};
 
 use actors::{Gate, Point};
 use arrayvec::ArrayString;
@@ -76,25 +77,42 @@ impl<C: Clock + Copy, W: Write + Copy> Progress<C, W> {
         if turn % TURNS_A_LOOK != 0 {
             return;
         }
-        let Some(now) = milliseconds(&self.clock) else {
-            return;
-        };
+        if let Some(seconds) = self.seconds_if_due() {
+            self.show(seen, seconds);
+        }
+    }
+
+    /// How many seconds it took so far, where a line is due; then the next one is due a second later.
+    fn seconds_if_due(&self) -> Option<u64> {
+        let now = milliseconds(&self.clock)?;
         if now < self.due.load(Ordering::SeqCst) {
-            return;
+            return None;
         }
         let next = now.saturating_add(MILLISECONDS_A_LINE);
         self.due.store(next, Ordering::SeqCst);
-        self.show(seen, now);
+        Some(now.saturating_sub(self.start.load(Ordering::SeqCst)) / 1000)
     }
 
-    fn show(&self, seen: &BoardView, now: u64) {
+    fn show(&self, seen: &BoardView, seconds: u64) {
         let limit = self.limit.load(Ordering::SeqCst);
-        let taken = now.saturating_sub(self.start.load(Ordering::SeqCst));
-        self.shows.store(true, Ordering::SeqCst);
         let run = self.run.load(Ordering::SeqCst);
         let times = self.times.load(Ordering::SeqCst);
-        let line = line_of(total(&seen.counts), limit, taken / 1000, run, times);
+        let line = line_of(total(&seen.counts), limit, seconds, run, times);
+        self.show_line(&line);
+    }
+
+    fn show_line(&self, line: &ProgressLine) {
+        self.shows.store(true, Ordering::SeqCst);
         self.write(line.as_bytes());
+    }
+
+    /// The first line is due in a second.
+    fn start_clock(&self) {
+        if let Some(now) = milliseconds(&self.clock) {
+            self.start.store(now, Ordering::SeqCst);
+            let first = now.saturating_add(MILLISECONDS_A_LINE);
+            self.due.store(first, Ordering::SeqCst);
+        }
     }
 
     fn write(&self, text: &[u8]) {
@@ -116,10 +134,19 @@ impl<C: Clock + Copy, W: Write + Copy> Gate for Progress<C, W> {
         if before > 0 && self.times.load(Ordering::SeqCst) > 0 {
             return;
         }
-        if let Some(now) = milliseconds(&self.clock) {
-            self.start.store(now, Ordering::SeqCst);
-            let first = now.saturating_add(MILLISECONDS_A_LINE);
-            self.due.store(first, Ordering::SeqCst);
+        self.start_clock();
+    }
+
+    fn begin_rounds(&self) {
+        self.start_clock();
+    }
+
+    fn at_step(&self, steps: u64, going: usize) {
+        if self.terminal.is_none() {
+            return;
+        }
+        if let Some(seconds) = self.seconds_if_due() {
+            self.show_line(&rounds_line_of(steps, going, seconds));
         }
     }
 
@@ -174,6 +201,30 @@ fn line_of(events: u64, limit: u64, seconds: u64, run: u64, times: u64) -> Progr
     push_events(&mut line, events, limit);
     push_seconds(&mut line, seconds);
     line
+}
+
+/// The line of rounds of which so many steps were made, in so many seconds.
+fn rounds_line_of(steps: u64, going: usize, seconds: u64) -> ProgressLine
+    ensures { result.bytes ≡ rounds_line steps going seconds }
+{
+    let mut line = ProgressLine::new();
+    push_ascii(&mut line, b'\r');
+    line.push_str("smtsim: ");
+    push_steps(&mut line, steps, going);
+    push_seconds(&mut line, seconds);
+    line
+}
+
+/// How many steps there are, and how many harts go.
+fn push_steps(line: &mut ProgressLine, steps: u64, going: usize)
+    requires { array_string_len line.old ≤ 16 }
+    ensures spelled { line.new.bytes ≡ line.old.bytes ++ steps_text steps going }
+    ensures length { array_string_len line.new ≤ 130 }
+{
+    push_decimal(line, steps);
+    line.push_str(" steps, ");
+    push_decimal(line, going);
+    line.push_str(" harts going, ");
 }
 
 /// How many events there are, out of how many.

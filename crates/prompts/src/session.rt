@@ -7,6 +7,7 @@ ghost use Rattle.scripts.specs.Script.{IsScript, IsInRange};
 ghost use Rattle.prompts.specs.Kept.{IsAnswered, AreInRange, kept_in, left_by, complaint_in};
 ghost use Rattle.prompts.specs.Kept.{AnswersWords};
 ghost use Rattle.prompts.specs.Session.{IsSession};
+ghost use Rattle.prompts.specs.declared.session.Complaint.TheVariants.{Memory};
 
 use crate::command::{Command, read_command};
 use crate::simulation::{Asked, Simulation};
@@ -43,6 +44,14 @@ pub enum Complaint {
     Memory,
     /// It couldn't be read.
     Unread,
+}
+
+impl From<AllocError> for Complaint {
+    ghost from_gives = { λ _ complaint. complaint ≡ Memory };
+
+    fn from(_why: AllocError) -> Complaint {
+        Complaint::Memory
+    }
 }
 
 /// The lines of words that are kept, and the core that was asked all of them.
@@ -105,10 +114,7 @@ impl Session {
         let Some(command) = read_command(line) else {
             return self.add_line(simulation, why, line);
         };
-        match self.follow(simulation, command) {
-            Ok(text) => Ok(text),
-            Err(AllocError) => Err(Complaint::Memory),
-        }
+        Ok(self.follow(simulation, command)?)
     }
 
     /// Does what a command says.
@@ -191,10 +197,7 @@ impl Session {
         if words.is_empty() {
             return Ok(Vec::new(simulation.alloc));
         }
-        match self.add_words(simulation, why, words) {
-            Ok(text) => Ok(text),
-            Err(AllocError) => Err(Complaint::Memory),
-        }
+        Ok(self.add_words(simulation, why, words)?)
     }
 
     /// Asks these words, and keeps them as a line.

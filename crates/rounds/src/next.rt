@@ -87,6 +87,13 @@ fn behind(last: u8, going: &[u8]) -> Option<u8>
     going.iter().copied().find(|hart| *hart > last)
 }
 
+/// How many harts go.
+pub fn count_going(machine: &Plain) -> usize
+    ensures { InEachState machine.now (λ setup s. result ≡ length (going setup s)) }
+{
+    going_harts(machine).len()
+}
+
 /// The harts that go, by rising number.
 fn going_harts(machine: &Plain) -> ArrayVec<u8, HART_ROOM>
     ensures harts { InEachState machine.now (λ setup s. result.items ≡ going setup s) }

@@ -9,18 +9,20 @@ ghost use Rattle.reports.specs.Report.{record_line};
 ghost use Rattle.rounds.specs.Steps.{HasMade};
 
 use crate::stopped::Broken;
+use crate::watch::Watch;
 use events::Record;
 use reports::write_record;
 use sc_machine::Plain;
 use std::io::Write;
 
 /// Makes steps of a hart, as many as `limit` while it goes, and writes the record of each where that is
-/// wanted. Answers how many it has made.
-pub fn take_turn<W: Write>(
+/// wanted. Before each of them the machine is shown to `watch`. Answers how many it has made.
+pub fn take_turn<T: Watch, W: Write>(
     machine: &mut Plain,
     hart: u8,
     limit: u64,
     records: bool,
+    watch: &mut T,
     out: &mut W,
 ) -> Result<u64, Broken>
     ensures within { IfOk result (λ made. made ≤ limit) }
@@ -30,6 +32,7 @@ pub fn take_turn<W: Write>(
         (λ setup s. hart < setup.harts → is_going_status (s.statuses hart) ≡ false)) }
 {
     for made in 0..limit {
+        watch.before_step(machine);
         if machine.make_room().is_err() {
             return Err(Broken::Memory);
         }

@@ -9,7 +9,8 @@ use Rattle.sim_inputs.specs.{declared.line.Line.Line, declared.line.WordsRefused
 use Rattle.sim_inputs.specs.{declared.line.WordsRefused.TheVariants.Help}
 use Rattle.sim_inputs.specs.{declared.line.WordsRefused.TheVariants.Refused}
 use Rattle.sim_inputs.specs.{declared.line.WordsRefused.TheVariants.Memory}
-use Rattle.sim_inputs.specs.CommandLine.{smtsim, Asks, Finds, IsRefusalOf, AreWordsRefusedFor, Names}
+use Rattle.sim_inputs.specs.Rules.{smtsim}
+use Rattle.sim_inputs.specs.CommandLine.{Asks, Finds, IsRefusalOf, AreWordsRefusedFor, Names}
 
 is_simple : is_simple_and_free smtsim ≡ true
 is_simple = refl

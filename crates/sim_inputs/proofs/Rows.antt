@@ -8,7 +8,7 @@ use Rattle.clap.proofs.OnLiterals.{clap_on_literals}
 use Rattle.toml.specs.Data.{Data, integer, no_members, member}
 use Rattle.toml.specs.Parse.{parse_document}
 use Rattle.toml.proofs.OnLiterals.{toml_on_literals}
-use Rattle.sim_inputs.specs.{CommandLine.smtsim, CommandLine.is_flag_set, Configuration.IsConfiguration}
+use Rattle.sim_inputs.specs.{Rules.smtsim, CommandLine.is_flag_set, Configuration.IsConfiguration}
 use Rattle.sim_inputs.specs.{declared.settings.Settings.Settings}
 
 -- `step` with a configuration and tables, but no records.

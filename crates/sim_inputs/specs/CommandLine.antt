@@ -1,7 +1,7 @@
--- The command line as data, and what its words ask for.
+-- What the words of the command line ask for.
 use Rattle.std.specs.Prelude.{None, ◌≡◌, ◌≢◌, ℕ, ◌-◌, ◌^◌, nat_le, not, ◌&&◌, ◌||◌, Bool, true, false, List, [], ◌∷◌}
 use Rattle.std.specs.Prelude.{Option, Some, is_some}
-use Rattle.std.specs.Prelude.{IsSomeAnd, option_map, codes}
+use Rattle.std.specs.Prelude.{IsSomeAnd, option_map, codes, if◌then◌else◌}
 use Rattle.std.specs.{Borrow.Bor, List.fold, Option.option_map_or, Result.result_ok, Str.bytes_eq}
 use Rattle.numbers.specs.Sizes.{most_events, most_harts}
 use Rattle.text_fields.specs.Reading.{decimal_field}
@@ -24,64 +24,9 @@ use Rattle.sim_inputs.specs.declared.line.{ChartCommand.ChartCommand, ExplainCom
 use Rattle.sim_inputs.specs.{declared.line.WordsRefused.TheVariants.Help}
 use Rattle.sim_inputs.specs.{declared.line.WordsRefused.TheVariants.Refused}
 use Rattle.sim_inputs.specs.{declared.line.WordsRefused.TheVariants.Memory}
+use Rattle.sim_inputs.specs.declared.line.OutcomesCommand.{OutcomesCommand}
+use Rattle.sim_inputs.specs.Rules.{smtsim}
 use Rattle.sim_inputs.specs.Files.{reads_input_once}
-
--- An argument that names a file and must be there: the image, the script, the trace, and the order.
-abbrev pub file_rule : Text → Rule
-file_rule name = record (new_rule name) { required = true }
-
--- One that names a file and may be there: the order, in whose place there may be rounds.
-abbrev pub optional_file_rule : Text → Rule
-optional_file_rule name = new_rule name
-
--- An option that names a file or a folder, and a flag.
-abbrev pub file_option_rule : Text → Rule
-file_option_rule name = record (new_rule name) { long = Some name; value_names = 1 }
-
-abbrev pub flag_rule : Text → Rule
-flag_rule name = record (new_rule name) { long = Some name; action = Some SetTrue }
-
-abbrev pub image_rule : Rule
-image_rule = file_rule (codes "IMAGE")
-
-abbrev pub script_rule : Rule
-script_rule = file_rule (codes "SCRIPT")
-
-abbrev pub trace_rule : Rule
-trace_rule = file_rule (codes "TRACE")
-
-abbrev pub order_rule : Rule
-order_rule = file_rule (codes "ORDER")
-
-abbrev pub order_or_rounds_rule : Rule
-order_or_rounds_rule = optional_file_rule (codes "ORDER")
-
-abbrev pub config_rule : Rule
-config_rule = file_option_rule (codes "config")
-
-abbrev pub counts_rule : Rule
-counts_rule = flag_rule (codes "counts")
-
-abbrev pub json_rule : Rule
-json_rule = flag_rule (codes "json")
-
-abbrev pub keep_rule : Rule
-keep_rule = file_option_rule (codes "keep")
-
-abbrev pub looks_rule : Rule
-looks_rule = flag_rule (codes "looks")
-
-abbrev pub records_rule : Rule
-records_rule = flag_rule (codes "records")
-
-abbrev pub show_rule : Rule
-show_rule = flag_rule (codes "show")
-
-abbrev pub why_rule : Rule
-why_rule = flag_rule (codes "why")
-
-abbrev pub written_trace_rule : Rule
-written_trace_rule = file_option_rule (codes "trace")
 
 -- The last event that a history may have; the last hart that a core may have; how often a program is
 -- run at the most; the most instructions of a turn and of all rounds, and the last seed; and how many
@@ -104,99 +49,12 @@ usual_columns = 120
 abbrev pub most_columns : ℕ
 most_columns = 10000
 
--- An option that has a number.
-abbrev pub number_option_rule : Text → Rule
-number_option_rule name = record (new_rule name) { long = Some name; value_names = 1 }
+-- How many states are looked at the most, where nothing else is said, and how many may be asked for.
+abbrev pub usual_states : ℕ
+usual_states = 1000000
 
-abbrev pub from_rule : Rule
-from_rule = number_option_rule (codes "from")
-
-abbrev pub to_rule : Rule
-to_rule = number_option_rule (codes "to")
-
-abbrev pub hart_rule : Rule
-hart_rule = number_option_rule (codes "hart")
-
-abbrev pub width_rule : Rule
-width_rule = number_option_rule (codes "width")
-
-abbrev pub times_rule : Rule
-times_rule = number_option_rule (codes "times")
-
-abbrev pub rounds_rule : Rule
-rounds_rule = number_option_rule (codes "rounds")
-
-abbrev pub steps_rule : Rule
-steps_rule = number_option_rule (codes "steps")
-
-abbrev pub seed_rule : Rule
-seed_rule = number_option_rule (codes "seed")
-
-abbrev pub svg_rule : Rule
-svg_rule = file_option_rule (codes "svg")
-
-abbrev pub kanata_rule : Rule
-kanata_rule = file_option_rule (codes "kanata")
-
--- A subcommand of this name, with its arguments in order.
-abbrev pub subcommand : Text → List Rule → App
-subcommand name rules = fold with_rule (new_app name) rules
-
--- `step IMAGE SCRIPT`, with `--config FILE`, `--counts`, `--json`, `--looks`, `--records`, `--show`,
--- `--why` and `--trace FILE`.
-abbrev pub step_command : App
-step_command = subcommand (codes "step") (image_rule ∷ script_rule ∷ config_rule ∷ counts_rule ∷ json_rule
-    ∷ looks_rule ∷ records_rule ∷ show_rule ∷ why_rule ∷ written_trace_rule ∷ [])
-
--- `run IMAGE`, with `--config FILE`, `--counts`, `--json`, `--records`, `--why`, `--times N`,
--- `--keep FOLDER` and `--trace FILE`.
-abbrev pub run_command : App
-run_command = subcommand (codes "run") (image_rule ∷ config_rule ∷ counts_rule ∷ json_rule ∷ records_rule
-    ∷ why_rule ∷ times_rule ∷ keep_rule ∷ written_trace_rule ∷ [])
-
--- `check IMAGE TRACE`, with `--config FILE`, `--counts`, `--json`, `--records` and `--why`.
-abbrev pub check_command : App
-check_command = subcommand (codes "check") (image_rule ∷ trace_rule ∷ config_rule ∷ counts_rule ∷ json_rule
-    ∷ records_rule ∷ why_rule ∷ [])
-
--- `plain IMAGE ORDER`, with `--config FILE` and `--records`; or without the order, and with
--- `--rounds K`, `--steps N` and `--seed S`.
-abbrev pub plain_command : App
-plain_command = subcommand (codes "plain") (image_rule ∷ order_or_rounds_rule ∷ config_rule ∷ records_rule
-    ∷ rounds_rule ∷ steps_rule ∷ seed_rule ∷ [])
-
--- `schedule IMAGE ORDER`, with `--config FILE`.
-abbrev pub schedule_command : App
-schedule_command = subcommand (codes "schedule") (image_rule ∷ order_rule ∷ config_rule ∷ [])
-
--- `script IMAGE TRACE`, with `--config FILE`.
-abbrev pub script_command : App
-script_command = subcommand (codes "script") (image_rule ∷ trace_rule ∷ config_rule ∷ [])
-
--- `list IMAGE`, with `--config FILE`.
-abbrev pub list_command : App
-list_command = subcommand (codes "list") (image_rule ∷ config_rule ∷ [])
-
--- `chart IMAGE TRACE`, with `--config FILE`, `--from N`, `--to N`, `--hart N`, `--width N`, `--svg FILE`
--- and `--kanata FILE`.
-abbrev pub chart_command : App
-chart_command = subcommand (codes "chart") (image_rule ∷ trace_rule ∷ config_rule ∷ from_rule ∷ to_rule
-    ∷ hart_rule ∷ width_rule ∷ svg_rule ∷ kanata_rule ∷ [])
-
--- `explain IMAGE`, with `--config FILE`.
-abbrev pub explain_command : App
-explain_command = subcommand (codes "explain") (image_rule ∷ config_rule ∷ [])
-
--- The whole command line: one of the nine subcommands must be there. `clap` adds `--help` and
--- `help`.
-abbrev pub top : App
-top = let app =
-    new_app (codes "smtsim") in record app { top = record app.top { subcommand_required = true } }
-
-abbrev pub smtsim : App
-smtsim = fold (λ app sub. with_subcommand app sub.top) top (step_command ∷ run_command
-    ∷ check_command ∷ plain_command ∷ schedule_command ∷ script_command ∷ list_command
-    ∷ chart_command ∷ explain_command ∷ [])
+abbrev pub most_states : ℕ
+most_states = 2 ^ 32 - 1
 
 -- What `clap` is given: an argument and a command as data, neither of them for the commands below
 -- too.
@@ -218,7 +76,7 @@ abbrev pub Finds : {A : Type 0} → (A → Type 0) → Option A → Type 0
 Finds {A} Holds None = (one : A) → Holds one → ⊥
 Finds Holds (Some found) = Holds found
 
--- What was found for a file that must be there, and for one that may be there.
+-- What was found for a file that must be there, and for one that may be there, or another text.
 abbrev IsFile : List Row → Text → Bor Text → Type 0
 IsFile rows name file = first_of name rows ≡ Some file.now
 
@@ -332,6 +190,36 @@ pub record IsChart (rows : List Row) (chart : ChartCommand) : Type 0 where
 pub record IsExplain (rows : List Row) (explain : ExplainCommand) : Type 0 where
   pub image : IsFile rows (codes "IMAGE") explain.image
 
+-- An order has one file, as it is or as its script; or it has none.
+abbrev pub has_one_file : OutcomesCommand → Bool
+has_one_file outcomes =
+    if is_some outcomes.witness then not (is_some outcomes.script) else is_some outcomes.script
+
+abbrev pub has_no_file : OutcomesCommand → Bool
+has_no_file outcomes = not (is_some outcomes.witness) && not (is_some outcomes.script)
+
+-- Some state is looked at. An order is written of an outcome, from 1, or of a state that is stuck, and
+-- of one of them alone.
+abbrev pub are_orders_together : OutcomesCommand → Bool
+are_orders_together outcomes =
+    let without = if outcomes.stuck then has_one_file outcomes else has_no_file outcomes in
+    option_map_or (λ number. nat_le 1 number && not outcomes.stuck && has_one_file outcomes)
+    outcomes.outcome without
+
+abbrev pub can_be_searched : OutcomesCommand → Bool
+can_be_searched outcomes = nat_le 1 outcomes.states && are_orders_together outcomes
+
+pub record IsOutcomes (rows : List Row) (outcomes : OutcomesCommand) : Type 0 where
+  pub image : IsFile rows (codes "IMAGE") outcomes.image
+  pub states : IsNumber rows (codes "states") usual_states most_states outcomes.states
+  pub watch : IsFileOption rows (codes "watch") outcomes.watch
+  pub exists : IsFileOption rows (codes "exists") outcomes.exists
+  pub outcome : IsNumberOption rows (codes "outcome") most_states outcomes.outcome
+  pub stuck : IsFlag rows (codes "stuck") outcomes.stuck
+  pub witness : IsFileOption rows (codes "witness") outcomes.witness
+  pub script : IsFileOption rows (codes "script") outcomes.script
+  pub together : can_be_searched outcomes ≡ true
+
 -- A subcommand of this name, with what was found for it, is the command.
 abbrev pub IsCommandOf : Text → List Row → LineCommand → Type 0
 IsCommandOf name rows (commands.Step step) = (name ≡ codes "step") × IsStep rows step
@@ -344,6 +232,8 @@ IsCommandOf name rows (commands.Script script) = (name ≡ codes "script") × Is
 IsCommandOf name rows (commands.List list) = (name ≡ codes "list") × IsList rows list
 IsCommandOf name rows (commands.Chart chart) = (name ≡ codes "chart") × IsChart rows chart
 IsCommandOf name rows (commands.Explain explain) = (name ≡ codes "explain") × IsExplain rows explain
+IsCommandOf name rows (commands.Outcomes outcomes) =
+    (name ≡ codes "outcomes") × IsOutcomes rows outcomes
 
 -- A subcommand of this name, with what was found for it, is the line: its command, and the
 -- configuration, which every command may have. One of its files at most is standard input.

@@ -5,11 +5,16 @@ use Rattle.std.specs.{Borrow.Bor, Str.bytes_eq}
 use Rattle.sim_inputs.specs.{declared.files.Files.Files}
 use Rattle.sim_inputs.specs.{declared.line.Line.Line, declared.line.Command.Command}
 use Rattle.sim_inputs.specs.{declared.line.ChartCommand.ChartCommand}
+use Rattle.sim_inputs.specs.{declared.line.OutcomesCommand.OutcomesCommand}
 use Rattle.sim_inputs.specs.declared.line.Command.TheVariants as commands
 
 -- The file that a chart is written to: a picture, or Konata's log.
 abbrev pub written_chart : ChartCommand → Option (Bor (List ℕ))
 written_chart chart = if is_some chart.svg then chart.svg else chart.kanata
+
+-- The file that an order is written to, or its script.
+abbrev pub written_order : OutcomesCommand → Option (Bor (List ℕ))
+written_order outcomes = if is_some outcomes.witness then outcomes.witness else outcomes.script
 
 -- The files of a command, beside the configuration of its line.
 abbrev files_with : Option (Bor (List ℕ)) → Command → Files
@@ -67,9 +72,16 @@ files_with config (commands.Explain explain) = record {
   second = None;
   trace = None;
 }
+files_with config (commands.Outcomes outcomes) = record {
+  config = config;
+  image = Some outcomes.image;
+  second = None;
+  trace = written_order outcomes;
+}
 
 -- The configuration, the image, the file that is read beside them (the script, the trace that is
--- read, or the order), and the file that is written: the trace of a core, or a chart.
+-- read, or the order), and the file that is written: the trace of a core, a chart, or an order or its
+-- script.
 abbrev pub files_of : Line → Files
 files_of line = files_with line.config line.command
 

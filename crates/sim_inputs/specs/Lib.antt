@@ -2,4 +2,5 @@ pub mod CommandLine
 pub mod Configuration
 pub mod Explained
 pub mod Files
+pub mod Rules
 pub mod Table

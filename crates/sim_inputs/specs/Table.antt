@@ -4,8 +4,8 @@ use Rattle.clap.specs.Words.{App, Rule, Text, new_app, with_rule, with_subcomman
 use Rattle.sim_inputs.specs.{declared.description.Argument.Argument, declared.description.Kind.Kind}
 use Rattle.sim_inputs.specs.{declared.description.Subcommand.Subcommand}
 use Rattle.sim_inputs.specs.declared.description.Kind.TheVariants as kind
-use Rattle.sim_inputs.specs.CommandLine.{file_rule, optional_file_rule, file_option_rule, flag_rule}
-use Rattle.sim_inputs.specs.CommandLine.{number_option_rule}
+use Rattle.sim_inputs.specs.Rules.{file_rule, optional_file_rule, file_option_rule, flag_rule}
+use Rattle.sim_inputs.specs.Rules.{number_option_rule, text_option_rule}
 
 -- The argument of a row.
 abbrev pub rule_by : Kind → Text → Rule
@@ -15,6 +15,8 @@ rule_by kind.Option name = file_option_rule name
 rule_by kind.Folder name = file_option_rule name
 rule_by kind.Flag name = flag_rule name
 rule_by kind.Number name = number_option_rule name
+rule_by kind.List name = text_option_rule name
+rule_by kind.Condition name = text_option_rule name
 
 abbrev pub rule_in : Argument → Rule
 rule_in row = rule_by row.kind row.name.now

@@ -1,9 +1,13 @@
 ghost use Rattle.std.specs.Prelude.{◌≡◌, IfOk};
 ghost use Rattle.std.specs.List.{fold};
 ghost use Rattle.clap.specs.Words.{App, app_of};
-ghost use Rattle.sim_inputs.specs.CommandLine.{IsArgument, IsCommand, smtsim};
+ghost use Rattle.sim_inputs.specs.CommandLine.{IsArgument, IsCommand};
+ghost use Rattle.sim_inputs.specs.Rules.{smtsim};
 ghost use Rattle.sim_inputs.specs.Table.{rule_in, subcommand_in, with_row};
 
+use crate::forms::{
+    CHART_FORM, CONFIGURATION_FORM, ORDER_FORM, OUTCOMES_FORM, SCRIPT_FORM, TRACE_FORM,
+};
 use clap::{Arg, ArgAction, Command};
 use std::alloc::{AllocError, Global};
 
@@ -21,6 +25,10 @@ pub(crate) enum Kind {
     Folder,
     /// `--name N`, which may be there.
     Number,
+    /// `--name LIST`, which may be there.
+    List,
+    /// `--name CONDITION`, which may be there.
+    Condition,
 }
 
 /// An argument of a subcommand, as help describes it.
@@ -38,63 +46,6 @@ pub(crate) struct Subcommand {
     /// How its other file is written, for the end of its help; empty where that says nothing.
     form: &'static str,
 }
-
-/// How a script is written, for the help of `step`. Here and below the names of limits stand in
-/// braces (`limits`).
-const SCRIPT_FORM: &str = "\
-A script has words apart by spaces or newlines, each an ask of an actor:
-  F0    actor 0 fetches
-  D1.0  actor 1 decodes for hart 0
-  R1.0  actor 1 renames for hart 0
-  T2.0  actor 2 retires for hart 0
-  I3    actor 3 issues
-  C3    actor 3 completes what it has issued
-  U3    both: actor 3 issues and completes
-Actors are 0 to {LAST_ACTOR}, and harts 0 to {LAST_HART}. Where *n stands behind a word, n from 1
-to 100000, the word is asked n times, as in F0*4.";
-
-/// How a trace is written, for the help of `check` and of `script`.
-const TRACE_FORM: &str = "\
-A trace has the line smt-trace 1, then one for each event, the oldest first:
-  F actor hart number pc word predicted       fetch
-  D actor number                              decode
-  R actor number register                     rename
-  I actor number                              issue
-  C actor number value next address data out  complete
-  X actor number                              drop
-  T actor number value next address data out  retire
-One space stands between two fields, a newline ends each line, and - is none.
-Pcs, words, values, addresses and data are eight hexadecimal digits in lower
-case, out is two, and the data of a retirement are two for each byte written.
-next is p and a pc, e and a status of eight digits, or s and a cause. All other
-fields are decimal.";
-
-/// How an order is written, for the help of `plain` and of `schedule`.
-const ORDER_FORM: &str = "\
-An order has words apart by spaces or newlines. Each is the number of a hart,
-0 to 255, which makes the next step: one whole instruction.";
-
-/// How a chart is read, for the help of `chart`.
-const CHART_FORM: &str = "\
-In the row of an instruction stand, each under its event:
-  F D R I C T   it is fetched, decoded, renamed, issued, completed, retired
-  .             it is in the pipeline
-  x             it is squashed; behind the row stands by which instruction
-  X             a unit hands it back, squashed before
-The trace is checked first, as check does: no other one is drawn.";
-
-/// How a configuration is written, for the help of the program.
-const CONFIGURATION_FORM: &str = "\
-A configuration is a TOML file. Its keys, with what holds where one is absent:
-  harts = 1            # hardware threads, 1 to {MOST_HARTS}
-  extra = 64           # physical registers beside {RENAMED_REGISTERS} of each hart, \
-1 to {MOST_EXTRA}
-  queue = 16           # entries of the issue queue, {FEWEST_QUEUED} to {MOST_QUEUED}
-  ram = 65536          # bytes of memory, a multiple of 4096 up to 16777216
-  limit = 1000000      # the most events of a history, up to {MOST_EVENTS}
-  turns = 1000000000   # the most turns of an actor, up to 10^18
-  # the role of each actor, 1 to {MOST_ACTORS} of these names:
-  actors = [\"fetch\", \"front\", \"retire\", \"alu\", \"mul\", \"mem\"]";
 
 const IMAGE: Argument = Argument {
     kind: Kind::File,
@@ -246,8 +197,50 @@ const KANATA: Argument = Argument {
     help: "The file for a log that Konata reads, in place of text",
 };
 
+const STATES: Argument = Argument {
+    kind: Kind::Number,
+    name: "states",
+    help: "The most states that are looked at: 1000000",
+};
+
+const WATCH: Argument = Argument {
+    kind: Kind::List,
+    name: "watch",
+    help: "Registers and words that tell outcomes apart",
+};
+
+const EXISTS: Argument = Argument {
+    kind: Kind::Condition,
+    name: "exists",
+    help: "Tell of which outcomes this holds",
+};
+
+const OUTCOME: Argument = Argument {
+    kind: Kind::Number,
+    name: "outcome",
+    help: "The outcome whose order is written, from 1",
+};
+
+const STUCK: Argument = Argument {
+    kind: Kind::Flag,
+    name: "stuck",
+    help: "In its place a state from which nothing can end",
+};
+
+const WITNESS: Argument = Argument {
+    kind: Kind::Option,
+    name: "witness",
+    help: "The file for an order that leads there",
+};
+
+const WRITTEN_SCRIPT: Argument = Argument {
+    kind: Kind::Option,
+    name: "script",
+    help: "The file for the script of that order",
+};
+
 /// The subcommands, in the order in which help lists them.
-static SUBCOMMANDS: [Subcommand; 9] = [
+static SUBCOMMANDS: [Subcommand; 10] = [
     Subcommand {
         name: "step",
         about: "Make a script's asks of the core in order, and print a report",
@@ -323,6 +316,22 @@ static SUBCOMMANDS: [Subcommand; 9] = [
         arguments: &[IMAGE, CONFIG],
         form: "",
     },
+    Subcommand {
+        name: "outcomes",
+        about: "List every end that the program has on the plain machine",
+        arguments: &[
+            IMAGE,
+            CONFIG,
+            STATES,
+            WATCH,
+            EXISTS,
+            OUTCOME,
+            STUCK,
+            WITNESS,
+            WRITTEN_SCRIPT,
+        ],
+        form: OUTCOMES_FORM,
+    },
 ];
 
 /// The program's command line.
@@ -378,5 +387,7 @@ fn argument_of<'a>(row: &'static Argument, alloc: Global) -> Arg<'a>
         Kind::Folder => argument.long(row.name).value_name("FOLDER"),
         Kind::Flag => argument.long(row.name).action(ArgAction::SetTrue),
         Kind::Number => argument.long(row.name).value_name("N"),
+        Kind::List => argument.long(row.name).value_name("LIST"),
+        Kind::Condition => argument.long(row.name).value_name("CONDITION"),
     }
 }

@@ -1,8 +1,8 @@
 ghost use Rattle.std.specs.Prelude.{◌≡◌, ◌≤◌, option_map};
-ghost use Rattle.sim_inputs.specs.Files.{files_of, written_chart, is_standard_input, input_count};
-ghost use Rattle.sim_inputs.specs.Files.{reads_input_once};
+ghost use Rattle.sim_inputs.specs.Files.{files_of, written_chart, written_order, is_standard_input};
+ghost use Rattle.sim_inputs.specs.Files.{input_count, reads_input_once};
 
-use crate::line::{ChartCommand, Command, Line};
+use crate::line::{ChartCommand, Command, Line, OutcomesCommand};
 
 /// The files that a line names: three that are read, in this order, and one that is written.
 #[derive(Clone, Copy, Drop)]
@@ -13,7 +13,7 @@ pub struct Files<'a> {
     pub image: Option<&'a str>,
     /// The script, the trace that is read, or the order.
     pub second: Option<&'a str>,
-    /// The file that is written: the trace of a core, or a chart.
+    /// The file that is written: the trace of a core, a chart, or an order or its script.
     pub trace: Option<&'a str>,
 }
 
@@ -26,6 +26,18 @@ impl<'a> ChartCommand<'a> {
             return self.svg;
         }
         self.kanata
+    }
+}
+
+impl<'a> OutcomesCommand<'a> {
+    /// The file that an order or its script is written to; none where nothing is written.
+    pub fn written(&self) -> Option<&'a str>
+        ensures { result ≡ written_order self.now }
+    {
+        if self.witness.is_some() {
+            return self.witness;
+        }
+        self.script
     }
 }
 
@@ -44,6 +56,7 @@ impl<'a> Line<'a> {
             Command::List(list) => (Some(list.image), None, None),
             Command::Chart(chart) => (Some(chart.image), Some(chart.trace), chart.written()),
             Command::Explain(explain) => (Some(explain.image), None, None),
+            Command::Outcomes(outcomes) => (Some(outcomes.image), None, outcomes.written()),
         };
         Files {
             config: self.config,

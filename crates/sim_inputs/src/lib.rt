@@ -3,7 +3,7 @@
 //!
 //! Read in this order: `line` (what the words may ask for), `files` (the files that they name),
 //! `words` (how they are read), `description` (the command line as it is described to `clap`),
-//! `limits` (what stands in its texts for the limits of a core); then
+//! `forms` (what stands behind it of files), `limits` (what stands in its texts for the limits of a core); then
 //! `settings`, `configuration` (how they are read), `roles` and `ranges` (its parts), `explained`
 //! (which fault a refused configuration has).
 #![tactic(auto)]
@@ -12,6 +12,7 @@ mod configuration;
 mod description;
 mod explained;
 mod files;
+mod forms;
 mod limits;
 mod line;
 mod ranges;
@@ -25,8 +26,8 @@ pub use explained::{
 };
 pub use files::{Files, is_standard_input};
 pub use line::{
-    ChartCommand, CheckCommand, Command, ExplainCommand, Line, ListCommand, PlainCommand,
-    RunCommand, ScheduleCommand, ScriptCommand, StepCommand, WordsRefused,
+    ChartCommand, CheckCommand, Command, ExplainCommand, Line, ListCommand, OutcomesCommand,
+    PlainCommand, RunCommand, ScheduleCommand, ScriptCommand, StepCommand, WordsRefused,
 };
 pub use settings::Settings;
 pub use words::read_words;

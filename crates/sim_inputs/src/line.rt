@@ -20,6 +20,7 @@ pub enum Command<'a> {
     List(ListCommand<'a>),
     Chart(ChartCommand<'a>),
     Explain(ExplainCommand<'a>),
+    Outcomes(OutcomesCommand<'a>),
 }
 
 /// `step IMAGE SCRIPT`: the script's asks are made in order, without threads.
@@ -145,6 +146,28 @@ pub struct ChartCommand<'a> {
 #[derive(Clone, Copy, Drop)]
 pub struct ExplainCommand<'a> {
     pub image: &'a str,
+}
+
+/// `outcomes IMAGE`: every end that the program has on the plain machine is listed.
+#[derive(Clone, Copy, Drop)]
+pub struct OutcomesCommand<'a> {
+    pub image: &'a str,
+    /// `--states N`: how many states are looked at the most, 1 to `MOST_STATES`.
+    pub states: u32,
+    /// `--watch LIST`: the registers and words that tell outcomes apart.
+    pub watch: Option<&'a str>,
+    /// `--exists CONDITION`: which outcomes are asked for.
+    pub exists: Option<&'a str>,
+    /// `--outcome N`: the outcome whose order is written, from 1.
+    pub outcome: Option<u32>,
+    /// `--stuck`: in its place the order to a state from which nothing can end. One of the two is
+    /// there where a file is written, else none.
+    pub stuck: bool,
+    /// `--witness FILE`: the file that the order is written to.
+    pub witness: Option<&'a str>,
+    /// `--script FILE`: the file that the order's script is written to. There is one of the two at
+    /// most.
+    pub script: Option<&'a str>,
 }
 
 /// Why there is nothing to do.

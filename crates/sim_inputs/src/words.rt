@@ -4,14 +4,16 @@ ghost use Rattle.sim_inputs.specs.CommandLine.{is_flag_set, Finds, IsCommandOf, 
 ghost use Rattle.sim_inputs.specs.CommandLine.{IsStep, IsRun, IsCheck, IsPlain, IsSchedule, IsScript};
 ghost use Rattle.sim_inputs.specs.CommandLine.{IsList, IsChart, IsExplain, can_be_drawn, can_be_run};
 ghost use Rattle.sim_inputs.specs.CommandLine.{is_reported, can_be_plain, number_or, number_in};
+ghost use Rattle.sim_inputs.specs.CommandLine.{IsOutcomes, can_be_searched, are_orders_together};
+ghost use Rattle.sim_inputs.specs.CommandLine.{has_one_file};
 ghost use Rattle.sim_inputs.specs.CommandLine.{AreWordsRefusedFor, IsRefusalOf};
 
 use crate::description::describe;
 use crate::files::reads_input_once;
 use crate::limits::with_limits;
 use crate::line::{
-    ChartCommand, CheckCommand, Command, ExplainCommand, Line, ListCommand, PlainCommand,
-    RunCommand, ScheduleCommand, ScriptCommand, StepCommand, WordsRefused,
+    ChartCommand, CheckCommand, Command, ExplainCommand, Line, ListCommand, OutcomesCommand,
+    PlainCommand, RunCommand, ScheduleCommand, ScriptCommand, StepCommand, WordsRefused,
 };
 use clap::error::ErrorKind;
 use clap::{ArgMatches, Error};
@@ -33,6 +35,9 @@ const MOST_TIMES: u32 = 1_000_000;
 const USUAL_COLUMNS: u32 = 120;
 
 const MOST_COLUMNS: u32 = 10_000;
+
+/// How many states are looked at the most where nothing else is said.
+const USUAL_STATES: u32 = 1_000_000;
 
 /// Reads the program's words, its own name first. `Help` is answered where `clap` answers with its
 /// help, `Refused` where the words ask for nothing, and `Memory` where there isn't enough of it.
@@ -78,12 +83,13 @@ fn command_named<'a>(name: &str, found: &ArgMatches<'a>) -> Option<Command<'a>>
         "list" => Some(Command::List(list_in(found)?)),
         "chart" => Some(Command::Chart(chart_in(found)?)),
         "explain" => Some(Command::Explain(explain_in(found)?)),
+        "outcomes" => Some(Command::Outcomes(outcomes_in(found)?)),
         _ => None,
     }
 }
 
-/// The command `step` of what was found; none where a file is missing that it must have. The eight
-/// below answer for their commands; three of them have options that don't go together.
+/// The command `step` of what was found; none where a file is missing that it must have. The nine
+/// below answer for their commands; four of them have options that don't go together.
 fn step_in<'a>(found: &ArgMatches<'a>) -> Option<StepCommand<'a>>
     ensures { Finds (IsStep (rows_of (found_of found.now))) result }
 {
@@ -237,6 +243,53 @@ fn can_be_drawn(chart: &ChartCommand<'_>) -> bool
     ensures { result ≡ can_be_drawn chart.now }
 {
     chart.from <= chart.to && chart.width >= 1 && !(chart.svg.is_some() && chart.kanata.is_some())
+}
+
+fn outcomes_in<'a>(found: &ArgMatches<'a>) -> Option<OutcomesCommand<'a>>
+    ensures { Finds (IsOutcomes (rows_of (found_of found.now))) result }
+{
+    let outcomes = OutcomesCommand {
+        image: file(found, "IMAGE")?,
+        states: number_or(found, "states", USUAL_STATES, u32::MAX)?,
+        watch: file(found, "watch"),
+        exists: file(found, "exists"),
+        outcome: number(found, "outcome", u32::MAX)?,
+        stuck: is_set(found, "stuck"),
+        witness: file(found, "witness"),
+        script: file(found, "script"),
+    };
+    if !can_be_searched(&outcomes) {
+        return None;
+    }
+    Some(outcomes)
+}
+
+/// Whether some state is looked at, and the options of orders go together.
+fn can_be_searched(outcomes: &OutcomesCommand<'_>) -> bool
+    ensures { result ≡ can_be_searched outcomes.now }
+{
+    outcomes.states >= 1 && are_orders_together(outcomes)
+}
+
+/// Whether an order is written of one end alone, and into one file; or none is.
+fn are_orders_together(outcomes: &OutcomesCommand<'_>) -> bool
+    ensures { result ≡ are_orders_together outcomes.now }
+{
+    match outcomes.outcome {
+        Some(number) => number >= 1 && !outcomes.stuck && has_one_file(outcomes),
+        None if outcomes.stuck => has_one_file(outcomes),
+        None => outcomes.witness.is_none() && outcomes.script.is_none(),
+    }
+}
+
+/// Whether an order is written, as it is or as its script, and not both.
+fn has_one_file(outcomes: &OutcomesCommand<'_>) -> bool
+    ensures { result ≡ has_one_file outcomes.now }
+{
+    if outcomes.witness.is_some() {
+        return outcomes.script.is_none();
+    }
+    outcomes.script.is_some()
 }
 
 /// The number that was found for an option, of at most `greatest`, or the default where it isn't

@@ -12,6 +12,8 @@ fn main(rt: HostRuntime) -> ExitCode {
     let mut err = rt.stderr();
     // Only on a terminal is it shown how far a run is, so standard error in a file stays as it is.
     let on_terminal = err.is_terminal();
+    // Only from a terminal is a script typed a line at a time.
+    let at_terminal = rt.stdin().is_terminal();
     let progress = Progress::new(&rt, err, on_terminal);
     ExitCode::from(perform_words(
         &rt,
@@ -20,6 +22,7 @@ fn main(rt: HostRuntime) -> ExitCode {
         StaticPredictor,
         BufWriter::new(rt.alloc(), io::writer(&rt)),
         &mut err,
+        at_terminal,
         on_terminal,
         rt.alloc(),
     ))

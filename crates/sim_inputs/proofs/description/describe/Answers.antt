@@ -1,6 +1,6 @@
 use Rattle.std.proofs.Common.{ap, true, ◌≡◌}
 use Rattle.clap.specs.Words.{App, app_of}
-use Rattle.sim_inputs.specs.CommandLine.{top}
+use Rattle.sim_inputs.specs.Rules.{top}
 use Rattle.sim_inputs.proofs.description.describe.Goals as goal
 
 pub returns : goal.returns

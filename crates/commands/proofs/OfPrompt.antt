@@ -1,0 +1,99 @@
+-- The command `step` with a script that is typed: its refusals, and what it comes to.
+use Rattle.std.specs.Prelude.{◌≡◌, ℕ, true, false, IsTrue, List, [], ◌++◌, Option, Result, Ok, Err}
+use Rattle.std.proofs.Common.{refl, subst}
+use Rattle.std.specs.Io.KnownBytes.{Keeps}
+use Rattle.elf_image.specs.{Loaded.IsImageOf}
+use Rattle.elf_image.specs.Image.{ProgramImage}
+use Rattle.core_state.specs.{Setup.setup_of, View.CoreView}
+use Rattle.smt_model.specs.Setup.{is_accepted}
+use Rattle.text_fields.specs.{Printing.Prints}
+use Rattle.scripts.specs.{Script.IsScript, Script.pieces, Session.AreAsked, Lines.words_in}
+use Rattle.prompts.specs.{declared.prompting.Ended.Ended, Prompted.IsPrompted}
+use Rattle.sim_inputs.specs.{declared.settings.Settings.Settings, Configuration.IsConfiguration}
+use Rattle.reports.proofs.Appending.{appends_more}
+use Rattle.reports.specs.Statuses.{says_harts}
+use Rattle.commands.specs.{declared.wanted.Wanted.Wanted, Inputs.Read}
+use Rattle.commands.specs.{Account.IsReported, Account.statuses_of, Refused.AreAccepted, Refused.AreRefused}
+use Rattle.commands.specs.{Refused.PassesAll, Step.IsAsking, Prompt.PromptComesTo, Prompt.TypedComesTo}
+use Rattle.commands.proofs.Sound.{prints_kept, status_says}
+
+-- An empty text is a script, that of no words.
+pub empty_asks : IsAsking []
+unfolding pieces
+empty_asks = ([], tt)
+
+-- Whether sizes are those of a core doesn't hang on the image.
+pub accepted_all : (settings : Settings) (image : ProgramImage)
+    → is_accepted (setup_of image settings.config) settings.limit ≡ true → AreAccepted settings
+accepted_all settings image is = λ other. is
+
+pub refused_all : (settings : Settings) (image : ProgramImage)
+    → is_accepted (setup_of image settings.config) settings.limit ≡ false → AreRefused settings
+refused_all settings image is = λ other. is
+
+module _ {P : Type 0} (predicts : P → ℕ → ℕ → ℕ → ℕ → P → Type 0) (before : P) (settings : Settings)
+    (input : Option (List ℕ)) (wanted : Wanted) (Traced : CoreView → Type 0) where
+  -- The lines were answered, and then the account was printed.
+  pub prompt_comes_to : (image : ProgramImage) (ended : Ended) (core : CoreView) (old mid new : Option (List ℕ))
+      (status : ℕ) → AreAccepted settings
+      → IsPrompted predicts before (setup_of image settings.config) settings.limit input ended core
+      → Prints old mid (λ text. Unit {0}) → Traced core → IsReported core wanted mid new status
+      → PromptComesTo predicts before settings image input wanted Traced old new status
+  prompt_comes_to image ended core old mid new status accepted prompted answered traced reported = record {
+    accepted = accepted;
+    ended = ended;
+    core = core;
+    prompted = prompted;
+    as_step = λ script is. record {
+      words = words_in prompted.kept;
+      is_script = is;
+      asked = prompted.asked.asked;
+    };
+    traced = traced;
+    printed = (
+      answered.0 ++ reported.printed.0,
+      record {
+        answers = answered.0;
+        account = reported.printed.0;
+        is_account = reported.printed.1;
+        both = refl;
+      },
+      appends_more old mid new _ _ answered.2 reported.printed.2,
+    );
+    harts = reported.harts;
+  }
+
+  -- A flush changes nothing of it.
+  pub typed_flushed : (text : List ℕ) (file : List ℕ) (program : ProgramImage) (old mid new : Option (List ℕ))
+      (status : ℕ) → IsConfiguration text settings → PassesAll file settings.ram
+      → IsImageOf file settings.ram program
+      → PromptComesTo predicts before settings program input wanted Traced old mid status → Keeps mid new
+      → TypedComesTo predicts before (Ok text) (Ok file) input wanted Traced old new status
+  typed_flushed text file program old mid new status configured passes loaded is flushed = (
+    settings,
+    configured,
+    (
+      passes,
+      program,
+      loaded,
+      record {
+        accepted = is.accepted;
+        ended = is.ended;
+        core = is.core;
+        prompted = is.prompted;
+        as_step = is.as_step;
+        traced = is.traced;
+        printed = prints_kept old mid new _ is.printed flushed;
+        harts = is.harts;
+      },
+    ),
+  )
+
+pub typed_says : {P : Type 0} (predicts : P → ℕ → ℕ → ℕ → ℕ → P → Type 0) (before : P) (config image : Read)
+    (input : Option (List ℕ)) (wanted : Wanted) (Traced : CoreView → Type 0) (old new : Option (List ℕ)) (status : ℕ)
+    → TypedComesTo predicts before config image input wanted Traced old new status → IsTrue (says_harts status)
+typed_says predicts before (Ok text) (Ok file) input wanted Traced old new status is =
+    let comes = is.2.3 in
+    status_says status (statuses_of comes.core) comes.harts
+typed_says predicts before (Ok text) (Err why) input wanted Traced old new status is = absurd is.2
+typed_says predicts before (Err why) image input wanted Traced old new status is = absurd is

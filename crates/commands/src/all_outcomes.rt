@@ -1,0 +1,253 @@
+//! The command `outcomes`: every end that a program has on the plain machine.
+
+ghost use Rattle.std.specs.Prelude.{◌≡◌, IfOk, IfErr, OnOk, true, false};
+ghost use Rattle.commands.specs.declared.refused.Refused.TheVariants.{Output};
+ghost use Rattle.commands.specs.Outcomes.{IsOutcomesRefusal, OutcomesComeTo, wants_order};
+ghost use Rattle.commands.specs.Outcomes.{IsAsked, IsConditionOf, IsListOf, IsConditionRefusal};
+ghost use Rattle.commands.specs.Outcomes.{IsWatchRefusal, IsSearchRefusal, IsOrderRefusal, IsPutRefusal};
+ghost use Rattle.commands.specs.Outcomes.{IsTextRefusal, condition_text};
+ghost use Rattle.std.specs.Prelude.{◌++◌, ◌-◌, ℕ, Some, option_map};
+ghost use Rattle.std.specs.Io.KnownBytes.{Appends};
+ghost use Rattle.elf_image.specs.Image.{ProgramImage};
+ghost use Rattle.outcomes.specs.{Refusals.IsRefusedFor, Told.order_listed};
+ghost use Rattle.outcome_text.specs.Listing.{outcomes_text};
+ghost use Rattle.commands.specs.declared.refused.Refused.TheVariants.{Memory};
+
+use crate::chart::put_all;
+use crate::refused::Refused;
+use crate::schedule::schedule_of;
+use elf_image::Image;
+use event_text::Sink;
+use outcome_queries::{
+    Condition, WatchList, read_condition, read_watch_list, watch_of, with_terms,
+};
+use outcome_text::{write_exists, write_incomplete, write_outcomes};
+use outcomes::{Onlooker, Outcomes, OutcomesRefused, Watch, find_outcomes};
+use sim_inputs::{OutcomesCommand, Settings};
+use std::alloc::{AllocError, Global};
+use std::io::Write;
+
+/// Writes a line for each outcome of an image, for as many harts as the settings say, how many there are,
+/// whether each state can go on to an end, and of which outcomes a condition holds. An order that is
+/// wanted goes into `file` first, or its script.
+///
+/// Answers the exit status: 0, or 3 where there are more states than were to be looked at; then only that
+/// is said, and nothing goes into `file`. Refused are, in this order, a list or a condition that is
+/// misspelled, a hart and a word that aren't there, an outcome and a stuck state that aren't there, and
+/// what `perform_schedule` refuses; then nothing is printed. `Output` is answered where `out` or `file`
+/// failed.
+#[inline(never)]
+pub fn perform_outcomes<O: Onlooker, S: Sink, W: Write>(
+    image: &Image,
+    settings: &Settings,
+    command: &OutcomesCommand<'_>,
+    onlooker: &O,
+    file: &mut S,
+    out: &mut W,
+    alloc: Global,
+) -> Result<u8, Refused>
+    requires works { S.has_failed file.old ≡ false }
+    ensures refused { IfErr result (IsOutcomesRefusal settings.now image.now command.now) }
+    ensures ended { IfOk result (OutcomesComeTo settings.now image.now command.now
+        (W.contents out.old) (W.contents out.new)) }
+    ensures unwanted { wants_order command.now ≡ false → file.new ≡ file.old }
+    ensures unbroken { OnOk result (S.has_failed file.new ≡ false) }
+    ensures unreported { S.has_failed file.new ≡ true
+        → W.contents out.new ≡ W.contents out.old }
+{
+    let terms = condition_of(command)?;
+    let watch = watch_for(command, &terms)?;
+    let harts = settings.config.harts;
+    match find_outcomes(image, harts, &watch, command.states, onlooker, alloc) {
+        Ok(outcomes) => {
+            let stuck = stuck_order(&outcomes, alloc)?;
+            put_order(image, settings, command, &outcomes, &stuck, file, alloc)?;
+            tell(&outcomes, &watch, stuck.is_some(), command, &terms, out)
+        }
+        Err(OutcomesRefused::Budget) => match write_incomplete(command.states, out) {
+            Ok(()) => Ok(3),
+            Err(_) => Err(Refused::Output),
+        },
+        Err(why) => Err(search_refusal(why, &watch)),
+    }
+}
+
+/// The terms of the condition; none where there is no condition.
+fn condition_of(command: &OutcomesCommand<'_>) -> Result<Condition, Refused>
+    ensures read { IfOk result (λ terms. IsConditionOf command.now.exists terms.items) }
+    ensures refused { IfErr result (IsConditionRefusal command.now) }
+{
+    let Some(text) = command.exists else {
+        return Ok(Condition::new());
+    };
+    match read_condition(text.as_bytes()) {
+        Ok(terms) => Ok(terms),
+        Err(why) => Err(Refused::Condition(why)),
+    }
+}
+
+/// What is watched for the list and the condition of a command.
+fn watch_for(command: &OutcomesCommand<'_>, terms: &Condition) -> Result<Watch, Refused>
+    requires { IsConditionOf command.now.exists terms.now.items }
+    ensures asked { IfOk result (λ watch. IsAsked command.now watch terms.now.items) }
+    ensures refused { IfErr result (IsWatchRefusal command.now) }
+{
+    let list = list_of(command)?;
+    match with_terms(&list, terms.as_slice()) {
+        Some(all) => Ok(watch_of(all.as_slice())),
+        None => Err(Refused::ManyWatched),
+    }
+}
+
+/// What the list of a command names; nothing where there is no list.
+fn list_of(command: &OutcomesCommand<'_>) -> Result<WatchList, Refused>
+    ensures read { IfOk result (λ list. IsListOf command.now.watch list.items) }
+    ensures refused { IfErr result (IsWatchRefusal command.now) }
+{
+    let Some(text) = command.watch else {
+        return Ok(WatchList::new());
+    };
+    match read_watch_list(text.as_bytes()) {
+        Ok(list) => Ok(list),
+        Err(why) => Err(Refused::Watch(why)),
+    }
+}
+
+/// What is refused where the search found nothing. The budget is told of otherwise.
+fn search_refusal(why: OutcomesRefused, watch: &Watch) -> Refused
+    ensures { (image : ProgramImage) (harts budget : ℕ) → IsRefusedFor image harts watch.now budget why
+        → IsSearchRefusal image harts watch.now result }
+{
+    match why {
+        OutcomesRefused::Harts => Refused::Config,
+        OutcomesRefused::Register(index) => match watch.registers.as_slice().get(index) {
+            Some(watched) => Refused::NoHart(u32::from(watched.hart)),
+            None => Refused::Memory,
+        },
+        OutcomesRefused::Word(index) => match watch.words.as_slice().get(index) {
+            Some(address) => Refused::NoWord(*address),
+            None => Refused::Memory,
+        },
+        OutcomesRefused::Budget | OutcomesRefused::Memory => Refused::Memory,
+    }
+}
+
+/// An order to a state from which nothing can end, if there is one.
+fn stuck_order(outcomes: &Outcomes, alloc: Global) -> Result<Option<Vec<u8>>, Refused>
+    ensures order { IfOk result (λ order. option_map (λ it. it.items) order ≡ outcomes.now.stuck) }
+    ensures refused { IfErr result (λ why. why ≡ Memory) }
+{
+    match outcomes.stuck(alloc) {
+        Ok(order) => Ok(order),
+        Err(AllocError) => Err(Refused::Memory),
+    }
+}
+
+/// Puts the order that is wanted into the file, or its script.
+fn put_order<S: Sink>(
+    image: &Image,
+    settings: &Settings,
+    command: &OutcomesCommand<'_>,
+    outcomes: &Outcomes,
+    stuck: &Option<Vec<u8>>,
+    file: &mut S,
+    alloc: Global,
+) -> Result<(), Refused>
+    requires works { S.has_failed file.old ≡ false }
+    requires stuck { option_map (λ it. it.items) stuck.now ≡ outcomes.now.stuck }
+    ensures refused { IfErr result
+        (IsPutRefusal settings.now image.now command.now outcomes.now) }
+    ensures unwanted { wants_order command.now ≡ false → file.new ≡ file.old }
+    ensures unbroken { OnOk result (S.has_failed file.new ≡ false) }
+{
+    if let Some(number) = command.outcome {
+        let order = order_of(outcomes, number, alloc)?;
+        return put_text(image, settings, command, order.as_slice(), file, alloc);
+    }
+    if !command.stuck {
+        return Ok(());
+    }
+    match stuck {
+        Some(order) => put_text(image, settings, command, order.as_slice(), file, alloc),
+        None => Err(Refused::NotStuck),
+    }
+}
+
+/// The order of the outcome with this number, from 1.
+fn order_of(outcomes: &Outcomes, number: u32, alloc: Global) -> Result<Vec<u8>, Refused>
+    ensures order { IfOk result
+        (λ order. order_listed outcomes.now.listed (number - 1) ≡ Some order.items) }
+    ensures refused { IfErr result (IsOrderRefusal outcomes.now number) }
+{
+    let index = number as usize;
+    if index == 0 || index > outcomes.count() {
+        return Err(Refused::NoOutcome(number));
+    }
+    match outcomes.witness(index - 1, alloc) {
+        Ok(order) => Ok(order),
+        Err(AllocError) => Err(Refused::Memory),
+    }
+}
+
+/// Puts an order into the file, or its script where that is wanted.
+fn put_text<S: Sink>(
+    image: &Image,
+    settings: &Settings,
+    command: &OutcomesCommand<'_>,
+    order: &[u8],
+    file: &mut S,
+    alloc: Global,
+) -> Result<(), Refused>
+    requires works { S.has_failed file.old ≡ false }
+    ensures refused { IfErr result (IsTextRefusal settings.now image.now command.now) }
+    ensures unbroken { OnOk result (S.has_failed file.new ≡ false) }
+{
+    let mut text = Vec::new(alloc);
+    let written = if command.script.is_some() {
+        schedule_of(image, settings, order, alloc)?.write(&mut text)
+    } else {
+        write_order(order, &mut text)
+    };
+    match written {
+        Ok(()) => {
+            put_all(text.as_slice(), file)?;
+            Ok(())
+        }
+        Err(_) => Err(Refused::Memory),
+    }
+}
+
+/// Writes an order, a line for each hart.
+fn write_order<W: Write>(order: &[u8], out: &mut W) -> std::io::Result<()> {
+    for hart in order {
+        writeln!(out, "{hart}")?;
+    }
+    Ok(())
+}
+
+/// Prints what was found.
+fn tell<W: Write>(
+    outcomes: &Outcomes,
+    watch: &Watch,
+    is_stuck: bool,
+    command: &OutcomesCommand<'_>,
+    terms: &Condition,
+    out: &mut W,
+) -> Result<u8, Refused>
+    ensures printed { OnOk result (Appends (W.contents out.old) (W.contents out.new)
+        (outcomes_text watch.now outcomes.now is_stuck
+        ++ condition_text command.now watch.now terms.now.items outcomes.now.listed)) }
+    ensures zero { IfOk result (λ status. status ≡ 0) }
+    ensures refused { IfErr result (λ why. why ≡ Output) }
+{
+    let Ok(()) = write_outcomes(outcomes, watch, is_stuck, out) else {
+        return Err(Refused::Output);
+    };
+    if command.exists.is_none() {
+        return Ok(0);
+    }
+    match write_exists(outcomes, watch, terms.as_slice(), out) {
+        Ok(()) => Ok(0),
+        Err(_) => Err(Refused::Output),
+    }
+}

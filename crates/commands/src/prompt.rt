@@ -1,0 +1,142 @@
+//! The command `step` with a script that is typed: each of its words is asked as it comes.
+
+ghost use Rattle.std.specs.Prelude.{◌≡◌, ◌⊎◌, [], IsTrue, IfOk, IfErr, OnOk, Ok, Err, true, false};
+ghost use Rattle.std.specs.Prelude.{is_some};
+ghost use Rattle.reports.specs.Statuses.{says_harts};
+ghost use Rattle.sim_inputs.specs.declared.line.Command.TheVariants.{Step};
+ghost use Rattle.commands.specs.declared.refused.Refused.{Refused as AnyRefused};
+ghost use Rattle.commands.specs.Account.{IsTraceWritten};
+ghost use Rattle.commands.specs.Inputs.{as_read};
+ghost use Rattle.commands.specs.Perform.{IsRefusal};
+ghost use Rattle.commands.specs.Prompt.{PromptComesTo, TypedComesTo};
+ghost use Rattle.commands.specs.Refused.{exit_status_of, refusal_of};
+ghost use Rattle.commands.specs.Step.{IsStepRefusal};
+ghost use Rattle.commands.specs.Wanted.{step_wants};
+
+use crate::account::write_account;
+use crate::inputs::{Inputs, image_of, settings_of};
+use crate::performing::refuse_line;
+use crate::refused::Refused;
+use crate::wanted::Wanted;
+use elf_image::Image;
+use event_text::Sink;
+use prompts::{PromptRefused, Simulation, prompt};
+use sim_inputs::{Line, Settings, StepCommand};
+use smt_core::Predict;
+use std::alloc::Global;
+use std::io::{BufRead, Write};
+
+/// Does all that the program does with a line of `step` whose script is typed, once its other files
+/// are read: as `perform` does, but each line of `reader` is asked as it comes. It is refused as an
+/// empty script is.
+pub fn perform_typed<P: Predict + Copy, R: BufRead, S: Sink, W: Write, E: Write>(
+    line: &Line<'_>,
+    step: &StepCommand<'_>,
+    inputs: &Inputs<'_>,
+    predict: P,
+    reader: &mut R,
+    trace: &mut S,
+    out: &mut W,
+    err: &mut E,
+    on_terminal: bool,
+    alloc: Global,
+) -> u8
+    requires works { S.has_failed trace.old ≡ false }
+    ensures known { IsTrue (says_harts result) ⊎ (result ≡ 2) ⊎ (result ≡ 4) ⊎ (result ≡ 5) }
+    ensures unset { IfErr inputs.now.config (λ why. result ≡ 5) }
+    ensures refused { says_harts result ≡ false → (reason : AnyRefused)
+        × (exit_status_of reason ≡ result) × IsRefusal (Step step.now)
+        (as_read inputs.now.config) (as_read inputs.now.image) (Ok []) reason }
+    ensures ended { IsTrue (says_harts result) → TypedComesTo P.predicts predict
+        (as_read inputs.now.config) (as_read inputs.now.image) (R.remaining reader.old)
+        (step_wants step.now)
+        (IsTraceWritten S.written S.has_failed trace.old trace.new (is_some step.now.trace))
+        (W.contents out.old) (W.contents out.new) result }
+    ensures unwanted { is_some step.now.trace ≡ false → trace.new ≡ trace.old }
+{
+    match read_and_prompt(step, inputs, predict, reader, trace, out, alloc) {
+        Ok(status) => status,
+        Err(refused) => refuse_line(refused, line, on_terminal, err),
+    }
+}
+
+/// The exit status of a typed script, with all flushed that it prints.
+fn read_and_prompt<P: Predict + Copy, R: BufRead, S: Sink, W: Write>(
+    step: &StepCommand<'_>,
+    inputs: &Inputs<'_>,
+    predict: P,
+    reader: &mut R,
+    trace: &mut S,
+    out: &mut W,
+    alloc: Global,
+) -> Result<u8, Refused>
+    requires works { S.has_failed trace.old ≡ false }
+    ensures unset { IfErr inputs.now.config (λ why. result ≡ Err (refusal_of why)) }
+    ensures refused { IfErr result (IsRefusal (Step step.now) (as_read inputs.now.config)
+        (as_read inputs.now.image) (Ok [])) }
+    ensures ended { IfOk result (TypedComesTo P.predicts predict (as_read inputs.now.config)
+        (as_read inputs.now.image) (R.remaining reader.old) (step_wants step.now)
+        (IsTraceWritten S.written S.has_failed trace.old trace.new (is_some step.now.trace))
+        (W.contents out.old) (W.contents out.new)) }
+    ensures unwanted { is_some step.now.trace ≡ false → trace.new ≡ trace.old }
+{
+    let config = inputs.config?;
+    let settings = settings_of(config, alloc)?;
+    let file = inputs.image?;
+    let image = image_of(file, settings.ram, alloc)?;
+    let wanted = Wanted::of_step(step);
+    // Handed on as it is: a `?` would leave the prover to find what the refusal becomes.
+    let status = match perform_prompt(
+        &image, &settings, step.why, wanted, predict, reader, trace, out, alloc,
+    ) {
+        Ok(status) => status,
+        Err(refused) => return Err(refused),
+    };
+    match out.flush() {
+        Ok(()) => Ok(status),
+        Err(_) => Err(Refused::Output),
+    }
+}
+
+/// Asks the words of each line of a reader as it comes, and answers it at once; behind the last line
+/// writes the core's trace where it is wanted, and then what else is wanted of it and its report.
+/// Answers the exit status: how the harts stand.
+///
+/// Refused is what is refused of an empty script. A line that isn't followed is complained of in its
+/// place, and changes nothing.
+#[inline(never)]
+pub fn perform_prompt<P: Predict + Copy, R: BufRead, S: Sink, W: Write>(
+    image: &Image,
+    settings: &Settings,
+    why: bool,
+    wanted: Wanted,
+    predict: P,
+    reader: &mut R,
+    trace: &mut S,
+    out: &mut W,
+    alloc: Global,
+) -> Result<u8, Refused>
+    requires works { S.has_failed trace.old ≡ false }
+    ensures refused { IfErr result (IsStepRefusal settings.now []) }
+    ensures ended { IfOk result (PromptComesTo P.predicts predict settings.now image.now
+        (R.remaining reader.old) wanted
+        (IsTraceWritten S.written S.has_failed trace.old trace.new wanted.trace)
+        (W.contents out.old) (W.contents out.new)) }
+    ensures unwanted { wanted.trace ≡ false → trace.new ≡ trace.old }
+    ensures unbroken { OnOk result (S.has_failed trace.new ≡ false) }
+{
+    let simulation = Simulation {
+        image,
+        config: &settings.config,
+        limit: settings.limit,
+        predict,
+        alloc,
+    };
+    let prompted = match prompt(&simulation, why, reader, out) {
+        Ok(prompted) => prompted,
+        Err(PromptRefused::Config) => return Err(Refused::Config),
+        Err(PromptRefused::Memory) => return Err(Refused::Memory),
+        Err(PromptRefused::Output) => return Err(Refused::Output),
+    };
+    write_account(&prompted.core, wanted, trace, out, alloc)
+}

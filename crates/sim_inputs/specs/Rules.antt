@@ -1,0 +1,188 @@
+-- The command line as data: its subcommands, with their arguments and options. (This project's own
+-- choice.)
+use Rattle.std.specs.Prelude.{true, List, [], ◌∷◌, Some, codes}
+use Rattle.std.specs.{List.fold}
+use Rattle.clap.specs.Words.{App, Rule, Text, new_app, new_rule, with_rule, with_subcommand}
+use Rattle.clap.specs.{declared.builder.action.ArgAction.TheVariants.SetTrue}
+
+-- An argument that names a file and must be there: the image, the script, the trace, and the order.
+abbrev pub file_rule : Text → Rule
+file_rule name = record (new_rule name) { required = true }
+
+-- One that names a file and may be there: the order, in whose place there may be rounds.
+abbrev pub optional_file_rule : Text → Rule
+optional_file_rule name = new_rule name
+
+-- An option that names a file or a folder, and a flag.
+abbrev pub file_option_rule : Text → Rule
+file_option_rule name = record (new_rule name) { long = Some name; value_names = 1 }
+
+abbrev pub flag_rule : Text → Rule
+flag_rule name = record (new_rule name) { long = Some name; action = Some SetTrue }
+
+abbrev pub image_rule : Rule
+image_rule = file_rule (codes "IMAGE")
+
+abbrev pub script_rule : Rule
+script_rule = file_rule (codes "SCRIPT")
+
+abbrev pub trace_rule : Rule
+trace_rule = file_rule (codes "TRACE")
+
+abbrev pub order_rule : Rule
+order_rule = file_rule (codes "ORDER")
+
+abbrev pub order_or_rounds_rule : Rule
+order_or_rounds_rule = optional_file_rule (codes "ORDER")
+
+abbrev pub config_rule : Rule
+config_rule = file_option_rule (codes "config")
+
+abbrev pub counts_rule : Rule
+counts_rule = flag_rule (codes "counts")
+
+abbrev pub json_rule : Rule
+json_rule = flag_rule (codes "json")
+
+abbrev pub keep_rule : Rule
+keep_rule = file_option_rule (codes "keep")
+
+abbrev pub looks_rule : Rule
+looks_rule = flag_rule (codes "looks")
+
+abbrev pub records_rule : Rule
+records_rule = flag_rule (codes "records")
+
+abbrev pub show_rule : Rule
+show_rule = flag_rule (codes "show")
+
+abbrev pub why_rule : Rule
+why_rule = flag_rule (codes "why")
+
+abbrev pub written_trace_rule : Rule
+written_trace_rule = file_option_rule (codes "trace")
+
+-- An option that has a number.
+abbrev pub number_option_rule : Text → Rule
+number_option_rule name = record (new_rule name) { long = Some name; value_names = 1 }
+
+abbrev pub from_rule : Rule
+from_rule = number_option_rule (codes "from")
+
+abbrev pub to_rule : Rule
+to_rule = number_option_rule (codes "to")
+
+abbrev pub hart_rule : Rule
+hart_rule = number_option_rule (codes "hart")
+
+abbrev pub width_rule : Rule
+width_rule = number_option_rule (codes "width")
+
+abbrev pub times_rule : Rule
+times_rule = number_option_rule (codes "times")
+
+abbrev pub rounds_rule : Rule
+rounds_rule = number_option_rule (codes "rounds")
+
+abbrev pub steps_rule : Rule
+steps_rule = number_option_rule (codes "steps")
+
+abbrev pub seed_rule : Rule
+seed_rule = number_option_rule (codes "seed")
+
+abbrev pub svg_rule : Rule
+svg_rule = file_option_rule (codes "svg")
+
+abbrev pub kanata_rule : Rule
+kanata_rule = file_option_rule (codes "kanata")
+
+-- One that has a text: what is watched, or a condition.
+abbrev pub text_option_rule : Text → Rule
+text_option_rule name = record (new_rule name) { long = Some name; value_names = 1 }
+
+abbrev pub states_rule : Rule
+states_rule = number_option_rule (codes "states")
+
+abbrev pub watch_rule : Rule
+watch_rule = text_option_rule (codes "watch")
+
+abbrev pub exists_rule : Rule
+exists_rule = text_option_rule (codes "exists")
+
+abbrev pub outcome_rule : Rule
+outcome_rule = number_option_rule (codes "outcome")
+
+abbrev pub stuck_rule : Rule
+stuck_rule = flag_rule (codes "stuck")
+
+abbrev pub witness_rule : Rule
+witness_rule = file_option_rule (codes "witness")
+
+abbrev pub written_script_rule : Rule
+written_script_rule = file_option_rule (codes "script")
+
+-- A subcommand of this name, with its arguments in order.
+abbrev pub subcommand : Text → List Rule → App
+subcommand name rules = fold with_rule (new_app name) rules
+
+-- `step IMAGE SCRIPT`, with `--config FILE`, `--counts`, `--json`, `--looks`, `--records`, `--show`,
+-- `--why` and `--trace FILE`.
+abbrev pub step_command : App
+step_command = subcommand (codes "step") (image_rule ∷ script_rule ∷ config_rule ∷ counts_rule ∷ json_rule
+    ∷ looks_rule ∷ records_rule ∷ show_rule ∷ why_rule ∷ written_trace_rule ∷ [])
+
+-- `run IMAGE`, with `--config FILE`, `--counts`, `--json`, `--records`, `--why`, `--times N`,
+-- `--keep FOLDER` and `--trace FILE`.
+abbrev pub run_command : App
+run_command = subcommand (codes "run") (image_rule ∷ config_rule ∷ counts_rule ∷ json_rule ∷ records_rule
+    ∷ why_rule ∷ times_rule ∷ keep_rule ∷ written_trace_rule ∷ [])
+
+-- `check IMAGE TRACE`, with `--config FILE`, `--counts`, `--json`, `--records` and `--why`.
+abbrev pub check_command : App
+check_command = subcommand (codes "check") (image_rule ∷ trace_rule ∷ config_rule ∷ counts_rule ∷ json_rule
+    ∷ records_rule ∷ why_rule ∷ [])
+
+-- `plain IMAGE ORDER`, with `--config FILE` and `--records`; or without the order, and with
+-- `--rounds K`, `--steps N` and `--seed S`.
+abbrev pub plain_command : App
+plain_command = subcommand (codes "plain") (image_rule ∷ order_or_rounds_rule ∷ config_rule ∷ records_rule
+    ∷ rounds_rule ∷ steps_rule ∷ seed_rule ∷ [])
+
+-- `schedule IMAGE ORDER`, with `--config FILE`.
+abbrev pub schedule_command : App
+schedule_command = subcommand (codes "schedule") (image_rule ∷ order_rule ∷ config_rule ∷ [])
+
+-- `script IMAGE TRACE`, with `--config FILE`.
+abbrev pub script_command : App
+script_command = subcommand (codes "script") (image_rule ∷ trace_rule ∷ config_rule ∷ [])
+
+-- `list IMAGE`, with `--config FILE`.
+abbrev pub list_command : App
+list_command = subcommand (codes "list") (image_rule ∷ config_rule ∷ [])
+
+-- `chart IMAGE TRACE`, with `--config FILE`, `--from N`, `--to N`, `--hart N`, `--width N`, `--svg FILE`
+-- and `--kanata FILE`.
+abbrev pub chart_command : App
+chart_command = subcommand (codes "chart") (image_rule ∷ trace_rule ∷ config_rule ∷ from_rule ∷ to_rule
+    ∷ hart_rule ∷ width_rule ∷ svg_rule ∷ kanata_rule ∷ [])
+
+-- `explain IMAGE`, with `--config FILE`.
+abbrev pub explain_command : App
+explain_command = subcommand (codes "explain") (image_rule ∷ config_rule ∷ [])
+
+-- `outcomes IMAGE`, with `--config FILE`, `--states N`, `--watch LIST`, `--exists CONDITION`,
+-- `--outcome N`, `--stuck`, `--witness FILE` and `--script FILE`.
+abbrev pub outcomes_command : App
+outcomes_command = subcommand (codes "outcomes") (image_rule ∷ config_rule ∷ states_rule ∷ watch_rule
+    ∷ exists_rule ∷ outcome_rule ∷ stuck_rule ∷ witness_rule ∷ written_script_rule ∷ [])
+
+-- The whole command line: one of the ten subcommands must be there. `clap` adds `--help` and
+-- `help`.
+abbrev pub top : App
+top = let app =
+    new_app (codes "smtsim") in record app { top = record app.top { subcommand_required = true } }
+
+abbrev pub smtsim : App
+smtsim = fold (λ app sub. with_subcommand app sub.top) top (step_command ∷ run_command
+    ∷ check_command ∷ plain_command ∷ schedule_command ∷ script_command ∷ list_command
+    ∷ chart_command ∷ explain_command ∷ outcomes_command ∷ [])
