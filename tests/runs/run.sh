@@ -80,6 +80,8 @@ try() {
 
 # For the runs under little memory (README.md, "limits").
 . "$here/limits.sh"
+# For those of a script that is typed.
+. "$here/typed.sh"
 
 [ $# -gt 0 ] || set -- "$here"/cases/*.run
 passed=0

@@ -9,6 +9,8 @@ mod actors_tests;
 #[cfg(test)]
 mod asking;
 #[cfg(test)]
+mod condensed_machine_tests;
+#[cfg(test)]
 mod core_lock_tests;
 #[cfg(test)]
 mod core_state_tests;
@@ -20,6 +22,8 @@ mod first_trace;
 mod history_check_tests;
 #[cfg(test)]
 mod live_registers_tests;
+#[cfg(test)]
+mod outcomes_tests;
 #[cfg(test)]
 mod plain_run_tests;
 #[cfg(test)]

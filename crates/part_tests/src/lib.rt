@@ -6,6 +6,8 @@
 #![tactic(auto)]
 
 #[cfg(test)]
+mod changed_memory_tests;
+#[cfg(test)]
 mod elf_image_tests;
 #[cfg(test)]
 mod encoder_tests;

@@ -1,38 +1,91 @@
 //! The search over a small machine.
 
-mod locks;
+mod counters;
 
-use locks::Locks;
-use searches::{SearchStopped, explore, explore_ends};
+use counters::Counters;
+use searches::{Onlooker, SearchStopped, explore};
+use std::cell::Cell;
 
-// Worked by hand: the places of the two harts, in the order in which they are found, are (0, 0);
-// (1, 0), (0, 1); (2, 0), (1, 1), (0, 2); (3, 0), (0, 3); (4, 0), (3, 1), (1, 3), (0, 4); (4, 1),
-// (3, 2), (2, 3), (1, 4); (4, 2), (3, 3), (2, 4); (4, 3), (3, 4); (4, 4). At (1, 1) each hart waits
-// for the other, and at (4, 4) both are through.
+/// Two harts that count to 2.
+fn to_two(waits: bool) -> Counters {
+    Counters {
+        limit: 2,
+        waits,
+        asked: 0,
+    }
+}
+
+// Worked by hand: the counts of the two harts, in the order in which they are found, are (0, 0);
+// (1, 0), (0, 1); (2, 0), (1, 1), (0, 2); (2, 1), (1, 2); (2, 2).
 #[test]
-fn each_end_is_found_with_a_shortest_order_to_it(rt: HostRuntime) {
+fn each_state_is_found_once_with_its_moves(rt: HostRuntime) {
     let alloc = rt.alloc();
-    let search = explore(&Locks, (0, 0), 22, alloc).expect(&rt, "all states");
-    assert!(rt; search.states() == 22);
-    assert!(rt; search.ends() == &[4, 21][..]);
-    assert!(rt; search.state(4) == Some(&(1, 1)));
-    let blocking = search.order_to(4, alloc).expect(&rt, "room");
-    assert!(rt; blocking.as_slice() == &[0, 1][..]);
-    let through = search.order_to(21, alloc).expect(&rt, "room");
-    assert!(rt; through.as_slice() == &[0, 0, 0, 0, 1, 1, 1, 1][..]);
+    let mut machine = to_two(false);
+    let search = explore(&mut machine, (0, 0), 9, &(), alloc).expect(&rt, "all states");
+    assert!(rt; search.states() == 9);
+    assert!(rt; machine.asked == 18);
+    assert!(rt; search.ends() == &[8][..]);
+    assert!(rt; search.state(4) == Some((1, 1)));
+    assert!(rt; search.state(8) == Some((2, 2)));
+    assert!(rt; search.state(9) == None);
+    let moves = search.moves_to(8, alloc).expect(&rt, "room");
+    let mut harts = moves.as_slice().iter().map(|made| made.hart);
+    assert!(rt; harts.eq([0, 0, 1, 1]));
+    let mut ways = moves.as_slice().iter().map(|made| made.way);
+    assert!(rt; ways.eq([1, 2, 1, 2]));
+    assert!(rt; search.stuck(alloc).expect(&rt, "room") == None);
 }
 
 #[test]
 fn a_search_that_meets_its_budget_is_refused(rt: HostRuntime) {
-    let searched = explore(&Locks, (0, 0), 21, rt.alloc());
+    let searched = explore(&mut to_two(false), (0, 0), 8, &(), rt.alloc());
+    assert!(rt; matches!(searched, Err(SearchStopped::Budget)));
+    let searched = explore(&mut to_two(false), (0, 0), 0, &(), rt.alloc());
     assert!(rt; matches!(searched, Err(SearchStopped::Budget)));
 }
 
-// The same states without (3, 1), (1, 3), (3, 2), (2, 3) and (3, 3): a hart at 3 goes on at once.
+// At (1, 0), the second state found, the first hart has begun, so that the second can't come to 2.
 #[test]
-fn the_same_ends_are_found_by_local_steps_first(rt: HostRuntime) {
-    let search = explore_ends(&Locks, (0, 0), 22, rt.alloc()).expect(&rt, "all ends");
-    assert!(rt; search.states() == 17);
-    assert!(rt; search.ends() == &[4, 16][..]);
-    assert!(rt; search.state(16) == Some(&(4, 4)));
+fn a_state_from_which_no_end_is_reached_is_found(rt: HostRuntime) {
+    let alloc = rt.alloc();
+    let search = explore(&mut to_two(true), (0, 0), 9, &(), alloc).expect(&rt, "all states");
+    assert!(rt; search.states() == 9);
+    assert!(rt; search.ends() == &[8][..]);
+    assert!(rt; search.stuck(alloc).expect(&rt, "room") == Some(1));
+}
+
+/// One who notes what was told last, and how often.
+#[derive(Drop)]
+struct Notes {
+    last: Cell<(u32, u32)>,
+    times: Cell<u32>,
+}
+
+impl Onlooker for Notes {
+    fn see(&self, states: u32, swept: u32) {
+        self.last.set((states, swept));
+        self.times.set(self.times.get().wrapping_add(1));
+    }
+}
+
+// Two harts that count to 99 have 10,000 states. Of these 8,170 have a sum below 139, and 60 that sum
+// itself. After 8,192 are swept, which are 22 of those 60, each of the 22 has led to one state more.
+#[test]
+fn the_onlooker_is_told_now_and_then(rt: HostRuntime) {
+    let mut machine = Counters {
+        limit: 99,
+        waits: false,
+        asked: 0,
+    };
+    let notes = Notes {
+        last: Cell::new((0, 0)),
+        times: Cell::new(0),
+    };
+    let search = explore(&mut machine, (0, 0), 10_000, &notes, rt.alloc()).expect(
+        &rt,
+        "all states",
+    );
+    assert!(rt; search.states() == 10_000);
+    assert!(rt; notes.times.get() == 2);
+    assert!(rt; notes.last.get() == (8_252, 8_192));
 }

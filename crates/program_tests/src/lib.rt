@@ -1,6 +1,6 @@
 //! The tests of the program: scripts, schedules, the scripts of histories, the words of a line and
-//! its configuration, reports, the numbers of histories, asks explained, whole lines performed, and
-//! what a terminal shows of a run. They stand in one crate, since a crate with tests of its own is
+//! its configuration, reports, the numbers of histories, asks explained, lines that are typed, whole
+//! lines performed, and what a terminal shows of a run. They stand in one crate, since a crate with tests of its own is
 //! proved twice by the gate. Each module whose name ends in `_tests` has the tests of the crate that
 //! it is named after, through its public calls alone; `progress_tests` has those of the gate of the
 //! crate `program` that shows on a terminal how far a run is.
@@ -22,6 +22,8 @@ mod lines;
 mod performing;
 #[cfg(test)]
 mod progress_tests;
+#[cfg(test)]
+mod prompts_tests;
 #[cfg(test)]
 mod reports_tests;
 #[cfg(test)]

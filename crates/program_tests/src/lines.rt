@@ -1,8 +1,8 @@
 //! Lines of the program, as their words are read. None names a configuration.
 
 use sim_inputs::{
-    ChartCommand, CheckCommand, Command, ExplainCommand, Line, ListCommand, PlainCommand,
-    RunCommand, ScheduleCommand, ScriptCommand, StepCommand,
+    ChartCommand, CheckCommand, Command, ExplainCommand, Line, ListCommand, OutcomesCommand,
+    PlainCommand, RunCommand, ScheduleCommand, ScriptCommand, StepCommand,
 };
 
 macro_rules! line {
@@ -127,3 +127,17 @@ pub const LIST: Line<'static> = line!(Command::List(ListCommand { image: "image"
 
 /// What is said of a configuration and of an image.
 pub const EXPLAIN: Line<'static> = line!(Command::Explain(ExplainCommand { image: "image" }));
+
+/// The outcomes of an image, of so many states at the most.
+pub fn outcomes_line(states: u32) -> Line<'static> {
+    line!(Command::Outcomes(OutcomesCommand {
+        image: "image",
+        states,
+        watch: None,
+        exists: None,
+        outcome: None,
+        stuck: false,
+        witness: None,
+        script: None,
+    },))
+}

@@ -132,6 +132,37 @@ fn no_line_is_shown_in_the_first_second(rt: HostRuntime) {
     assert!(rt; shows(true, 999, TURN, 1024, "", rt.alloc()) == Some(true));
 }
 
+/// Whether this is what stands on a terminal when rounds are over that were looked at so often, of
+/// which 70,000 steps more were made each time, and the clock is so many milliseconds further.
+fn shows_rounds(
+    is_terminal: bool,
+    step: u64,
+    looks: u64,
+    text: &str,
+    alloc: Global,
+) -> Option<bool> {
+    let clock = Ticking::new(step);
+    let screen = Screen::new(alloc).ok()?;
+    let progress = Progress::new(&clock, &screen, is_terminal);
+    progress.begin_rounds();
+    for look in 0..looks {
+        progress.at_step(look.wrapping_mul(70_000), 3);
+    }
+    progress.end();
+    Some(screen.has(text))
+}
+
+#[test]
+fn rounds_show_their_steps_and_the_harts_that_go(rt: HostRuntime) {
+    let shown = "\rsmtsim: 0 steps, 3 harts going, 1 s\x1b[K\
+        \rsmtsim: 70000 steps, 3 harts going, 3 s\x1b[K\r\x1b[K";
+    assert!(rt; shows_rounds(true, 1500, 2, shown, rt.alloc()) == Some(true));
+    let later = "\rsmtsim: 70000 steps, 3 harts going, 1 s\x1b[K\r\x1b[K";
+    assert!(rt; shows_rounds(true, 600, 3, later, rt.alloc()) == Some(true));
+    assert!(rt; shows_rounds(true, 999, 1, "", rt.alloc()) == Some(true));
+    assert!(rt; shows_rounds(false, 1500, 2, "", rt.alloc()) == Some(true));
+}
+
 #[test]
 fn nothing_is_shown_where_there_is_no_terminal(rt: HostRuntime) {
     assert!(rt; shows(false, 1500, TURN, 1025, "", rt.alloc()) == Some(true));

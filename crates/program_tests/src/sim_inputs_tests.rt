@@ -7,8 +7,8 @@ mod refused_words;
 
 use crate::rows::holds;
 use sim_inputs::{
-    ChartCommand, CheckCommand, Command, ExplainCommand, Line, ListCommand, PlainCommand,
-    RunCommand, ScheduleCommand, ScriptCommand, StepCommand, read_words,
+    ChartCommand, CheckCommand, Command, ExplainCommand, Line, ListCommand, OutcomesCommand,
+    PlainCommand, RunCommand, ScheduleCommand, ScriptCommand, StepCommand, read_words,
 };
 use std::alloc::{AllocError, Global};
 
@@ -22,7 +22,7 @@ fn words_of(text: &str, alloc: Global) -> Result<Vec<&str>, AllocError> {
 }
 
 /// Words, and what they ask for.
-static LINES: [(&str, Line<'_>); 30] = [
+static LINES: [(&str, Line<'_>); 33] = [
     (
         "smtsim chart a t",
         Line {
@@ -447,6 +447,54 @@ static LINES: [(&str, Line<'_>); 30] = [
             command: Command::Explain(ExplainCommand { image: "a" }),
         },
     ),
+    (
+        "smtsim outcomes a",
+        Line {
+            config: None,
+            command: Command::Outcomes(OutcomesCommand {
+                image: "a",
+                states: 1_000_000,
+                watch: None,
+                exists: None,
+                outcome: None,
+                stuck: false,
+                witness: None,
+                script: None,
+            }),
+        },
+    ),
+    (
+        "smtsim outcomes --states 4294967295 a --config c --watch a0@1 --exists=h0=1 --outcome 2 --witness w",
+        Line {
+            config: Some("c"),
+            command: Command::Outcomes(OutcomesCommand {
+                image: "a",
+                states: 4_294_967_295,
+                watch: Some("a0@1"),
+                exists: Some("h0=1"),
+                outcome: Some(2),
+                stuck: false,
+                witness: Some("w"),
+                script: None,
+            }),
+        },
+    ),
+    (
+        "smtsim outcomes --stuck - --script s --states 1",
+        Line {
+            config: None,
+            command: Command::Outcomes(OutcomesCommand {
+                image: "-",
+                states: 1,
+                watch: None,
+                exists: None,
+                outcome: None,
+                stuck: true,
+                witness: None,
+                script: Some("s"),
+            }),
+        },
+    ),
 ];
 
 /// The files of a line: its configuration, its image, the other one that is read, and the one that is
@@ -463,7 +511,8 @@ fn files_of<'a>(line: &Line<'a>) -> Named<'a> {
     (files.config, files.image, files.second, files.trace)
 }
 
-/// The command of a line, and its flags: records, tables and looks.
+/// The command of a line, and its flags: records, tables and looks, or whether a state is asked for
+/// that is stuck.
 fn flags_of(line: &Line<'_>) -> (&'static str, [bool; 3]) {
     match line.command {
         Command::Step(step) => ("step", [step.records, step.show, step.looks]),
@@ -475,6 +524,7 @@ fn flags_of(line: &Line<'_>) -> (&'static str, [bool; 3]) {
         Command::List(_) => ("list", [false; 3]),
         Command::Chart(_) => ("chart", [false; 3]),
         Command::Explain(_) => ("explain", [false; 3]),
+        Command::Outcomes(outcomes) => ("outcomes", [outcomes.stuck, false, false]),
     }
 }
 
@@ -488,11 +538,12 @@ fn forms_of(line: &Line<'_>) -> [bool; 3] {
     }
 }
 
-/// The numbers of a line that is run often or in rounds, and the folder that it names.
+/// The numbers of a line that is run often, in rounds or in all orders, and the folder that it names.
 fn numbers_of<'a>(line: &Line<'a>) -> ([Option<u32>; 3], Option<&'a str>) {
     match line.command {
         Command::Run(run) => ([run.times, None, None], run.keep),
         Command::Plain(plain) => ([plain.rounds, plain.steps, plain.seed], None),
+        Command::Outcomes(outcomes) => ([Some(outcomes.states), outcomes.outcome, None], None),
         _ => ([None, None, None], None),
     }
 }
@@ -512,6 +563,16 @@ fn view_of(line: &Line<'_>) -> Option<(u32, u32, Option<u32>, u32, bool)> {
     }
 }
 
+/// The texts of a line that asks for outcomes, and whether its file is a script.
+fn texts_of<'a>(line: &Line<'a>) -> (Option<&'a str>, Option<&'a str>, bool) {
+    match line.command {
+        Command::Outcomes(outcomes) => {
+            (outcomes.watch, outcomes.exists, outcomes.script.is_some())
+        }
+        _ => (None, None, false),
+    }
+}
+
 /// Whether two lines have the same command, files and flags.
 fn is_same(read: &Line<'_>, line: &Line<'_>) -> bool {
     files_of(read) == files_of(line)
@@ -519,6 +580,7 @@ fn is_same(read: &Line<'_>, line: &Line<'_>) -> bool {
         && forms_of(read) == forms_of(line)
         && numbers_of(read) == numbers_of(line)
         && view_of(read) == view_of(line)
+        && texts_of(read) == texts_of(line)
 }
 
 /// Whether words ask for this, where there is memory for them.
@@ -538,7 +600,7 @@ fn each_line_is_read_with_its_files_and_options(rt: HostRuntime) {
 }
 
 /// A line of each command, and its files.
-static NAMED: [(Line<'_>, Named<'_>); 9] = [
+static NAMED: [(Line<'_>, Named<'_>); 11] = [
     (
         Line {
             config: Some("c"),
@@ -649,6 +711,38 @@ static NAMED: [(Line<'_>, Named<'_>); 9] = [
             command: Command::Explain(ExplainCommand { image: "a" }),
         },
         (None, Some("a"), None, None),
+    ),
+    (
+        Line {
+            config: None,
+            command: Command::Outcomes(OutcomesCommand {
+                image: "a",
+                states: 1,
+                watch: None,
+                exists: None,
+                outcome: Some(1),
+                stuck: false,
+                witness: Some("w"),
+                script: None,
+            }),
+        },
+        (None, Some("a"), None, Some("w")),
+    ),
+    (
+        Line {
+            config: Some("c"),
+            command: Command::Outcomes(OutcomesCommand {
+                image: "a",
+                states: 1,
+                watch: None,
+                exists: None,
+                outcome: None,
+                stuck: true,
+                witness: None,
+                script: Some("s"),
+            }),
+        },
+        (Some("c"), Some("a"), None, Some("s")),
     ),
 ];
 

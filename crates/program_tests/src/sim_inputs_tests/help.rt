@@ -12,11 +12,11 @@ use std::test::Fail;
 const COLUMNS: usize = 80;
 
 /// The words that ask for help, and what it tells; a bar stands between two of those.
-static HELPS: [(&str, &str); 10] = [
+static HELPS: [(&str, &str); 11] = [
     (
         "smtsim --help",
         "Usage: smtsim <COMMAND>|step|run|check|plain|schedule|script|list|chart|\
-explain|harts|extra|queue|ram|limit|turns|actors",
+explain|outcomes|harts|extra|queue|ram|limit|turns|actors",
     ),
     (
         "smtsim step --help",
@@ -50,6 +50,12 @@ F actor hart number pc word predicted|T actor number value next address data out
     (
         "smtsim explain --help",
         "Usage: smtsim explain [OPTIONS] <IMAGE>|--config <FILE>",
+    ),
+    (
+        "smtsim outcomes --help",
+        "Usage: smtsim outcomes [OPTIONS] <IMAGE>|--config <FILE>|--states <N>|--watch <LIST>|\
+--exists <CONDITION>|--outcome <N>|--stuck|--witness <FILE>|--script <FILE>|a0@1,x5@0,80001000:4|\
+h0=1 & a0@1=2",
     ),
     (
         "smtsim list --help",

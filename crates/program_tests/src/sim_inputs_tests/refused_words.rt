@@ -65,6 +65,19 @@ smtsim check - t --config -
 smtsim explain
 smtsim explain a b
 smtsim explain --why a
+smtsim outcomes
+smtsim outcomes a b
+smtsim outcomes --states 0 a
+smtsim outcomes --states 4294967296 a
+smtsim outcomes --outcome 1 a
+smtsim outcomes --stuck a
+smtsim outcomes --witness w a
+smtsim outcomes --script s a
+smtsim outcomes --outcome 0 --witness w a
+smtsim outcomes --outcome 1 --stuck --witness w a
+smtsim outcomes --outcome 1 --witness w --script s a
+smtsim outcomes --stuck --witness w --script s a
+smtsim outcomes --records a
 smtsim list
 smtsim list first.elf first.script
 smtsim list --records first.elf
@@ -99,6 +112,6 @@ fn other_words_are_refused(rt: HostRuntime) {
         holds(&rt, text, are_refused(text, rt.alloc()) == Ok(true));
         rows = rows.wrapping_add(1);
     }
-    assert!(rt; rows == 75);
+    assert!(rt; rows == 88);
     assert!(rt; is_refusal(read_words(&[], rt.alloc())));
 }

@@ -1,0 +1,96 @@
+//! Steps of two harts that count on one word, by hand from the ISA.
+
+ghost use Rattle.std.specs.Prelude.{◌≡◌, ◌<◌, IfSome};
+ghost use Rattle.condensed_machine.specs.Decoded.{Knows};
+
+use crate::rows::holds;
+use condensed_machine::{CondensedMachine, State};
+use searches::{Machine, Step};
+use smt_model::Status;
+use std::alloc::Global;
+use test_files::{file_of, image_of};
+
+/// `lui x5,0x80001`, `lw x7,0(x5)`, `addi x7,x7,1`, `sw x7,0(x5)`, `addi x10,x7,0`, `addi x17,x0,93`, `ecall`:
+/// a hart adds one to a word, and ends with what it has written.
+static COUNTER: [u32; 7] = [
+    0x8000_12b7,
+    0x0002_a383,
+    0x0013_8393,
+    0x0072_a023,
+    0x0003_8513,
+    0x05d0_0893,
+    0x0000_0073,
+];
+
+/// What was seen of a machine on its way.
+#[derive(Clone, Copy, Drop)]
+struct Seen {
+    /// How many local steps hart 1 made at the start.
+    begun: u16,
+    /// How many local steps followed the load of hart 0, and its store.
+    loaded: u16,
+    stored: u16,
+    /// Whether hart 0 has another step then.
+    goes: bool,
+    /// How it stands, and how many bytes were put out.
+    status: Status,
+    output: usize,
+    /// What x7 of hart 0 is, which nobody reads again.
+    dead: u32,
+}
+
+/// The step of a hart from a state that is known.
+fn step_of(machine: &mut CondensedMachine, state: State, hart: u8) -> Option<Step<State, u16>>
+    requires hart { hart < machine.old.program.harts }
+    requires known { Knows machine.old state }
+    ensures program { machine.new.program ≡ machine.old.program }
+    ensures knows { IfSome result (λ step. Knows machine.new step.state) }
+{
+    match machine.step(state, hart) {
+        Ok(next) => next,
+        Err(_) => None,
+    }
+}
+
+/// Hart 0 loads and stores.
+fn counted(alloc: Global) -> Option<Seen> {
+    let file = file_of(&COUNTER, 0, alloc).ok()?;
+    let image = image_of(file.as_slice(), 65536, alloc)?;
+    let Ok(mut machine) = CondensedMachine::new(&image, 2, [false; 32], alloc) else {
+        return None;
+    };
+    let Ok(begun) = machine.begin() else {
+        return None;
+    };
+    let loaded = step_of(&mut machine, begun.state, 0)?;
+    let stored = step_of(&mut machine, loaded.state, 0)?;
+    let status = machine.status(stored.state, 0);
+    let dead = machine.register(stored.state, 0, 7);
+    let output = machine.output(stored.state).len();
+    let goes = machine.step(stored.state, 0).ok()?.is_some();
+    Some(Seen {
+        begun: begun.ways[1],
+        loaded: loaded.way,
+        stored: stored.way,
+        goes,
+        status,
+        output,
+        dead,
+    })
+}
+
+#[test]
+fn a_step_is_followed_by_local_ones(rt: HostRuntime) {
+    match counted(rt.alloc()) {
+        None => holds(&rt, "memory", false),
+        Some(seen) => {
+            holds(&rt, "begun", seen.begun == 1);
+            holds(&rt, "loaded", seen.loaded == 1);
+            holds(&rt, "stored", seen.stored == 3);
+            holds(&rt, "goes", !seen.goes);
+            holds(&rt, "status", seen.status == Status::Ended(1));
+            holds(&rt, "output", seen.output == 0);
+            holds(&rt, "dead", seen.dead == 0);
+        }
+    }
+}

@@ -1,0 +1,114 @@
+//! All outcomes of small programs, enumerated by hand.
+
+use crate::rows::holds;
+use arrayvec::ArrayVec;
+use elf_image::Image;
+use outcomes::{Outcomes, OutcomesRefused, Watch, find_outcomes};
+use smt_model::Status;
+use std::alloc::Global;
+use test_files::{file_of, image_of};
+
+/// `lui x5,0x80001`, `lw x7,0(x5)`, `addi x7,x7,1`, `sw x7,0(x5)`, `addi x10,x7,0`, `addi x17,x0,93`, `ecall`:
+/// a hart adds one to a word, and ends with what it has written.
+static COUNTER: [u32; 7] = [
+    0x8000_12b7,
+    0x0002_a383,
+    0x0013_8393,
+    0x0072_a023,
+    0x0003_8513,
+    0x05d0_0893,
+    0x0000_0073,
+];
+
+/// `jal x0,0`: a hart that goes round for ever.
+static ROUND: [u32; 1] = [0x0000_006f];
+
+/// How two harts end that count: both have loaded before one stores, or one comes behind the other. Behind
+/// each, the word that they count on.
+const COUNTED: [(u32, u32, u32); 3] = [(1, 1, 1), (1, 2, 2), (2, 1, 2)];
+
+fn image_with(words: &[u32], alloc: Global) -> Option<Image> {
+    let file = file_of(words, 0, alloc).ok()?;
+    image_of(file.as_slice(), 65536, alloc)
+}
+
+/// A word that is watched.
+fn watching(word: u32) -> Watch {
+    let mut words = ArrayVec::new();
+    words.push(word);
+    Watch {
+        registers: ArrayVec::new(),
+        words,
+    }
+}
+
+fn counted(budget: u32, alloc: Global) -> Option<Result<Outcomes, OutcomesRefused>> {
+    let image = image_with(&COUNTER, alloc)?;
+    let watch = watching(0x8000_1000);
+    Some(find_outcomes(&image, 2, &watch, budget, &(), alloc))
+}
+
+/// Whether an outcome is that of a row.
+fn is_row(found: &Outcomes, index: usize, row: (u32, u32, u32)) -> bool {
+    match found.outcome(index) {
+        None => false,
+        Some(outcome) => {
+            outcome.statuses.as_slice() == [Status::Ended(row.0), Status::Ended(row.1)].as_slice()
+                && outcome.words.as_slice() == [row.2].as_slice()
+                && outcome.output.is_empty()
+        }
+    }
+}
+
+#[test]
+fn two_harts_that_count(rt: HostRuntime) {
+    match counted(1000, rt.alloc()) {
+        Some(Ok(found)) => {
+            holds(&rt, "count", found.count() == 3);
+            holds(&rt, "both", is_row(&found, 0, COUNTED[0]));
+            holds(&rt, "first", is_row(&found, 1, COUNTED[1]));
+            holds(&rt, "second", is_row(&found, 2, COUNTED[2]));
+            holds(&rt, "states", found.states() > 0);
+            holds(&rt, "stuck", matches!(found.stuck(rt.alloc()), Ok(None)));
+        }
+        _ => holds(&rt, "found", false),
+    }
+}
+
+/// The order of the first outcome, where it is there.
+fn witness_of(found: &Outcomes, alloc: Global) -> Option<usize> {
+    if found.count() == 0 {
+        return None;
+    }
+    let order = found.witness(0, alloc).ok()?;
+    Some(order.len())
+}
+
+#[test]
+fn an_order_for_both_ones(rt: HostRuntime) {
+    match counted(1000, rt.alloc()) {
+        Some(Ok(found)) => holds(&rt, "steps", witness_of(&found, rt.alloc()) == Some(14)),
+        _ => holds(&rt, "found", false),
+    }
+}
+
+#[test]
+fn more_states_than_the_budget(rt: HostRuntime) {
+    let refused = matches!(counted(2, rt.alloc()), Some(Err(OutcomesRefused::Budget)));
+    holds(&rt, "budget", refused);
+}
+
+#[test]
+fn a_hart_that_goes_round(rt: HostRuntime) {
+    let found = match image_with(&ROUND, rt.alloc()) {
+        Some(image) => find_outcomes(&image, 1, &watching(0x8000_1000), 10, &(), rt.alloc()),
+        None => Err(OutcomesRefused::Memory),
+    };
+    match found {
+        Ok(found) => {
+            holds(&rt, "none", found.count() == 0);
+            holds(&rt, "stuck", matches!(found.stuck(rt.alloc()), Ok(Some(_))));
+        }
+        Err(_) => holds(&rt, "found", false),
+    }
+}
