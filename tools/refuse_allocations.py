@@ -34,6 +34,9 @@ RUNS = {
     "chart_svg": ("chart overtaken/overtaken.elf TRACE --config overtaken/two.toml --svg OUT", False),
     "chart_kanata": ("chart overtaken/overtaken.elf TRACE --config overtaken/two.toml --kanata OUT", False),
     "list": ("list first/first.elf", False),
+    "outcomes": ("outcomes locks/swap.elf --config locks/two.toml --watch 80001004:4 --exists h0=16", False),
+    "outcomes_witness": ("outcomes litmus/message_passing.elf --config litmus/two.toml --outcome 2 --witness OUT", False),
+    "outcomes_script": ("outcomes litmus/message_passing.elf --config litmus/two.toml --outcome 3 --script OUT", False),
     "help": ("--help", False),
 }
 

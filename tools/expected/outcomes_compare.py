@@ -1,0 +1,153 @@
+"""`smtsim outcomes` beside an enumeration of every order that leaves nothing out, on random programs.
+
+    python3 tools/expected/outcomes_compare.py PROGRAM [COUNT] [SEED]
+
+Small programs of two or three harts: loads, stores, LR, SC, AMO, branches, output, ends and stops. What
+is printed has to be the same, but for the number of states; and each order that is asked for has to end
+as its outcome says, on the plain machine. Programs of more than 20,000 states are left out. Prints how
+many agree, and ends with status 1 where one doesn't.
+"""
+
+import os
+import random
+import subprocess
+import sys
+import tempfile
+
+import every_order
+import image
+from plain import Plain
+from random_runs import branch
+
+MOST = 20000
+# auipc x8,0; addi x9,x8,256: where the words begin that all harts load and store.
+TO_MEMORY = [0x00000417, 0x10040493]
+SHARED = [image.BASE + 256, image.BASE + 260]
+EXIT, PUT, ECALL, EBREAK = 0x05D00893, 0x00100893, 0x00000073, 0x00100073
+REGISTERS = (5, 6, 10)
+
+
+def some_instruction(r, left):
+    """One or two words; `left` instructions stand behind it."""
+    rd, rs, other = (r.choice(REGISTERS) for _ in range(3))
+    place, kind = r.choice((0, 0, 4)), r.randrange(100)
+    if kind < 22:
+        return [place << 20 | 9 << 15 | 2 << 12 | rd << 7 | 0x03]
+    if kind < 44:
+        return [rs << 20 | 9 << 15 | 2 << 12 | place << 7 | 0x23]
+    if kind < 48:
+        return [r.choice((0, 1, 2)) << 20 | 9 << 15 | r.choice((0, 1, 4, 5)) << 12 | rd << 7 | 0x03]
+    if kind < 51:
+        return [rs << 20 | 9 << 15 | r.choice((0, 1)) << 12 | r.choice((0, 1, 2)) << 7 | 0x23]
+    if kind < 59:
+        return [9 << 15 | rd << 7 | 0x1000202F]
+    if kind < 67:
+        return [rs << 20 | 9 << 15 | rd << 7 | 0x1800202F]
+    if kind < 74:
+        return [r.choice((0, 1, 4, 8, 12)) << 27 | rs << 20 | 9 << 15 | rd << 7 | 0x202F]
+    if kind < 84:
+        return [r.choice((1, 1, 2, 0xFFF)) << 20 | rs << 15 | rd << 7 | 0x13]
+    if kind < 92:
+        to = 4 * r.choice((2, 2, 3, -1, -2) if r.random() < 0.4 else (2, min(3, left + 1)))
+        return [branch(r.choice((0, 1, 4)), rs, r.choice((0, other)), to)]
+    if kind < 96:
+        return [PUT, ECALL]
+    if kind < 98:
+        return [EXIT, ECALL]
+    return [r.choice((EBREAK, 0, rd << 7 | 0x00052003))]
+
+
+def some_program(r):
+    words, count = [], r.randint(2, 6)
+    for k in range(count):
+        words += some_instruction(r, count - k)
+    return TO_MEMORY + words + [EXIT, ECALL]
+
+
+def some_watch(r, harts):
+    parts = [f"{r.choice(('x5', 't0', 'x6', 'a0'))}@{r.randrange(harts)}" for _ in range(r.randrange(3))]
+    parts += [f"{r.choice(SHARED):08x}:4" for _ in range(r.randrange(2))]
+    return ",".join(parts)
+
+
+def some_condition(r, harts):
+    parts = []
+    for _ in range(r.randint(1, 2)):
+        hart, value = r.randrange(harts), r.choice((0, 0, 1, 2))
+        parts.append(r.choice((f"h{hart}={value}", f"h{hart}=stopped 3", f"a0@{hart}={value}", f"{SHARED[0]:08x}:4={value:#x}")))
+    return r.choice((" & ", "&")).join(parts)
+
+
+def inputs_of(seed, k):
+    r = random.Random(f"outcomes {seed} {k}")
+    harts = r.choice((2, 2, 2, 3))
+    file = image.build(some_program(r))
+    watch = some_watch(r, harts)
+    return harts, file, watch, some_condition(r, harts) if r.random() < 0.5 else None
+
+
+def ends_so(made, harts, order, wanted, watch, exists):
+    """Whether an order ends as the line of its outcome says."""
+    machine = Plain(made, harts)
+    for hart in order:
+        if machine.refusal(hart) is not None:
+            return False
+        machine.step(hart)
+    named = [every_order.watched(part) for part in watch.split(",")] if watch else []
+    for _, what in [every_order.term(part) for part in exists.split("&")] if exists else []:
+        if what is not None and what not in named:
+            named.append(what)
+    registers = [one for one in named if isinstance(one, tuple)]
+    words = [one for one in named if isinstance(one, int)]
+    found = every_order.ending(machine, registers, words)
+    return not machine.going() and every_order.line(found, registers, words) == wanted
+
+
+def agrees(program, folder, seed, k):
+    """Whether the program says the same of program k; None where it has too many states."""
+    harts, file, watch, exists = inputs_of(seed, k)
+    made = image.load(file, 4096)
+    try:
+        wanted = list(every_order.lines(made, harts, watch, exists, MOST))
+    except every_order.TooMany:
+        return None
+    for name, data in (("image.elf", file), ("config", f"harts = {harts}\nram = 4096\n".encode())):
+        with open(f"{folder}/{name}", "wb") as out:
+            out.write(data)
+    line = [program, "outcomes", "image.elf", "--config", "config"]
+    line += ["--watch", watch] if watch else []
+    line += ["--exists", exists] if exists is not None else []
+    done = subprocess.run(line, cwd=folder, capture_output=True, text=True, check=False)
+    found = [text for text in done.stdout.splitlines() if not text.startswith("states ")]
+    if (found, done.stderr, done.returncode) != (wanted, "", 0):
+        return False
+    count = next(n for n, text in enumerate(wanted) if text.startswith("outcomes "))
+    for place in random.Random(k).sample(range(count), min(count, 2)):
+        subprocess.run([*line, "--outcome", str(place + 1), "--witness", "order"], cwd=folder, capture_output=True, check=False)
+        with open(f"{folder}/order", encoding="ascii") as text:
+            order = [int(word) for word in text.read().split()]
+        os.remove(f"{folder}/order")
+        if not ends_so(made, harts, order, wanted[place], watch, exists):
+            return False
+    return True
+
+
+def main(words):
+    if not words:
+        print(__doc__, file=sys.stderr)
+        return 2
+    program = os.path.abspath(words[0])
+    count, seed = int(words[1]) if len(words) > 1 else 500, int(words[2]) if len(words) > 2 else 1
+    same, differ, k = 0, 0, 0
+    with tempfile.TemporaryDirectory() as folder:
+        while same + differ < count:
+            answer = agrees(program, folder, seed, k)
+            if answer is False:
+                print(f"program {k} of seed {seed} differs")
+            same, differ, k = same + (answer is True), differ + (answer is False), k + 1
+    print(f"{same} agree, {differ} differ; {k - same - differ} left out")
+    return 1 if differ else 0
+
+
+if __name__ == "__main__":
+    sys.exit(main(sys.argv[1:]))
