@@ -1,6 +1,7 @@
 -- A core before its first event.
-use Rattle.std.specs.Prelude.{◌≡◌, ℕ, ◌+◌, ◌-◌, ◌<◌, ◌&&◌, nat_le, nat_lt, if◌then◌else◌, []}
-use Rattle.std.specs.Prelude.{Option, Some}
+use Rattle.std.specs.Prelude.{◌≡◌, ℕ, ◌+◌, ◌-◌, ◌*◌, ◌/◌, ◌%◌, ◌<◌, ◌&&◌, nat_le, nat_lt, if◌then◌else◌, List, []}
+use Rattle.std.specs.Prelude.{Option, Some, None, length, slice_index_or}
+use Rattle.numbers.specs.Sizes.{most_registers}
 use Rattle.numbers.specs.Layout.{first_extra}
 use Rattle.elf_image.specs.Image.{ProgramImage}
 use Rattle.rename_map.specs.Maps.{lookup, committed_of}
@@ -31,6 +32,16 @@ first_values_below r harts h x before =
 -- What it holds once all of hart h's registers have their first numbers.
 abbrev pub first_values : ℕ → ℕ → ℕ → Option ℕ → Option ℕ
 first_values harts h x before = first_values_below 32 harts h x before
+
+-- Each hart is as it begins.
+abbrev pub AreNew : ℕ → List HartState → Type 0
+AreNew entry harts = (h : ℕ) (d : HartState) → h < length harts → IsNew h entry (slice_index_or harts h d)
+
+-- The registers of the harts below `some` have their first numbers, and no other has a number.
+abbrev pub AreFirst : ℕ → ℕ → List (Option ℕ) → Type 0
+AreFirst harts some values = (x : ℕ) (d : Option ℕ) → x < most_registers
+    → slice_index_or values x d
+    ≡ (if nat_lt x (31 * some) then Some (first_number harts (x / 31) (x % 31 + 1)) else None)
 
 -- The parts agree with the empty history of every setup of these sizes and this image.
 abbrev pub BeginsAs : ℕ → ℕ → ProgramImage → Parts → Type 0

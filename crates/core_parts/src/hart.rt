@@ -1,4 +1,4 @@
-ghost use Rattle.std.specs.Prelude.{◌<◌};
+ghost use Rattle.std.specs.Prelude.{◌<◌, IfOk};
 ghost use Rattle.numbers.specs.Sizes.{most_harts};
 ghost use Rattle.core_parts.specs.First.{IsNew};
 
@@ -8,6 +8,7 @@ use numbers::sizes::LATCH_ROOM;
 use rename_map::HartMaps;
 use retire_squash::ActiveList;
 use smt_model::Status;
+use std::alloc::{AllocError, Global};
 
 /// What a hart has of its own.
 #[derive(Drop)]
@@ -28,18 +29,18 @@ pub struct HartState {
 
 impl HartState {
     /// Hart `hart` as it begins, at the entry of the program.
-    pub(crate) fn new(hart: u8, entry: u32) -> Self
+    pub(crate) fn new(hart: u8, entry: u32, alloc: Global) -> Result<Self, AllocError>
         requires { hart < most_harts }
-        ensures { IsNew hart entry result }
+        ensures { IfOk result (IsNew hart entry) }
     {
-        HartState {
+        Ok(HartState {
             decode_latch: ArrayVec::new(),
             rename_latch: ArrayVec::new(),
-            active: ActiveList::new(),
+            active: ActiveList::new(alloc)?,
             maps: HartMaps::new(hart),
             icount: 0,
             fetch_pc: entry,
             status: Status::Going,
-        }
+        })
     }
 }

@@ -4,10 +4,11 @@ ghost use Rattle.numbers.specs.Sizes.{most_harts, most_extra, most_queued, most_
 ghost use Rattle.free_list.specs.Flags.{holds};
 ghost use Rattle.smt_model.specs.Basics.{same_number};
 ghost use Rattle.smt_model.specs.Setup.{first_number};
-ghost use Rattle.core_parts.specs.First.{BeginsAs, first_values};
+ghost use Rattle.core_parts.specs.First.{AreNew, AreFirst, BeginsAs, first_values};
 ghost use Rattle.core_parts.specs.Listed.{listed};
 
 use crate::hart::HartState;
+use crate::register_file::RegisterFile;
 use crate::slot::OpenJob;
 use arrayvec::ArrayVec;
 use elf_image::Image;
@@ -26,7 +27,7 @@ pub struct Parts {
     pub queue: SlabQueue,
     pub free: FreeList,
     /// The number in each physical register, where it has one.
-    pub values: [Option<u32>; MOST_REGISTERS],
+    pub values: RegisterFile,
     /// The job that each actor has.
     pub jobs: [Option<OpenJob>; MOST_ACTORS],
     /// Each hart's loads and stores in flight.
@@ -38,6 +39,10 @@ pub struct Parts {
 impl Parts {
     /// The parts of a core before its first event: every hart is at the image's entry, memory is
     /// the image's, and the extra registers are free.
+    ///
+    /// It stands in no caller, as what makes the larger parts doesn't: the stack is deepest where a core
+    /// is made, and a frame has room for all that is made within it.
+    #[inline(never)]
     pub fn new(
         harts: u8,
         extra: u16,
@@ -53,36 +58,58 @@ impl Parts {
         ensures queue { IfOk result (λ parts. parts.queue.size ≡ queue) }
         ensures image { IfOk result (λ parts. parts.memory.image ≡ image.now) }
     {
-        let entry = image.entry();
-        let mut each = Vec::with_capacity(alloc, usize::from(harts))?;
-        let mut values = [None; MOST_REGISTERS];
-        for hart in 0..harts {
-            each.push(HartState::new(hart, entry))?;
-            set_first_values(&mut values, hart, harts);
-        }
         Ok(Parts {
-            harts: each,
+            harts: first_harts(harts, image.entry(), alloc)?,
             queue: SlabQueue::new(alloc, queue)?,
             free: FreeList::new(harts, extra),
-            values,
+            values: first_registers(harts, alloc)?,
             jobs: [None; MOST_ACTORS],
-            accesses: LoadStore::new(),
+            accesses: LoadStore::new(alloc)?,
             memory: Memory::new(image, alloc)?,
         })
     }
 }
 
+/// The harts as they begin, at the entry of the program.
+#[inline(never)]
+fn first_harts(harts: u8, entry: u32, alloc: Global) -> Result<Vec<HartState>, AllocError>
+    requires { harts ≤ most_harts }
+    ensures count { IfOk result (λ each. length each.items ≡ harts) }
+    ensures first { IfOk result (λ each. AreNew entry each.items) }
+{
+    let mut each = Vec::with_capacity(alloc, usize::from(harts))?;
+    for hart in 0..harts {
+        each.push(HartState::new(hart, entry, alloc)?)?;
+    }
+    Ok(each)
+}
+
+/// What the registers of all harts hold at the start; no other register holds a number.
+fn first_registers(harts: u8, alloc: Global) -> Result<RegisterFile, AllocError>
+    requires { harts ≤ most_harts }
+    ensures count { IfOk result (λ values. length values ≡ most_registers) }
+    ensures first { IfOk result (AreFirst harts harts) }
+{
+    let mut values = RegisterFile::new(alloc)?;
+    for hart in 0..harts {
+        set_first_values(&mut values, hart, harts);
+    }
+    Ok(values)
+}
+
 /// Writes what hart `hart`'s registers 1 to 31 hold at the start: x10 its number, x11 how many
 /// harts there are, others 0.
-fn set_first_values(values: &mut [Option<u32>; MOST_REGISTERS], hart: u8, harts: u8)
-    requires { hart < most_harts }
-    ensures { (x : ℕ) (d : Option ℕ) → x < most_registers
+fn set_first_values(values: &mut RegisterFile, hart: u8, harts: u8)
+    requires hart { hart < most_harts }
+    requires count { length values.old ≡ most_registers }
+    ensures count { length values.new ≡ most_registers }
+    ensures values { (x : ℕ) (d : Option ℕ) → x < most_registers
         → slice_index_or values.new x d ≡ first_values harts hart x
         (slice_index_or values.old x d) }
 {
     for register in 1..32 {
         let place = first_register(hart, register);
-        values[usize::from(place)] = Some(first_number(register, hart, harts));
+        values.set(place, Some(first_number(register, hart, harts)));
     }
 }
 
@@ -94,16 +121,6 @@ fn first_number(register: Reg, hart: u8, harts: u8) -> u32
         10 => u32::from(hart),
         11 => u32::from(harts),
         _ => 0,
-    }
-}
-
-/// The number in a physical register, where it has one.
-pub fn value_of(values: &[Option<u32>; MOST_REGISTERS], register: Phys) -> Option<u32>
-    ensures { result ≡ slice_index_or values.now register None }
-{
-    match values.get(usize::from(register)) {
-        Some(value) => *value,
-        None => None,
     }
 }
 

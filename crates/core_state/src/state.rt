@@ -74,7 +74,7 @@ impl Model for State {
 }
 
 // By hand, so that whoever owns a core proves one call where it ends, and not the end of each part.
-// In its caller, since a call takes a copy of the core, 11 KiB of the stack.
+// In its caller, since a call takes a copy of the state, some 3 KiB of the stack.
 impl Drop for State {
     #[inline(always)]
     fn drop(self) {
@@ -94,8 +94,8 @@ impl Drop for State {
 }
 
 impl State {
-    /// The core of an image and a configuration before its first event. All room for `limit` events
-    /// is made here.
+    /// The core of an image and a configuration before its first event, on the heap: whoever hands it
+    /// on then hands on a pointer. All room for `limit` events is made here.
     ///
     /// Refused are sizes that aren't a core's and a limit above `MOST_EVENTS`, before any memory is
     /// taken.
@@ -104,11 +104,11 @@ impl State {
         config: Config,
         limit: u32,
         alloc: Global,
-    ) -> Result<State, CoreRefused>
+    ) -> Result<Box<State>, CoreRefused>
         ensures made { IfOk result
-            (λ core. core
+            (λ core. core.value
             ≡ record { setup = setup_of image.now config; limit = limit; past = [] }) }
-        ensures accepted { IfOk result (λ core. is_accepted core.setup limit ≡ true) }
+        ensures accepted { IfOk result (λ core. is_accepted core.value.setup limit ≡ true) }
         ensures refused { (result ≡ Err CoreRefused.Config)
             ↔ (is_accepted (setup_of image.now config) limit ≡ false) }
     {
@@ -121,14 +121,19 @@ impl State {
         }
     }
 
-    fn make(image: &Image, config: Config, limit: u32, alloc: Global) -> Result<State, AllocError>
+    fn make(
+        image: &Image,
+        config: Config,
+        limit: u32,
+        alloc: Global,
+    ) -> Result<Box<State>, AllocError>
         requires accepted { accepts config limit ≡ true }
         requires harts { config.harts ≤ most_harts }
         requires extra { config.extra ≤ most_extra }
         requires queue { config.queue ≤ most_queued }
         requires limit { limit ≤ most_events }
         ensures { IfOk result
-            (λ core. core
+            (λ core. core.value
             ≡ record { setup = setup_of image.now config; limit = limit; past = [] }) }
     {
         let image = image.try_clone()?;
@@ -137,7 +142,7 @@ impl State {
         let records = Vec::with_capacity(alloc, limit as usize)?;
         let output = Vec::with_capacity(alloc, limit as usize)?;
         let parts = Parts::new(config.harts, config.extra, config.queue, &image, alloc)?;
-        Ok(State {
+        let state = State {
             image,
             code,
             config,
@@ -148,7 +153,8 @@ impl State {
             records,
             output,
             history,
-        })
+        };
+        Ok(Box::new(alloc, state)?)
     }
 
     /// Whether the history has as many events as it may have.

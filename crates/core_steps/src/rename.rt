@@ -17,10 +17,10 @@ ghost use Rattle.core_steps.specs.Renaming.{has_full_memory_queue, source_in, em
 use crate::accesses::add_access;
 use crate::checkpoints::keep_map;
 use crate::latch::drop_oldest;
-use core_parts::{HartState, Parts, Slot};
+use core_parts::{HartState, Parts, RegisterFile, Slot};
 use free_list::FreeList;
 use issue_queue::{Entry, Source};
-use numbers::sizes::{MOST_ACCESSES, MOST_REGISTERS};
+use numbers::sizes::MOST_ACCESSES;
 use numbers::{Phys, Reg, Seq};
 use rename_map::HartMaps;
 use retire_squash::{Active, Stage};
@@ -80,7 +80,7 @@ pub fn rename_oldest(parts: &mut Parts, hart: u8, phys: Option<Phys>)
 
 /// What an instruction reads from its register `register` now: 0 for x0 or none, else the number
 /// that the map leads to, or the physical register to wait for.
-fn source(maps: &HartMaps, values: &[Option<u32>; MOST_REGISTERS], register: Option<Reg>) -> Source
+fn source(maps: &HartMaps, values: &RegisterFile, register: Option<Reg>) -> Source
     requires below { IfSome register (λ r. r < 32) }
     requires mapped { (r : ℕ) → 0 < r → r < 32 → lookup maps.now r < most_registers }
     ensures { result ≡ source_in values.now maps.now (or_zero register) }
@@ -89,7 +89,7 @@ fn source(maps: &HartMaps, values: &[Option<u32>; MOST_REGISTERS], register: Opt
         None | Some(0) => Source::Value(0),
         Some(register) => {
             let phys = maps.lookup(register);
-            match values[usize::from(phys)] {
+            match values.value_of(phys) {
                 Some(value) => Source::Value(value),
                 None => Source::Waits(phys),
             }
@@ -98,7 +98,7 @@ fn source(maps: &HartMaps, values: &[Option<u32>; MOST_REGISTERS], register: Opt
 }
 
 /// An instruction is given this register, if any: it is no longer free, and has no number yet.
-fn take(free: &mut FreeList, values: &mut [Option<u32>; MOST_REGISTERS], register: Option<Phys>)
+fn take(free: &mut FreeList, values: &mut RegisterFile, register: Option<Phys>)
     requires { IfSome register (λ x. x < most_registers) }
     ensures free { (x : ℕ)
         → holds free.new x ≡ (holds free.old x && not (is_register_taken register x)) }
@@ -106,7 +106,7 @@ fn take(free: &mut FreeList, values: &mut [Option<u32>; MOST_REGISTERS], registe
 {
     if let Some(register) = register {
         free.take_this(register);
-        values[usize::from(register)] = None;
+        values.set(register, None);
     }
 }
 

@@ -8,9 +8,9 @@ use Rattle.slab.specs.Slab.{Slab, get, Updates}
 use Rattle.numbers.specs.Sizes.{most_queued, most_registers}
 use Rattle.rv_instr.specs.declared.op.UnitKind.{UnitKind}
 use Rattle.issue_queue.specs.{declared.entry.Entry.Entry}
-use Rattle.issue_queue.specs.{declared.ready.Ready.Ready, declared.parts.QueueParts.QueueParts}
+use Rattle.issue_queue.specs.{declared.order.Ready.Ready, declared.parts.QueueParts.QueueParts}
 use Rattle.issue_queue.specs.{Entry.has_values, Entry.can_issue}
-use Rattle.issue_queue.specs.{Ready.in_order, Ready.order_of, Ready.without}
+use Rattle.issue_queue.specs.{Order.in_order, Ready.order_of, Order.without}
 use Rattle.issue_queue.specs.Waiting.{nodes, AreLists, IsLinked, with_register}
 use Rattle.issue_queue.specs.Parts.{key_of, side_of, waits_of, waits_at, IsOrder, IsSound}
 use Rattle.issue_queue.specs.Parts.{NoneHasNumber, ready_of}

@@ -9,8 +9,8 @@ use Rattle.std.proofs.lemmas.Map.Steps.{length-le_from_distinct_below}
 use Rattle.slab.specs.Slab.{Slab, get, Updates}
 use Rattle.numbers.specs.Sizes.{most_queued}
 use Rattle.rv_instr.specs.declared.op.UnitKind.{UnitKind}
-use Rattle.issue_queue.specs.{declared.entry.Entry.Entry, declared.ready.Ready.Ready, Entry.can_issue, Lists.Stands}
-use Rattle.issue_queue.specs.Ready.{AreReadyRising, in_order, without, AreAbove, IsBehind}
+use Rattle.issue_queue.specs.{declared.entry.Entry.Entry, declared.order.Ready.Ready, Entry.can_issue, Lists.Stands}
+use Rattle.issue_queue.specs.Order.{AreReadyRising, in_order, without, AreAbove, IsBehind}
 use Rattle.issue_queue.specs.Parts.{IsPlaced, IsReadyAt, IsOrder, IsOldestAt, NoneReady, ready_of}
 use Rattle.issue_queue.proofs.Lists.{all_of, at_all, All-filter, Stands-filter, Stands-filtered}
 

@@ -1,6 +1,7 @@
 pub mod Commands
 pub mod Entry
 pub mod Lists
+pub mod Order
 pub mod Parts
 pub mod Queue
 pub mod Ready

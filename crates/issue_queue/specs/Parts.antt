@@ -7,8 +7,8 @@ use Rattle.numbers.specs.Sizes.{most_queued, most_registers}
 use Rattle.rv_instr.specs.declared.op.UnitKind.{UnitKind}
 use Rattle.issue_queue.specs.{declared.entry.Source.Source, declared.entry.Source.TheVariants.Value}
 use Rattle.issue_queue.specs.{declared.entry.Source.TheVariants.Waits, declared.entry.Entry.Entry}
-use Rattle.issue_queue.specs.{declared.ready.Ready.Ready, declared.parts.QueueParts.QueueParts}
-use Rattle.issue_queue.specs.{Entry.can_issue, Entry.woken_entry, Lists.Stands, Queue.stays, Ready.AreReadyRising, Ready.order_of}
+use Rattle.issue_queue.specs.{declared.order.Ready.Ready, declared.parts.QueueParts.QueueParts}
+use Rattle.issue_queue.specs.{Entry.can_issue, Entry.woken_entry, Lists.Stands, Queue.stays, Order.AreReadyRising, Ready.order_of}
 use Rattle.issue_queue.specs.{Waiting.IsLinked, Waiting.WaitsThere, declared.waiting.WaitingLists.WaitingLists}
 
 -- ---- The sources as nodes

@@ -2,14 +2,15 @@
 //!
 //! Read in this order: `entry` (an instruction that waits), `plain` (a queue that goes through all
 //! of them at each call); then what wakes by lists: `waiting` (for each register the sources that
-//! wait for it), `ready` (for each kind of unit the ready entries in order), `parts` (these and the
-//! slab of entries), `slab_queue`; then `tagged` (what both queues promise) and `commands` (calls
+//! wait for it), `order` (ready entries, by rising number), `ready` (one for each kind of unit),
+//! `parts` (these and the slab of entries), `slab_queue`; then `tagged` (what both queues promise) and `commands` (calls
 //! in turn, and their answers). The oldest ready one is issued first (Tullsen and others, ISCA
 //! 1996).
 #![tactic(auto)]
 
 pub mod commands;
 pub mod entry;
+mod order;
 mod parts;
 pub mod plain;
 mod ready;

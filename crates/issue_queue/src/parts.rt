@@ -6,14 +6,16 @@ ghost use Rattle.slab.specs.Slab.{get, HasRoomFor, ContainsKey, Updates};
 ghost use Rattle.issue_queue.specs.declared.entry.Entry.{Entry as AnyEntry};
 ghost use Rattle.issue_queue.specs.Entry.{can_issue};
 ghost use Rattle.issue_queue.specs.Queue.{stays};
-ghost use Rattle.issue_queue.specs.Ready.{order_of, in_order, without, AreReadyRising};
+ghost use Rattle.issue_queue.specs.Order.{in_order, without, AreReadyRising};
+ghost use Rattle.issue_queue.specs.Ready.{order_of};
 ghost use Rattle.issue_queue.specs.Waiting.{nodes, IsLinked, IsFirst, with_register};
 ghost use Rattle.issue_queue.specs.Parts.{IsSound, NoneHasNumber, HasNumberAt, IsAdded, IsGiven, AreWoken, AreKept};
 ghost use Rattle.issue_queue.specs.Parts.{IsOldestAt, NoneReady, HasYounger, IsPlaced, WaitsOrNot, key_of, side_of};
 ghost use Rattle.issue_queue.specs.Parts.{register_of, listed_register, ready_of, waits_at};
 
 use crate::entry::{Entry, Source};
-use crate::ready::{Ready, ReadyOrders};
+use crate::order::Ready;
+use crate::ready::ReadyOrders;
 use crate::waiting::{NODES, WaitingLists};
 use numbers::sizes::{MOST_QUEUED, MOST_REGISTERS};
 use numbers::{Phys, Seq};
@@ -47,7 +49,7 @@ impl QueueParts {
         Ok(QueueParts {
             entries,
             waiting: WaitingLists::new(),
-            ready: ReadyOrders::new(),
+            ready: ReadyOrders::new(alloc)?,
         })
     }
 

@@ -1,48 +1,43 @@
-ghost use Rattle.std.specs.Prelude.{◌≡◌, ◌<◌, ◌≤◌, length, slice_get, drop, if◌then◌else◌, []};
+ghost use Rattle.std.specs.Prelude.{◌≡◌, ◌<◌, length, slice_get, if◌then◌else◌, [], IfOk};
 ghost use Rattle.rv_instr.specs.{declared.op.UnitKind.UnitKind, Registers.same_unit};
 ghost use Rattle.numbers.specs.Sizes.{most_queued};
-ghost use Rattle.issue_queue.specs.Ready.{order_of, in_order, without, AreReadyRising, AreAbove, IsBehind};
+ghost use Rattle.issue_queue.specs.Order.{in_order, without, AreReadyRising};
+ghost use Rattle.issue_queue.specs.Ready.{order_of};
 
-use arrayvec::ArrayVec;
+use crate::order::{Order, Ready};
 use numbers::Seq;
-use numbers::sizes::MOST_QUEUED;
 use rv_instr::UnitKind;
-
-/// An entry that is ready, and the key under which it stands.
-#[derive(Clone, Copy, Default, Drop)]
-pub(crate) struct Ready {
-    pub(crate) seq: Seq,
-    pub(crate) key: u8,
-}
+use std::alloc::{AllocError, Global};
 
 /// For each kind of unit the entries that one of them may take up, by rising number.
 #[derive(Drop)]
 pub(crate) struct ReadyOrders {
-    alu: ArrayVec<Ready, MOST_QUEUED>,
-    mul: ArrayVec<Ready, MOST_QUEUED>,
-    mem: ArrayVec<Ready, MOST_QUEUED>,
+    alu: Order,
+    mul: Order,
+    mem: Order,
 }
 
 impl ReadyOrders {
     /// None is ready.
-    pub(crate) fn new() -> Self
-        ensures { (kind : UnitKind) → order_of kind result ≡ [] }
+    pub(crate) fn new(alloc: Global) -> Result<Self, AllocError>
+        ensures { IfOk result (λ orders. (kind : UnitKind) → order_of kind orders ≡ []) }
     {
-        ReadyOrders {
-            alu: ArrayVec::new(),
-            mul: ArrayVec::new(),
-            mem: ArrayVec::new(),
-        }
+        Ok(ReadyOrders {
+            alu: Order::new(alloc)?,
+            mul: Order::new(alloc)?,
+            mem: Order::new(alloc)?,
+        })
     }
 
     /// The ready one of the lowest number.
+    #[inline(always)]
     pub(crate) fn oldest(&self, kind: UnitKind) -> Option<Ready>
         ensures { result ≡ slice_get (order_of kind self.now) 0 }
     {
         match kind {
-            UnitKind::Alu => self.alu.first().copied(),
-            UnitKind::Mul => self.mul.first().copied(),
-            UnitKind::Mem => self.mem.first().copied(),
+            UnitKind::Alu => self.alu.oldest(),
+            UnitKind::Mul => self.mul.oldest(),
+            UnitKind::Mem => self.mem.oldest(),
         }
     }
 
@@ -55,9 +50,9 @@ impl ReadyOrders {
             else order_of k self.old) }
     {
         match kind {
-            UnitKind::Alu => insert(&mut self.alu, ready),
-            UnitKind::Mul => insert(&mut self.mul, ready),
-            UnitKind::Mem => insert(&mut self.mem, ready),
+            UnitKind::Alu => self.alu.insert(ready),
+            UnitKind::Mul => self.mul.insert(ready),
+            UnitKind::Mem => self.mem.insert(ready),
         }
     }
 
@@ -68,38 +63,9 @@ impl ReadyOrders {
             else order_of k self.old) }
     {
         match kind {
-            UnitKind::Alu => remove(&mut self.alu, seq),
-            UnitKind::Mul => remove(&mut self.mul, seq),
-            UnitKind::Mem => remove(&mut self.mem, seq),
+            UnitKind::Alu => self.alu.remove(seq),
+            UnitKind::Mul => self.mul.remove(seq),
+            UnitKind::Mem => self.mem.remove(seq),
         }
     }
-}
-
-fn insert(order: &mut ArrayVec<Ready, MOST_QUEUED>, ready: Ready)
-    requires room { length order.old.items < most_queued }
-    requires rising { AreReadyRising order.old.items }
-    ensures { order.new.items ≡ in_order ready order.old.items }
-{
-    let place = place_for(ready.seq, order.as_slice());
-    order.insert(place, ready);
-}
-
-// Where a number belongs. A new one mostly belongs near the end, so its place is sought from there.
-fn place_for(seq: Seq, order: &[Ready]) -> usize
-    ensures inside { result ≤ length order.now }
-    ensures above { AreAbove seq (drop result order.now) }
-    ensures below { IsBehind seq result order.now }
-{
-    for place in (0..order.len()).rev() {
-        if order[place].seq <= seq {
-            return place + 1;
-        }
-    }
-    0
-}
-
-fn remove(order: &mut ArrayVec<Ready, MOST_QUEUED>, seq: Seq)
-    ensures { order.new.items ≡ without seq order.old.items }
-{
-    order.retain(|ready| ready.seq != seq);
 }

@@ -50,6 +50,9 @@ impl Model for SlabQueue {
 
 impl SlabQueue {
     /// An empty queue with room for `size` entries. All memory is taken here.
+    ///
+    /// It stands in no caller, or its frame would be a part of that one's.
+    #[inline(never)]
     pub fn new(alloc: Global, size: u8) -> Result<Self, AllocError>
         requires { size ≤ most_queued }
         ensures { IfOk result (λ q. q ≡ record { size = size; entries = [] }) }

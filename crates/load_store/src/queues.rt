@@ -1,4 +1,4 @@
-ghost use Rattle.std.specs.Prelude.{◌≡◌, ℕ, ◌<◌, ◌==◌, None, Some, length};
+ghost use Rattle.std.specs.Prelude.{◌≡◌, ℕ, ◌<◌, ◌==◌, None, Some, IfOk, length};
 ghost use Rattle.std.specs.Option.{IsSomeAnd};
 ghost use Rattle.numbers.specs.Sizes.{most_accesses, most_harts};
 ghost use Rattle.smt_model.specs.Bytes.{number_at, write_of};
@@ -16,14 +16,15 @@ use crate::look::look;
 use events::{Seq, Written};
 use numbers::sizes::HART_ROOM;
 use shared_memory::Memory;
-use std::array;
+use std::alloc::{AllocError, Global};
 use std::marker::Model;
 
 /// The loads and the stores in flight of up to `MOST_HARTS` harts, each hart's in program order: at
 /// most `MOST_ACCESSES` loads and as many stores a hart. A clause sees each hart's queues.
 #[derive(Drop)]
 pub struct LoadStore {
-    harts: [HartQueues; HART_ROOM],
+    /// `MOST_HARTS` of them, on the heap, so that a core is small on the stack.
+    harts: Vec<HartQueues>,
 }
 
 impl Model for LoadStore {
@@ -33,19 +34,24 @@ impl Model for LoadStore {
 
     ghost Value = { List Queues };
 
-    ghost view = { λ a. a.harts };
+    ghost view = { λ a. a.harts.items };
 
-    ghost invariant = { λ a. length a.harts ≡ most_harts };
+    ghost invariant = { λ a. length a.harts.items ≡ most_harts };
 }
 
 impl LoadStore {
-    /// No loads and no stores.
-    pub fn new() -> Self
-        ensures { (h : ℕ) → queues_of result h ≡ empty }
+    /// No loads and no stores. All memory is taken here.
+    ///
+    /// It stands in no caller, or its frame would be a part of that one's.
+    #[inline(never)]
+    pub fn new(alloc: Global) -> Result<Self, AllocError>
+        ensures { IfOk result (λ queues. (h : ℕ) → queues_of queues h ≡ empty) }
     {
-        LoadStore {
-            harts: array::from_fn(|_| HartQueues::new()),
+        let mut harts = Vec::with_capacity(alloc, HART_ROOM)?;
+        for _hart in 0..HART_ROOM {
+            harts.push(HartQueues::new())?;
         }
+        Ok(LoadStore { harts })
     }
 
     /// Whether the hart has `MOST_ACCESSES` loads in flight.

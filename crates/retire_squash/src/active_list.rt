@@ -1,13 +1,13 @@
 ghost use Rattle.std.specs.Prelude.{◌≡◌, ◌↔◌, ◌<◌, ◌≤◌, ◌==◌, [], ◌∷◌, ◌++◌, length, drop, find, take};
-ghost use Rattle.std.specs.Prelude.{IsTrue, IfSome, IfNone};
+ghost use Rattle.std.specs.Prelude.{IsTrue, IfSome, IfNone, IfOk, vec_capacity};
 ghost use Rattle.numbers.specs.Sizes.{most_in_flight};
 ghost use Rattle.retire_squash.specs.Active.{Above, Within, AreActivesRising, with_stage};
 
 use crate::active::{Active, Stage};
-use arrayvec::ArrayVec;
 use events::Outcome;
 use numbers::Seq;
 use numbers::sizes::MOST_IN_FLIGHT;
+use std::alloc::{AllocError, Global};
 use std::marker::Model;
 
 /// The instructions of a hart in flight, at most `MOST_IN_FLIGHT`, oldest first. A clause sees it as
@@ -17,14 +17,16 @@ use std::marker::Model;
 /// other.
 #[derive(Drop)]
 pub struct ActiveList {
-    /// Those that have left, and then those in flight.
-    items: ArrayVec<Active, MOST_IN_FLIGHT>,
+    /// Those that have left, and then those in flight: on the heap, where all their room is made with
+    /// the list.
+    items: Vec<Active>,
     /// How many at the front have left.
     gone: usize,
 }
 
 impl Model for ActiveList {
-    ghost use Rattle.std.specs.Prelude.{List, ◌≤◌, length, drop};
+    ghost use Rattle.std.specs.Prelude.{List, ◌≤◌, length, drop, vec_capacity};
+    ghost use Rattle.numbers.specs.Sizes.{most_in_flight};
     ghost use Rattle.retire_squash.specs.declared.active.Active.{Active};
     ghost use Rattle.retire_squash.specs.Active.{AreActivesRising};
 
@@ -33,18 +35,19 @@ impl Model for ActiveList {
     ghost view = { λ a. drop a.gone a.items.items };
 
     ghost invariant = { λ a. (a.gone ≤ length a.items.items)
-        × AreActivesRising (drop a.gone a.items.items) };
+        × AreActivesRising (drop a.gone a.items.items)
+        × (length a.items.items ≤ most_in_flight) × (most_in_flight ≤ vec_capacity a.items) };
 }
 
 impl ActiveList {
-    /// An empty list.
-    pub fn new() -> Self
-        ensures { result ≡ [] }
+    /// An empty list. All its memory is taken here.
+    pub fn new(alloc: Global) -> Result<Self, AllocError>
+        ensures { IfOk result (λ list. list ≡ []) }
     {
-        ActiveList {
-            items: ArrayVec::new(),
+        Ok(ActiveList {
+            items: Vec::with_capacity(alloc, MOST_IN_FLIGHT)?,
             gone: 0,
-        }
+        })
     }
 
     /// How many instructions are in flight.
@@ -108,11 +111,11 @@ impl ActiveList {
         requires above { Above active.seq self.old }
         ensures { self.new ≡ self.old ++ active ∷ [] }
     {
-        if self.items.is_full() {
+        if self.items.len() == MOST_IN_FLIGHT {
             forget(&mut self.items, self.gone);
             self.gone = 0;
         }
-        self.items.push(active);
+        self.items.push_reserved(active);
     }
 
     /// Takes the oldest instruction out, which there must be.
@@ -200,9 +203,10 @@ fn set_stage_behind(items: &mut [Active], gone: usize, seq: Seq, stage: Stage)
 }
 
 // Gives up the room of the first `gone`, and moves the others there.
-fn forget(items: &mut ArrayVec<Active, MOST_IN_FLIGHT>, gone: usize)
+fn forget(items: &mut Vec<Active>, gone: usize)
     requires { gone ≤ length items.old.items }
-    ensures { items.new.items ≡ drop gone items.old.items }
+    ensures items { items.new.items ≡ drop gone items.old.items }
+    ensures capacity { vec_capacity items.new ≡ vec_capacity items.old }
 {
     items.as_mut_slice().rotate_left(gone);
     items.truncate(items.len() - gone);

@@ -42,7 +42,8 @@ use std::marker::Model;
 /// history, and answers it.
 #[derive(Drop)]
 pub struct Core {
-    pub(crate) state: State,
+    /// On the heap, so that a core that is handed on is one pointer.
+    pub(crate) state: Box<State>,
 }
 
 impl Model for Core {
@@ -50,7 +51,7 @@ impl Model for Core {
 
     ghost Value = { CoreView };
 
-    ghost view = { λ a. a.state };
+    ghost view = { λ a. a.state.value };
 }
 
 impl Core {

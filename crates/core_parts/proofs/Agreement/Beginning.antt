@@ -19,7 +19,7 @@ use Rattle.load_store.specs.Queues.{queues_of, empty}
 use Rattle.core_parts.specs.Accesses.{accesses_of}
 use Rattle.core_parts.specs.Checkpoints.{IsCheckpoint, HasCheckpoints}
 use Rattle.core_parts.specs.Agree.{IsSlot, IsActive, IsEntry, HartAgrees, QueueAgrees}
-use Rattle.core_parts.specs.First.{IsNew, first_values_below, first_values, BeginsAs}
+use Rattle.core_parts.specs.First.{IsNew, AreNew, AreFirst, first_values_below, first_values, BeginsAs}
 use Rattle.core_parts.specs.{declared.hart.HartState.HartState, declared.parts.Parts.Parts}
 use Rattle.core_parts.specs.{declared.slot.OpenJob.OpenJob}
 
@@ -61,16 +61,6 @@ values_more values old harts h r number count low high few is before x d inside 
     ]
 
 -- ---- All harts
-
--- Each hart is as it begins.
-abbrev pub AreNew : ℕ → List HartState → Type 0
-AreNew entry harts = (h : ℕ) (d : HartState) → h < length harts → IsNew h entry (slice_index_or harts h d)
-
--- The registers of the harts below `some` have their first numbers, and no other has a number.
-abbrev pub AreFirst : ℕ → ℕ → List (Option ℕ) → Type 0
-AreFirst harts some values = (x : ℕ) (d : Option ℕ) → x < most_registers
-    → slice_index_or values x d
-    ≡ (if nat_lt x (31 * some) then Some (first_number harts (x / 31) (x % 31 + 1)) else None)
 
 pub first_start : (harts : ℕ) (values : List (Option ℕ))
     → ((x : ℕ) (d : Option ℕ) → x < most_registers → slice_index_or values x d ≡ None)

@@ -20,7 +20,7 @@ ghost use Rattle.core_state.specs.Setup.{setup_of};
 use super::State;
 use crate::sizes::is_same_config;
 use arrayvec::ArrayVec;
-use core_parts::{Parts, count_jobs, registers_in, value_of};
+use core_parts::{Parts, count_jobs, registers_in};
 use elf_image::Image;
 use events::{History, Record};
 use numbers::sizes::MOST_REGISTERS;
@@ -147,7 +147,7 @@ impl State {
         let state = self.parts.harts.get(usize::from(hart))?;
         match register {
             0 => Some(0),
-            1..32 => value_of(&self.parts.values, state.maps.committed(register)),
+            1..32 => self.parts.values.value_of(state.maps.committed(register)),
             _ => None,
         }
     }

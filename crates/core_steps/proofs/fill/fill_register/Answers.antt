@@ -5,4 +5,4 @@ pub returns-in_default : goal.returns-in_default
 returns-in_default c = is_filled_none _ _ _ c.in_default.is
 
 pub returns-in_default-value : goal.returns-in_default-value
-returns-in_default-value c = is_filled_empty _ _ _ _ _ c.in-Some.is c.in_default-value.is c.set_value.ensures
+returns-in_default-value c = is_filled_empty _ _ _ _ _ c.in-Some.is c.in_default-value.is c.set.ensures

@@ -2,8 +2,8 @@
 use Rattle.std.proofs.{Common.refl, Common.arith, lemmas.Grind.common_steps}
 use Rattle.core_state.proofs.state.State.make.Goals as goal
 
-pub invariant_of-result : goal.invariant_of-result
-invariant_of-result c = rw c.in_ok-history.ensures (record {
+pub invariant_of-state : goal.invariant_of-state
+invariant_of-state c = rw c.in_ok-history.ensures (record {
   sizes = c.requires.accepted;
   limit = c.requires.limit;
   harts = c.in_ok-parts.ensures.harts;

@@ -3,7 +3,7 @@ use Rattle.std.specs.Prelude.{if◌then◌else◌, IsSome}
 use Rattle.slab.specs.Slab.{get, Updates, with_value}
 use Rattle.slab.proofs.SlabLemmas.{Updates-with_value}
 use Rattle.issue_queue.specs.{Entry.can_issue, declared.entry.Entry.Entry}
-use Rattle.issue_queue.specs.Ready.{order_of, in_order}
+use Rattle.issue_queue.specs.{Order.in_order, Ready.order_of}
 use Rattle.issue_queue.specs.Parts.{key_of, side_of, waits_of, waits_at, with_source, ready_of}
 use Rattle.issue_queue.proofs.Waking.{given_sound, given_room}
 use Rattle.issue_queue.proofs.parts.QueueParts.give.Goals as goal

@@ -1,4 +1,5 @@
-use Rattle.std.proofs.Common.{◌<◌, ◌≤◌, ◌-◌, ◌∙◌, refl, length, ap, arith}
+use Rattle.std.proofs.Common.{◌≡◌, ◌<◌, ◌≤◌, ◌-◌, ◌∙◌, refl, length, ap, arith}
+use Rattle.std.specs.Prelude.{vec_len}
 use Rattle.std.proofs.lemmas.List.{length-take-le}
 use Rattle.std.proofs.lemmas.Bool.Decides.{nat_tests}
 use Rattle.std.specs.Option.{option_to_list}
@@ -21,9 +22,13 @@ invariant_of-self c =
     let some = inside c.self.inside.items.items c.args.self.now c.self.inside.gone c.self.view_is
     (rw c.items.ensures.items at seen) in
     let xs = c.self.inside.items.items in
-    let fewer = ap length c.pop.ensures.rest ∙ length-take-le (length xs - 1) xs (omega arith) in
+    let fewer : length c.pop.new.self.items ≡ length xs - 1 =
+    ap length c.pop.ensures.rest ∙ length-take-le (vec_len c.self.inside.items - 1) xs (omega (arith, c.self.inside.items.ok.0))
+    ∙ ap (λ n. n - 1) c.self.inside.items.ok.0 in
     let within : c.self.inside.gone ≤ length c.pop.new.self.items = omega (arith, some, fewer) in (
       within,
       IsRising-shorter c.self.inside.items.items c.pop.new.self.items (option_to_list c.pop.result) c.self.inside.gone
           c.pop.ensures.items within c.self.invariant.1,
+      omega (arith, fewer, c.self.invariant.2),
+      rw c.pop.ensures.capacity c.self.invariant.3,
     )

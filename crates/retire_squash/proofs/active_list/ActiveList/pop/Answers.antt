@@ -7,7 +7,7 @@ use Rattle.retire_squash.proofs.active_list.ActiveList.pop.Goals as goal
 pub returns-clause-value : goal.returns-clause-value
 returns-clause-value c =
     let some = inside c.self.inside.items.items c.args.self.now c.self.inside.gone c.self.view_is c.requires in
-    rw c.deref.ensures.0 (sym c.self.view_is ∙ drop_more c.self.inside.items.items c.self.inside.gone _ some)
+    rw c.index-oldest.ensures (sym c.self.view_is ∙ drop_more c.self.inside.items.items c.self.inside.gone _ some)
 
 pub returns-clause-rest : goal.returns-clause-rest
 returns-clause-rest c = one_more c.self.inside.items.items c.args.self.now c.self.inside.gone c.self.view_is
@@ -18,4 +18,6 @@ invariant_of-self c =
       omega (arith, some),
       IsRising-one_more c.self.inside.items.items c.args.self.now c.self.inside.gone c.self.view_is
           (subst AreActivesRising c.self.view_is c.self.invariant.1),
+      c.self.invariant.2,
+      c.self.invariant.3,
     )

@@ -1,4 +1,5 @@
-use Rattle.std.proofs.Common.{◌∙◌, ◌++◌, ◌∷◌, [], ap, arith}
+use Rattle.std.proofs.Common.{◌∙◌, ◌++◌, ◌∷◌, [], ap, sym, arith}
+use Rattle.core_state.specs.View.{CoreView}
 use Rattle.smt_core.proofs.Headline.{status_in, statuses_fit, statuses_next}
 use Rattle.smt_core.proofs.calls.Core.statuses.Goals as goal
 
@@ -13,8 +14,9 @@ pub loop-hart-preserved : goal.loop-hart-preserved
 loop-hart-preserved c =
     let there = c.loop-hart-test.true in
     let harts = c.harts-hart-end.ensures.value in
-    let is = status_in c.self.inside.state c.args.self.now c.loop-hart.hart c.unwrap.result c.status.result
-    c.self.view_is (omega arith)
+    let same = ap (λ (v : CoreView). v.setup.harts) (c.deref.ensures ∙ sym c.deref-in-loop-hart.ensures) in
+    let is = status_in c.deref-in-loop-hart.result.now c.args.self.now c.loop-hart.hart c.unwrap.result c.status.result
+    (c.deref-in-loop-hart.ensures ∙ c.self.view_is) (omega (arith, there, harts, same))
     c.status.ensures c.unwrap.ensures in
     c.push.ensures.items ∙ ap (λ s. c.loop-hart.statuses.items ++ s ∷ []) is
     ∙ statuses_next c.args.self.now.past c.loop-hart.hart c.loop-hart.statuses.items c.loop-hart.invariant

@@ -1,6 +1,6 @@
 use Rattle.std.specs.Prelude.{drop}
-use Rattle.issue_queue.specs.Ready.{AreAbove}
-use Rattle.issue_queue.proofs.ready.place_for.Given as goal
+use Rattle.issue_queue.specs.Order.{AreAbove}
+use Rattle.issue_queue.proofs.order.place_for.Given as goal
 
 -- those from here on have a higher number
 abbrev pub invariant-loop-place : goal.invariant-loop-place
