@@ -26,11 +26,17 @@ pub trait Gate {
     /// So many steps of the rounds were made, and so many harts go. It comes every so many steps.
     fn at_step(&self, _steps: u64, _going: usize) {}
 
+    /// A search of the plain machine's states begins.
+    fn begin_search(&self) {}
+
+    /// So many states of the search were found, and so many of them swept. It comes every so many states.
+    fn at_states(&self, _states: u32, _swept: u32) {}
+
     /// Whether actor `actor` may go on. `seen` is what it read of the board before this turn.
     /// Where it may not, it asks all actors to stop.
     fn at(&self, actor: u8, point: Point, seen: &BoardView) -> bool;
 
-    /// The run that began, or the rounds, are over: all threads are joined, and nobody asks any more.
+    /// The run that began, the rounds or the search are over: all threads are joined, and nobody asks any more.
     fn end(&self) {}
 
     /// The runs that began are over, or no other is made since one was refused.

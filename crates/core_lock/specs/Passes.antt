@@ -1,10 +1,13 @@
 -- What a pass counts of its actor, and when that is all that the history holds of it.
 use Rattle.std.specs.Prelude.{◌≡◌, ℕ, ◌+◌, List, Option, Some, None}
+use Rattle.std.specs.Io.Iter.{u64_saturate}
 use Rattle.numbers.specs.Sizes.{most_actors}
 use Rattle.events.specs.declared.event.Event.{Event}
 use Rattle.smt_model.specs.{Basics.below, Basics.how_many, Account.event_count}
 use Rattle.smt_model.specs.{Account.last_event_of, Memory.is_going}
 use Rattle.core_state.specs.View.{CoreView}
+use Rattle.core_lock.specs.declared.ask.Said.{Said}
+use Rattle.core_lock.specs.declared.ask.Said.TheVariants as said
 
 -- A count and a last event, after a step where one was made.
 abbrev pub more : ℕ → Option Event → ℕ
@@ -14,6 +17,15 @@ more count (Some e) = count + 1
 abbrev pub later : Option Event → Option Event → Option Event
 later last None = last
 later last (Some e) = Some e
+
+-- A count of the asks that were answered idle, after one more answer. It stays at the greatest number of
+-- 64 bits once it is there.
+abbrev pub more_idle : ℕ → Said → ℕ
+more_idle idle said.Idle = u64_saturate (idle + 1)
+more_idle idle (said.Event e) = idle
+more_idle idle (said.Job job e) = idle
+more_idle idle said.Stranger = idle
+more_idle idle said.Full = idle
 
 -- The count and the last event are those of this actor in the history.
 pub record IsTold (past : List Event) (actor count : ℕ) (last : Option Event) : Type 0 where

@@ -5,7 +5,7 @@ ghost use Rattle.core_state.specs.Setup.{setup_of};
 ghost use Rattle.smt_model.specs.Account.{event_count, last_event_of};
 ghost use Rattle.core_lock.specs.Asks.{Replied, IsPredictedBy, asked_of, event_in, grown_by};
 ghost use Rattle.core_lock.specs.Asks.{is_reply};
-ghost use Rattle.core_lock.specs.Passes.{IsTold, more, later, going_in, places};
+ghost use Rattle.core_lock.specs.Passes.{IsTold, more, more_idle, later, going_in, places};
 ghost use Rattle.smt_core.specs.Shown.{Shown};
 
 mod agreement;
@@ -19,7 +19,7 @@ use crate::origin::Origin;
 use crate::reader::CoreReader;
 use agreement::{are_told, is_told};
 use asking::ask_core;
-use dealing::{counts_of, deal_four, gather, made_of};
+use dealing::{counts_of, deal_four, gather, idle_of, made_of};
 use elf_image::Image;
 use events::Event;
 use numbers::sizes::MOST_ACTORS;
@@ -42,11 +42,13 @@ pub struct Held<L: Origin> {
     ghost limit: { core.limit ≡ L.limit },
 }
 
-/// One actor's right to ask, with the number of events that it has made and the last of them.
+/// One actor's right to ask, with the number of events that it has made, the last of them, and how
+/// many of its asks were answered `Said::Idle`, or u64::MAX where it were more.
 #[derive(Drop)]
 pub struct Pass<L: Ledger> {
     actor: u8,
     count: u64,
+    idle: u64,
     last: Option<Event>,
     part: Share<L>,
     ghost one_part: { part.parts ≡ 1 },
@@ -65,7 +67,7 @@ pub struct Reply<L: Ledger> {
 
 impl<L: Origin> Held<L> {
     /// Puts a core behind the lock, and deals a pass to each actor that there may be: pass k has
-    /// the number of actor k's events in the history so far, and the last of them.
+    /// the number of actor k's events in the history so far, the last of them, and no idle asks.
     pub fn new(core: Core, blank: Blank) -> (Held<L>, [Pass<L>; MOST_ACTORS])
         requires name { blank.name ≡ L.name }
         requires parts { (blank.parts ≡ L.parts) × (L.parts ≡ most_actors) }
@@ -74,6 +76,7 @@ impl<L: Origin> Held<L> {
         ensures actors { map (λ p. p.actor) result.1 ≡ places }
         ensures counts { map (λ p. p.count) result.1 ≡ map (λ k. event_count k core.past) places }
         ensures lasts { map (λ p. p.last) result.1 ≡ map (λ k. last_event_of k core.past) places }
+        ensures idle { map (λ p. p.idle) result.1 ≡ map (λ k. 0) places }
     {
         let (mut book, mut rest) = blank.open::<L>();
         book.add(&mut rest, core.history().len() as u64);
@@ -103,6 +106,7 @@ impl<L: Origin> Held<L> {
         ensures actor { pass.new.actor ≡ pass.old.actor }
         ensures count { pass.new.count ≡ more pass.old.count (event_in result.said) }
         ensures last { pass.new.last ≡ later pass.old.last (event_in result.said) }
+        ensures idle { pass.new.idle ≡ more_idle pass.old.idle result.said }
         ensures own { is_reply pass.old.actor (asked_of ask) result.said ≡ true }
         ensures shown { Shown self.old.core × Shown self.new.core }
         ensures origin { (self.old.core.setup ≡ L.setup) × (self.old.core.limit ≡ L.limit) }
@@ -120,6 +124,7 @@ impl<L: Origin> Held<L> {
         let said = ask_core(core, actor, ask, predict);
         show(core);
         note(book, pass, said.event());
+        note_idle(pass, &said);
         Reply {
             actor,
             asked,
@@ -145,11 +150,12 @@ impl<L: Origin> Held<L> {
     /// Gives up the book, with all passes. `counts` are the passes' own and add up to the
     /// events of the history; `told` says that at each place k lies actor k's pass with that
     /// actor's count and last event; `own` says that the core is of this image and this
-    /// configuration.
+    /// configuration. `idle` are the passes' own too.
     pub fn finish(self, passes: [Pass<L>; MOST_ACTORS], image: &Image, config: &Config) -> Finished
         requires { L.parts ≡ most_actors }
         ensures core { result.core ≡ self.core }
         ensures counts { result.counts ≡ map (λ p. p.count) passes }
+        ensures idle { result.idle ≡ map (λ p. p.idle) passes }
         ensures sum { sum result.counts ≡ length result.core.past }
         ensures told { IsTrue result.told
             ↔ ((k : ℕ) (p : _) → slice_get passes k ≡ Some p
@@ -164,6 +170,7 @@ impl<L: Origin> Held<L> {
             rest,
         } = self;
         let counts = counts_of(&passes);
+        let idle = idle_of(&passes);
         let told = are_told(&core, &passes);
         let mut all = gather(rest, passes);
         book.audit(&mut all);
@@ -172,6 +179,7 @@ impl<L: Origin> Held<L> {
         Finished {
             core,
             counts,
+            idle,
             told,
             own,
         }
@@ -185,6 +193,7 @@ fn note<L: Ledger>(book: &mut Book<L>, pass: &mut Pass<L>, event: Option<Event>)
     ensures actor { pass.new.actor ≡ pass.old.actor }
     ensures count { pass.new.count ≡ more pass.old.count event }
     ensures last { pass.new.last ≡ later pass.old.last event }
+    ensures idle { pass.new.idle ≡ pass.old.idle }
 {
     if event.is_none() {
         return;
@@ -192,6 +201,7 @@ fn note<L: Ledger>(book: &mut Book<L>, pass: &mut Pass<L>, event: Option<Event>)
     let Pass {
         actor: _,
         count,
+        idle: _,
         last,
         part,
     } = pass;
@@ -199,4 +209,18 @@ fn note<L: Ledger>(book: &mut Book<L>, pass: &mut Pass<L>, event: Option<Event>)
     book.add(part, 1);
     *count += 1;
     *last = event;
+}
+
+/// Counts an ask in the pass, where it was answered idle.
+#[inline(always)]
+fn note_idle<L: Ledger>(pass: &mut Pass<L>, said: &Said)
+    ensures actor { pass.new.actor ≡ pass.old.actor }
+    ensures count { pass.new.count ≡ pass.old.count }
+    ensures last { pass.new.last ≡ pass.old.last }
+    ensures idle { pass.new.idle ≡ more_idle pass.old.idle said.now }
+{
+    match said {
+        Said::Idle => pass.idle = pass.idle.saturating_add(1),
+        Said::Event(_) | Said::Job(_, _) | Said::Stranger | Said::Full => {}
+    }
 }

@@ -16,5 +16,5 @@ pub mod trace;
 pub use print::{Line, print_event, print_record, push_event, push_record};
 pub use ranges::{RANGES, Ranges};
 pub use read::{Rule, read_event_line, read_event_within};
-pub use sink::{Broken, Over, Sink};
+pub use sink::{Broken, Over, Sink, put_all};
 pub use trace::{Trace, TraceRefused, print_trace, read_trace};

@@ -4,6 +4,7 @@ ghost use Rattle.std.specs.Prelude.{◌≡◌, ◌≢◌, ◌≤◌, [], Bool, t
 ghost use Rattle.std.specs.Prelude.{length, take, IfOk, OnOk, OnErr};
 ghost use Rattle.std.specs.Io.KnownBytes.{Appends, Keeps};
 ghost use Rattle.event_text.specs.declared.sink.Broken.{Broken as AnyBroken};
+ghost use Rattle.event_text.specs.Sinking.{HasPut, HasBroken};
 
 use std::io::{ErrorKind, Write};
 use thiserror::Error;
@@ -83,4 +84,21 @@ impl<W: Write> Sink for Over<W> {
         self.failed = true;
         Err(Broken)
     }
+}
+
+/// Puts all these bytes into a sink that hasn't failed, in as many pieces as it takes. It ends at the first put
+/// that fails.
+pub fn put_all<S: Sink>(bytes: &[u8], sink: &mut S) -> Result<(), Broken>
+    requires { S.has_failed sink.old ≡ false }
+    ensures printed { OnOk result
+        (HasPut S.written S.has_failed sink.old sink.new bytes.now) }
+    ensures broken { OnErr result
+        (HasBroken S.written S.has_failed S.puts sink.old sink.new bytes.now) }
+{
+    let mut rest = bytes;
+    while !rest.is_empty() {
+        let count = sink.put(rest)?;
+        rest = &rest[count..];
+    }
+    Ok(())
 }

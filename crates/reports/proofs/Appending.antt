@@ -4,7 +4,7 @@ use Rattle.std.proofs.Common.{None, sym, ap, subst, ◌∙◌, append_assoc, ari
 use Rattle.std.specs.{Io.KnownBytes.Appends, declared.option.Option.Option}
 use Rattle.std.proofs.{lemmas.Grind.common_steps, lemmas.List.take_more, lemmas.List.flat_map_more}
 use Rattle.text_fields.specs.Spelling.{hex}
-use Rattle.smt_model.specs.{declared.config.Status.Status, Basics.below}
+use Rattle.smt_model.specs.{Basics.below}
 use Rattle.reports.specs.Report.{each_from}
 
 -- Two writes, one after the other, are a write of both texts.
@@ -22,7 +22,7 @@ appended_twice old mid new a b first next = next ∙ ap (λ t. t ++ b) first ∙
 after_nothing : (xs : List ℕ) → xs ++ [] ≡ xs
 after_nothing xs = grind (arith, common_steps)
 
-pub each_from_suc : (text : ℕ → Status → List ℕ) (first : ℕ) (statuses : List Status) (i : ℕ) (d : Status)
+pub each_from_suc : {X : Type 0} (text : ℕ → X → List ℕ) (first : ℕ) (statuses : List X) (i : ℕ) (d : X)
     → i < length statuses
     → each_from text first (take (suc i) statuses) ≡ each_from text first (take i statuses)
     ++ text (first + i) (get_or statuses i d)
@@ -37,9 +37,9 @@ each_from_suc text first (s ∷ others) (suc i) d inside =
     (text (first + 1 + i) (get_or others i d)))
     ∙ ap (λ k. (text first s ++ each_from text (first + 1) (take i others)) ++ text k (get_or others i d)) same
 
--- a turn of a loop over the harts, and of the loop over the bytes
-pub harts_step : (text : ℕ → Status → List ℕ) (old mid new : Option (List ℕ)) (statuses : List Status) (i : ℕ)
-    (d : Status) → i < length statuses
+-- a turn of a loop over the harts or the actors, and of the loop over the bytes
+pub harts_step : {X : Type 0} (text : ℕ → X → List ℕ) (old mid new : Option (List ℕ)) (statuses : List X) (i : ℕ)
+    (d : X) → i < length statuses
     → Appends old mid (each_from text 0 (take i statuses)) → Appends mid new (text i (get_or statuses i d))
     → Appends old new (each_from text 0 (take (i + 1) statuses))
 harts_step text old mid new statuses i d inside first next =

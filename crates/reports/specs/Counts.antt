@@ -6,7 +6,7 @@ use Rattle.rv_instr.specs.declared.op.UnitKind.{UnitKind}
 use Rattle.rv_instr.specs.declared.op.UnitKind.TheVariants.{Alu, Mul, Mem}
 use Rattle.smt_model.specs.Basics.{below}
 use Rattle.history_counts.specs.{declared.counts.Counts.Counts, Numbers.retired_by}
-use Rattle.reports.specs.{declared.form.Form.Form, Form.number_text}
+use Rattle.reports.specs.{declared.form.Form.Form, Form.number_text, Report.count_line, Report.each_from}
 
 -- Its events, by kind.
 abbrev pub early_text : Form → Counts → List ℕ
@@ -63,3 +63,10 @@ units_text form harts records = flat_map (hart_text form records) (below harts)
 unfoldable pub counts_text : Form → Counts → ℕ → List Record → List ℕ
 counts_text form c harts records =
     events_text form c ++ (outcomes_text form c ++ units_text form harts records)
+
+-- How many asks of each actor were answered idle, those of actor 0 first.
+abbrev pub idle_line : ℕ → ℕ → List ℕ
+idle_line actor count = count_line (codes "idle-" ++ decimal actor) count
+
+abbrev pub idle_lines : List ℕ → List ℕ
+idle_lines idle = each_from idle_line 0 idle

@@ -40,17 +40,28 @@ harts_member statuses = codes ",\"harts\":[" ++ (each_from hart_object 0 statuse
 abbrev pub output_member : List ℕ → List ℕ
 output_member output = codes ",\"output\":\"" ++ (flat_map (hex 2) output ++ codes "\"")
 
--- The numbers of the history, an object in the object, where there are some.
-abbrev pub counts_object : Counts → ℕ → List Record → List ℕ
-counts_object c harts records = codes ",\"counts\":" ++ (counts_text Members c harts records ++ codes "}")
+-- How many asks of each actor were answered idle, where there are actors that asked.
+abbrev pub idle_item : ℕ → ℕ → List ℕ
+idle_item actor count = lead_of actor ++ decimal count
 
-abbrev pub counts_member : Option Counts → ℕ → List Record → List ℕ
-counts_member None harts records = []
-counts_member (Some c) harts records = counts_object c harts records
+abbrev pub idle_array : List ℕ → List ℕ
+idle_array idle = codes ",\"idle\":[" ++ (each_from idle_item 0 idle ++ codes "]")
+
+abbrev pub idle_member : List ℕ → List ℕ
+idle_member idle = if length idle == 0 then [] else idle_array idle
+
+-- The numbers of the history, an object in the object, where there are some.
+abbrev pub counts_object : Counts → ℕ → List Record → List ℕ → List ℕ
+counts_object c harts records idle =
+    codes ",\"counts\":" ++ (counts_text Members c harts records ++ (idle_member idle ++ codes "}"))
+
+abbrev pub counts_member : Option Counts → ℕ → List Record → List ℕ → List ℕ
+counts_member None harts records idle = []
+counts_member (Some c) harts records idle = counts_object c harts records idle
 
 -- The whole object, on one line.
-unfoldable pub json_text : ℕ → List Record → ℕ → List Status → List ℕ → Option Counts → List ℕ
-json_text events records lent statuses output counts =
+unfoldable pub json_text : ℕ → List Record → ℕ → List Status → List ℕ → Option Counts → List ℕ → List ℕ
+json_text events records lent statuses output counts idle =
     sizes_text events (length records) lent
     ++ (harts_member statuses ++ (output_member output
-    ++ (counts_member counts (length statuses) records ++ codes "}\n")))
+    ++ (counts_member counts (length statuses) records idle ++ codes "}\n")))

@@ -47,9 +47,10 @@ status_text (Stopped cause) = codes " stopped " ++ decimal cause
 abbrev pub hart_line : ℕ → Status → List ℕ
 hart_line hart status = codes "hart " ++ (decimal hart ++ (status_text status ++ 10 ∷ []))
 
-abbrev pub each_from : (ℕ → Status → List ℕ) → ℕ → List Status → List ℕ
-each_from text hart [] = []
-each_from text hart (status ∷ others) = text hart status ++ each_from text (hart + 1) others
+-- A text for each of these, in order, the first of which has this number.
+abbrev pub each_from : {X : Type 0} → (ℕ → X → List ℕ) → ℕ → List X → List ℕ
+each_from text first [] = []
+each_from text first (x ∷ others) = text first x ++ each_from text (first + 1) others
 
 abbrev pub hart_lines : ℕ → List Status → List ℕ
 hart_lines hart statuses = each_from hart_line hart statuses

@@ -3,13 +3,14 @@
 //!
 //! Read in this order: `form` (a number under its word), `records` (the records' lines), `reporting`
 //! (the report), `statuses` (the exit status that goes with it), `counts` (the numbers of a history),
-//! `json` (both as an object), `ends` (why each hart stands where it does), `looks` (how many loads
-//! looked again), `listing`, `tables`.
+//! `idle` (how many asks were answered idle), `json` (all of these as an object), `ends` (why each
+//! hart stands where it does), `looks` (how many loads looked again), `listing`, `tables`.
 #![tactic(auto)]
 
 mod counts;
 mod ends;
 mod form;
+mod idle;
 mod json;
 mod listing;
 mod looks;
@@ -21,6 +22,7 @@ mod tables;
 pub use counts::report_counts;
 pub use ends::{RunEnd, report_ends};
 pub use form::report_count;
+pub use idle::report_idle;
 pub use json::report_json;
 pub use listing::list;
 pub use looks::report_looks;

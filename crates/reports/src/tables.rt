@@ -3,7 +3,7 @@
 ghost use Rattle.std.specs.Prelude.{◌≤◌};
 ghost use Rattle.numbers.specs.Sizes.{most_harts};
 
-use core_parts::{HartState, OpenJob, Parts, Slot, count_jobs, registers_in, value_of};
+use core_parts::{HartState, OpenJob, Parts, RegisterFile, Slot, count_jobs, registers_in};
 use free_list::FreeList;
 use issue_queue::Entry;
 use numbers::Phys;
@@ -167,14 +167,14 @@ fn write_free<W: Write>(free: &FreeList, out: &mut W) -> io::Result<()> {
 fn write_registers<W: Write>(
     registers: u32,
     free: &FreeList,
-    values: &[Option<u32>; MOST_REGISTERS],
+    values: &RegisterFile,
     out: &mut W,
 ) -> io::Result<()> {
     for register in 0..MOST_REGISTERS as Phys {
         if u32::from(register) < registers && !free.holds(register) {
             write_number("reg ", u64::from(register), out)?;
             out.write_all(b" ")?;
-            write_value(value_of(values, register), out)?;
+            write_value(values.value_of(register), out)?;
         }
     }
     Ok(())

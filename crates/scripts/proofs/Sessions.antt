@@ -18,6 +18,9 @@ use Rattle.scripts.specs.{declared.actions.Action.Action, declared.actions.Scrip
 use Rattle.scripts.specs.{Script.IsScript}
 use Rattle.scripts.specs.Session.{Holding, nobody, none_line, HasAsked, job_in, IsIssue, HandsOver}
 use Rattle.scripts.specs.Session.{HandsBack, HandsBackWhere, IsUnit, Acts, AllAct, repeated, actions_of, HaveAsked}
+use Rattle.scripts.specs.Session.{AreAsked, Counted, HasReplied, HaveCounted, AreCounted, uncounted}
+use Rattle.scripts.specs.declared.actions.Action.TheVariants as action
+use Rattle.core_lock.specs.Asks.{Replied}
 use Rattle.scripts.specs.Session.{unasked, HasGuessed, AreGuessed, AreAskedWith, PrintsGuessed}
 use Rattle.scripts.proofs.{Asking.guessed_both, Asking.guessed_none, Written.appends_more}
 
@@ -26,12 +29,13 @@ after_nothing xs = grind (arith, common_steps)
 
 -- ---- All of one list of actions, and then all of another
 
-pub act_both : (first second : List Action) (held between now : Holding) (old mid new : CoreView) (a b : List ℕ)
-    → AllAct first held between old mid a → AllAct second between now mid new b
-    → AllAct (first ++ second) held now old new (a ++ b)
+pub act_both : (first second : List Action) (held between now : Holding) (old mid new : Counted) (a b : List ℕ)
+    → AllAct HasReplied first held between old mid a → AllAct HasReplied second between now mid new b
+    → AllAct HasReplied (first ++ second) held now old new (a ++ b)
 act_both [] second held between now old mid new a b one two =
-    subst (λ t. AllAct second held now old new (t ++ b)) (sym one.2)
-    (subst (λ h. AllAct second h now old new b) one.0 (subst (λ c. AllAct second between now c new b) one.1 two))
+    subst (λ t. AllAct HasReplied second held now old new (t ++ b)) (sym one.2)
+    (subst (λ h. AllAct HasReplied second h now old new b) one.0
+    (subst (λ c. AllAct HasReplied second between now c new b) one.1 two))
 act_both (x ∷ others) second held between now old mid new a b one two = (
   one.0,
   one.1,
@@ -42,9 +46,94 @@ act_both (x ∷ others) second held between now old mid new a b one two = (
   ap (λ t. t ++ b) one.6 ∙ append_assoc one.2 one.3 b,
 )
 
-pub act_one : (x : Action) (held now : Holding) (old new : CoreView) (text : List ℕ) → Acts x held now old new text
-    → AllAct (x ∷ []) held now old new text
+pub act_one : (x : Action) (held now : Holding) (old new : Counted) (text : List ℕ)
+    → Acts HasReplied x held now old new text → AllAct HasReplied (x ∷ []) held now old new text
 act_one x held now old new text acts = (now, new, text, [], acts, (refl, refl, refl), sym (after_nothing text))
+
+same_counted : (one : Counted) (core : CoreView) (idle : List ℕ) → core ≡ one.core → idle ≡ one.idle
+    → one ≡ record { core = core; idle = idle }
+same_counted one core idle is are =
+    ap (λ c. record { core = c; idle = one.idle }) (sym is) ∙ ap (λ l. record { core = core; idle = l }) (sym are)
+
+-- ---- What was counted was asked
+
+asked_plainly : (k : ℕ) (a : Ask) (old new : Counted) (text : List ℕ) → HasAsked HasReplied k a old new text
+    → HasAsked Replied k a old.core new.core text
+asked_plainly k a old new text one = (one.0, record { replied = one.1.replied.replied; line = one.1.line })
+
+issued_plainly : (k : ℕ) (s : Said) (held now : Holding) (old new : Counted) (text : List ℕ)
+    → IsIssue HasReplied k s held now old new text → IsIssue Replied k s held now old.core new.core text
+issued_plainly k s held now old new text one = record {
+  asked = record { replied = one.asked.replied.replied; line = one.asked.line };
+  holds = one.holds;
+}
+
+over_plainly : (k : ℕ) (slot : Option DoneView) (old new : Counted) (text : List ℕ)
+    → HandsOver HasReplied k slot old new text → HandsOver Replied k slot old.core new.core text
+over_plainly k None old new text one = (ap (λ c. c.core) one.0, one.1)
+over_plainly k (Some done) old new text one = asked_plainly k (ask.Complete done) old new text one
+
+back_plainly : (k : ℕ) (held now : Holding) (old new : Counted) (text : List ℕ)
+    → HandsBack HasReplied k held now old new text → HandsBack Replied k held now old.core new.core text
+back_plainly k held now old new text one = record {
+  over = over_plainly k (slice_index_or held k None) old new text one.over;
+  empty = one.empty;
+}
+
+where_plainly : (job : Option JobView) (k : ℕ) (held now : Holding) (old new : Counted) (text : List ℕ)
+    → HandsBackWhere HasReplied job k held now old new text
+    → HandsBackWhere Replied job k held now old.core new.core text
+where_plainly None k held now old new text one = (one.0, ap (λ c. c.core) one.1, one.2)
+where_plainly (Some job) k held now old new text one = back_plainly k held now old new text one
+
+acts_plainly : (x : Action) (held now : Holding) (old new : Counted) (text : List ℕ)
+    → Acts HasReplied x held now old new text → Acts Replied x held now old.core new.core text
+acts_plainly (action.Fetch k) held now old new text one = (one.0, asked_plainly k ask.Fetch old new text one.1)
+acts_plainly (action.Decode k h) held now old new text one =
+    (one.0, asked_plainly k (ask.Decode h) old new text one.1)
+acts_plainly (action.Rename k h) held now old new text one =
+    (one.0, asked_plainly k (ask.Rename h) old new text one.1)
+acts_plainly (action.Retire k h) held now old new text one =
+    (one.0, asked_plainly k (ask.Retire h) old new text one.1)
+acts_plainly (action.Issue k) held now old new text one =
+    (one.0, issued_plainly k one.0 held now old new text one.1)
+acts_plainly (action.Complete k) held now old new text one = back_plainly k held now old new text one
+acts_plainly (action.Unit k) held now old new text one = record {
+  said = one.said;
+  between = one.between;
+  mid = one.mid.core;
+  first = one.first;
+  second = one.second;
+  issue = issued_plainly k one.said held one.between old one.mid one.first one.issue;
+  back = where_plainly (job_in one.said) k one.between now one.mid new one.second one.back;
+  both = one.both;
+}
+
+all_plainly : (actions : List Action) (held now : Holding) (old new : Counted) (text : List ℕ)
+    → AllAct HasReplied actions held now old new text → AllAct Replied actions held now old.core new.core text
+all_plainly [] held now old new text one = (one.0, ap (λ c. c.core) one.1, one.2)
+all_plainly (x ∷ others) held now old new text one = (
+  one.0,
+  one.1.core,
+  one.2,
+  one.3,
+  acts_plainly x held one.0 old one.1 one.2 one.4,
+  all_plainly others one.0 now one.1 new one.3 one.5,
+  one.6,
+)
+
+pub have_asked : (words : List ScriptWord) (old new : CoreView) (idle text : List ℕ)
+    → HaveCounted words old new idle text → HaveAsked words old new text
+have_asked words old new idle text one =
+    (one.0, all_plainly (actions_of words) nobody one.0 (uncounted old) (record { core = new; idle = idle }) text one.1)
+
+pub are_asked : (script : List ℕ) (core : CoreView) (idle text : List ℕ) → AreCounted script core idle text
+    → AreAsked script core text
+are_asked script core idle text one = record {
+  words = one.words;
+  is_script = one.is_script;
+  asked = have_asked one.words (unasked core) core idle text one.asked;
+}
 
 again : {X : Type 0} (n : ℕ) (x : X) → replicate (suc n) x ≡ replicate n x ++ x ∷ []
 again zero x = refl
@@ -93,49 +182,49 @@ module _ {P : Type 0} (predicts : P → ℕ → ℕ → ℕ → ℕ → P → Ty
   }
 
   -- Nothing was asked.
-  pub printed_none : (core : CoreView) (predictor : P) (out : Option (List ℕ)) (held : Holding) → Appends out out []
-      → PrintsGuessed predicts core core predictor predictor out out (AllAct [] held held core core)
+  pub printed_none : (core : Counted) (predictor : P) (out : Option (List ℕ)) (held : Holding) → Appends out out []
+      → PrintsGuessed predicts core.core core.core predictor predictor out out (AllAct HasReplied [] held held core core)
   printed_none core predictor out held same = record {
     printed = ([], (refl, refl, refl), same);
-    guessed = guessed_none predicts core.past predictor;
+    guessed = guessed_none predicts core.core.past predictor;
   }
 
-  both : (first second : List Action) (held between now : Holding) (old mid new : CoreView)
+  both : (first second : List Action) (held between now : Holding) (old mid new : Counted)
       (before at after : P) (was then out : Option (List ℕ))
-      → PrintsGuessed predicts old mid before at was then (AllAct first held between old mid)
-      → PrintsGuessed predicts mid new at after then out (AllAct second between now mid new)
-      → PrintsGuessed predicts old new before after was out (AllAct (first ++ second) held now old new)
+      → PrintsGuessed predicts old.core mid.core before at was then (AllAct HasReplied first held between old mid)
+      → PrintsGuessed predicts mid.core new.core at after then out (AllAct HasReplied second between now mid new)
+      → PrintsGuessed predicts old.core new.core before after was out (AllAct HasReplied (first ++ second) held now old new)
   both first second held between now old mid new before at after was then out one two =
-      printed_both old mid new before at after was then out _ _ _
+      printed_both old.core mid.core new.core before at after was then out _ _ _
       (λ a b. act_both first second held between now old mid new a b) one two
 
   -- a turn of the loop over the repeats
-  pub repeat_step : (n : ℕ) (x : Action) (held between now : Holding) (old mid new : CoreView)
+  pub repeat_step : (n : ℕ) (x : Action) (held between now : Holding) (old mid new : Counted)
       (before at after : P) (was then out : Option (List ℕ))
-      → PrintsGuessed predicts old mid before at was then (AllAct (replicate n x) held between old mid)
-      → PrintsGuessed predicts mid new at after then out (Acts x between now mid new)
-      → PrintsGuessed predicts old new before after was out (AllAct (replicate (n + 1) x) held now old new)
+      → PrintsGuessed predicts old.core mid.core before at was then (AllAct HasReplied (replicate n x) held between old mid)
+      → PrintsGuessed predicts mid.core new.core at after then out (Acts HasReplied x between now mid new)
+      → PrintsGuessed predicts old.core new.core before after was out (AllAct HasReplied (replicate (n + 1) x) held now old new)
   repeat_step n x held between now old mid new before at after was then out one two =
       let on : n + 1 ≡ suc n = omega arith in
       let more : replicate (n + 1) x ≡ replicate n x ++ x ∷ [] = ap (λ k. replicate k x) on ∙ again n x in
-      subst (λ l. PrintsGuessed predicts old new before after was out (AllAct l held now old new)) (sym more)
+      subst (λ l. PrintsGuessed predicts old.core new.core before after was out (AllAct HasReplied l held now old new)) (sym more)
       (both (replicate n x) (x ∷ []) held between now old mid new before at after was then out one
-      (printed_as mid new at after then out _ _ (act_one x between now mid new) two))
+      (printed_as mid.core new.core at after then out _ _ (act_one x between now mid new) two))
 
   -- a turn of the loop over the words
   pub words_step : (words : List ScriptWord) (i : ℕ) (d : ScriptWord) (held between now : Holding)
-      (old mid new : CoreView) (before at after : P) (was then out : Option (List ℕ)) → i < length words
-      → PrintsGuessed predicts old mid before at was then
-      (AllAct (actions_of (take i words)) held between old mid)
-      → PrintsGuessed predicts mid new at after then out
-      (AllAct (repeated (get_or words i d)) between now mid new)
-      → PrintsGuessed predicts old new before after was out
-      (AllAct (actions_of (take (i + 1) words)) held now old new)
+      (old mid new : Counted) (before at after : P) (was then out : Option (List ℕ)) → i < length words
+      → PrintsGuessed predicts old.core mid.core before at was then
+      (AllAct HasReplied (actions_of (take i words)) held between old mid)
+      → PrintsGuessed predicts mid.core new.core at after then out
+      (AllAct HasReplied (repeated (get_or words i d)) between now mid new)
+      → PrintsGuessed predicts old.core new.core before after was out
+      (AllAct HasReplied (actions_of (take (i + 1) words)) held now old new)
   words_step words i d held between now old mid new before at after was then out inside one two =
       let more : actions_of (take (i + 1) words) ≡ actions_of (take i words) ++ repeated (get_or words i d) =
       ap actions_of (take_more words i d inside)
       ∙ sym (flat_map_more repeated [] (take i words) (get_or words i d)) in
-      subst (λ l. PrintsGuessed predicts old new before after was out (AllAct l held now old new)) (sym more)
+      subst (λ l. PrintsGuessed predicts old.core new.core before after was out (AllAct HasReplied l held now old new)) (sym more)
       (both (actions_of (take i words)) (repeated (get_or words i d)) held between now old mid new before at after
       was then out one two)
 
@@ -151,17 +240,17 @@ module _ {P : Type 0} (predicts : P → ℕ → ℕ → ℕ → ℕ → P → Ty
   came_none (Some j) came not_so is = absurd (false≢true (sym not_so ∙ is))
 
   -- An issue, and whether a job came.
-  abbrev pub Issues : ℕ → Bool → Holding → Holding → CoreView → CoreView → List ℕ → Type 0
+  abbrev pub Issues : ℕ → Bool → Holding → Holding → Counted → Counted → List ℕ → Type 0
   Issues actor came held now old new text =
-      (said : Said) × (came ≡ is_some (job_in said)) × IsIssue actor said held now old new text
+      (said : Said) × (came ≡ is_some (job_in said)) × IsIssue HasReplied actor said held now old new text
 
-  pub unit_both : (actor : ℕ) (held between now : Holding) (old mid new : CoreView) (before at after : P)
+  pub unit_both : (actor : ℕ) (held between now : Holding) (old mid new : Counted) (before at after : P)
       (was then out : Option (List ℕ)) (came : Bool) → came ≡ true
-      → PrintsGuessed predicts old mid before at was then (Issues actor came held between old mid)
-      → PrintsGuessed predicts mid new at after then out (HandsBack actor between now mid new)
-      → PrintsGuessed predicts old new before after was out (IsUnit actor held now old new)
+      → PrintsGuessed predicts old.core mid.core before at was then (Issues actor came held between old mid)
+      → PrintsGuessed predicts mid.core new.core at after then out (HandsBack HasReplied actor between now mid new)
+      → PrintsGuessed predicts old.core new.core before after was out (IsUnit HasReplied actor held now old new)
   unit_both actor held between now old mid new before at after was then out came did one two =
-      printed_both old mid new before at after was then out _ _ _
+      printed_both old.core mid.core new.core before at after was then out _ _ _
       (λ a b issued back.
       let job = came_some (job_in issued.0) came did issued.1 in
       record {
@@ -171,17 +260,17 @@ module _ {P : Type 0} (predicts : P → ℕ → ℕ → ℕ → ℕ → P → Ty
         first = a;
         second = b;
         issue = issued.2;
-        back = subst (λ j. HandsBackWhere j actor between now mid new b) (sym job.1) back;
+        back = subst (λ j. HandsBackWhere HasReplied j actor between now mid new b) (sym job.1) back;
         both = refl;
       })
       one two
 
-  pub unit_alone : (actor : ℕ) (held now : Holding) (old new : CoreView) (before after : P)
+  pub unit_alone : (actor : ℕ) (held now : Holding) (old new : Counted) (before after : P)
       (was out : Option (List ℕ)) (came : Bool) → came ≡ false
-      → PrintsGuessed predicts old new before after was out (Issues actor came held now old new)
-      → PrintsGuessed predicts old new before after was out (IsUnit actor held now old new)
+      → PrintsGuessed predicts old.core new.core before after was out (Issues actor came held now old new)
+      → PrintsGuessed predicts old.core new.core before after was out (IsUnit HasReplied actor held now old new)
   unit_alone actor held now old new before after was out came not_so one =
-      printed_as old new before after was out _ _
+      printed_as old.core new.core before after was out _ _
       (λ a issued.
       let job = came_none (job_in issued.0) came not_so issued.1 in
       record {
@@ -191,63 +280,71 @@ module _ {P : Type 0} (predicts : P → ℕ → ℕ → ℕ → ℕ → P → Ty
         first = a;
         second = [];
         issue = issued.2;
-        back = subst (λ j. HandsBackWhere j actor now now new new []) (sym job) (refl, refl, refl);
+        back = subst (λ j. HandsBackWhere HasReplied j actor now now new new []) (sym job) (refl, refl, refl);
         both = sym (after_nothing a);
       })
       one
 
   -- What an actor holds is handed back; and one that holds nothing asks nothing.
-  pub back_asked : (actor : ℕ) (held now : Holding) (done : DoneView) (old new : CoreView) (before after : P)
+  pub back_asked : (actor : ℕ) (held now : Holding) (done : DoneView) (old new : Counted) (before after : P)
       (was out : Option (List ℕ)) → slice_index_or held actor None ≡ Some done → now ≡ slice_set held actor None
-      → PrintsGuessed predicts old new before after was out (HasAsked actor (ask.Complete done) old new)
-      → PrintsGuessed predicts old new before after was out (HandsBack actor held now old new)
+      → PrintsGuessed predicts old.core new.core before after was out (HasAsked HasReplied actor (ask.Complete done) old new)
+      → PrintsGuessed predicts old.core new.core before after was out (HandsBack HasReplied actor held now old new)
   back_asked actor held now done old new before after was out at empty one =
-      printed_as old new before after was out _ _
-      (λ a asked. record { over = subst (λ slot. HandsOver actor slot old new a) (sym at) asked; empty = empty }) one
+      printed_as old.core new.core before after was out _ _
+      (λ a asked. record { over = subst (λ slot. HandsOver HasReplied actor slot old new a) (sym at) asked; empty = empty }) one
 
-  pub back_none : (actor : ℕ) (held now : Holding) (old new : CoreView) (before after : P)
+  pub back_none : (actor : ℕ) (held now : Holding) (old new : Counted) (before after : P)
       (was out : Option (List ℕ)) → slice_index_or held actor None ≡ None → now ≡ slice_set held actor None
       → new ≡ old → after ≡ before → Appends was out none_line
-      → PrintsGuessed predicts old new before after was out (HandsBack actor held now old new)
+      → PrintsGuessed predicts old.core new.core before after was out (HandsBack HasReplied actor held now old new)
   back_none actor held now old new before after was out at empty same unasked printed = record {
     printed = (
       none_line,
-      record { over = subst (λ slot. HandsOver actor slot old new none_line) (sym at) (same, refl); empty = empty },
+      record { over = subst (λ slot. HandsOver HasReplied actor slot old new none_line) (sym at) (same, refl); empty = empty },
       printed,
     );
     guessed =
-        subst (λ (c : CoreView). HasGuessed predicts old.past c.past before after) (sym same)
-        (subst (λ p. HasGuessed predicts old.past old.past before p) (sym unasked) (guessed_none predicts old.past before));
+        subst (λ (c : Counted). HasGuessed predicts old.core.past c.core.past before after) (sym same)
+        (subst (λ p. HasGuessed predicts old.core.past old.core.past before p) (sym unasked)
+        (guessed_none predicts old.core.past before));
   }
 
   -- ---- An action that makes one ask
 
-  pub acts_as : (x y : Action) → x ≡ y → (held now : Holding) (old new : CoreView) (before after : P)
-      (was out : Option (List ℕ)) → PrintsGuessed predicts old new before after was out (Acts y held now old new)
-      → PrintsGuessed predicts old new before after was out (Acts x held now old new)
+  pub acts_as : (x y : Action) → x ≡ y → (held now : Holding) (old new : Counted) (before after : P)
+      (was out : Option (List ℕ)) → PrintsGuessed predicts old.core new.core before after was out (Acts HasReplied y held now old new)
+      → PrintsGuessed predicts old.core new.core before after was out (Acts HasReplied x held now old new)
   acts_as x y same held now old new before after was out one =
-      subst (λ a. PrintsGuessed predicts old new before after was out (Acts a held now old new)) (sym same) one
+      subst (λ a. PrintsGuessed predicts old.core new.core before after was out (Acts HasReplied a held now old new)) (sym same) one
 
   -- The actors hold what they held.
-  pub holds_still : (actor : ℕ) (ask : Ask) (held now : Holding) (old new : CoreView) (before after : P)
+  pub holds_still : (actor : ℕ) (ask : Ask) (held now : Holding) (old new : Counted) (before after : P)
       (was out : Option (List ℕ)) → now ≡ held
-      → PrintsGuessed predicts old new before after was out (HasAsked actor ask old new)
-      → PrintsGuessed predicts old new before after was out (λ text. (now ≡ held) × HasAsked actor ask old new text)
+      → PrintsGuessed predicts old.core new.core before after was out (HasAsked HasReplied actor ask old new)
+      → PrintsGuessed predicts old.core new.core before after was out (λ text. (now ≡ held) × HasAsked HasReplied actor ask old new text)
   holds_still actor ask held now old new before after was out same one =
-      printed_as old new before after was out _ _ (λ text asked. (same, asked)) one
+      printed_as old.core new.core before after was out _ _ (λ text asked. (same, asked)) one
 
   -- ---- All words, of a core whose actors hold nothing
 
-  pub asked_whole : {A E F : Type 0} (written : Result A E) (left : F) (core : F → CoreView) (words : List ScriptWord)
-      (old new : CoreView) (held now : Holding) (before after : P) (was out : Option (List ℕ))
-      → held ≡ nobody → core left ≡ new
-      → OnOk written (PrintsGuessed predicts old new before after was out (AllAct (actions_of words) held now old new))
-      → IfOk (result_and written (Ok left)) (λ end. Prints was out (HaveAsked words old (core end)))
-  asked_whole (Ok value) left core words old new held now before after was out none is one =
+  pub asked_whole : {A E F : Type 0} (written : Result A E) (left : F) (core : F → CoreView) (idle : F → List ℕ)
+      (words : List ScriptWord) (first : CoreView) (old new : Counted) (held now : Holding) (before after : P)
+      (was out : Option (List ℕ)) → held ≡ nobody → old ≡ uncounted first → core left ≡ new.core → idle left ≡ new.idle
+      → OnOk written (PrintsGuessed predicts old.core new.core before after was out
+      (AllAct HasReplied (actions_of words) held now old new))
+      → IfOk (result_and written (Ok left))
+      (λ end. Prints was out (HaveCounted words first (core end) (idle end)))
+  asked_whole (Ok value) left core idle words first old new held now before after was out none start is are one =
       let text = one.printed.0 in
-      let acted = subst (λ h. AllAct (actions_of words) h now old new text) none one.printed.1 in
-      (text, (now, subst (λ c. AllAct (actions_of words) nobody now old c text) (sym is) acted), one.printed.2)
-  asked_whole (Err error) left core words old new held now before after was out none is one = tt
+      let acted = subst (λ h. AllAct HasReplied (actions_of words) h now old new text) none one.printed.1 in
+      let begun = subst (λ c. AllAct HasReplied (actions_of words) nobody now c new text) start acted in
+      let ended : new ≡ record { core = core left; idle = idle left } = same_counted new (core left) (idle left) is are in (
+        text,
+        (now, subst (λ c. AllAct HasReplied (actions_of words) nobody now (uncounted first) c text) ended begun),
+        one.printed.2,
+      )
+  asked_whole (Err error) left core idle words first old new held now before after was out none start is are one = tt
 
   pub guessed_whole : {A E F : Type 0} (written : Result A E) (left : F) (core : F → CoreView)
       (old new : CoreView) (before after : P) (was out : Option (List ℕ)) (Is : List ℕ → Type 0) → core left ≡ new
@@ -257,6 +354,15 @@ module _ {P : Type 0} (predicts : P → ℕ → ℕ → ℕ → ℕ → P → Ty
   guessed_whole (Ok value) left core old new before after was out Is is one =
       subst (λ (c : CoreView). HasGuessed predicts old.past c.past before after) (sym is) one.guessed
   guessed_whole (Err error) left core old new before after was out Is is one = tt
+
+-- What was counted was asked.
+pub asked_plain : {A E F : Type 0} (written : Result A E) (left : F) (core : F → CoreView) (idle : F → List ℕ)
+    (words : List ScriptWord) (first : CoreView) (was out : Option (List ℕ))
+    → IfOk (result_and written (Ok left)) (λ end. Prints was out (HaveCounted words first (core end) (idle end)))
+    → IfOk (result_and written (Ok left)) (λ end. Prints was out (HaveAsked words first (core end)))
+asked_plain (Ok value) left core idle words first was out one =
+    (one.0, have_asked words first (core left) (idle left) one.0 one.1, one.2)
+asked_plain (Err error) left core idle words first was out one = tt
 
 -- What holds of what is left at the end.
 pub whole : {A E F : Type 0} (written : Result A E) (left : F) (Is : F → Type 0) → Is left
@@ -293,3 +399,17 @@ of_words predicts script words old new before after was now is none setup limit 
       },
       printed.2,
     )
+
+pub of_counted : (script : List ℕ) (words : List ScriptWord) (old new : CoreView) (idle : List ℕ)
+    (was now : Option (List ℕ)) → IsScript script words → old.past ≡ [] → new.setup ≡ old.setup
+    → new.limit ≡ old.limit → Prints was now (HaveCounted words old new idle)
+    → Prints was now (AreCounted script new idle)
+of_counted script words old new idle was now is none setup limit printed = (
+  printed.0,
+  record {
+    words = words;
+    is_script = is;
+    asked = subst (λ c. HaveCounted words c new idle printed.0) (unasked_is old new none setup limit) printed.1;
+  },
+  printed.2,
+)

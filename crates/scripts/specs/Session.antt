@@ -8,7 +8,7 @@ use Rattle.exec_units.specs.Job.{JobView, DoneView}
 use Rattle.text_fields.specs.Printing.{Prints}
 use Rattle.core_state.specs.View.{CoreView}
 use Rattle.smt_core.specs.Answers.{IsGuess}
-use Rattle.core_lock.specs.{declared.ask.Ask.Ask, declared.ask.Said.Said, Asks.Replied}
+use Rattle.core_lock.specs.{declared.ask.Ask.Ask, declared.ask.Said.Said, Asks.Replied, Passes.more_idle}
 use Rattle.core_lock.specs.declared.ask.Ask.TheVariants as ask
 use Rattle.core_lock.specs.declared.ask.Said.TheVariants as said
 use Rattle.scripts.specs.{declared.actions.Action.Action, declared.actions.ScriptWord.ScriptWord}
@@ -41,14 +41,18 @@ none_line = codes "none" ++ 10 ∷ []
 
 -- ---- One ask
 
--- An actor makes this ask of the core, this is the reply, and this its line.
-pub record IsAsked (actor : ℕ) (ask : Ask) (said : Said) (old new : CoreView)
-    (text : List ℕ) : Type 0 where
-  pub replied : Replied actor ask old said new
+-- What asks lead from and to is a state: a core, or one with more beside it. `Asks` says which answer
+-- leads from which state to which.
+
+-- An actor makes this ask, this is the reply, and this its line.
+pub record IsAsked {S : Type 0} (Asks : ℕ → Ask → S → Said → S → Type 0) (actor : ℕ) (ask : Ask)
+    (said : Said) (old new : S) (text : List ℕ) : Type 0 where
+  pub replied : Asks actor ask old said new
   pub line : text ≡ reply_line said
 
-abbrev pub HasAsked : ℕ → Ask → CoreView → CoreView → List ℕ → Type 0
-HasAsked actor ask old new text = (said : Said) × IsAsked actor ask said old new text
+abbrev pub HasAsked : {S : Type 0} → (ℕ → Ask → S → Said → S → Type 0) → ℕ → Ask → S → S → List ℕ
+    → Type 0
+HasAsked Asks actor ask old new text = (said : Said) × IsAsked Asks actor ask said old new text
 
 -- The job that came with a reply. It is worked at once, and what was done is held.
 abbrev pub job_in : Said → Option JobView
@@ -64,63 +68,66 @@ Holds actor (Some job) held now =
     (done : DoneView) × (done.job ≡ job) × (now ≡ slice_set held actor (Some done))
 
 -- An actor issues.
-pub record IsIssue (actor : ℕ) (said : Said) (held now : Holding) (old new : CoreView)
-    (text : List ℕ) : Type 0 where
-  pub asked : IsAsked actor ask.Issue said old new text
+pub record IsIssue {S : Type 0} (Asks : ℕ → Ask → S → Said → S → Type 0) (actor : ℕ) (said : Said)
+    (held now : Holding) (old new : S) (text : List ℕ) : Type 0 where
+  pub asked : IsAsked Asks actor ask.Issue said old new text
   pub holds : Holds actor (job_in said) held now
 
 -- It hands back what it holds; where it holds nothing, no ask is made.
-abbrev pub HandsOver : ℕ → Option DoneView → CoreView → CoreView → List ℕ → Type 0
-HandsOver actor None old new text = (new ≡ old) × (text ≡ none_line)
-HandsOver actor (Some done) old new text = HasAsked actor (ask.Complete done) old new text
+abbrev pub HandsOver : {S : Type 0} → (ℕ → Ask → S → Said → S → Type 0) → ℕ → Option DoneView → S → S
+    → List ℕ → Type 0
+HandsOver Asks actor None old new text = (new ≡ old) × (text ≡ none_line)
+HandsOver Asks actor (Some done) old new text = HasAsked Asks actor (ask.Complete done) old new text
 
-pub record HandsBack (actor : ℕ) (held now : Holding) (old new : CoreView)
-    (text : List ℕ) : Type 0 where
-  pub over : HandsOver actor (slice_index_or held actor None) old new text
+pub record HandsBack {S : Type 0} (Asks : ℕ → Ask → S → Said → S → Type 0) (actor : ℕ)
+    (held now : Holding) (old new : S) (text : List ℕ) : Type 0 where
+  pub over : HandsOver Asks actor (slice_index_or held actor None) old new text
   pub empty : now ≡ slice_set held actor None
 
 -- Behind an issue: the actor hands back where a job came, and else does nothing.
-abbrev pub HandsBackWhere : Option JobView → ℕ → Holding → Holding → CoreView → CoreView → List ℕ
-    → Type 0
-HandsBackWhere None actor held now old new text = (now ≡ held) × (new ≡ old) × (text ≡ [])
-HandsBackWhere (Some job) actor held now old new text = HandsBack actor held now old new text
+abbrev pub HandsBackWhere : {S : Type 0} → (ℕ → Ask → S → Said → S → Type 0) → Option JobView → ℕ
+    → Holding → Holding → S → S → List ℕ → Type 0
+HandsBackWhere Asks None actor held now old new text = (now ≡ held) × (new ≡ old) × (text ≡ [])
+HandsBackWhere Asks (Some job) actor held now old new text = HandsBack Asks actor held now old new text
 
 -- It issues and, where a job came, hands it back.
-pub record IsUnit (actor : ℕ) (held now : Holding) (old new : CoreView)
-    (text : List ℕ) : Type 0 where
+pub record IsUnit {S : Type 0} (Asks : ℕ → Ask → S → Said → S → Type 0) (actor : ℕ)
+    (held now : Holding) (old new : S) (text : List ℕ) : Type 0 where
   pub said : Said
   pub between : Holding
-  pub mid : CoreView
+  pub mid : S
   pub first : List ℕ
   pub second : List ℕ
-  pub issue : IsIssue actor said held between old mid first
-  pub back : HandsBackWhere (job_in said) actor between now mid new second
+  pub issue : IsIssue Asks actor said held between old mid first
+  pub back : HandsBackWhere Asks (job_in said) actor between now mid new second
   pub both : text ≡ first ++ second
 
 -- ---- The asks of a script
 
--- What an action asks, from what the actors hold and a core to what they hold then and that core,
+-- What an action asks, from what the actors hold and a state to what they hold then and that state,
 -- and its lines.
-abbrev pub Acts : Action → Holding → Holding → CoreView → CoreView → List ℕ → Type 0
-Acts (action.Fetch actor) held now old new text =
-    (now ≡ held) × HasAsked actor ask.Fetch old new text
-Acts (action.Decode actor hart) held now old new text =
-    (now ≡ held) × HasAsked actor (ask.Decode hart) old new text
-Acts (action.Rename actor hart) held now old new text =
-    (now ≡ held) × HasAsked actor (ask.Rename hart) old new text
-Acts (action.Retire actor hart) held now old new text =
-    (now ≡ held) × HasAsked actor (ask.Retire hart) old new text
-Acts (action.Issue actor) held now old new text =
-    (said : Said) × IsIssue actor said held now old new text
-Acts (action.Complete actor) held now old new text = HandsBack actor held now old new text
-Acts (action.Unit actor) held now old new text = IsUnit actor held now old new text
+abbrev pub Acts : {S : Type 0} → (ℕ → Ask → S → Said → S → Type 0) → Action → Holding → Holding → S → S
+    → List ℕ → Type 0
+Acts Asks (action.Fetch actor) held now old new text =
+    (now ≡ held) × HasAsked Asks actor ask.Fetch old new text
+Acts Asks (action.Decode actor hart) held now old new text =
+    (now ≡ held) × HasAsked Asks actor (ask.Decode hart) old new text
+Acts Asks (action.Rename actor hart) held now old new text =
+    (now ≡ held) × HasAsked Asks actor (ask.Rename hart) old new text
+Acts Asks (action.Retire actor hart) held now old new text =
+    (now ≡ held) × HasAsked Asks actor (ask.Retire hart) old new text
+Acts Asks (action.Issue actor) held now old new text =
+    (said : Said) × IsIssue Asks actor said held now old new text
+Acts Asks (action.Complete actor) held now old new text = HandsBack Asks actor held now old new text
+Acts Asks (action.Unit actor) held now old new text = IsUnit Asks actor held now old new text
 
 -- Each of these actions asks, one after another.
-abbrev pub AllAct : List Action → Holding → Holding → CoreView → CoreView → List ℕ → Type 0
-AllAct [] held now old new text = (now ≡ held) × (new ≡ old) × (text ≡ [])
-AllAct (a ∷ others) held now old new text =
-    (between : Holding) × (mid : CoreView) × (first : List ℕ) × (second : List ℕ)
-    × Acts a held between old mid first × AllAct others between now mid new second
+abbrev pub AllAct : {S : Type 0} → (ℕ → Ask → S → Said → S → Type 0) → List Action → Holding → Holding
+    → S → S → List ℕ → Type 0
+AllAct Asks [] held now old new text = (now ≡ held) × (new ≡ old) × (text ≡ [])
+AllAct {S} Asks (a ∷ others) held now old new text =
+    (between : Holding) × (mid : S) × (first : List ℕ) × (second : List ℕ)
+    × Acts Asks a held between old mid first × AllAct Asks others between now mid new second
     × (text ≡ first ++ second)
 
 -- The actions of words, each as often as its word says.
@@ -130,11 +137,41 @@ repeated word = replicate word.repeat word.action
 abbrev pub actions_of : List ScriptWord → List Action
 actions_of words = flat_map repeated words
 
--- These words were asked of a core, one after another and by actors that held nothing: it has
--- become this one, and these are their lines.
+-- These words were asked, one after another and by actors that held nothing: the state has become this
+-- one, and these are their lines.
+abbrev pub HaveActed : {S : Type 0} → (ℕ → Ask → S → Said → S → Type 0) → List ScriptWord → S → S
+    → List ℕ → Type 0
+HaveActed Asks words old new text = (held : Holding) × AllAct Asks (actions_of words) nobody held old new text
+
+-- Of a core: each reply is its own.
 abbrev pub HaveAsked : List ScriptWord → CoreView → CoreView → List ℕ → Type 0
-HaveAsked words old new text =
-    (held : Holding) × AllAct (actions_of words) nobody held old new text
+HaveAsked words old new text = HaveActed Replied words old new text
+
+-- ---- How many asks were answered idle
+
+-- A core, and how many asks of each actor it has answered idle.
+pub record Counted : Type 0 where
+  pub core : CoreView
+  pub idle : List ℕ
+
+-- These numbers after one more reply to an actor: an idle one is one more of that actor, and no other
+-- reply changes any.
+abbrev pub idle_after : ℕ → Said → List ℕ → List ℕ
+idle_after actor said idle = slice_set idle actor (more_idle (slice_index_or idle actor 0) said)
+
+-- The reply is the core's own, and counted.
+pub record HasReplied (actor : ℕ) (ask : Ask) (old : Counted) (said : Said) (new : Counted) : Type 0 where
+  pub replied : Replied actor ask old.core said new.core
+  pub counted : new.idle ≡ idle_after actor said old.idle
+
+-- A core of which nothing was counted yet.
+abbrev pub uncounted : CoreView → Counted
+uncounted core = record { core = core; idle = replicate most_actors 0 }
+
+-- These words were asked of a core, and so many of each actor's asks were answered idle.
+abbrev pub HaveCounted : List ScriptWord → CoreView → CoreView → List ℕ → List ℕ → Type 0
+HaveCounted words old new idle text =
+    HaveActed HasReplied words (uncounted old) (record { core = new; idle = idle }) text
 
 -- The core as it was before its first event.
 abbrev pub unasked : CoreView → CoreView
@@ -146,6 +183,12 @@ pub record AreAsked (script : List ℕ) (core : CoreView) (text : List ℕ) : Ty
   pub words : List ScriptWord
   pub is_script : IsScript script words
   pub asked : HaveAsked words (unasked core) core text
+
+-- The same, and of each actor's asks so many were answered idle.
+pub record AreCounted (script : List ℕ) (core : CoreView) (idle : List ℕ) (text : List ℕ) : Type 0 where
+  pub words : List ScriptWord
+  pub is_script : IsScript script words
+  pub asked : HaveCounted words (unasked core) core idle text
 
 -- ---- What was predicted
 

@@ -9,8 +9,8 @@ ghost use Rattle.core_state.specs.Setup.{setup_of};
 ghost use Rattle.smt_core.specs.Counts.{AreCounts};
 ghost use Rattle.smt_core.specs.Shown.{Shown};
 ghost use Rattle.scripts.specs.Script.{IsInRange};
-ghost use Rattle.scripts.specs.Session.{PrintsGuessed, HasGuessed, HaveAsked, IsUnit, Acts, AllAct};
-ghost use Rattle.scripts.specs.Session.{repeated, actions_of};
+ghost use Rattle.scripts.specs.Session.{PrintsGuessed, HasGuessed, HaveAsked, HaveCounted, HasReplied};
+ghost use Rattle.scripts.specs.Session.{IsUnit, Acts, AllAct, repeated, actions_of};
 
 mod asked_core;
 mod asks;
@@ -41,7 +41,8 @@ struct Session<L: Origin> {
 /// Makes the asks of a core whose actors hold nothing, one for each action of the words, in order,
 /// and writes a line for each: what the core replies. At the end what actors hold is given up, and
 /// the core is finished, whose `own` says whether it is of this image and this configuration.
-/// `Unwritten` is answered where `out` failed; then the core is lost.
+/// Its `idle` says how many asks of each actor were answered idle. `Unwritten` is answered where `out`
+/// failed; then the core is lost.
 pub fn ask_core<P: Predict, W: Write>(
     core: Core,
     words: &[ScriptWord],
@@ -61,6 +62,8 @@ pub fn ask_core<P: Predict, W: Write>(
     ensures shown { IfOk result (λ finished. Shown finished.core) }
     ensures asked { IfOk result (λ finished. Prints (W.contents out.old) (W.contents out.new)
         (HaveAsked words.now core finished.core)) }
+    ensures idle { IfOk result (λ finished. Prints (W.contents out.old) (W.contents out.new)
+        (HaveCounted words.now core finished.core finished.idle)) }
     ensures guessed { IfOk result
         (λ finished. HasGuessed P.predicts core.past finished.core.past
         predict.old predict.new) }
@@ -100,6 +103,8 @@ fn ask_dealt<L: Origin, P: Predict, W: Write>(
     ensures shown { IfOk result (λ finished. Shown finished.core) }
     ensures asked { IfOk result (λ finished. Prints (W.contents out.old) (W.contents out.new)
         (HaveAsked words.now core finished.core)) }
+    ensures idle { IfOk result (λ finished. Prints (W.contents out.old) (W.contents out.new)
+        (HaveCounted words.now core finished.core finished.idle)) }
     ensures guessed { IfOk result
         (λ finished. HasGuessed P.predicts core.past finished.core.past
         predict.old predict.new) }
@@ -122,9 +127,9 @@ fn make_asks<L: Origin, P: Predict, W: Write>(
     out: &mut W,
 ) -> Result<(), Unwritten>
     requires in_range { All (λ word. IsInRange word.action) words.now }
-    ensures { OnOk result (PrintsGuessed P.predicts session.old.core session.new.core
+    ensures { OnOk result (PrintsGuessed P.predicts session.old.core.core session.new.core.core
         predict.old predict.new (W.contents out.old) (W.contents out.new)
-        (AllAct (actions_of words.now) session.old.hands.held session.new.hands.held
+        (AllAct HasReplied (actions_of words.now) session.old.hands.held session.new.hands.held
         session.old.core session.new.core)) }
 {
     let mut lines = Lines::new();
@@ -143,10 +148,10 @@ fn repeat_action<L: Origin, P: Predict, W: Write>(
     out: &mut W,
 ) -> Result<(), Unwritten>
     requires in_range { IsInRange word.action }
-    ensures { OnOk result (PrintsGuessed P.predicts session.old.core session.new.core
+    ensures { OnOk result (PrintsGuessed P.predicts session.old.core.core session.new.core.core
         predict.old predict.new (append_known (W.contents out.old) lines.old.bytes)
         (append_known (W.contents out.new) lines.new.bytes)
-        (AllAct (repeated word) session.old.hands.held session.new.hands.held
+        (AllAct HasReplied (repeated word) session.old.hands.held session.new.hands.held
         session.old.core session.new.core)) }
 {
     for turn in 0..word.repeat {
@@ -165,9 +170,9 @@ fn act<L: Origin, P: Predict>(
 )
     requires in_range { IsInRange action }
     requires room { array_string_len lines.old + 140 ≤ 3072 }
-    ensures { PrintsGuessed P.predicts session.old.core session.new.core predict.old predict.new
+    ensures { PrintsGuessed P.predicts session.old.core.core session.new.core.core predict.old predict.new
         (Some lines.old.bytes) (Some lines.new.bytes)
-        (Acts action session.old.hands.held session.new.hands.held
+        (Acts HasReplied action session.old.hands.held session.new.hands.held
         session.old.core session.new.core) }
 {
     let Session { core, hands } = session;
@@ -194,9 +199,9 @@ fn issue_and_hand_back<L: Origin, P: Predict>(
 )
     requires actor { actor < most_actors }
     requires room { array_string_len lines.old + 140 ≤ 3072 }
-    ensures { PrintsGuessed P.predicts core.old core.new predict.old predict.new
+    ensures { PrintsGuessed P.predicts core.old.core core.new.core predict.old predict.new
         (Some lines.old.bytes) (Some lines.new.bytes)
-        (IsUnit actor hands.old.held hands.new.held core.old core.new) }
+        (IsUnit HasReplied actor hands.old.held hands.new.held core.old core.new) }
 {
     if issue(core, hands, actor, predict, lines) {
         hand_back(core, hands, actor, predict, lines);

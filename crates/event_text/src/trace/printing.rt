@@ -7,7 +7,7 @@ ghost use Rattle.event_text.specs.Sinking.{HasPut, HasPutBut, HasBroken};
 ghost use Rattle.event_text.specs.Trace.{ended, trace_text};
 
 use crate::print::push_event;
-use crate::sink::{Broken, Sink};
+use crate::sink::{Broken, Sink, put_all};
 use arrayvec::ArrayString;
 use events::History;
 use text_fields::push_ascii;
@@ -61,20 +61,4 @@ fn push_line(piece: &mut Piece, line: &str)
 {
     piece.push_str(line);
     push_ascii(piece, b'\n');
-}
-
-// All these bytes, in as many pieces as the sink takes.
-fn put_all<S: Sink>(bytes: &[u8], sink: &mut S) -> Result<(), Broken>
-    requires { S.has_failed sink.old ≡ false }
-    ensures printed { OnOk result
-        (HasPut S.written S.has_failed sink.old sink.new bytes.now) }
-    ensures broken { OnErr result
-        (HasBroken S.written S.has_failed S.puts sink.old sink.new bytes.now) }
-{
-    let mut rest = bytes;
-    while !rest.is_empty() {
-        let count = sink.put(rest)?;
-        rest = &rest[count..];
-    }
-    Ok(())
 }

@@ -8,7 +8,7 @@ ghost use Rattle.numbers.specs.Sizes.{most_actors};
 ghost use Rattle.arrayvec.specs.ArrayString.{array_string_len};
 ghost use Rattle.core_lock.specs.declared.ask.Ask.TheVariants as ask;
 ghost use Rattle.core_lock.specs.declared.ask.Said.{Said};
-ghost use Rattle.scripts.specs.Session.{PrintsGuessed, HasAsked, IsIssue, HandsBack, job_in};
+ghost use Rattle.scripts.specs.Session.{PrintsGuessed, HasAsked, HasReplied, IsIssue, HandsBack, job_in};
 
 use crate::session::asked_core::AskedCore;
 use crate::session::hands::Hands;
@@ -27,9 +27,9 @@ pub fn fetch<L: Origin, P: Predict>(
 )
     requires actor { actor < most_actors }
     requires room { array_string_len lines.old + 70 ≤ 3072 }
-    ensures { PrintsGuessed P.predicts core.old core.new predict.old predict.new
+    ensures { PrintsGuessed P.predicts core.old.core core.new.core predict.old predict.new
         (Some lines.old.bytes) (Some lines.new.bytes)
-        (HasAsked actor ask.Fetch core.old core.new) }
+        (HasAsked HasReplied actor ask.Fetch core.old core.new) }
 {
     ask_plainly(core, actor, Ask::Fetch, predict, lines);
 }
@@ -45,9 +45,9 @@ pub fn decode<L: Origin, P: Predict>(
 )
     requires actor { actor < most_actors }
     requires room { array_string_len lines.old + 70 ≤ 3072 }
-    ensures { PrintsGuessed P.predicts core.old core.new predict.old predict.new
+    ensures { PrintsGuessed P.predicts core.old.core core.new.core predict.old predict.new
         (Some lines.old.bytes) (Some lines.new.bytes)
-        (HasAsked actor (ask.Decode hart) core.old core.new) }
+        (HasAsked HasReplied actor (ask.Decode hart) core.old core.new) }
 {
     ask_plainly(core, actor, Ask::Decode(hart), predict, lines);
 }
@@ -63,9 +63,9 @@ pub fn rename<L: Origin, P: Predict>(
 )
     requires actor { actor < most_actors }
     requires room { array_string_len lines.old + 70 ≤ 3072 }
-    ensures { PrintsGuessed P.predicts core.old core.new predict.old predict.new
+    ensures { PrintsGuessed P.predicts core.old.core core.new.core predict.old predict.new
         (Some lines.old.bytes) (Some lines.new.bytes)
-        (HasAsked actor (ask.Rename hart) core.old core.new) }
+        (HasAsked HasReplied actor (ask.Rename hart) core.old core.new) }
 {
     ask_plainly(core, actor, Ask::Rename(hart), predict, lines);
 }
@@ -81,9 +81,9 @@ pub fn retire<L: Origin, P: Predict>(
 )
     requires actor { actor < most_actors }
     requires room { array_string_len lines.old + 70 ≤ 3072 }
-    ensures { PrintsGuessed P.predicts core.old core.new predict.old predict.new
+    ensures { PrintsGuessed P.predicts core.old.core core.new.core predict.old predict.new
         (Some lines.old.bytes) (Some lines.new.bytes)
-        (HasAsked actor (ask.Retire hart) core.old core.new) }
+        (HasAsked HasReplied actor (ask.Retire hart) core.old core.new) }
 {
     ask_plainly(core, actor, Ask::Retire(hart), predict, lines);
 }
@@ -99,10 +99,10 @@ pub fn issue<L: Origin, P: Predict>(
 ) -> bool
     requires actor { actor < most_actors }
     requires room { array_string_len lines.old + 70 ≤ 3072 }
-    ensures issued { PrintsGuessed P.predicts core.old core.new predict.old predict.new
+    ensures issued { PrintsGuessed P.predicts core.old.core core.new.core predict.old predict.new
         (Some lines.old.bytes) (Some lines.new.bytes)
         (λ text. (said : Said) × (result ≡ is_some (job_in said))
-        × IsIssue actor said hands.old.held hands.new.held core.old core.new text) }
+        × IsIssue HasReplied actor said hands.old.held hands.new.held core.old core.new text) }
     ensures length { array_string_len lines.new ≤ array_string_len lines.old + 70 }
 {
     let said = core.ask(actor, Ask::Issue, predict);
@@ -126,9 +126,9 @@ pub fn hand_back<L: Origin, P: Predict>(
 )
     requires actor { actor < most_actors }
     requires room { array_string_len lines.old + 70 ≤ 3072 }
-    ensures { PrintsGuessed P.predicts core.old core.new predict.old predict.new
+    ensures { PrintsGuessed P.predicts core.old.core core.new.core predict.old predict.new
         (Some lines.old.bytes) (Some lines.new.bytes)
-        (HandsBack actor hands.old.held hands.new.held core.old core.new) }
+        (HandsBack HasReplied actor hands.old.held hands.new.held core.old core.new) }
 {
     let Some(done) = hands.take(actor) else {
         lines.push_str("none\n");
@@ -149,8 +149,8 @@ fn ask_plainly<L: Origin, P: Predict>(
 )
     requires actor { actor < most_actors }
     requires room { array_string_len lines.old + 70 ≤ 3072 }
-    ensures { PrintsGuessed P.predicts core.old core.new predict.old predict.new
-        (Some lines.old.bytes) (Some lines.new.bytes) (HasAsked actor ask core.old core.new) }
+    ensures { PrintsGuessed P.predicts core.old.core core.new.core predict.old predict.new
+        (Some lines.old.bytes) (Some lines.new.bytes) (HasAsked HasReplied actor ask core.old core.new) }
 {
     let said = core.ask(actor, ask, predict);
     if let Some(job) = push_reply(lines, said) {

@@ -8,6 +8,9 @@ returns-clause-core g c = refl
 pub returns-clause-counts : goal.returns-clause-counts
 returns-clause-counts g c = c.counts_of-counts.ensures
 
+pub returns-clause-idle : goal.returns-clause-idle
+returns-clause-idle g c = c.idle_of-idle.ensures
+
 pub returns-clause-sum : goal.returns-clause-sum
 returns-clause-sum g c =
     ap sum c.counts_of-counts.ensures ∙ sym c.gather-all.ensures.amount

@@ -61,6 +61,17 @@ returns-clause-lasts g c =
     (four_more from_8.a.1.ends from_8.b.1.ends from_8.c.1.ends from_8.d.1.ends
     (four_more from_12.a.1.ends from_12.b.1.ends from_12.c.1.ends from_12.d.1.ends refl)))
 
+pub returns-clause-idle : goal.returns-clause-idle
+returns-clause-idle g c =
+    let from_0 = c.deal_four-a.ensures.idle in
+    let from_4 = c.deal_four-e.ensures.idle in
+    let from_8 = c.deal_four-i.ensures.idle in
+    let from_12 = c.deal_four-m.ensures.idle in
+    four_more from_0.0 from_0.1 from_0.2 from_0.3
+    (four_more from_4.0 from_4.1 from_4.2 from_4.3
+    (four_more from_8.0 from_8.1 from_8.2 from_8.3
+    (four_more from_12.0 from_12.1 from_12.2 from_12.3 refl)))
+
 pub deal_four-a-requires-clause-made : goal.deal_four-a-requires-clause-made
 deal_four-a-requires-clause-made g c = c.made_of-made.ensures
 

@@ -1,9 +1,10 @@
-use Rattle.std.proofs.Common.{◌<◌, length, get_or, sym, subst, ◌∙◌, arith}
+use Rattle.std.specs.Prelude.{map}
+use Rattle.std.proofs.Common.{◌<◌, length, get_or, sym, subst, ap, ◌∙◌, arith}
 use Rattle.std.proofs.lemmas.Option.{slice_get-get_or}
 use Rattle.core_lock.specs.Asks.{Replied, asked_of, event_in}
 use Rattle.core_lock.proofs.Replies.{IsBy, reply_by}
-use Rattle.scripts.specs.Session.{HasGuessed}
-use Rattle.scripts.proofs.Asking.{all_told, has_guessed}
+use Rattle.scripts.specs.Session.{HasGuessed, Counted, idle_after}
+use Rattle.scripts.proofs.Asking.{all_told, has_guessed, counted_there}
 use Rattle.scripts.proofs.session.asked_core.AskedCore.ask.Goals as goal
 
 pub invariant_of-self : goal.invariant_of-self
@@ -25,17 +26,29 @@ returns-clause-replied g c =
     let at =
     c.self.invariant c.from.result _
     (slice_get-get_or c.self.inside.passes c.from.result c.index-self-from.result inside) in
-    subst (λ s. Replied c.args.actor c.args.ask c.args.self.now s c.step.new.self.core) (sym c.said.ensures.said)
-    (subst (λ k. Replied k c.args.ask c.args.self.now c.step.result.said c.step.new.self.core) (at.0 ∙ c.from.ensures)
-    (subst
-    (λ v. Replied (get_or c.self.inside.passes c.from.result c.index-self-from.result).actor c.args.ask v
-    c.step.result.said c.step.new.self.core)
-    c.self.view_is c.step.ensures.answer))
+    record {
+      replied =
+          subst (λ s. Replied c.args.actor c.args.ask c.args.self.now.core s c.step.new.self.core) (sym c.said.ensures.said)
+          (subst (λ k. Replied k c.args.ask c.args.self.now.core c.step.result.said c.step.new.self.core)
+          (at.0 ∙ c.from.ensures)
+          (subst
+          (λ (v : Counted). Replied (get_or c.self.inside.passes c.from.result c.index-self-from.result).actor c.args.ask
+          v.core c.step.result.said c.step.new.self.core)
+          c.self.view_is c.step.ensures.answer));
+      counted =
+          counted_there (λ p. p.idle) c.self.inside.passes c.from.result c.index-self-from.result c.step.new.pass
+          c.step.result.said inside c.step.ensures.idle
+          ∙ ap (λ k. idle_after k c.step.result.said (map (λ p. p.idle) c.self.inside.passes)) c.from.ensures
+          ∙ ap (λ s. idle_after c.args.actor s (map (λ p. p.idle) c.self.inside.passes)) (sym c.said.ensures.said)
+          ∙ ap (λ (v : Counted). idle_after c.args.actor c.said.result v.idle) c.self.view_is;
+    }
 
 pub returns-clause-guessed : goal.returns-clause-guessed
 returns-clause-guessed g c =
     let step = c.step.ensures in
-    subst (λ v. HasGuessed g.P.Predict.predicts v.past c.step.new.self.core.past c.args.predict.now c.step.new.predict)
+    subst
+    (λ (v : Counted). HasGuessed g.P.Predict.predicts v.core.past c.step.new.self.core.past c.args.predict.now
+    c.step.new.predict)
     c.self.view_is
     (has_guessed g.P.Predict.predicts _ (asked_of c.args.ask) c.step.result.said c.self.inside.held.core
     c.step.new.self.core c.args.predict.now c.step.new.predict step.own step.predicted step.grows)

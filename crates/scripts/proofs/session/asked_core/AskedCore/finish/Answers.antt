@@ -1,4 +1,5 @@
-use Rattle.std.proofs.Common.{sym, subst}
+use Rattle.std.proofs.Common.{sym, subst, ap, ◌∙◌}
+use Rattle.scripts.specs.Session.{Counted}
 use Rattle.core_lock.proofs.Telling.{told_counts}
 use Rattle.core_state.specs.View.{CoreView}
 use Rattle.scripts.proofs.Asking.{AllTold}
@@ -15,3 +16,9 @@ returns-clause-told g c =
     c.finish.ensures.told.1
     (subst (λ (v : CoreView). AllTold (λ p. p.actor) (λ p. p.count) (λ p. p.last) v.past c.self.inside.passes)
     (sym c.finish.ensures.core) c.self.invariant)
+
+pub returns-clause-core : goal.returns-clause-core
+returns-clause-core g c = c.finish.ensures.core ∙ ap (λ (v : Counted). v.core) c.self.view_is
+
+pub returns-clause-idle : goal.returns-clause-idle
+returns-clause-idle g c = c.finish.ensures.idle ∙ ap (λ (v : Counted). v.idle) c.self.view_is

@@ -1,3 +1,5 @@
+use Rattle.std.specs.Prelude.{map}
+use Rattle.std.proofs.Common.{ap, ◌∙◌}
 use Rattle.scripts.proofs.Asking.{all_dealt}
 use Rattle.scripts.proofs.session.asked_core.AskedCore.new.Goals as goal
 
@@ -8,3 +10,8 @@ invariant_of-result g c =
     all_dealt (λ p. p.actor) (λ p. p.count) (λ p. p.last) c.args.core.past c.new-held.result.1 dealt.actors dealt.counts
     dealt.lasts in
     rw dealt.core told
+
+pub returns : goal.returns
+returns g c =
+    ap (λ core. record { core = core; idle = map (λ p. p.idle) c.new-held.result.1 }) c.new-held.ensures.core
+    ∙ ap (λ l. record { core = c.args.core; idle = l }) c.new-held.ensures.idle

@@ -1,6 +1,6 @@
 use Rattle.std.proofs.Common.{◌≡◌, ℕ, List, ◌++◌, length}
 use Rattle.event_text.specs.Sinking.{HasPut}
-use Rattle.event_text.proofs.trace.printing.put_all.Given as goal
+use Rattle.event_text.proofs.sink.put_all.Given as goal
 
 abbrev pub invariant-loop-rest : goal.invariant-loop-rest
 invariant-loop-rest g l =

@@ -1,7 +1,7 @@
 use Rattle.std.proofs.Common.{◌++◌, take, drop, sym, ◌∙◌, ap, append_assoc, take-append-drop}
 use Rattle.std.proofs.lemmas.List.{take_rest}
 use Rattle.event_text.proofs.SinkLaws.{HasPut-append}
-use Rattle.event_text.proofs.trace.printing.put_all.Goals as goal
+use Rattle.event_text.proofs.sink.put_all.Goals as goal
 
 pub loop-rest-preserved : goal.loop-rest-preserved
 loop-rest-preserved g c =
