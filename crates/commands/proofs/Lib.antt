@@ -12,6 +12,7 @@ pub mod OfSchedule
 pub mod OfScript
 pub mod Sound
 pub mod SoundCommands
+pub mod OfLitmus
 pub mod OfLine
 pub mod OfExplain
 pub mod OneImage

@@ -1,5 +1,5 @@
 -- The command `check`: its refusals from those of the trace and of its events, and what it comes to.
-use Rattle.std.specs.Prelude.{◌≡◌, ◌⊎◌, ℕ, true, List, Option, length, reverse}
+use Rattle.std.specs.Prelude.{◌≡◌, ◌⊎◌, ℕ, true, List, [], Option, length, reverse}
 use Rattle.std.proofs.Common.{refl, sym, subst, ap, ◌∙◌}
 use mathlib.Core.Logic.{inl, inr}
 use Rattle.elf_image.specs.Image.{ProgramImage}
@@ -47,11 +47,11 @@ report_refusal settings image trace events listed core reason read same is accep
 pub comes_to : (settings : Settings) (image : ProgramImage) (trace : List ℕ) (wanted : Wanted)
     (events listed : List AnyEvent) (core : CoreView) (old new : Option (List ℕ)) (exit_status : ℕ)
     → IsTraceOf trace events → listed ≡ events → core ≡ following settings image listed
-    → is_accepted core.setup core.limit ≡ true → Shown core → IsReported core wanted old new exit_status
+    → is_accepted core.setup core.limit ≡ true → Shown core → IsReported core [] wanted old new exit_status
     → CheckComesTo settings image trace wanted old new exit_status
 comes_to settings image trace wanted events listed core old new exit_status read same is accepted shown reported =
     let is_core : core ≡ following settings image events = is ∙ ap (following settings image) same in
-    let report = subst (λ (u : CoreView). IsReported u wanted old new exit_status) is_core reported in
+    let report = subst (λ (u : CoreView). IsReported u [] wanted old new exit_status) is_core reported in
     record {
       events = events;
       is_trace = read;

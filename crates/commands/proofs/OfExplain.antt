@@ -17,14 +17,14 @@ use Rattle.commands.specs.declared.refused.Refused.TheVariants.{Image, Config, S
 use Rattle.commands.specs.declared.refused.Refused.TheVariants.{Output, Thread, Trace, Event, NoUnit, Limit, NoHart}
 use Rattle.commands.specs.declared.refused.Refused.TheVariants.{Prediction, Register, Picture}
 use Rattle.commands.specs.declared.refused.Refused.TheVariants.{Watch, Condition, ManyWatched, NoWord}
-use Rattle.commands.specs.declared.refused.Refused.TheVariants.{NoOutcome, NotStuck}
+use Rattle.commands.specs.declared.refused.Refused.TheVariants.{NoOutcome, NotStuck, Litmus, NothingToDraw}
 use Rattle.commands.specs.declared.refused.Unread.{Unread}
 use Rattle.commands.specs.declared.refused.Unread.TheVariants as unread
 use Rattle.commands.specs.Refused.{refusal_of, IsFirstFailed, AreAccepted}
 use Rattle.commands.specs.Inputs.{Read, OfProgram}
 use Rattle.commands.specs.Explain.{IsExplainRefusal, IsExplanationOf, IsWritingRefusal, ExplainComesTo}
 use Rattle.commands.specs.Explain.{Tells, PrintsSome}
-use Rattle.commands.specs.{Commands.explains, Perform.IsRefusal, Perform.LineComesTo}
+use Rattle.commands.specs.{Commands.explains, Perform.IsProgramRefusal, Perform.ProgramComesTo}
 use Rattle.commands.proofs.OfLine.{accepted_of}
 
 -- ---- What is printed
@@ -123,6 +123,8 @@ writing_refusal config image old new (Limit least) is = absurd is
 writing_refusal config image old new (NoHart hart) is = absurd is
 writing_refusal config image old new (Picture last) is = absurd is
 writing_refusal config image old new (Watch why) is = absurd is
+writing_refusal config image old new (Litmus place fault) is = absurd is
+writing_refusal config image old new NothingToDraw is = absurd is
 writing_refusal config image old new (Condition why) is = absurd is
 writing_refusal config image old new ManyWatched is = absurd is
 writing_refusal config image old new (NoWord address) is = absurd is
@@ -166,7 +168,7 @@ both_accepted config settings file old new status is accepted told =
 
 pub line_refusal : (command : Command) (config : List ℕ) (image second : Read) (reason : Refused)
     → explains command ≡ true → IsExplainRefusal config image reason
-    → IsRefusal command (Ok config) image second reason
+    → IsProgramRefusal command (Ok config) image second reason
 line_refusal command config image second (Image number) explains is = is
 line_refusal command config image second Config explains is = inl is
 line_refusal command config image second (Script number) explains is = absurd is
@@ -186,6 +188,8 @@ line_refusal command config image second ManyWatched explains is = absurd is
 line_refusal command config image second (NoWord address) explains is = absurd is
 line_refusal command config image second (NoOutcome number) explains is = absurd is
 line_refusal command config image second NotStuck explains is = absurd is
+line_refusal command config image second (Litmus place fault) explains is = absurd is
+line_refusal command config image second NothingToDraw explains is = absurd is
 line_refusal command config image second Memory explains is = tt
 line_refusal command config image second Thread explains is = absurd is
 line_refusal command config image second File explains is = inr (inl is)
@@ -194,7 +198,7 @@ line_refusal command config image second Output explains is = inr explains
 pub line_comes_to : (command : Command) (config : List ℕ) (image second : Read) (Traced : ToWrite → Type 0)
     (old new : Option (List ℕ)) (status : ℕ) → explains command ≡ true
     → OfProgram (Ok config) image (λ settings program. ExplainComesTo old new status)
-    → LineComesTo command (Ok config) image second Traced old new status
+    → ProgramComesTo command (Ok config) image second Traced old new status
 line_comes_to (commands.Explain explain) config (Ok file) second Traced old new status is told = (
   told.0,
   told.1,
@@ -209,12 +213,13 @@ line_comes_to (commands.Schedule schedule) config image second Traced old new st
 line_comes_to (commands.Script script) config image second Traced old new status is told = absurd (cc)
 line_comes_to (commands.List list) config image second Traced old new status is told = absurd (cc)
 line_comes_to (commands.Outcomes outcomes) config image second Traced old new status is told = absurd (cc)
+line_comes_to (commands.Litmus litmus) config image second Traced old new status is told = absurd (cc)
 line_comes_to (commands.Chart chart) config image second Traced old new status is told = absurd (cc)
 
 pub line_ended : (answer : Result ℕ Refused) (command : Command) (config : List ℕ) (image second : Read)
     (Traced : ToWrite → Type 0) (old new : Option (List ℕ)) → explains command ≡ true
     → IfOk answer (λ status. OfProgram (Ok config) image (λ settings program. ExplainComesTo old new status))
-    → IfOk answer (LineComesTo command (Ok config) image second Traced old new)
+    → IfOk answer (ProgramComesTo command (Ok config) image second Traced old new)
 line_ended (Ok status) command config image second Traced old new is told =
     line_comes_to command config image second Traced old new status is told
 line_ended (Err why) command config image second Traced old new is told = tt

@@ -5,7 +5,7 @@ use Rattle.commands.specs.declared.refused.Refused.TheVariants.{Image, Config, S
 use Rattle.commands.specs.declared.refused.Refused.TheVariants.{Output, Thread, Trace, Event, NoUnit, Limit, NoHart}
 use Rattle.commands.specs.declared.refused.Refused.TheVariants.{Prediction, Register, Picture}
 use Rattle.commands.specs.declared.refused.Refused.TheVariants.{Watch, Condition, ManyWatched, NoWord}
-use Rattle.commands.specs.declared.refused.Refused.TheVariants.{NoOutcome, NotStuck}
+use Rattle.commands.specs.declared.refused.Refused.TheVariants.{NoOutcome, NotStuck, Litmus, NothingToDraw}
 use Rattle.commands.specs.Refused.{PassesAll, BehindImage}
 
 -- What is refused of what comes behind it, where that never refuses the image.
@@ -30,6 +30,8 @@ refusal_behind file ram P ManyWatched never passes is = (passes, is)
 refusal_behind file ram P (NoWord address) never passes is = (passes, is)
 refusal_behind file ram P (NoOutcome number) never passes is = (passes, is)
 refusal_behind file ram P NotStuck never passes is = (passes, is)
+refusal_behind file ram P (Litmus place fault) never passes is = (passes, is)
+refusal_behind file ram P NothingToDraw never passes is = (passes, is)
 refusal_behind file ram P Memory never passes is = tt
 refusal_behind file ram P Thread never passes is = (passes, is)
 refusal_behind file ram P File never passes is = (passes, is)

@@ -1,5 +1,5 @@
 -- What a line is refused for and what it comes to, from the same of its files and of its command.
-use Rattle.std.specs.Prelude.{◌≡◌, ◌⊎◌, ℕ, Bool, true, false, IsTrue, List, Option, Result, Ok, Err, IfErr}
+use Rattle.std.specs.Prelude.{◌≡◌, ◌⊎◌, ℕ, Bool, true, false, IsTrue, List, Option, Some, None, Result, Ok, Err, IfErr}
 use Rattle.std.specs.Borrow.{Bor}
 use Rattle.std.proofs.Common.{refl, sym, ap, ◌∙◌}
 use Rattle.std.proofs.lemmas.Bool.{true≢false}
@@ -16,13 +16,16 @@ use Rattle.commands.specs.declared.refused.Refused.TheVariants.{Image, Config, S
 use Rattle.commands.specs.declared.refused.Refused.TheVariants.{Output, Thread, Trace, Event, NoUnit, Limit, NoHart}
 use Rattle.commands.specs.declared.refused.Refused.TheVariants.{Prediction, Register, Picture}
 use Rattle.commands.specs.declared.refused.Refused.TheVariants.{Watch, Condition, ManyWatched, NoWord}
-use Rattle.commands.specs.declared.refused.Refused.TheVariants.{NoOutcome, NotStuck}
+use Rattle.commands.specs.declared.refused.Refused.TheVariants.{NoOutcome, NotStuck, Litmus, NothingToDraw}
 use Rattle.commands.specs.declared.refused.Unread.{Unread}
 use Rattle.commands.specs.declared.refused.Unread.TheVariants as unread
 use Rattle.commands.specs.Refused.{exit_status_of, refusal_of, AreAccepted, PassesAll}
 use Rattle.commands.specs.Inputs.{Read}
 use Rattle.commands.specs.Commands.{IsCommandRefusal, CommandComesTo}
-use Rattle.commands.specs.Perform.{IsRefusal, LineComesTo}
+use Rattle.commands.specs.Perform.{IsProgramRefusal, ProgramComesTo, LineComesTo, LitmusLineComesTo}
+use Rattle.sim_inputs.specs.declared.line.LitmusCommand.{LitmusCommand}
+use Rattle.commands.specs.Commands.{litmus_of, ForTest}
+use Rattle.commands.proofs.Sound.{zero_says}
 use Rattle.commands.proofs.SoundCommands.{sound}
 
 -- The settings of a configuration are a core's.
@@ -36,7 +39,7 @@ module _ (command : Command) (text : List ℕ) (settings : Settings) (file : Lis
     (second : Read) (configured : IsConfiguration text settings) (passes : PassesAll file settings.ram)
     (loaded : IsImageOf file settings.ram program) where
   pub command_refusal : (reason : Refused) → IsCommandRefusal command settings program second reason
-      → IsRefusal command (Ok text) (Ok file) second reason
+      → IsProgramRefusal command (Ok text) (Ok file) second reason
   command_refusal (Image number) is = absurd ((sound command settings program second).no_image number is)
   command_refusal Config is =
       let unfit = (sound command settings program second).unfit (accepted_of text settings configured) is in
@@ -58,6 +61,8 @@ module _ (command : Command) (text : List ℕ) (settings : Settings) (file : Lis
   command_refusal (NoWord address) is = (settings, configured, (passes, program, loaded, is))
   command_refusal (NoOutcome number) is = (settings, configured, (passes, program, loaded, is))
   command_refusal NotStuck is = (settings, configured, (passes, program, loaded, is))
+  command_refusal (Litmus place fault) is = (settings, configured, (passes, program, loaded, is))
+  command_refusal NothingToDraw is = (settings, configured, (passes, program, loaded, is))
   command_refusal Memory is = tt
   command_refusal Thread is = (settings, configured, (passes, program, loaded, is))
   command_refusal File is = inr (inr (settings, configured, (passes, program, loaded, is)))
@@ -67,12 +72,12 @@ module _ (command : Command) (text : List ℕ) (settings : Settings) (file : Lis
   -- line has come to it.
   module _ (Traced : ToWrite → Type 0) (old mid : Option (List ℕ)) (status : ℕ)
       (ended : CommandComesTo command settings program second Traced old mid status) where
-    pub output_refusal : IsRefusal command (Ok text) (Ok file) second Output
+    pub output_refusal : IsProgramRefusal command (Ok text) (Ok file) second Output
     output_refusal =
         command_refusal Output ((sound command settings program second).output Traced old mid status ended)
 
     pub comes_to : (new : Option (List ℕ)) → Keeps mid new
-        → LineComesTo command (Ok text) (Ok file) second Traced old new status
+        → ProgramComesTo command (Ok text) (Ok file) second Traced old new status
     comes_to new flushed = (
       settings,
       configured,
@@ -89,13 +94,37 @@ module _ (command : Command) (text : List ℕ) (settings : Settings) (file : Lis
 
 -- ---- The exit status
 
+program_says : (command : Command) (config image second : Read) (Traced : ToWrite → Type 0)
+    (old new : Option (List ℕ)) (status : ℕ) → ProgramComesTo command config image second Traced old new status
+    → IsTrue (says_harts status)
+program_says command (Ok text) (Ok file) second Traced old new status is =
+    (sound command is.0 is.2.1 second).says Traced old new status is.2.3.1
+program_says command (Ok text) (Err why) second Traced old new status is = absurd is.2
+program_says command (Err why) image second Traced old new status is = absurd is
+
+litmus_says : (litmus : LitmusCommand) (config test : Read) (old new : Option (List ℕ)) (status : ℕ)
+    → LitmusLineComesTo litmus config test old new status → IsTrue (says_harts status)
+litmus_says litmus (Ok text) (Ok file) old new status is = elim is.2.comes [
+  | inl all ↦ zero_says status all.zero
+  | inr more ↦ ap says_harts more.three
+]
+litmus_says litmus (Ok text) (Err why) old new status is = absurd is.2
+litmus_says litmus (Err why) test old new status is = absurd is
+
+either_says : (found : Option LitmusCommand) (OfTest : LitmusCommand → Type 0) (OfOther : Type 0) (status : ℕ)
+    → ((litmus : LitmusCommand) → OfTest litmus → IsTrue (says_harts status))
+    → (OfOther → IsTrue (says_harts status)) → ForTest found OfTest OfOther → IsTrue (says_harts status)
+either_says None OfTest OfOther status test other is = other is
+either_says (Some litmus) OfTest OfOther status test other is = test litmus is
+
 pub status_says : (command : Command) (config image second : Read) (Traced : ToWrite → Type 0)
     (old new : Option (List ℕ)) (status : ℕ) → LineComesTo command config image second Traced old new status
     → IsTrue (says_harts status)
-status_says command (Ok text) (Ok file) second Traced old new status is =
-    (sound command is.0 is.2.1 second).says Traced old new status is.2.3.1
-status_says command (Ok text) (Err why) second Traced old new status is = absurd is.2
-status_says command (Err why) image second Traced old new status is = absurd is
+status_says command config image second Traced old new status is =
+    either_says (litmus_of command) (λ litmus. LitmusLineComesTo litmus config image old new status)
+    (ProgramComesTo command config image second Traced old new status) status
+    (λ litmus. litmus_says litmus config image old new status)
+    (program_says command config image second Traced old new status) is
 
 -- A refusal's exit status is 2, 4 or 5, and so never one that says how harts stand; it is 5 for a
 -- file that is unread.
@@ -120,6 +149,8 @@ known_refusal ManyWatched status is = inr (inl is)
 known_refusal (NoWord address) status is = inr (inl is)
 known_refusal (NoOutcome number) status is = inr (inl is)
 known_refusal NotStuck status is = inr (inl is)
+known_refusal (Litmus place fault) status is = inr (inl is)
+known_refusal NothingToDraw status is = inr (inl is)
 known_refusal Memory status is = inr (inr (inr is))
 known_refusal Thread status is = inr (inr (inr is))
 known_refusal File status is = inr (inr (inr is))
@@ -145,6 +176,8 @@ never_says ManyWatched = refl
 never_says (NoWord address) = refl
 never_says (NoOutcome number) = refl
 never_says NotStuck = refl
+never_says (Litmus place fault) = refl
+never_says NothingToDraw = refl
 never_says Memory = refl
 never_says Thread = refl
 never_says File = refl

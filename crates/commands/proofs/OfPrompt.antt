@@ -7,13 +7,13 @@ use Rattle.elf_image.specs.Image.{ProgramImage}
 use Rattle.core_state.specs.{Setup.setup_of, View.CoreView}
 use Rattle.smt_model.specs.Setup.{is_accepted}
 use Rattle.text_fields.specs.{Printing.Prints}
-use Rattle.scripts.specs.{Script.IsScript, Script.pieces, Session.AreAsked, Lines.words_in}
+use Rattle.scripts.specs.{Script.IsScript, Script.pieces, Lines.words_in}
 use Rattle.prompts.specs.{declared.prompting.Ended.Ended, Prompted.IsPrompted}
 use Rattle.sim_inputs.specs.{declared.settings.Settings.Settings, Configuration.IsConfiguration}
 use Rattle.reports.proofs.Appending.{appends_more}
 use Rattle.reports.specs.Statuses.{says_harts}
 use Rattle.commands.specs.{declared.wanted.Wanted.Wanted, Inputs.Read}
-use Rattle.commands.specs.{Account.IsReported, Account.statuses_of, Refused.AreAccepted, Refused.AreRefused}
+use Rattle.commands.specs.{Account.IsReported, Account.idle_of, Account.statuses_of, Refused.AreAccepted, Refused.AreRefused}
 use Rattle.commands.specs.{Refused.PassesAll, Step.IsAsking, Prompt.PromptComesTo, Prompt.TypedComesTo}
 use Rattle.commands.proofs.Sound.{prints_kept, status_says}
 
@@ -34,15 +34,16 @@ refused_all settings image is = λ other. is
 module _ {P : Type 0} (predicts : P → ℕ → ℕ → ℕ → ℕ → P → Type 0) (before : P) (settings : Settings)
     (input : Option (List ℕ)) (wanted : Wanted) (Traced : CoreView → Type 0) where
   -- The lines were answered, and then the account was printed.
-  pub prompt_comes_to : (image : ProgramImage) (ended : Ended) (core : CoreView) (old mid new : Option (List ℕ))
+  pub prompt_comes_to : (image : ProgramImage) (ended : Ended) (core : CoreView) (idle : List ℕ) (old mid new : Option (List ℕ))
       (status : ℕ) → AreAccepted settings
-      → IsPrompted predicts before (setup_of image settings.config) settings.limit input ended core
-      → Prints old mid (λ text. Unit {0}) → Traced core → IsReported core wanted mid new status
+      → IsPrompted predicts before (setup_of image settings.config) settings.limit input ended core idle
+      → Prints old mid (λ text. Unit {0}) → Traced core → IsReported core (idle_of core idle) wanted mid new status
       → PromptComesTo predicts before settings image input wanted Traced old new status
-  prompt_comes_to image ended core old mid new status accepted prompted answered traced reported = record {
+  prompt_comes_to image ended core idle old mid new status accepted prompted answered traced reported = record {
     accepted = accepted;
     ended = ended;
     core = core;
+    idle = idle;
     prompted = prompted;
     as_step = λ script is. record {
       words = words_in prompted.kept;
@@ -80,6 +81,7 @@ module _ {P : Type 0} (predicts : P → ℕ → ℕ → ℕ → ℕ → P → Ty
         accepted = is.accepted;
         ended = is.ended;
         core = is.core;
+        idle = is.idle;
         prompted = is.prompted;
         as_step = is.as_step;
         traced = is.traced;

@@ -13,7 +13,7 @@ use Rattle.sim_inputs.specs.declared.settings.Settings.{Settings}
 use Rattle.commands.specs.declared.refused.Refused.{Refused}
 use Rattle.commands.specs.declared.refused.Refused.TheVariants.{Image, Memory, Output}
 use Rattle.commands.specs.Refused.{AreAccepted}
-use Rattle.commands.specs.{Account.IsReported, declared.wanted.Wanted.Wanted}
+use Rattle.commands.specs.{Account.IsReported, Account.idle_of, declared.wanted.Wanted.Wanted}
 use Rattle.commands.specs.Run.{IsRunRefusal, RunComesTo, LackARole, run_refusal}
 
 -- What a run's answer says of the sizes and of the roles.
@@ -92,13 +92,13 @@ report_refusal settings reason accepted manned (inr same) =
 pub never_image : (settings : Settings) (number : ℕ) → IsRunRefusal settings (Image number) → ⊥
 never_image settings number is = is
 
-pub comes_to : (settings : Settings) (image : ProgramImage) (wanted : Wanted) (core : CoreView)
+pub comes_to : (settings : Settings) (image : ProgramImage) (wanted : Wanted) (core : CoreView) (idle : List ℕ)
     (Traced : CoreView → Type 0) (old new : Option (List ℕ)) (exit_status : ℕ)
     → AreAccepted settings → (LackARole settings → ⊥)
     → core.setup ≡ setup_of image settings.config → core.limit ≡ settings.limit → Shown core
-    → Traced core → IsReported core wanted old new exit_status
+    → Traced core → IsReported core (idle_of core idle) wanted old new exit_status
     → RunComesTo settings image wanted Traced old new exit_status
-comes_to settings image wanted core Traced old new exit_status accepted manned setup limit shown traced reported =
+comes_to settings image wanted core idle Traced old new exit_status accepted manned setup limit shown traced reported =
     record {
       accepted = accepted;
       manned = manned;
@@ -107,6 +107,7 @@ comes_to settings image wanted core Traced old new exit_status accepted manned s
       limit = limit;
       shown = shown;
       traced = traced;
+      idle = idle;
       printed = reported.printed;
       harts = reported.harts;
     }

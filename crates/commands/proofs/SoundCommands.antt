@@ -20,6 +20,7 @@ use Rattle.sim_inputs.specs.declared.line.ListCommand.{ListCommand}
 use Rattle.sim_inputs.specs.declared.line.ChartCommand.{ChartCommand}
 use Rattle.sim_inputs.specs.declared.line.ExplainCommand.{ExplainCommand}
 use Rattle.sim_inputs.specs.declared.line.OutcomesCommand.{OutcomesCommand}
+use Rattle.sim_inputs.specs.declared.line.LitmusCommand.{LitmusCommand}
 use Rattle.reports.specs.{Report.status_number, Statuses.says_harts}
 use Rattle.stress_runs.specs.{End.EndView, Ends.end_of, Ends.worst_of}
 use Rattle.commands.specs.Refused.{AreAccepted, AreRefused}
@@ -101,6 +102,7 @@ module _ (run : RunCommand) (settings : Settings) (program : ProgramImage) (Trac
     limit = is.limit;
     shown = is.shown;
     traced = is.traced;
+    idle = is.idle;
     printed = prints_kept old mid new _ is.printed flushed;
     harts = is.harts;
   }
@@ -339,6 +341,17 @@ of_outcomes outcomes settings program second = record {
   ];
 }
 
+-- A litmus test is never performed with an image of its own.
+of_litmus : (litmus : LitmusCommand) (settings : Settings) (program : ProgramImage) (second : Read)
+    → IsSound (commands.Litmus litmus) settings program second
+of_litmus litmus settings program second = record {
+  no_image = λ number is. is;
+  unfit = λ accepted is. is;
+  output = λ Traced old new status is. is;
+  flushed = λ Traced old mid new status flushed is. is;
+  says = λ Traced old new status is. absurd is;
+}
+
 pub sound : (command : Command) (settings : Settings) (program : ProgramImage) (second : Read)
     → IsSound command settings program second
 sound (commands.Step step) settings program second = of_step step settings program second
@@ -350,4 +363,5 @@ sound (commands.Script script) settings program second = of_script script settin
 sound (commands.List list) settings program second = of_list list settings program second
 sound (commands.Explain explain) settings program second = of_explain explain settings program second
 sound (commands.Outcomes outcomes) settings program second = of_outcomes outcomes settings program second
+sound (commands.Litmus litmus) settings program second = of_litmus litmus settings program second
 sound (commands.Chart chart) settings program second = of_chart chart settings program second

@@ -1,5 +1,5 @@
 -- The command `check`: whether a trace is a history of the core. (This project's own choice.)
-use Rattle.std.specs.Prelude.{◌≡◌, ℕ, Bool, true, false, List, Option, length, reverse, All}
+use Rattle.std.specs.Prelude.{◌≡◌, ℕ, Bool, true, false, List, [], Option, length, reverse, All}
 use Rattle.elf_image.specs.Image.{ProgramImage}
 use Rattle.events.specs.{declared.event.Event.Event, Range.IsEventInRange}
 use Rattle.event_text.specs.Trace.{trace_text, IsRefusedAt}
@@ -60,8 +60,8 @@ IsHistoryRefusal setup events _ = ⊥
 
 -- What the command comes to. The trace's events, the last of them first, are the history of a core
 -- of this image and these settings, with room for just so many: one of those that may be shown, so
--- its history is legal. What was printed is what is printed of this core; the exit status is that of
--- its harts.
+-- its history is legal. What was printed is what is printed of this core, which nobody has asked; the
+-- exit status is that of its harts.
 pub record CheckComesTo (settings : Settings) (image : ProgramImage) (trace : List ℕ)
     (wanted : Wanted) (old new : Option (List ℕ)) (exit_status : ℕ) : Type 0 where
   pub events : List Event
@@ -72,5 +72,5 @@ pub record CheckComesTo (settings : Settings) (image : ProgramImage) (trace : Li
   pub past : core.past ≡ reverse events
   pub accepted : is_accepted core.setup core.limit ≡ true
   pub shown : Shown core
-  pub printed : Prints old new (IsAccount core wanted)
+  pub printed : Prints old new (IsAccount core [] wanted)
   pub harts : exit_status ≡ status_number (statuses_of core)

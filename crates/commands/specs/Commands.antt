@@ -23,6 +23,18 @@ use Rattle.commands.specs.Script.{IsScriptingRefusal, ScriptComesTo}
 use Rattle.commands.specs.List.{IsListRefusal, ListComesTo}
 use Rattle.commands.specs.Explain.{ExplainComesTo}
 use Rattle.commands.specs.Outcomes.{IsOutcomesRefusal, OutcomesComeTo, wants_order}
+use Rattle.sim_inputs.specs.declared.line.LitmusCommand.{LitmusCommand}
+use Rattle.commands.specs.Litmus.{writes_file}
+
+-- The command is of a litmus test, which has no image but the one that is made of it.
+abbrev pub litmus_of : Command → Option LitmusCommand
+litmus_of (commands.Litmus litmus) = Some litmus
+litmus_of _ = None
+
+-- What is owed on a litmus test, and on any other command.
+abbrev pub ForTest : Option LitmusCommand → (LitmusCommand → Type 0) → Type 0 → Type 0
+ForTest None OfTest OfOther = OfOther
+ForTest (Some litmus) OfTest OfOther = OfTest litmus
 
 -- When each refusal of a command comes. One that has a second file is refused where that is unread;
 -- rounds have none.
@@ -43,6 +55,7 @@ IsCommandRefusal (commands.List list) settings image second reason = IsListRefus
 IsCommandRefusal (commands.Explain explain) settings image second reason = IsListRefusal reason
 IsCommandRefusal (commands.Outcomes outcomes) settings image second reason =
     IsOutcomesRefusal settings image outcomes reason
+IsCommandRefusal (commands.Litmus litmus) settings image second reason = ⊥
 IsCommandRefusal (commands.Chart chart) settings image second reason =
     BehindFile second (λ trace. IsChartRefusal settings image trace chart) reason
 
@@ -79,6 +92,7 @@ CommandComesTo (commands.Explain explain) settings image second Traced old new s
     ExplainComesTo old new status
 CommandComesTo (commands.Outcomes outcomes) settings image second Traced old new status =
     OutcomesComeTo settings image outcomes old new status
+CommandComesTo (commands.Litmus litmus) settings image second Traced old new status = ⊥
 CommandComesTo (commands.Chart chart) settings image second Traced old new status =
     OfFile second (λ trace. ChartComesTo settings image trace chart status)
 
@@ -97,23 +111,26 @@ AreUnfit _ settings image second = ⊥
 
 -- What a command prints that doesn't come to its report since its file couldn't be written: a
 -- core's answers to the asks, or what explains them, where it makes steps; nothing, where it runs
--- threads, or where the file is that of a chart or of an order. No other command writes a file.
+-- threads, or where the file is that of a chart, of an order or of a litmus test. No other command writes
+-- a file.
 abbrev pub IsUnreported : Command → Read → Option (List ℕ) → Option (List ℕ) → Type 0
 IsUnreported (commands.Step step) second old new =
-    (core : CoreView)
-    × Prints old new (λ text. OfFile second (λ script. ArePrinted step.why script core text))
+    (core : CoreView) × (idle : List ℕ)
+    × Prints old new (λ text. OfFile second (λ script. ArePrinted step.why script core idle text))
 IsUnreported (commands.Run run) second old new = new ≡ old
 IsUnreported (commands.Chart chart) second old new = new ≡ old
 IsUnreported (commands.Outcomes outcomes) second old new = new ≡ old
+IsUnreported (commands.Litmus litmus) second old new = new ≡ old
 IsUnreported _ second old new = ⊥
 
--- The command names a file for the trace of its core, for its chart or for an order, or a folder for
--- ends.
+-- The command names a file for the trace of its core, for its chart, for an order or for what is made of a
+-- litmus test, or a folder for ends.
 abbrev pub wants_trace : Command → Bool
 wants_trace (commands.Step step) = is_some step.trace
 wants_trace (commands.Run run) = if is_some run.times then is_some run.keep else is_some run.trace
 wants_trace (commands.Chart chart) = has_file chart
 wants_trace (commands.Outcomes outcomes) = wants_order outcomes
+wants_trace (commands.Litmus litmus) = writes_file litmus
 wants_trace _ = false
 
 -- The command explains its files: it answers before they are refused.

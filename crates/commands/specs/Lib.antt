@@ -13,6 +13,7 @@ pub mod Schedule
 pub mod Script
 pub mod List
 pub mod Outcomes
+pub mod Litmus
 pub mod Explain
 pub mod Commands
 pub mod Perform

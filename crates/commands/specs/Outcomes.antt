@@ -1,13 +1,18 @@
 -- The command `outcomes`: every end that a program has on the plain machine. (This project's own choice.)
-use Rattle.std.specs.Prelude.{◌≡◌, ◌≢◌, ◌⊎◌, ℕ, ◌<◌, ◌≤◌, Bool, true, false, is_some, if◌then◌else◌, List, [], ◌++◌}
+use Rattle.std.specs.Prelude.{◌≡◌, ◌≢◌, ◌⊎◌, ℕ, ◌-◌, ◌<◌, ◌≤◌, Bool, true, false, is_some, if◌then◌else◌, List, [], ◌++◌}
 use Rattle.std.specs.Prelude.{Option, Some, None, Contains, length}
 use Rattle.std.specs.Io.KnownBytes.{Appends}
 use Rattle.elf_image.specs.Image.{ProgramImage}
 use Rattle.core_state.specs.Setup.{setup_of}
 use Rattle.smt_model.specs.Faults.{read_fault}
 use Rattle.outcomes.specs.{declared.watch.Watch.Watch, declared.watch.WatchedRegister.WatchedRegister}
-use Rattle.outcomes.specs.{Found.Found, Found.Told, Found.InEachSetup, Found.AreAll, Found.CoversCores}
-use Rattle.outcomes.specs.{Refusals.IsRefusedFor, Watching.is_register_there}
+use Rattle.outcomes.specs.{Found.Found, Found.Told, Found.InEachSetup, Found.AreAll, Found.CoversCores, Found.IsOnce}
+use Rattle.outcomes.specs.{Refusals.IsRefusedFor, Refusals.AreWords, Watching.is_register_there, Watching.AreThere}
+use Rattle.outcomes.specs.Told.{order_listed}
+use Rattle.smt_model.specs.Setup.{Setup}
+use Rattle.event_text.specs.Sinking.{HasPut}
+use Rattle.stress_runs.specs.Kept.{order_text}
+use Rattle.schedules.specs.Schedules.{IsScheduleOf}
 use Rattle.sc_machine.specs.Steps.{are_harts}
 use Rattle.outcomes.specs.declared.refused.OutcomesRefused.TheVariants as search
 use Rattle.outcome_queries.specs.{declared.watched.Watched.Watched, declared.term.Term.Term}
@@ -46,11 +51,14 @@ pub record IsAsked (command : OutcomesCommand) (watch : Watch) (terms : List Ter
   pub registers : watch.registers.items ≡ registers_in all
   pub words : watch.words.items ≡ words_in all
 
--- What was found is every outcome of the program, each with an order that leads to it, and every core
--- ends as one of them says.
+-- What was found is every outcome of the program, each once and with an order that leads to it, and every core
+-- ends as one of them says. All that is watched is there.
 pub record IsFound (settings : Settings) (image : ProgramImage) (watch : Watch) (found : Found) : Type 0 where
   pub all : InEachSetup image settings.config.harts (λ setup. AreAll setup watch found)
   pub cores : InEachSetup image settings.config.harts (λ setup. CoversCores setup watch found)
+  pub once : IsOnce found
+  pub registers : AreThere settings.config.harts watch
+  pub words : AreWords image watch
 
 abbrev pub condition_text : OutcomesCommand → Watch → List Term → List Told → List ℕ
 condition_text command watch terms listed =
@@ -83,6 +91,35 @@ abbrev pub OutcomesComeTo : Settings → ProgramImage → OutcomesCommand → Op
     → Option (List ℕ) → ℕ → Type 0
 OutcomesComeTo settings image command old new status =
     IsComplete settings image command old new status ⊎ IsIncomplete settings image command old new status
+
+-- The order that is wanted of what was found.
+abbrev pub order_wanted : Option ℕ → Found → Option (List ℕ)
+order_wanted (Some number) found = order_listed found.listed (number - 1)
+order_wanted None found = found.stuck
+
+-- What is written of an order: a line for each hart, or a script by which the core retires in it.
+abbrev pub IsTextFor : Option (Bor (List ℕ)) → Setup → ℕ → List ℕ → List ℕ → Type 0
+IsTextFor None setup limit order text = text ≡ order_text order
+IsTextFor (Some file) setup limit order text = IsScheduleOf setup limit order text
+
+-- The order that is wanted of what was found is in the file, so written.
+pub record IsOrderPut {S : Type 0} (written : S → Option (List ℕ)) (has_failed : S → Bool) (old new : S)
+    (settings : Settings) (image : ProgramImage) (command : OutcomesCommand) (found : Found) : Type 0 where
+  pub order : List ℕ
+  pub text : List ℕ
+  pub wanted : order_wanted command.outcome found ≡ Some order
+  pub is : IsTextFor command.script (setup_of image settings.config) settings.limit order text
+  pub put : HasPut written has_failed old new text
+
+-- So it is of all outcomes of the program.
+pub record IsFiled {S : Type 0} (written : S → Option (List ℕ)) (has_failed : S → Bool) (old new : S)
+    (settings : Settings) (image : ProgramImage) (command : OutcomesCommand) : Type 0 where
+  pub watch : Watch
+  pub terms : List Term
+  pub found : Found
+  pub asked : IsAsked command watch terms
+  pub is_found : IsFound settings image watch found
+  pub filed : IsOrderPut written has_failed old new settings image command found
 
 -- The text is misspelled, at the column that is told.
 abbrev pub IsMisspelled : {A : Type 0} → (List ℕ → A → Type 0) → ℕ → Option (Bor (List ℕ)) → QueryRefused

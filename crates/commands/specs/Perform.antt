@@ -12,34 +12,64 @@ use Rattle.commands.specs.Inputs.{Read, OfFile, OfSettings, OfProgram, IsNoConfi
 use Rattle.stress_runs.specs.declared.keeping.Part.{Part}
 use Rattle.commands.specs.Written.{ToWrite, IsWritten}
 use Rattle.commands.specs.Commands.{IsCommandRefusal, CommandComesTo, AreUnfit, IsUnreported}
-use Rattle.commands.specs.Commands.{wants_trace, explains}
+use Rattle.commands.specs.Commands.{wants_trace, explains, litmus_of, ForTest}
+use Rattle.sim_inputs.specs.declared.line.LitmusCommand.{LitmusCommand}
+use Rattle.commands.specs.Litmus.{IsLitmusRefusal, LitmusComesTo}
 
--- When each refusal comes: the configuration is looked at first, then the image, then what the
--- command needs. A file that can't be read is refused where it is looked at. Where files are explained
+-- When each refusal comes of a line with an image: the configuration is looked at first, then the image,
+-- then what the command needs. A file that can't be read is refused where it is looked at. Where files are explained
 -- the output may be refused before they are.
-abbrev pub IsRefusal : Command → Read → Read → Read → Refused → Type 0
-IsRefusal command config image second (Image number) = OfSettings config
+abbrev pub IsProgramRefusal : Command → Read → Read → Read → Refused → Type 0
+IsProgramRefusal command config image second (Image number) = OfSettings config
     (λ settings. OfFile image (λ file. IsFirstFailed file settings.ram number))
-IsRefusal command config image second Config = OfFile config IsNoConfiguration
+IsProgramRefusal command config image second Config = OfFile config IsNoConfiguration
     ⊎ OfProgram config image (λ settings program. AreUnfit command settings program second)
-IsRefusal command config image second Memory = Unit {0}
-IsRefusal command config image second File = (config ≡ Err unread.File)
+IsProgramRefusal command config image second Memory = Unit {0}
+IsProgramRefusal command config image second File = (config ≡ Err unread.File)
     ⊎ OfSettings config (λ settings. image ≡ Err unread.File)
     ⊎ OfProgram config image
     (λ settings program. IsCommandRefusal command settings program second File)
-IsRefusal command config image second Output = OfProgram config image
+IsProgramRefusal command config image second Output = OfProgram config image
     (λ settings program. IsCommandRefusal command settings program second Output)
     ⊎ (explains command ≡ true)
-IsRefusal command config image second reason = OfProgram config image
+IsProgramRefusal command config image second reason = OfProgram config image
     (λ settings program. IsCommandRefusal command settings program second reason)
 
--- What a line comes to: its configuration's settings are a core's, its image passes every check, and
+-- What such a line comes to: its configuration's settings are a core's, its image passes every check, and
 -- the command has come to what is owed on it.
-abbrev pub LineComesTo : Command → Read → Read → Read → (ToWrite → Type 0)
+abbrev pub ProgramComesTo : Command → Read → Read → Read → (ToWrite → Type 0)
     → Option (List ℕ) → Option (List ℕ) → ℕ → Type 0
-LineComesTo command config image second Traced old new status = OfProgram config image
+ProgramComesTo command config image second Traced old new status = OfProgram config image
     (λ settings program. AreAccepted settings
     × CommandComesTo command settings program second Traced old new status)
+
+-- When each refusal comes of a litmus test: the configuration is looked at first, then the test. A file
+-- that can't be read is refused where it is looked at.
+abbrev pub IsLitmusLineRefusal : LitmusCommand → Read → Read → Refused → Type 0
+IsLitmusLineRefusal litmus config test Config = OfFile config IsNoConfiguration
+IsLitmusLineRefusal litmus config test File =
+    (config ≡ Err unread.File) ⊎ OfSettings config (λ settings. test ≡ Err unread.File)
+IsLitmusLineRefusal litmus config test Memory = Unit {0}
+IsLitmusLineRefusal litmus config test reason =
+    OfSettings config (λ settings. OfFile test (λ text. IsLitmusRefusal text litmus reason))
+
+-- What it comes to: the configuration's settings are a core's, and the command has come to what is owed on
+-- it. Of the settings nothing else is asked.
+abbrev pub LitmusLineComesTo : LitmusCommand → Read → Read → Option (List ℕ) → Option (List ℕ) → ℕ → Type 0
+LitmusLineComesTo litmus config test old new status =
+    OfSettings config (λ settings. OfFile test (λ text. LitmusComesTo litmus old new status))
+
+-- When each refusal of a line comes, and what it comes to.
+abbrev pub IsRefusal : Command → Read → Read → Read → Refused → Type 0
+IsRefusal command config image second reason = ForTest (litmus_of command)
+    (λ litmus. IsLitmusLineRefusal litmus config image reason)
+    (IsProgramRefusal command config image second reason)
+
+abbrev pub LineComesTo : Command → Read → Read → Read → (ToWrite → Type 0)
+    → Option (List ℕ) → Option (List ℕ) → ℕ → Type 0
+LineComesTo command config image second Traced old new status = ForTest (litmus_of command)
+    (λ litmus. LitmusLineComesTo litmus config image old new status)
+    (ProgramComesTo command config image second Traced old new status)
 
 -- What a command has answered, of its settings, its program image and its second file, before the
 -- output is flushed: a refusal that may come of it, or an exit status behind what is owed on it.

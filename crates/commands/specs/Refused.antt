@@ -13,7 +13,7 @@ use Rattle.commands.specs.declared.refused.Refused.TheVariants.{Step, Trace, Eve
 use Rattle.commands.specs.declared.refused.Refused.TheVariants.{Register, NoUnit, Limit, NoHart}
 use Rattle.commands.specs.declared.refused.Refused.TheVariants.{Picture, Memory, Thread, File, Output}
 use Rattle.commands.specs.declared.refused.Refused.TheVariants.{Watch, Condition, ManyWatched, NoWord}
-use Rattle.commands.specs.declared.refused.Refused.TheVariants.{NoOutcome, NotStuck}
+use Rattle.commands.specs.declared.refused.Refused.TheVariants.{NoOutcome, NotStuck, Litmus, NothingToDraw}
 use Rattle.commands.specs.declared.refused.Unread.TheVariants as unread
 
 -- The number of the exit status: 2 for an input, 4 for a trace, 5 for memory, threads, files and
@@ -38,6 +38,8 @@ exit_status_of ManyWatched = 2
 exit_status_of (NoWord address) = 2
 exit_status_of (NoOutcome number) = 2
 exit_status_of NotStuck = 2
+exit_status_of (Litmus place fault) = 2
+exit_status_of NothingToDraw = 2
 exit_status_of Memory = 5
 exit_status_of Thread = 5
 exit_status_of File = 5

@@ -12,7 +12,7 @@ use Rattle.commands.specs.declared.refused.Refused.{Refused}
 use Rattle.commands.specs.declared.refused.Refused.TheVariants.{Config, Memory, Thread, Output}
 use Rattle.commands.specs.Refused.{AreAccepted, AreRefused}
 use Rattle.commands.specs.declared.wanted.Wanted.{Wanted}
-use Rattle.commands.specs.Account.{IsAccount, statuses_of}
+use Rattle.commands.specs.Account.{IsAccount, idle_of, statuses_of}
 
 -- No actor has some role.
 abbrev pub LackARole : Settings → Type 0
@@ -37,7 +37,8 @@ IsRunRefusal settings _ = ⊥
 
 -- What the command comes to. No role is without an actor. There is a core of this image and these
 -- settings, one of those that may be shown. Its trace is written where that is wanted (`Traced`).
--- What was printed is what is printed of this core; the exit status is that of its harts.
+-- What was printed is what is printed of this core, with how many asks of each actor its pass has counted
+-- as idle; the exit status is that of its harts.
 pub record RunComesTo (settings : Settings) (image : ProgramImage) (wanted : Wanted)
     (Traced : CoreView → Type 0) (old new : Option (List ℕ)) (exit_status : ℕ) : Type 0 where
   pub accepted : AreAccepted settings
@@ -47,5 +48,6 @@ pub record RunComesTo (settings : Settings) (image : ProgramImage) (wanted : Wan
   pub limit : core.limit ≡ settings.limit
   pub shown : Shown core
   pub traced : Traced core
-  pub printed : Prints old new (IsAccount core wanted)
+  pub idle : List ℕ
+  pub printed : Prints old new (IsAccount core (idle_of core idle) wanted)
   pub harts : exit_status ≡ status_number (statuses_of core)

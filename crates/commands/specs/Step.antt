@@ -5,14 +5,14 @@ use Rattle.core_state.specs.{Setup.setup_of, View.CoreView}
 use Rattle.smt_core.specs.Shown.{Shown}
 use Rattle.text_fields.specs.{Printing.Prints}
 use Rattle.scripts.specs.{declared.actions.ScriptWord.ScriptWord, Script.IsScript}
-use Rattle.scripts.specs.{Script.IsFirstMisspelled, Session.AreAsked}
+use Rattle.scripts.specs.{Script.IsFirstMisspelled, Session.AreCounted}
 use Rattle.sim_inputs.specs.declared.settings.Settings.{Settings}
 use Rattle.commands.specs.declared.refused.Refused.{Refused}
 use Rattle.commands.specs.declared.refused.Refused.TheVariants.{Config, Script, Memory, Output}
 use Rattle.commands.specs.Refused.{AreAccepted, AreRefused}
 use Rattle.reports.specs.Report.{status_number}
 use Rattle.commands.specs.declared.wanted.Wanted.{Wanted}
-use Rattle.commands.specs.Account.{IsAccount, statuses_of}
+use Rattle.commands.specs.Account.{IsAccount, idle_of, statuses_of}
 
 -- The text is a script.
 abbrev pub IsAsking : List ℕ → Type 0
@@ -34,19 +34,20 @@ IsScriptRefusal script (Script number) = IsFirstMisspelled script number
 IsScriptRefusal script Memory = Unit {0}
 IsScriptRefusal script _ = ⊥
 
--- The lines of all that a script has asked of a core; where they are to be explained, some text in
--- place of these lines, which the core has replied.
-abbrev pub ArePrinted : Bool → List ℕ → CoreView → List ℕ → Type 0
-ArePrinted false script core text = AreAsked script core text
-ArePrinted true script core text = (lines : List ℕ) × AreAsked script core lines
+-- The lines of all that a script has asked of a core, where of each actor's asks so many were answered
+-- idle; where they are to be explained, some text in place of these lines, which the core has replied.
+abbrev pub ArePrinted : Bool → List ℕ → CoreView → List ℕ → List ℕ → Type 0
+ArePrinted false script core idle text = AreCounted script core idle text
+ArePrinted true script core idle text = (lines : List ℕ) × AreCounted script core idle lines
 
 -- The lines of all that a script has asked of a core, and then what is printed of it.
 pub record AreAsksAndAccount (core : CoreView) (script : List ℕ)
     (with_why : Bool) (wanted : Wanted) (text : List ℕ) : Type 0 where
   pub asks : List ℕ
   pub account : List ℕ
-  pub are_printed : ArePrinted with_why script core asks
-  pub is_account : IsAccount core wanted account
+  pub idle : List ℕ
+  pub are_printed : ArePrinted with_why script core idle asks
+  pub is_account : IsAccount core (idle_of core idle) wanted account
   pub both : text ≡ asks ++ account
 
 -- What the command comes to. There is a core of this image and these settings, one of those that

@@ -1,6 +1,6 @@
 //! What is reported of a core: its trace, its tables, how many of its loads looked again, its
-//! records and its report, with the numbers of its history and why its harts stand where they do.
-//! Each command that has a core at its end reports it so.
+//! records and its report, with the numbers of its history, how many asks of each actor were answered
+//! idle, and why its harts stand where they do. Each command that has a core at its end reports it so.
 
 ghost use Rattle.std.specs.Prelude.{◌≡◌, ◌++◌, OnOk, IfOk, IfErr, ◌⊎◌, true, false};
 ghost use Rattle.std.specs.Prelude.{is_some, [], if◌then◌else◌, length};
@@ -9,16 +9,19 @@ ghost use Rattle.smt_model.specs.Basics.{how_many};
 ghost use Rattle.reports.specs.Report.{is_load_record, looks_line, records_text};
 ghost use Rattle.commands.specs.declared.refused.Refused.TheVariants.{Memory, Output};
 ghost use Rattle.commands.specs.Account.{AreTables, IsReported, IsTraceWritten, counts_in};
-ghost use Rattle.commands.specs.Account.{body_text, numbers_text};
+ghost use Rattle.commands.specs.Account.{body_text, numbers_text, idle_of};
+ghost use Rattle.reports.specs.CountLines.{count_lines};
+ghost use Rattle.reports.specs.Counts.{idle_lines};
 
 use crate::refused::Refused;
 use crate::wanted::Wanted;
 use event_text::{Sink, print_trace};
 use events::Record;
 use history_counts::{Counts, counts_of};
+use numbers::sizes::MOST_ACTORS;
 use reports::{
-    RunEnd, report, report_counts, report_ends, report_json, report_looks, report_records,
-    status_of, write_tables,
+    RunEnd, report, report_counts, report_ends, report_idle, report_json, report_looks,
+    report_records, status_of, write_tables,
 };
 use smt_core::Core;
 use smt_laws::Account;
@@ -27,12 +30,14 @@ use std::io;
 use std::io::Write;
 
 /// Writes the trace of a core where it is wanted, and then what else is wanted of it and its report.
-/// Answers the exit status: how the harts stand.
+/// `idle` says how many asks of each actor were answered idle. Answers the exit status: how the harts
+/// stand.
 ///
 /// `Output` is answered where the sink or `out` took no more, `Memory` where there is none for what
 /// is made before it is written. Where the sink failed, nothing is written.
 pub(crate) fn write_account<S: Sink, W: Write>(
     core: &Core,
+    idle: &[u64],
     wanted: Wanted,
     trace: &mut S,
     out: &mut W,
@@ -43,14 +48,14 @@ pub(crate) fn write_account<S: Sink, W: Write>(
     ensures traced { OnOk result (IsTraceWritten S.written S.has_failed trace.old trace.new
         wanted.trace core.now) }
     ensures reported { IfOk result
-        (IsReported core.now wanted (W.contents out.old) (W.contents out.new)) }
+        (IsReported core.now idle.now wanted (W.contents out.old) (W.contents out.new)) }
     ensures unwanted { wanted.trace ≡ false → trace.new ≡ trace.old }
     ensures unbroken { OnOk result (S.has_failed trace.new ≡ false) }
     ensures unreported { S.has_failed trace.new ≡ true
         → W.contents out.new ≡ W.contents out.old }
 {
     write_trace(core, wanted.trace, trace)?;
-    report_core(core, wanted, out, alloc)
+    report_core(core, idle, wanted, out, alloc)
 }
 
 /// Puts the trace of a core into a sink, where it is wanted. `Output` is answered where the sink
@@ -72,19 +77,21 @@ fn write_trace<S: Sink>(core: &Core, wanted: bool, sink: &mut S) -> Result<(), R
     }
 }
 
-/// Writes what is wanted of a core, and its report. Answers how the harts stand.
+/// Writes what is wanted of a core, and its report. `idle` says how many asks of each actor were answered
+/// idle; it is empty where nobody asked. Answers how the harts stand.
 pub(crate) fn report_core<W: Write>(
     core: &Core,
+    idle: &[u64],
     wanted: Wanted,
     out: &mut W,
     alloc: Global,
 ) -> Result<u8, Refused>
     ensures refused { IfErr result (λ reason. (reason ≡ Memory) ⊎ (reason ≡ Output)) }
     ensures reported { IfOk result
-        (IsReported core.now wanted (W.contents out.old) (W.contents out.new)) }
+        (IsReported core.now idle.now wanted (W.contents out.old) (W.contents out.new)) }
 {
     match made_of(core, wanted, alloc) {
-        Ok(made) => write_made(core, wanted, &made, out),
+        Ok(made) => write_made(core, idle, wanted, &made, out),
         Err(AllocError) => Err(Refused::Memory),
     }
 }
@@ -116,6 +123,7 @@ fn made_of(core: &Core, wanted: Wanted, alloc: Global) -> Result<Made, AllocErro
 /// Writes what was made of a core and is wanted of it, and its report. Answers how the harts stand.
 fn write_made<W: Write>(
     core: &Core,
+    idle: &[u64],
     wanted: Wanted,
     made: &Made,
     out: &mut W,
@@ -125,14 +133,14 @@ fn write_made<W: Write>(
     requires ends { AreTables (is_some wanted.ends) made.now.ends.items }
     ensures refused { IfErr result (λ reason. reason ≡ Output) }
     ensures reported { IfOk result
-        (IsReported core.now wanted (W.contents out.old) (W.contents out.new)) }
+        (IsReported core.now idle.now wanted (W.contents out.old) (W.contents out.new)) }
 {
     if out.write_all(made.tables.as_slice()).is_err() {
         return Err(Refused::Output);
     }
     let account = core.account();
     write_looks(wanted.looks, core.looks(), account.records, out)?;
-    match write_report(&account, wanted, made, out) {
+    match write_report(&account, idle, wanted, made, out) {
         Ok(()) => Ok(status_of(account.statuses.as_slice())),
         Err(_) => Err(Refused::Output),
     }
@@ -141,6 +149,7 @@ fn write_made<W: Write>(
 /// Writes the records of an account where they are wanted, and its report.
 fn write_report<W: Write>(
     account: &Account<'_>,
+    idle: &[u64],
     wanted: Wanted,
     made: &Made,
     out: &mut W,
@@ -148,54 +157,84 @@ fn write_report<W: Write>(
     ensures { OnOk result (Appends (W.contents out.old) (W.contents out.new)
         (records_text wanted.records account.now.records.now
         ++ body_text wanted.json account.now.events account.now.records.now account.now.lent
-        account.now.statuses.items account.now.output.now made.now.counts made.now.ends.items)) }
+        account.now.statuses.items account.now.output.now made.now.counts idle.now made.now.ends.items)) }
 {
     report_records(wanted.records, account.records, out)?;
     if wanted.json {
-        return write_object(account, made, out);
+        return write_object(account, idle, made, out);
     }
-    write_lines(account, made, out)
+    write_lines(account, idle, made, out)
 }
 
 /// Writes why the harts stand where they do, and behind it the report as an object.
-fn write_object<W: Write>(account: &Account<'_>, made: &Made, out: &mut W) -> io::Result<()>
+fn write_object<W: Write>(
+    account: &Account<'_>,
+    idle: &[u64],
+    made: &Made,
+    out: &mut W,
+) -> io::Result<()>
     ensures { OnOk result (Appends (W.contents out.old) (W.contents out.new)
         (body_text true account.now.events account.now.records.now account.now.lent
-        account.now.statuses.items account.now.output.now made.now.counts made.now.ends.items)) }
+        account.now.statuses.items account.now.output.now made.now.counts idle.now made.now.ends.items)) }
 {
     out.write_all(made.ends.as_slice())?;
-    report_json(account, &made.counts, out)
+    report_json(account, &made.counts, idle, out)
 }
 
 /// Writes the report, and behind it the numbers of the history and why the harts stand where they do.
-fn write_lines<W: Write>(account: &Account<'_>, made: &Made, out: &mut W) -> io::Result<()>
+fn write_lines<W: Write>(
+    account: &Account<'_>,
+    idle: &[u64],
+    made: &Made,
+    out: &mut W,
+) -> io::Result<()>
     ensures { OnOk result (Appends (W.contents out.old) (W.contents out.new)
         (body_text false account.now.events account.now.records.now account.now.lent
-        account.now.statuses.items account.now.output.now made.now.counts made.now.ends.items)) }
+        account.now.statuses.items account.now.output.now made.now.counts idle.now made.now.ends.items)) }
 {
     report(account, false, out)?;
-    write_numbers(account, &made.counts, out)?;
+    write_numbers(account, idle, &made.counts, out)?;
     out.write_all(made.ends.as_slice())
 }
 
-/// Writes the numbers of the history, where there are some.
+/// Writes the numbers of the history and of the idle asks, where they are wanted.
 fn write_numbers<W: Write>(
     account: &Account<'_>,
+    idle: &[u64],
     counts: &Option<Counts>,
     out: &mut W,
 ) -> io::Result<()>
     ensures { OnOk result (Appends (W.contents out.old) (W.contents out.new)
-        (numbers_text counts.now (length account.now.statuses.items) account.now.records.now)) }
+        (numbers_text counts.now (length account.now.statuses.items) account.now.records.now
+        idle.now)) }
 {
     match counts {
-        Some(counts) => report_counts(
-            counts,
-            account.statuses.as_slice().len(),
-            account.records,
-            out,
-        ),
+        Some(counts) => write_counts(account, idle, counts, out),
         None => out.write_all(b""),
     }
+}
+
+fn write_counts<W: Write>(
+    account: &Account<'_>,
+    idle: &[u64],
+    counts: &Counts,
+    out: &mut W,
+) -> io::Result<()>
+    ensures { OnOk result (Appends (W.contents out.old) (W.contents out.new)
+        (count_lines counts.now (length account.now.statuses.items) account.now.records.now
+        ++ idle_lines idle.now)) }
+{
+    let harts = account.statuses.as_slice().len();
+    report_counts(counts, harts, account.records, out)?;
+    report_idle(idle, out)
+}
+
+/// How many asks of each actor of a core were answered idle, of those of each actor that there may be.
+pub(crate) fn idle_of<'a>(core: &Core, idle: &'a [u64; MOST_ACTORS]) -> &'a [u64]
+    ensures { result.now ≡ idle_of core.now idle.now }
+{
+    let actors = core.config().roles.len();
+    &idle[..actors]
 }
 
 /// Writes how many of the loads among these records looked again, where that is wanted.

@@ -5,26 +5,32 @@ ghost use Rattle.commands.specs.declared.refused.Refused.TheVariants.{Output};
 ghost use Rattle.commands.specs.Outcomes.{IsOutcomesRefusal, OutcomesComeTo, wants_order};
 ghost use Rattle.commands.specs.Outcomes.{IsAsked, IsConditionOf, IsListOf, IsConditionRefusal};
 ghost use Rattle.commands.specs.Outcomes.{IsWatchRefusal, IsSearchRefusal, IsOrderRefusal, IsPutRefusal};
-ghost use Rattle.commands.specs.Outcomes.{IsTextRefusal, condition_text};
-ghost use Rattle.std.specs.Prelude.{◌++◌, ◌-◌, ℕ, Some, option_map};
+ghost use Rattle.commands.specs.Outcomes.{IsTextRefusal, condition_text, IsFiled, IsOrderPut, IsTextFor};
+ghost use Rattle.core_state.specs.Setup.{setup_of};
+ghost use Rattle.event_text.specs.Sinking.{HasPut};
+ghost use Rattle.stress_runs.specs.Kept.{order_line, order_text};
+ghost use Rattle.std.specs.Prelude.{◌++◌, ◌-◌, ℕ, List, Some, option_map};
 ghost use Rattle.std.specs.Io.KnownBytes.{Appends};
 ghost use Rattle.elf_image.specs.Image.{ProgramImage};
 ghost use Rattle.outcomes.specs.{Refusals.IsRefusedFor, Told.order_listed};
 ghost use Rattle.outcome_text.specs.Listing.{outcomes_text};
 ghost use Rattle.commands.specs.declared.refused.Refused.TheVariants.{Memory};
 
-use crate::chart::put_all;
+use crate::chart::put_text;
 use crate::refused::Refused;
 use crate::schedule::schedule_of;
+use crate::searching::find_shown;
+use actors::Gate;
 use elf_image::Image;
 use event_text::Sink;
 use outcome_queries::{
     Condition, WatchList, read_condition, read_watch_list, watch_of, with_terms,
 };
 use outcome_text::{write_exists, write_incomplete, write_outcomes};
-use outcomes::{Onlooker, Outcomes, OutcomesRefused, Watch, find_outcomes};
+use outcomes::{Outcomes, OutcomesRefused, Watch};
 use sim_inputs::{OutcomesCommand, Settings};
 use std::alloc::{AllocError, Global};
+use std::io;
 use std::io::Write;
 
 /// Writes a line for each outcome of an image, for as many harts as the settings say, how many there are,
@@ -35,13 +41,13 @@ use std::io::Write;
 /// is said, and nothing goes into `file`. Refused are, in this order, a list or a condition that is
 /// misspelled, a hart and a word that aren't there, an outcome and a stuck state that aren't there, and
 /// what `perform_schedule` refuses; then nothing is printed. `Output` is answered where `out` or `file`
-/// failed.
+/// failed. `gate` is shown how far the search is.
 #[inline(never)]
-pub fn perform_outcomes<O: Onlooker, S: Sink, W: Write>(
+pub fn perform_outcomes<G: Gate, S: Sink, W: Write>(
     image: &Image,
     settings: &Settings,
     command: &OutcomesCommand<'_>,
-    onlooker: &O,
+    gate: &G,
     file: &mut S,
     out: &mut W,
     alloc: Global,
@@ -51,6 +57,8 @@ pub fn perform_outcomes<O: Onlooker, S: Sink, W: Write>(
     ensures ended { IfOk result (OutcomesComeTo settings.now image.now command.now
         (W.contents out.old) (W.contents out.new)) }
     ensures unwanted { wants_order command.now ≡ false → file.new ≡ file.old }
+    ensures filed { IfOk result (λ status. status ≡ 0 → wants_order command.now ≡ true
+        → IsFiled S.written S.has_failed file.old file.new settings.now image.now command.now) }
     ensures unbroken { OnOk result (S.has_failed file.new ≡ false) }
     ensures unreported { S.has_failed file.new ≡ true
         → W.contents out.new ≡ W.contents out.old }
@@ -58,7 +66,7 @@ pub fn perform_outcomes<O: Onlooker, S: Sink, W: Write>(
     let terms = condition_of(command)?;
     let watch = watch_for(command, &terms)?;
     let harts = settings.config.harts;
-    match find_outcomes(image, harts, &watch, command.states, onlooker, alloc) {
+    match find_shown(image, harts, &watch, command.states, gate, alloc) {
         Ok(outcomes) => {
             let stuck = stuck_order(&outcomes, alloc)?;
             put_order(image, settings, command, &outcomes, &stuck, file, alloc)?;
@@ -158,17 +166,19 @@ fn put_order<S: Sink>(
     ensures refused { IfErr result
         (IsPutRefusal settings.now image.now command.now outcomes.now) }
     ensures unwanted { wants_order command.now ≡ false → file.new ≡ file.old }
+    ensures put { OnOk result (wants_order command.now ≡ true → IsOrderPut S.written S.has_failed
+        file.old file.new settings.now image.now command.now outcomes.now) }
     ensures unbroken { OnOk result (S.has_failed file.new ≡ false) }
 {
     if let Some(number) = command.outcome {
         let order = order_of(outcomes, number, alloc)?;
-        return put_text(image, settings, command, order.as_slice(), file, alloc);
+        return put_written(image, settings, command, order.as_slice(), file, alloc);
     }
     if !command.stuck {
         return Ok(());
     }
     match stuck {
-        Some(order) => put_text(image, settings, command, order.as_slice(), file, alloc),
+        Some(order) => put_written(image, settings, command, order.as_slice(), file, alloc),
         None => Err(Refused::NotStuck),
     }
 }
@@ -190,7 +200,7 @@ fn order_of(outcomes: &Outcomes, number: u32, alloc: Global) -> Result<Vec<u8>, 
 }
 
 /// Puts an order into the file, or its script where that is wanted.
-fn put_text<S: Sink>(
+fn put_written<S: Sink>(
     image: &Image,
     settings: &Settings,
     command: &OutcomesCommand<'_>,
@@ -200,29 +210,56 @@ fn put_text<S: Sink>(
 ) -> Result<(), Refused>
     requires works { S.has_failed file.old ≡ false }
     ensures refused { IfErr result (IsTextRefusal settings.now image.now command.now) }
+    ensures put { OnOk result ((text : List ℕ)
+        × IsTextFor command.now.script (setup_of image.now settings.now.config) settings.now.limit
+        order.now text × HasPut S.written S.has_failed file.old file.new text) }
     ensures unbroken { OnOk result (S.has_failed file.new ≡ false) }
 {
+    let text = text_of(image, settings, command, order, alloc)?;
+    put_text(text.as_slice(), file)?;
+    Ok(())
+}
+
+/// The text of an order, or of its script where that is wanted.
+fn text_of(
+    image: &Image,
+    settings: &Settings,
+    command: &OutcomesCommand<'_>,
+    order: &[u8],
+    alloc: Global,
+) -> Result<Vec<u8>, Refused>
+    ensures text { IfOk result (λ text. IsTextFor command.now.script
+        (setup_of image.now settings.now.config) settings.now.limit order.now text.items) }
+    ensures refused { IfErr result (IsTextRefusal settings.now image.now command.now) }
+{
     let mut text = Vec::new(alloc);
-    let written = if command.script.is_some() {
-        schedule_of(image, settings, order, alloc)?.write(&mut text)
-    } else {
-        write_order(order, &mut text)
-    };
-    match written {
-        Ok(()) => {
-            put_all(text.as_slice(), file)?;
-            Ok(())
-        }
+    if command.script.is_some() {
+        let script = schedule_of(image, settings, order, alloc)?;
+        return match script.write(&mut text) {
+            Ok(()) => Ok(text),
+            Err(_) => Err(Refused::Memory),
+        };
+    }
+    match write_order(order, &mut text) {
+        Ok(()) => Ok(text),
         Err(_) => Err(Refused::Memory),
     }
 }
 
 /// Writes an order, a line for each hart.
-fn write_order<W: Write>(order: &[u8], out: &mut W) -> std::io::Result<()> {
+fn write_order<W: Write>(order: &[u8], out: &mut W) -> io::Result<()>
+    ensures { OnOk result (Appends (W.contents out.old) (W.contents out.new) (order_text order.now)) }
+{
     for hart in order {
-        writeln!(out, "{hart}")?;
+        write_hart(*hart, out)?;
     }
     Ok(())
+}
+
+fn write_hart<W: Write>(hart: u8, out: &mut W) -> io::Result<()>
+    ensures { OnOk result (Appends (W.contents out.old) (W.contents out.new) (order_line hart)) }
+{
+    writeln!(out, "{hart}")
 }
 
 /// Prints what was found.

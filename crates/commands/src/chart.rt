@@ -3,6 +3,7 @@
 ghost use Rattle.std.specs.Prelude.{◌≡◌, IfOk, IfErr, OnOk, reverse, true, false};
 ghost use Rattle.core_state.specs.Setup.{setup_of};
 ghost use Rattle.charts.specs.Rows.{AreRows};
+ghost use Rattle.event_text.specs.Sinking.{HasPut};
 ghost use Rattle.commands.specs.declared.refused.Refused.TheVariants.{Output};
 ghost use Rattle.commands.specs.Check.{IsHistoryRefusal, AreHistory};
 ghost use Rattle.commands.specs.Chart.{IsChartRefusal, ChartComesTo, IsDrawingRefusal};
@@ -12,7 +13,7 @@ use crate::check::{follow_all, read_events};
 use crate::refused::Refused;
 use charts::{Row, View, last_pictured, rows_of, write_kanata, write_svg, write_text};
 use elf_image::Image;
-use event_text::Sink;
+use event_text::{Sink, put_all};
 use events::Event;
 use sim_inputs::{ChartCommand, Settings};
 use std::alloc::{AllocError, Global};
@@ -141,7 +142,7 @@ fn put_chart<S: Sink, W: Write>(
         → W.contents out.new ≡ W.contents out.old }
 {
     if chart.written().is_some() {
-        return put_all(text, file);
+        return put_text(text, file);
     }
     match out.write_all(text) {
         Ok(()) => Ok(0),
@@ -150,18 +151,15 @@ fn put_chart<S: Sink, W: Write>(
 }
 
 /// Puts the whole of a text into a sink. Answers the exit status, 0.
-pub(crate) fn put_all<S: Sink>(text: &[u8], file: &mut S) -> Result<u8, Refused>
+pub(crate) fn put_text<S: Sink>(text: &[u8], file: &mut S) -> Result<u8, Refused>
     requires works { S.has_failed file.old ≡ false }
+    ensures put { OnOk result (HasPut S.written S.has_failed file.old file.new text.now) }
     ensures refused { IfErr result (λ reason. reason ≡ Output) }
     ensures zero { IfOk result (λ status. status ≡ 0) }
     ensures unbroken { OnOk result (S.has_failed file.new ≡ false) }
 {
-    let mut rest = text;
-    while !rest.is_empty() {
-        match file.put(rest) {
-            Ok(count) => rest = &rest[count..],
-            Err(_) => return Err(Refused::Output),
-        }
+    match put_all(text, file) {
+        Ok(()) => Ok(0),
+        Err(_) => Err(Refused::Output),
     }
-    Ok(0)
 }

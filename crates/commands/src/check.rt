@@ -42,7 +42,7 @@ pub fn perform_check<W: Write>(
 {
     let trace = read_events(trace, alloc)?;
     let checked = follow_all(image, settings, trace.events(), alloc)?;
-    report_core(checked.core(), wanted, out, alloc)
+    report_core(checked.core(), &[], wanted, out, alloc)
 }
 
 /// The events of a trace's text.

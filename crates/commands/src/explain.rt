@@ -15,7 +15,7 @@ ghost use Rattle.commands.specs.Explain.{IsWritingRefusal, PrintsSome};
 use crate::refused::{Refused, Unread};
 use elf_image::{LoadRefused, RamSize};
 use explanations::{explain_config, explain_image};
-use sim_inputs::{Line, Settings};
+use sim_inputs::{Command, Line, Settings};
 use std::alloc::Global;
 use std::io;
 use std::io::Write;
@@ -121,7 +121,11 @@ pub(crate) fn point_to_explain<E: Write>(refused: Refused, line: &Line<'_>, err:
         return;
     }
     let files = line.files();
-    let image = files.image.unwrap_or("IMAGE");
+    let image = match line.command {
+        // What is refused is its configuration, and its file is no image.
+        Command::Litmus(_) => "IMAGE",
+        _ => files.image.unwrap_or("IMAGE"),
+    };
     // A terminal that takes no line is no reason for another status.
     let _ = match files.config {
         Some(config) => writeln!(

@@ -33,26 +33,12 @@ pub(crate) fn settings_of(text: &[u8], alloc: Global) -> Result<Settings, Refuse
     }
 }
 
-/// How many bytes the frames in which a core is made and asked take of the stack, at the most.
-const FRAMES: usize = 262_144;
-
-/// Whether the stack has room to grow. The system gives less than a core's frames at the start, and a
-/// stack that can't grow ends the program without a word; so as much memory is asked for, and given
-/// back.
-fn can_grow(alloc: Global) -> bool {
-    Vec::<u8>::with_capacity(alloc, FRAMES).is_ok()
-}
-
-/// The program image of a file, for a memory of this size. Memory is wanting too where the stack has
-/// no room for a core.
+/// The program image of a file, for a memory of this size.
 pub(crate) fn image_of(file: &[u8], ram: RamSize, alloc: Global) -> Result<Image, Refused>
     ensures refused { IfErr result (IsImageRefusal file.now ram) }
     ensures passed { OnOk result (PassesAll file.now ram) }
     ensures image { IfOk result (IsImageOf file.now ram) }
 {
-    if !can_grow(alloc) {
-        return Err(Refused::Memory);
-    }
     match load(alloc, file, ram) {
         Ok(image) => Ok(image),
         Err(LoadRefused::OutOfMemory) => Err(Refused::Memory),

@@ -3,7 +3,8 @@
 //! Read in this order: `refused` (why there is no report), `inputs` (the files of a line as they were
 //! read, and what is made of the first two), `wanted` (what is wanted of a core), `account` (what is
 //! reported of one), then a module a command: `step`, `run`, `stress` (many runs), `check`, `plain`,
-//! `plain_rounds`, `schedule`, `script`, `list`, `chart`, `explain`, `all_outcomes`; `performing` (all of
+//! `plain_rounds`, `schedule`, `script`, `list`, `chart`, `explain`, `all_outcomes` and `litmus` (both over
+//! `searching`); `performing` (all of
 //! it: the files taken in their order, the command, the exit status); and `prompt` (the same of a
 //! script that is typed).
 //! `retiring` has the law that a printed schedule is retired.
@@ -18,6 +19,7 @@ mod check;
 mod explain;
 mod inputs;
 mod list;
+mod litmus;
 mod performing;
 mod plain;
 mod plain_rounds;
@@ -27,6 +29,7 @@ pub mod retiring;
 mod run;
 mod schedule;
 mod script;
+mod searching;
 mod step;
 mod stress;
 mod wanted;
@@ -37,6 +40,7 @@ pub use check::perform_check;
 pub use explain::perform_explain;
 pub use inputs::Inputs;
 pub use list::perform_list;
+pub use litmus::{perform_litmus, perform_test};
 pub use performing::perform;
 pub use plain::perform_plain;
 pub use plain_rounds::{MOST_STEPS, perform_rounds};

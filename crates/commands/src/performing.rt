@@ -1,13 +1,16 @@
 //! All that the program does with a line once its files are read.
 
-ghost use Rattle.std.specs.Prelude.{◌≡◌, ◌⊎◌, IsTrue, IfOk, IfErr, Err, true, false};
+ghost use Rattle.std.specs.Prelude.{◌≡◌, ◌⊎◌, IsTrue, IfOk, IfErr, Err, None, true, false};
 ghost use Rattle.reports.specs.Statuses.{says_harts};
 ghost use Rattle.commands.specs.declared.refused.Refused.{Refused as AnyRefused};
 ghost use Rattle.commands.specs.Refused.{exit_status_of, refusal_of};
 ghost use Rattle.sim_inputs.specs.declared.line.Command.TheVariants.{Run};
 ghost use Rattle.commands.specs.Inputs.{as_read, Read};
-ghost use Rattle.commands.specs.Commands.{IsUnreported, wants_trace, explains};
+ghost use Rattle.commands.specs.Commands.{IsUnreported, wants_trace, explains, litmus_of};
+ghost use Rattle.commands.specs.Litmus.{writes_file};
 ghost use Rattle.commands.specs.Perform.{IsRefusal, LineComesTo, IsPerformed};
+ghost use Rattle.commands.specs.Perform.{IsProgramRefusal, ProgramComesTo};
+ghost use Rattle.commands.specs.Perform.{IsLitmusLineRefusal, LitmusLineComesTo};
 ghost use Rattle.commands.specs.Written.{IsWritten};
 
 use crate::all_outcomes::perform_outcomes;
@@ -16,6 +19,7 @@ use crate::check::perform_check;
 use crate::explain::{perform_explain, point_to_explain};
 use crate::inputs::{Inputs, image_of, settings_of};
 use crate::list::perform_list;
+use crate::litmus::perform_litmus;
 use crate::plain::perform_plain;
 use crate::plain_rounds::{perform_rounds, rounds_of};
 use crate::refused::{Refused, Unread, refuse};
@@ -27,7 +31,7 @@ use crate::stress::perform_stress;
 use crate::wanted::Wanted;
 use actors::Gate;
 use elf_image::Image;
-use sim_inputs::{Command, Line, RunCommand, Settings};
+use sim_inputs::{Command, Line, LitmusCommand, RunCommand, Settings};
 use smt_core::Predict;
 use std::alloc::Global;
 use std::io::Write;
@@ -36,7 +40,7 @@ use std::thread::Threads;
 use stress_runs::EndFiles;
 
 /// Does all that the program does once its files are read, and answers its exit status: how the
-/// harts stand, 0 for a listing, a schedule, a script and a chart, 2 for a refused input, 4 for a refused trace, 5
+/// harts stand, 0 for a listing, a schedule, a script, a chart and a litmus test, 2 for a refused input, 4 for a refused trace, 5
 /// where memory, a thread or a file failed. A refusal is one line on `err`. The configuration is
 /// looked at first, then the image, then the script, the order or the trace; a file that couldn't
 /// be read is refused where it is looked at. Where `err` is a terminal, a second line says which
@@ -78,7 +82,7 @@ pub fn perform<
     ensures unreported { S.has_failed trace.new ≡ true → IsUnreported line.now.command
         (as_read inputs.now.second) (W.contents out.old) (W.contents out.new) }
 {
-    match read_and_perform(rt, line, inputs, gate, predict, trace, out, alloc) {
+    match perform_line(rt, line, inputs, gate, predict, trace, out, alloc) {
         Ok(status) => status,
         Err(refused) => refuse_line(refused, line, on_terminal, err),
     }
@@ -102,7 +106,7 @@ pub(crate) fn refuse_line<E: Write>(
 }
 
 /// The exit status of a line whose inputs are accepted, with all flushed that it prints.
-fn read_and_perform<
+fn perform_line<
     G: Gate + Sync,
     P: Predict + Copy + Send,
     S: EndFiles,
@@ -123,6 +127,74 @@ fn read_and_perform<
     ensures refused { IfErr result (IsRefusal line.now.command (as_read inputs.now.config)
         (as_read inputs.now.image) (as_read inputs.now.second)) }
     ensures ended { IfOk result (LineComesTo line.now.command (as_read inputs.now.config)
+        (as_read inputs.now.image) (as_read inputs.now.second)
+        (IsWritten S.begins S.written S.has_failed trace.old trace.new) (W.contents out.old)
+        (W.contents out.new)) }
+    ensures unwanted { wants_trace line.now.command ≡ false → trace.new ≡ trace.old }
+    ensures unreported { S.has_failed trace.new ≡ true → IsUnreported line.now.command
+        (as_read inputs.now.second) (W.contents out.old) (W.contents out.new) }
+{
+    match &line.command {
+        Command::Litmus(litmus) => read_and_test(litmus, inputs, gate, trace, out, alloc),
+        _ => read_and_perform(rt, line, inputs, gate, predict, trace, out, alloc),
+    }
+}
+
+/// The exit status of a litmus test, with all flushed that is printed of it.
+fn read_and_test<G: Gate, S: EndFiles, W: Write>(
+    litmus: &LitmusCommand<'_>,
+    inputs: &Inputs<'_>,
+    gate: &G,
+    file: &mut S,
+    out: &mut W,
+    alloc: Global,
+) -> Result<u8, Refused>
+    requires works { S.has_failed file.old ≡ false }
+    ensures unset { IfErr inputs.now.config (λ why. result ≡ Err (refusal_of why)) }
+    ensures refused { IfErr result (IsLitmusLineRefusal litmus.now (as_read inputs.now.config)
+        (as_read inputs.now.image)) }
+    ensures ended { IfOk result (LitmusLineComesTo litmus.now (as_read inputs.now.config)
+        (as_read inputs.now.image) (W.contents out.old) (W.contents out.new)) }
+    ensures unwanted { writes_file litmus.now ≡ false → file.new ≡ file.old }
+    ensures unreported { S.has_failed file.new ≡ true
+        → W.contents out.new ≡ W.contents out.old }
+{
+    let sizes = inputs.config?;
+    settings_of(sizes, alloc)?;
+    let text = inputs.image?;
+    let status = match perform_litmus(text, litmus, gate, file, out, alloc) {
+        Ok(status) => status,
+        Err(refused) => return Err(refused),
+    };
+    match out.flush() {
+        Ok(()) => Ok(status),
+        Err(_) => Err(Refused::Output),
+    }
+}
+
+/// The exit status of a line with an image, with all flushed that it prints.
+fn read_and_perform<
+    G: Gate + Sync,
+    P: Predict + Copy + Send,
+    S: EndFiles,
+    W: Write,
+    R: Threads + Wait + Sync,
+>(
+    rt: &R,
+    line: &Line<'_>,
+    inputs: &Inputs<'_>,
+    gate: &G,
+    predict: P,
+    trace: &mut S,
+    out: &mut W,
+    alloc: Global,
+) -> Result<u8, Refused>
+    requires works { S.has_failed trace.old ≡ false }
+    requires program { litmus_of line.now.command ≡ None }
+    ensures unset { IfErr inputs.now.config (λ why. result ≡ Err (refusal_of why)) }
+    ensures refused { IfErr result (IsProgramRefusal line.now.command (as_read inputs.now.config)
+        (as_read inputs.now.image) (as_read inputs.now.second)) }
+    ensures ended { IfOk result (ProgramComesTo line.now.command (as_read inputs.now.config)
         (as_read inputs.now.image) (as_read inputs.now.second)
         (IsWritten S.begins S.written S.has_failed trace.old trace.new) (W.contents out.old)
         (W.contents out.new)) }
@@ -179,6 +251,7 @@ fn perform_command<
 ) -> Result<u8, Refused>
     requires works { S.has_failed trace.old ≡ false }
     requires other { explains command.now ≡ false }
+    requires program { litmus_of command.now ≡ None }
     ensures { IsPerformed S.begins S.written S.has_failed trace.old trace.new command.now settings.now
         image.now (as_read second.entry) (W.contents out.old) (W.contents out.new) result }
 {
@@ -215,8 +288,9 @@ fn perform_command<
         }
         Command::List(_) => perform_list(image, out),
         Command::Explain(_) => unreachable!(),
+        Command::Litmus(_) => unreachable!(),
         Command::Outcomes(outcomes) => {
-            perform_outcomes(image, settings, outcomes, &(), trace, out, alloc)
+            perform_outcomes(image, settings, outcomes, gate, trace, out, alloc)
         }
         Command::Chart(chart) => {
             let text = second?;

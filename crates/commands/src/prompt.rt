@@ -13,7 +13,7 @@ ghost use Rattle.commands.specs.Refused.{exit_status_of, refusal_of};
 ghost use Rattle.commands.specs.Step.{IsStepRefusal};
 ghost use Rattle.commands.specs.Wanted.{step_wants};
 
-use crate::account::write_account;
+use crate::account::{idle_of, write_account};
 use crate::inputs::{Inputs, image_of, settings_of};
 use crate::performing::refuse_line;
 use crate::refused::Refused;
@@ -138,5 +138,6 @@ pub fn perform_prompt<P: Predict + Copy, R: BufRead, S: Sink, W: Write>(
         Err(PromptRefused::Memory) => return Err(Refused::Memory),
         Err(PromptRefused::Output) => return Err(Refused::Output),
     };
-    write_account(&prompted.core, wanted, trace, out, alloc)
+    let idle = idle_of(&prompted.core, &prompted.idle);
+    write_account(&prompted.core, idle, wanted, trace, out, alloc)
 }

@@ -4,6 +4,7 @@ ghost use Rattle.std.specs.Prelude.{◌≡◌, false};
 ghost use Rattle.reports.specs.Statuses.{says_harts};
 ghost use Rattle.commands.specs.Refused.{exit_status_of, refusal_of};
 
+use litmus_reading::{Fault, Place};
 use outcome_queries::QueryRefused;
 use rv_instr::{UnitKind, unit_name};
 use sc_machine::Stopped;
@@ -73,6 +74,13 @@ pub enum Refused {
     /// Each state can go on to an end, and the order to one that can't was to be written.
     #[error("no stuck state")]
     NotStuck,
+    /// The text is no litmus test: at this place, for this fault.
+    #[error("litmus refused {}:{}: {}", .0.line, .0.column, .1)]
+    Litmus(Place, Fault),
+    /// The condition of a litmus test holds of a final state, or no execution of it was found, and the cycle
+    /// that forbids it was to be drawn.
+    #[error("nothing to draw")]
+    NothingToDraw,
     /// There isn't enough memory.
     #[error("memory")]
     Memory,
@@ -102,6 +110,7 @@ impl Refused {
             Refused::NoHart(_) | Refused::Picture(_) => 2,
             Refused::Watch(_) | Refused::Condition(_) | Refused::ManyWatched => 2,
             Refused::NoWord(_) | Refused::NoOutcome(_) | Refused::NotStuck => 2,
+            Refused::Litmus(_, _) | Refused::NothingToDraw => 2,
             Refused::Trace { .. } | Refused::Event { .. } => 4,
             Refused::Prediction(_) | Refused::Register(_) => 4,
             Refused::Memory | Refused::Thread | Refused::File | Refused::Output => 5,

@@ -9,7 +9,7 @@ ghost use Rattle.commands.specs.Refused.{PassesAll, AreAccepted, BehindImage};
 ghost use Rattle.commands.specs.Run.{IsRunRefusal, RunComesTo, LackARole, run_refusal};
 ghost use Rattle.commands.specs.Account.{IsTraceWritten};
 
-use crate::account::write_account;
+use crate::account::{idle_of, write_account};
 use crate::inputs::image_of;
 use crate::refused::Refused;
 use crate::wanted::Wanted;
@@ -127,5 +127,6 @@ pub fn perform_run<
         → W.contents out.new ≡ W.contents out.old }
 {
     let finished = run_image(rt, image, settings, gate, predict, alloc)?;
-    write_account(&finished.core, wanted, trace, out, alloc)
+    let idle = idle_of(&finished.core, &finished.idle);
+    write_account(&finished.core, idle, wanted, trace, out, alloc)
 }

@@ -1,7 +1,7 @@
 //! The command `step`: a script's asks, made of a core.
 
 ghost use Rattle.std.specs.Prelude.{◌≡◌, [], All, IsTrue, IfOk, IfErr, OnOk, true, false};
-ghost use Rattle.std.specs.Prelude.{length, sum};
+ghost use Rattle.std.specs.Prelude.{ℕ, List, length, sum};
 ghost use Rattle.elf_image.specs.Loaded.{IsImageOf};
 ghost use Rattle.core_state.specs.Setup.{setup_of};
 ghost use Rattle.core_state.specs.View.{CoreView};
@@ -9,13 +9,13 @@ ghost use Rattle.smt_core.specs.Shown.{Shown};
 ghost use Rattle.smt_core.specs.Counts.{AreCounts};
 ghost use Rattle.text_fields.specs.Printing.{Prints};
 ghost use Rattle.scripts.specs.Script.{IsScript, IsInRange};
-ghost use Rattle.scripts.specs.Session.{AreAskedWith};
+ghost use Rattle.scripts.specs.Session.{AreAskedWith, AreCounted};
 ghost use Rattle.commands.specs.Refused.{PassesAll, AreAccepted, BehindImage, IsCoreRefusal};
 ghost use Rattle.commands.specs.Step.{IsStepRefusal, StepComesTo, IsAsking, IsScriptRefusal};
 ghost use Rattle.commands.specs.Step.{ArePrinted};
 ghost use Rattle.commands.specs.Account.{IsTraceWritten};
 
-use crate::account::write_account;
+use crate::account::{idle_of, write_account};
 use crate::inputs::image_of;
 use crate::refused::Refused;
 use crate::wanted::Wanted;
@@ -33,7 +33,8 @@ use std::io::Write;
 ///
 /// Refused are, in this order, the image, the configuration, and the first word of the script that
 /// says nothing; then nothing is printed. `Output` is answered where `out` failed. What is finished
-/// is the core of this image and these settings, and its `counts` are those of its history.
+/// is the core of this image and these settings, its `counts` are those of its history, and its `idle`
+/// those of the asks.
 pub fn step_bytes<P: Predict, W: Write>(
     image: &[u8],
     settings: &Settings,
@@ -60,6 +61,8 @@ pub fn step_bytes<P: Predict, W: Write>(
     ensures asked { IfOk result
         (λ finished. Prints (W.contents out.old) (W.contents out.new)
         (AreAskedWith P.predicts predict.old predict.new script.now finished.core)) }
+    ensures idle { IfOk result (λ finished. Prints (W.contents out.old) (W.contents out.new)
+        (AreCounted script.now finished.core finished.idle)) }
 {
     let image = image_of(image, settings.ram, alloc)?;
     step_image(&image, settings, script, predict, out, alloc)
@@ -88,6 +91,8 @@ fn step_image<P: Predict, W: Write>(
     ensures asked { IfOk result
         (λ finished. Prints (W.contents out.old) (W.contents out.new)
         (AreAskedWith P.predicts predict.old predict.new script.now finished.core)) }
+    ensures idle { IfOk result (λ finished. Prints (W.contents out.old) (W.contents out.new)
+        (AreCounted script.now finished.core finished.idle)) }
 {
     let core = new_core(image, settings, alloc)?;
     let words = words_of(script, alloc)?;
@@ -152,7 +157,7 @@ fn print_asks<P: Predict, W: Write>(
     ensures shown { IfOk result (λ finished. Shown finished.core) }
     ensures printed { IfOk result
         (λ finished. Prints (W.contents out.old) (W.contents out.new)
-        (ArePrinted why script.now finished.core)) }
+        (ArePrinted why script.now finished.core finished.idle)) }
 {
     if why {
         explain_asks(image, settings, script, predict, out, alloc)
@@ -179,7 +184,7 @@ fn explain_asks<P: Predict, W: Write>(
     ensures shown { IfOk result (λ finished. Shown finished.core) }
     ensures printed { IfOk result
         (λ finished. Prints (W.contents out.old) (W.contents out.new)
-        (ArePrinted true script.now finished.core)) }
+        (ArePrinted true script.now finished.core finished.idle)) }
 {
     let mut lines = Vec::new(alloc);
     let finished = match step_image(image, settings, script, predict, &mut lines, alloc) {
@@ -242,10 +247,11 @@ pub fn perform_step<P: Predict + Copy, S: Sink, W: Write>(
         (W.contents out.old) (W.contents out.new)) }
     ensures unwanted { wanted.trace ≡ false → trace.new ≡ trace.old }
     ensures unbroken { OnOk result (S.has_failed trace.new ≡ false) }
-    ensures unreported { S.has_failed trace.new ≡ true → (core : CoreView)
-        × Prints (W.contents out.old) (W.contents out.new) (ArePrinted why script.now core) }
+    ensures unreported { S.has_failed trace.new ≡ true → (core : CoreView) × (idle : List ℕ)
+        × Prints (W.contents out.old) (W.contents out.new) (ArePrinted why script.now core idle) }
 {
     let mut predict = predict;
     let finished = print_asks(image, settings, script, why, &mut predict, out, alloc)?;
-    write_account(&finished.core, wanted, trace, out, alloc)
+    let idle = idle_of(&finished.core, &finished.idle);
+    write_account(&finished.core, idle, wanted, trace, out, alloc)
 }

@@ -60,7 +60,7 @@ fn push_lettered<const N: usize>(text: &mut ArrayString<N>, letter: u8, number: 
 }
 
 /// The register, x1 to x31, of which this is a name.
-pub(crate) fn register_named(name: &[u8]) -> Option<Reg>
+pub fn register_named(name: &[u8]) -> Option<Reg>
     ensures found { IfSome result (λ register. IsNameOf register name.now) }
     ensures none { IfNone result ((register : ℕ) → IsNameOf register name.now → ⊥) }
 {

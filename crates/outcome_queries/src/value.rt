@@ -7,7 +7,7 @@ ghost use Rattle.outcome_queries.specs.Terms.{SpellsValue, SpellsHexadecimal};
 use text_fields::{read_decimal, read_hex, split_field};
 
 /// A number: decimal, or `0x` and one to eight hexadecimal digits.
-pub(crate) fn read_value(text: &[u8]) -> Option<u32>
+pub fn read_value(text: &[u8]) -> Option<u32>
     ensures found { IfSome result (SpellsValue text.now) }
     ensures none { IfNone result ((value : ℕ) → SpellsValue text.now value → ⊥) }
 {

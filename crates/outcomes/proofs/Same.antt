@@ -28,6 +28,12 @@ statuses_same xs ys r is so = (slice_eq-Decides status_decides xs ys r is).0 so
 pub numbers_same : (xs ys : List ℕ) (r : Bool) → r ≡ pointwise nat_eq xs ys → r ≡ true → xs ≡ ys
 numbers_same xs ys r is so = (slice_eq-Decides unsigned_Decides xs ys r is).0 so
 
+pub statuses_equal : (xs ys : List Status) (r : Bool) → r ≡ pointwise eq-value.it xs ys → xs ≡ ys → r ≡ true
+statuses_equal xs ys r is same = (slice_eq-Decides status_decides xs ys r is).1 same
+
+pub numbers_equal : (xs ys : List ℕ) (r : Bool) → r ≡ pointwise nat_eq xs ys → xs ≡ ys → r ≡ true
+numbers_equal xs ys r is same = (slice_eq-Decides unsigned_Decides xs ys r is).1 same
+
 abbrev ending : List Status → List ℕ → List ℕ → List ℕ → Ending
 ending statuses registers words output =
     record { statuses = statuses; registers = registers; words = words; output = output }

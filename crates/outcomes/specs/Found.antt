@@ -1,7 +1,7 @@
 -- What a search for all outcomes finds, and what is claimed of it. [Lamport 1979: the ends are those of all
 -- orders of whole instructions; Clarke, Grumberg and Peled 1999, "Model Checking": all of them, by a search
 -- over the states]
-use Rattle.std.specs.Prelude.{◌≡◌, ℕ, ◌<◌, false, List, Contains, Option, Some, None, map, unwrap_or}
+use Rattle.std.specs.Prelude.{◌≡◌, ◌≢◌, ℕ, ◌<◌, false, List, Contains, AllPairs, Option, Some, None, map, unwrap_or}
 use Rattle.elf_image.specs.Image.{ProgramImage}
 use Rattle.events.specs.declared.event.Event.{Event}
 use Rattle.smt_model.specs.{Setup.Setup, Plain.Plain, Plain.start, Plain.is_going_status, Rules.is_legal}
@@ -45,6 +45,10 @@ IsComplete setup watch found = (order : List ℕ) (e : Ending) → EndsSo setup 
 -- Sound: the order of each outcome that is listed ends so.
 abbrev pub IsSound : Setup → Watch → Found → Type 0
 IsSound setup watch found = (t : Told) → Contains found.listed t → EndsSo setup watch t.order t.ending
+
+-- Each outcome is listed once.
+abbrev pub IsOnce : Found → Type 0
+IsOnce found = AllPairs (λ (a b : Told). a.ending ≢ b.ending) found.listed
 
 -- Some order leads on to an end from wherever an order leads to; or this one leads to where none does.
 abbrev pub IsStuckTold : Setup → Option (List ℕ) → Type 0

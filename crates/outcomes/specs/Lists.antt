@@ -1,5 +1,5 @@
 -- Lists of outcomes.
-use Rattle.std.specs.Prelude.{◌≡◌, ◌⊎◌, ℕ, List, Contains}
+use Rattle.std.specs.Prelude.{◌≡◌, ◌≢◌, ◌⊎◌, ℕ, List, Contains, AllPairs}
 use Rattle.outcomes.specs.{Endings.Ending}
 use Rattle.outcomes.specs.declared.listed.Listed.{Listed}
 
@@ -12,3 +12,7 @@ pub record IsPut (old : List Listed) (more : Listed) (new : List Listed) : Type 
   pub keeps : (l : Listed) → Contains old l → Contains new l
   pub has : HasEnding new more.outcome
   pub only : (l : Listed) → Contains new l → Contains old l ⊎ (l ≡ more)
+
+-- Each outcome stands in the list once.
+abbrev pub AreOnce : List Listed → Type 0
+AreOnce listed = AllPairs (λ (a b : Listed). a.outcome ≢ b.outcome) listed

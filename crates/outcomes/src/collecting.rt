@@ -5,7 +5,7 @@ ghost use Rattle.smt_model.specs.Basics.{below};
 ghost use Rattle.condensed_machine.specs.Decoded.{Knows, state_of};
 ghost use Rattle.condensed_machine.specs.declared.state.State.{State};
 ghost use Rattle.smt_model.specs.Faults.{read_fault};
-ghost use Rattle.outcomes.specs.Collected.{AreOutcomes};
+ghost use Rattle.outcomes.specs.{Collected.AreOutcomes, Lists.AreOnce};
 ghost use Rattle.outcomes.specs.Endings.{ending_of, watched_in, word_in};
 ghost use Rattle.outcomes.specs.Watching.{AreThere};
 
@@ -31,8 +31,9 @@ pub(crate) fn list_outcomes(
     requires registers { AreThere machine.now.program.harts watch.now }
     requires words { (k : ℕ) → k < length watch.now.words.items
         → read_fault machine.now.program.image (slice_index watch.now.words.items k) 4 ≡ None }
-    ensures { IfOk result (λ listed. AreOutcomes machine.now watch.now search.now.states search.now.ends
-        listed.items) }
+    ensures outcomes { IfOk result (λ listed. AreOutcomes machine.now watch.now search.now.states
+        search.now.ends listed.items) }
+    ensures once { IfOk result (λ listed. AreOnce listed.items) }
 {
     let mut listed = Vec::new(alloc);
     for index in 0..search.ends().len() {

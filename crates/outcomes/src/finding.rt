@@ -7,7 +7,7 @@ ghost use Rattle.condensed_machine.specs.Steps.{Steps, HasBegun};
 ghost use Rattle.condensed_machine.specs.declared.begun.Begun.{Begun};
 ghost use Rattle.condensed_machine.specs.declared.state.State.{State};
 ghost use Rattle.searches.specs.Found.{IsGraph};
-ghost use Rattle.outcomes.specs.Found.{InEachSetup, AreAll, CoversCores};
+ghost use Rattle.outcomes.specs.Found.{InEachSetup, AreAll, CoversCores, IsOnce};
 ghost use Rattle.outcomes.specs.Refusals.{IsRefusedFor, AreWords, AreWatched};
 ghost use Rattle.outcomes.specs.declared.refused.OutcomesRefused.TheVariants.{Memory};
 ghost use Rattle.outcomes.specs.Watching.{AreThere};
@@ -40,6 +40,8 @@ pub fn find_outcomes<O: Onlooker>(
         InEachSetup image.now harts (λ setup. AreAll setup watch.now found)) }
     ensures cores { IfOk result (λ found.
         InEachSetup image.now harts (λ setup. CoversCores setup watch.now found)) }
+    ensures once { IfOk result IsOnce }
+    ensures present { OnOk result (AreThere harts watch.now × AreWords image.now watch.now) }
     ensures refused { IfErr result (IsRefusedFor image.now harts watch.now budget) }
 {
     let machine = match new_machine(image, harts, watch, alloc) {
@@ -84,6 +86,9 @@ fn search_all<O: Onlooker>(
         (λ setup. AreAll setup watch.now found)) }
     ensures cores { IfOk result (λ found. InEachSetup machine.program.image machine.program.harts
         (λ setup. CoversCores setup watch.now found)) }
+    ensures once { IfOk result IsOnce }
+    ensures present { OnOk result (AreThere machine.program.harts watch.now
+        × AreWords machine.program.image watch.now) }
     ensures refused { IfErr result
         (IsRefusedFor machine.program.image machine.program.harts watch.now budget) }
 {
@@ -164,6 +169,7 @@ fn tell(
         (λ setup. AreAll setup watch.now found)) }
     ensures cores { IfOk result (λ found. InEachSetup machine.now.program.image machine.now.program.harts
         (λ setup. CoversCores setup watch.now found)) }
+    ensures once { IfOk result IsOnce }
     ensures refused { IfErr result (λ why. why ≡ Memory) }
 {
     let Ok(listed) = list_outcomes(machine, &search, watch, alloc) else {

@@ -1,7 +1,7 @@
 //! The outcomes of some states, each once.
 
-ghost use Rattle.std.specs.Prelude.{◌≡◌, ◌≤◌, None, OnOk, IfSome, length};
-ghost use Rattle.outcomes.specs.Lists.{HasEnding, IsPut};
+ghost use Rattle.std.specs.Prelude.{◌≡◌, ◌≤◌, true, false, OnOk, length};
+ghost use Rattle.outcomes.specs.Lists.{HasEnding, IsPut, AreOnce};
 
 use crate::outcome::Outcome;
 use std::alloc::AllocError;
@@ -15,26 +15,37 @@ pub(crate) struct Listed {
 
 /// Puts the outcome of the state at a place where it belongs, unless it is listed. Errors: want of memory.
 pub(crate) fn put(listed: &mut Vec<Listed>, outcome: Outcome, place: u32) -> Result<(), AllocError>
-    ensures { OnOk result (IsPut listed.old.items (record { outcome = outcome; place = place }) listed.new.items) }
+    ensures put { OnOk result (IsPut listed.old.items (record { outcome = outcome; place = place }) listed.new.items) }
+    ensures once { OnOk result (AreOnce listed.old.items → AreOnce listed.new.items) }
 {
-    if let Some(index) = index_for(listed.as_slice(), &outcome) {
+    if !is_listed(listed.as_slice(), &outcome) {
+        let index = index_for(listed.as_slice(), &outcome);
         listed.insert(index, Listed { outcome, place })?;
     }
     Ok(())
 }
 
-/// Where an outcome belongs in a list; none where it is listed.
-fn index_for(listed: &[Listed], outcome: &Outcome) -> Option<usize>
-    ensures there { result ≡ None → HasEnding listed.now outcome.now }
-    ensures within { IfSome result (λ index. index ≤ length listed.now) }
+/// Whether a list has an outcome.
+fn is_listed(listed: &[Listed], outcome: &Outcome) -> bool
+    ensures there { result ≡ true → HasEnding listed.now outcome.now }
+    ensures absent { result ≡ false → HasEnding listed.now outcome.now → ⊥ }
 {
     for index in 0..listed.len() {
         if listed[index].outcome.is_same(outcome) {
-            return None;
-        }
-        if outcome.comes_before(&listed[index].outcome) {
-            return Some(index);
+            return true;
         }
     }
-    Some(listed.len())
+    false
+}
+
+/// Where an outcome belongs in a list that doesn't have it.
+fn index_for(listed: &[Listed], outcome: &Outcome) -> usize
+    ensures within { result ≤ length listed.now }
+{
+    for index in 0..listed.len() {
+        if outcome.comes_before(&listed[index].outcome) {
+            return index;
+        }
+    }
+    listed.len()
 }

@@ -1,4 +1,4 @@
-ghost use Rattle.std.specs.Prelude.{◌≡◌, true};
+ghost use Rattle.std.specs.Prelude.{◌≡◌, true, false};
 
 use arrayvec::ArrayVec;
 use numbers::sizes::HART_ROOM;
@@ -32,7 +32,8 @@ impl Model for Outcome {
 impl Outcome {
     /// Whether another one says the same.
     pub(crate) fn is_same(&self, other: &Outcome) -> bool
-        ensures { result ≡ true → self.now ≡ other.now }
+        ensures same { result ≡ true → self.now ≡ other.now }
+        ensures different { result ≡ false → self.now ≡ other.now → ⊥ }
     {
         let same_statuses = self.statuses.as_slice() == other.statuses.as_slice();
         let same_registers = self.registers.as_slice() == other.registers.as_slice();

@@ -1,1 +1,2 @@
 pub mod OfTyped
+mod Pieces

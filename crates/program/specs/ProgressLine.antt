@@ -26,6 +26,13 @@ steps_text steps going = decimal steps ++ (codes " steps, " ++ (decimal going ++
 abbrev pub rounds_line : ℕ → ℕ → ℕ → List ℕ
 rounds_line steps going seconds = 13 ∷ (codes "smtsim: " ++ (steps_text steps going ++ seconds_text seconds))
 
+-- How many states of a search there are, and how many of them are still to be looked at.
+abbrev pub states_text : ℕ → ℕ → List ℕ
+states_text states left = decimal states ++ (codes " states, " ++ (decimal left ++ codes " to look at, "))
+
+abbrev pub search_line : ℕ → ℕ → ℕ → List ℕ
+search_line states left seconds = 13 ∷ (codes "smtsim: " ++ (states_text states left ++ seconds_text seconds))
+
 -- From the beginning of the line on.
 abbrev pub progress_line : ℕ → ℕ → ℕ → ℕ → ℕ → List ℕ
 progress_line events limit seconds run times =

@@ -2,7 +2,7 @@ ghost use Rattle.std.specs.Prelude.{◌≡◌, ◌≤◌, ◌%◌, ◌^◌, ◌+
 ghost use Rattle.arrayvec.specs.ArrayString.{array_string_len};
 ghost use Rattle.std.specs.Bool.{then_some};
 ghost use Rattle.program.specs.ProgressLine.{progress_line, run_text, events_text, seconds_text};
-ghost use Rattle.program.specs.ProgressLine.{rounds_line, steps_text};
+ghost use Rattle.program.specs.ProgressLine.{rounds_line, steps_text, search_line, states_text};
 
 use actors::{Gate, Point};
 use arrayvec::ArrayString;
@@ -150,6 +150,19 @@ impl<C: Clock + Copy, W: Write + Copy> Gate for Progress<C, W> {
         }
     }
 
+    fn begin_search(&self) {
+        self.start_clock();
+    }
+
+    fn at_states(&self, states: u32, swept: u32) {
+        if self.terminal.is_none() {
+            return;
+        }
+        if let Some(seconds) = self.seconds_if_due() {
+            self.show_line(&search_line_of(states, states.saturating_sub(swept), seconds));
+        }
+    }
+
     fn at(&self, actor: u8, point: Point, seen: &BoardView) -> bool
         ensures { result ≡ true }
     {
@@ -225,6 +238,31 @@ fn push_steps(line: &mut ProgressLine, steps: u64, going: usize)
     line.push_str(" steps, ");
     push_decimal(line, going);
     line.push_str(" harts going, ");
+}
+
+/// The line of a search that has found so many states, of which so many are still to be looked at, in so many
+/// seconds.
+fn search_line_of(states: u32, left: u32, seconds: u64) -> ProgressLine
+    ensures { result.bytes ≡ search_line states left seconds }
+{
+    let mut line = ProgressLine::new();
+    push_ascii(&mut line, b'\r');
+    line.push_str("smtsim: ");
+    push_states(&mut line, states, left);
+    push_seconds(&mut line, seconds);
+    line
+}
+
+/// How many states there are, and how many of them are still to be looked at.
+fn push_states(line: &mut ProgressLine, states: u32, left: u32)
+    requires { array_string_len line.old ≤ 16 }
+    ensures spelled { line.new.bytes ≡ line.old.bytes ++ states_text states left }
+    ensures length { array_string_len line.new ≤ 130 }
+{
+    push_decimal(line, states);
+    line.push_str(" states, ");
+    push_decimal(line, left);
+    line.push_str(" to look at, ");
 }
 
 /// How many events there are, out of how many.

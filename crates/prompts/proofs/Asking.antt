@@ -1,8 +1,8 @@
 -- The core that was asked all lines, from what is known of the asks.
-use Rattle.std.specs.Prelude.{◌≡◌, ℕ, List, [], ◌++◌, reverse, Option, Some}
+use Rattle.std.specs.Prelude.{◌≡◌, ℕ, List, [], ◌++◌, reverse, Some}
 use Rattle.std.specs.Prelude.{Result, Ok, Err, IfOk}
 use Rattle.elf_image.specs.Image.{ProgramImage}
-use Rattle.std.proofs.Common.{refl, sym, ap, subst, ◌∙◌, arith}
+use Rattle.std.proofs.Common.{sym, ap, subst, ◌∙◌, arith}
 use Rattle.std.proofs.lemmas.Grind.{common_steps}
 use Rattle.events.specs.declared.event.Event.{Event}
 use Rattle.smt_model.specs.{Setup.Setup, Rules.is_legal}
@@ -11,7 +11,7 @@ use Rattle.core_state.specs.{Setup.setup_of, View.CoreView}
 use Rattle.smt_core.specs.Shown.{Shown}
 use Rattle.text_fields.specs.Printing.{Prints}
 use Rattle.scripts.specs.{declared.actions.ScriptWord.ScriptWord, Lines.words_in}
-use Rattle.scripts.specs.Session.{HaveAsked, AreGuessed, HasGuessed, unasked}
+use Rattle.scripts.specs.Session.{HaveCounted, AreGuessed, HasGuessed, unasked}
 use Rattle.charts.specs.Rows.{AreHistory}
 use Rattle.prompts.specs.Kept.{Kept, IsAskedAll}
 
@@ -31,12 +31,12 @@ unasked_is old new none setup limit =
     ∙ ap (λ l. record { setup = new.setup; limit = l; past = [] }) (sym limit))
 
 pub asked_all : {P : Type 0} (predicts : P → ℕ → ℕ → ℕ → ℕ → P → Type 0) (before after : P) (setup : Setup) (limit : ℕ)
-    (kept : Kept) (words : List ScriptWord) (old new : CoreView) (lines : List ℕ)
+    (kept : Kept) (words : List ScriptWord) (old new : CoreView) (idle lines : List ℕ)
     → words ≡ words_in kept → old ≡ record { setup = setup; limit = limit; past = [] }
-    → new.setup ≡ old.setup → new.limit ≡ old.limit → Shown new → HaveAsked words old new lines
+    → new.setup ≡ old.setup → new.limit ≡ old.limit → Shown new → HaveCounted words old new idle lines
     → HasGuessed predicts old.past new.past before after
-    → IsAskedAll predicts before setup limit kept new lines
-asked_all predicts before after setup limit kept words old new lines are made same_setup same_limit shown asked guessed =
+    → IsAskedAll predicts before setup limit kept new idle lines
+asked_all predicts before after setup limit kept words old new idle lines are made same_setup same_limit shown asked guessed =
     let none : old.past ≡ [] = ap (λ (c : CoreView). c.past) made in
     let past : new.past ≡ guessed.events =
     guessed.grown ∙ ap (λ l. guessed.events ++ l) none ∙ after_nothing guessed.events in
@@ -44,8 +44,8 @@ asked_all predicts before after setup limit kept words old new lines are made sa
       has_setup = same_setup ∙ ap (λ (c : CoreView). c.setup) made;
       has_limit = same_limit ∙ ap (λ (c : CoreView). c.limit) made;
       shown = shown;
-      asked = subst (λ w. HaveAsked w (unasked new) new lines) are
-          (subst (λ c. HaveAsked words c new lines) (unasked_is old new none same_setup same_limit) asked);
+      asked = subst (λ w. HaveCounted w (unasked new) new idle lines) are
+          (subst (λ c. HaveCounted words c new idle lines) (unasked_is old new none same_setup same_limit) asked);
       after = after;
       guessed = subst (λ l. AreGuessed predicts l before after) (sym past) guessed.guessed;
     }
@@ -71,16 +71,16 @@ pub made_as : (core : CoreView) (setup other : Setup) (limit : ℕ)
 made_as core setup other limit made same = made ∙ ap (λ s. record { setup = s; limit = limit; past = [] }) same
 
 -- The same of an answer.
-module _ {P A E : Type 0} (predicts : P → ℕ → ℕ → ℕ → ℕ → P → Type 0) (core_of : A → CoreView) (text_of : A → List ℕ)
+module _ {P A E : Type 0} (predicts : P → ℕ → ℕ → ℕ → ℕ → P → Type 0) (core_of : A → CoreView) (idle_of text_of : A → List ℕ)
   where
     pub all_asked : (answer : Result A E) (before : P) (setup : Setup) (limit : ℕ) (kept : Kept)
         (words : List ScriptWord) (old : CoreView)
         → words ≡ words_in kept → old ≡ record { setup = setup; limit = limit; past = [] }
         → IfOk answer (λ a. (core_of a).setup ≡ old.setup) → IfOk answer (λ a. (core_of a).limit ≡ old.limit)
-        → IfOk answer (λ a. Shown (core_of a)) → IfOk answer (λ a. HaveAsked words old (core_of a) (text_of a))
+        → IfOk answer (λ a. Shown (core_of a)) → IfOk answer (λ a. HaveCounted words old (core_of a) (idle_of a) (text_of a))
         → IfOk answer (λ a. (after : P) × HasGuessed predicts old.past (core_of a).past before after)
-        → IfOk answer (λ a. IsAskedAll predicts before setup limit kept (core_of a) (text_of a))
+        → IfOk answer (λ a. IsAskedAll predicts before setup limit kept (core_of a) (idle_of a) (text_of a))
     all_asked (Ok a) before setup limit kept words old are made has_setup has_limit shown asked guessed =
-        asked_all predicts before guessed.0 setup limit kept words old (core_of a) (text_of a) are made has_setup has_limit
+        asked_all predicts before guessed.0 setup limit kept words old (core_of a) (idle_of a) (text_of a) are made has_setup has_limit
         shown asked guessed.1
     all_asked (Err e) before setup limit kept words old are made has_setup has_limit shown asked guessed = tt

@@ -1,8 +1,8 @@
 -- The lines that are kept: with one more, without the last, and all in range.
-use Rattle.std.specs.Prelude.{◌≡◌, ℕ, ◌+◌, ◌-◌, ◌<◌, List, [], ◌∷◌, ◌++◌, length, take, drop, map, flat_map, get_or, All, Vec, OnOk, Result, Ok, Err}
+use Rattle.std.specs.Prelude.{◌≡◌, ℕ, ◌+◌, ◌-◌, ◌<◌, List, [], ◌∷◌, ◌++◌, length, take, drop, get_or, All, Vec, OnOk, Result, Ok, Err}
 use Rattle.std.proofs.Common.{refl, sym, ap, subst, ◌∙◌, arith, length-append}
 use Rattle.std.proofs.Math.Seq.{take-append_seam}
-use Rattle.std.proofs.lemmas.List.{map-append, take-map, map_more, take-append-drop, flat_map_more, take_more}
+use Rattle.std.proofs.lemmas.List.{map-append, take-map, map_more, take-append-drop, flat_map_more}
 use Rattle.std.proofs.lemmas.List.Elements.{All-append, All-take}
 use Rattle.std.proofs.lemmas.Grind.{flat_map-append, common_steps}
 use Rattle.scripts.specs.{declared.actions.ScriptWord.ScriptWord, Script.IsInRange, Lines.words_in}
@@ -103,7 +103,7 @@ popped xs x old now pushed rest =
 
 -- The core that was asked some lines was asked the same lines.
 pub asked_before : {P : Type 0} (predicts : P → ℕ → ℕ → ℕ → ℕ → P → Type 0) (before : P) (setup : Setup) (limit : ℕ)
-    (kept now : Kept) → kept ≡ now → (core : CoreView) (lines : List ℕ)
-    → IsAskedAll predicts before setup limit kept core lines → IsAskedAll predicts before setup limit now core lines
-asked_before predicts before setup limit kept now same core lines asked =
-    subst (λ (k : Kept). IsAskedAll predicts before setup limit k core lines) same asked
+    (kept now : Kept) → kept ≡ now → (core : CoreView) (idle lines : List ℕ)
+    → IsAskedAll predicts before setup limit kept core idle lines → IsAskedAll predicts before setup limit now core idle lines
+asked_before predicts before setup limit kept now same core idle lines asked =
+    subst (λ (k : Kept). IsAskedAll predicts before setup limit k core idle lines) same asked

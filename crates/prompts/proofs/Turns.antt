@@ -1,6 +1,6 @@
 -- One line after another.
 use Rattle.std.specs.Prelude.{◌≡◌, ℕ, List, [], ◌∷◌, ◌++◌, Option, Some, None, Result, Ok, Err}
-use Rattle.std.proofs.Common.{refl, sym, ap, subst, ◌∙◌}
+use Rattle.std.proofs.Common.{sym, subst}
 use Rattle.std.specs.Io.KnownBytes.{Appends}
 use Rattle.std.proofs.KnownBytes.{Appends-nil}
 use Rattle.text_fields.specs.Printing.{Prints}
@@ -12,6 +12,10 @@ use Rattle.prompts.specs.declared.prompting.Ended.{Ended}
 use Rattle.prompts.specs.declared.prompting.Ended.TheVariants as ended
 use Rattle.prompts.specs.{Typed.IsRead, Kept.AnswersWords, Kept.IsAnswered, Kept.complaint_in}
 use Rattle.prompts.specs.{Kept.Kept, Session.IsTurn, Prompted.Typed, Prompted.HaveCome, Prompted.HasTyped}
+use Rattle.prompts.specs.{Kept.kept_in, Kept.IsAskedAll, Session.IsSession, Prompted.IsPrompted}
+use Rattle.prompts.specs.declared.session.Session.{Session as AnySession}
+use Rattle.smt_model.specs.Setup.{Setup}
+use Rattle.core_state.specs.View.{CoreView}
 
 abbrev pub Anything : List ℕ → Type 0
 Anything text = Unit {0}
@@ -84,3 +88,23 @@ answers_words line (Err (complaint.Word n)) kept now none is = ((none, is.0), is
 answers_words line (Err complaint.Memory) kept now none is = (tt, is)
 answers_words line (Err complaint.TooLong) kept now none is = absurd is
 answers_words line (Err complaint.Unread) kept now none is = absurd is
+
+-- What a session whose lines have come to their end has come to.
+pub comes_to : {P : Type 0} (predicts : P → ℕ → ℕ → ℕ → ℕ → P → Type 0) (before : P) (setup : Setup) (limit : ℕ)
+    (input : Option (List ℕ)) (session : AnySession) (end : Ended) (core : CoreView) (idle : List ℕ)
+    → IsSession predicts before setup limit session → HasTyped input (kept_in session.lines.items) end
+    → core ≡ session.asked.core → idle ≡ session.asked.idle
+    → IsPrompted predicts before setup limit input end core idle
+comes_to predicts before setup limit input session end core idle is typed same_core same_idle = record {
+  kept = kept_in session.lines.items;
+  has_typed = typed;
+  lines = session.asked.text.items;
+  asked =
+      subst (λ (c : CoreView).
+      IsAskedAll predicts before setup limit (kept_in session.lines.items) c idle session.asked.text.items)
+      (sym same_core)
+      (subst (λ (l : List ℕ).
+      IsAskedAll predicts before setup limit (kept_in session.lines.items) session.asked.core l
+      session.asked.text.items)
+      (sym same_idle) is.asked);
+}

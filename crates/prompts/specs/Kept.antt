@@ -4,7 +4,7 @@ use Rattle.std.specs.Prelude.{◌≡◌, ℕ, ◌-◌, ◌<◌, List, [], ◌∷
 use Rattle.std.specs.Prelude.{Option, Some, None, Result, Ok, Err}
 use Rattle.scripts.specs.{declared.actions.ScriptWord.ScriptWord, Script.IsScript, Script.IsInRange}
 use Rattle.scripts.specs.{Script.IsFirstMisspelled, Lines.words_in}
-use Rattle.scripts.specs.Session.{HaveAsked, AreGuessed, unasked}
+use Rattle.scripts.specs.Session.{HaveCounted, AreGuessed, unasked}
 use Rattle.smt_model.specs.Setup.{Setup}
 use Rattle.core_state.specs.View.{CoreView}
 use Rattle.smt_core.specs.Shown.{Shown}
@@ -68,13 +68,13 @@ complaint_in (Ok answer) = None
 complaint_in (Err why) = Some why
 
 -- A core of this setup and limit, one of those that may be shown, has been asked the words of all
--- kept lines, one after another and nothing else, and these are its answers; each fetch went on where
--- this predictor has guessed.
+-- kept lines, one after another and nothing else, and these are its answers; of each actor's asks so
+-- many were answered idle; each fetch went on where this predictor has guessed.
 pub record IsAskedAll {P : Type 0} (predicts : P → ℕ → ℕ → ℕ → ℕ → P → Type 0) (before : P)
-    (setup : Setup) (limit : ℕ) (kept : Kept) (core : CoreView) (lines : List ℕ) : Type 0 where
+    (setup : Setup) (limit : ℕ) (kept : Kept) (core : CoreView) (idle : List ℕ) (lines : List ℕ) : Type 0 where
   pub has_setup : core.setup ≡ setup
   pub has_limit : core.limit ≡ limit
   pub shown : Shown core
-  pub asked : HaveAsked (words_in kept) (unasked core) core lines
+  pub asked : HaveCounted (words_in kept) (unasked core) core idle lines
   pub after : P
   pub guessed : AreGuessed predicts core.past before after

@@ -1,5 +1,5 @@
 -- What comes of the lines that are typed at the prompt. (This project's own choice.)
-use Rattle.std.specs.Prelude.{◌≡◌, ℕ, List, [], ◌∷◌, Option, Some, None, false, true}
+use Rattle.std.specs.Prelude.{◌≡◌, ℕ, List, [], ◌∷◌, Option, Some}
 use Rattle.std.specs.{Io.KnownBytes.Keeps, Io.KnownBytes.IsAtEnd}
 use Rattle.smt_model.specs.Setup.{Setup}
 use Rattle.core_state.specs.View.{CoreView}
@@ -36,10 +36,12 @@ pub record HasTyped (input : Option (List ℕ)) (kept : Kept) (end : Ended) : Ty
   pub have_come : HaveCome input typed rest kept
   pub is_end : IsEnd end typed rest
 
--- What the prompt comes to: the core that has been asked the words of all lines that were kept.
+-- What the prompt comes to: the core that has been asked the words of all lines that were kept, and how
+-- many of each actor's asks it has answered idle.
 pub record IsPrompted {P : Type 0} (predicts : P → ℕ → ℕ → ℕ → ℕ → P → Type 0) (before : P)
-    (setup : Setup) (limit : ℕ) (input : Option (List ℕ)) (end : Ended) (core : CoreView) : Type 0 where
+    (setup : Setup) (limit : ℕ) (input : Option (List ℕ)) (end : Ended) (core : CoreView)
+    (idle : List ℕ) : Type 0 where
   pub kept : Kept
   pub has_typed : HasTyped input kept end
   pub lines : List ℕ
-  pub asked : IsAskedAll predicts before setup limit kept core lines
+  pub asked : IsAskedAll predicts before setup limit kept core idle lines

@@ -15,7 +15,7 @@ pub record IsSession {P : Type 0} (predicts : P → ℕ → ℕ → ℕ → ℕ 
     (setup : Setup) (limit : ℕ) (session : Session) : Type 0 where
   pub in_range : AreInRange (kept_in session.lines.items)
   pub asked : IsAskedAll predicts before setup limit (kept_in session.lines.items) session.asked.core
-      session.asked.text.items
+      session.asked.idle session.asked.text.items
 
 -- The next line was read and answered, or the lines came to their end.
 abbrev pub IsTurn : Option (List ℕ) → Option (List ℕ) → Kept → Kept → Option Ended → Type 0

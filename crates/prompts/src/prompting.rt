@@ -14,6 +14,7 @@ use crate::session::{Complaint, Session};
 use crate::simulation::Simulation;
 use crate::typed::next_line;
 use arrayvec::ArrayString;
+use numbers::sizes::MOST_ACTORS;
 use smt_core::{Core, CoreRefused, Predict};
 use std::io::{BufRead, Write};
 use text_fields::{push_ascii, push_decimal};
@@ -36,6 +37,8 @@ pub enum Ended {
 #[derive(Drop)]
 pub struct Prompted {
     pub core: Core,
+    /// How many asks of each actor were answered idle.
+    pub idle: [u64; MOST_ACTORS],
     pub ended: Ended,
 }
 
@@ -68,7 +71,7 @@ pub fn prompt<P: Predict + Copy, R: BufRead, W: Write>(
 ) -> Result<Prompted, PromptRefused>
     ensures prompted { IfOk result (λ prompted. IsPrompted P.predicts simulation.now.predict
         (setup_of simulation.now.image.now simulation.now.config.now) simulation.now.limit
-        (R.remaining reader.old) prompted.ended prompted.core) }
+        (R.remaining reader.old) prompted.ended prompted.core prompted.idle) }
     ensures printed { OnOk result
         (Prints (W.contents out.old) (W.contents out.new) (λ text. Unit {0})) }
     ensures accepted { OnOk result
@@ -87,10 +90,10 @@ pub fn prompt<P: Predict + Copy, R: BufRead, W: Write>(
         Err(CoreRefused::Memory) => return Err(PromptRefused::Memory),
     };
     match answer_all(&mut session, simulation, why, reader, out) {
-        Ok(ended) => Ok(Prompted {
-            core: session.into_core(),
-            ended,
-        }),
+        Ok(ended) => {
+            let (core, idle) = session.into_asked();
+            Ok(Prompted { core, idle, ended })
+        }
         Err(Unwritten) => Err(PromptRefused::Output),
     }
 }

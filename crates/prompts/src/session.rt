@@ -14,6 +14,7 @@ use crate::simulation::{Asked, Simulation};
 use charts::{View, rows_of, write_text};
 use events::{Event, History};
 use explained_asks::explain;
+use numbers::sizes::MOST_ACTORS;
 use reports::write_tables;
 use scripts::{ScriptRefused, ScriptWord, read_script};
 use smt_core::{Core, CoreRefused, Predict};
@@ -83,13 +84,18 @@ impl Session {
         }
     }
 
-    /// The core that was asked all lines.
-    pub(crate) fn into_core(self) -> Core
-        ensures { result ≡ self.asked.core }
+    /// The core that was asked all lines, and how many asks of each actor were answered idle.
+    pub(crate) fn into_asked(self) -> (Core, [u64; MOST_ACTORS])
+        ensures core { result.0 ≡ self.asked.core }
+        ensures idle { result.1 ≡ self.asked.idle }
     {
         let Session { lines: _, asked } = self;
-        let Asked { core, text: _ } = asked;
-        core
+        let Asked {
+            core,
+            idle,
+            text: _,
+        } = asked;
+        (core, idle)
     }
 
     /// Answers a line: the text to print, or why it does nothing.

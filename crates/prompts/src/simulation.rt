@@ -5,11 +5,12 @@ ghost use Rattle.core_state.specs.Setup.{setup_of};
 ghost use Rattle.smt_model.specs.Setup.{is_accepted};
 ghost use Rattle.scripts.specs.Lines.{words_in};
 ghost use Rattle.scripts.specs.Script.{IsInRange};
-ghost use Rattle.scripts.specs.Session.{HaveAsked, HasGuessed};
+ghost use Rattle.scripts.specs.Session.{HaveCounted, HasGuessed};
 ghost use Rattle.smt_core.specs.Shown.{Shown};
 ghost use Rattle.prompts.specs.Kept.{IsAskedAll, AreInRange, kept_in};
 
 use elf_image::Image;
+use numbers::sizes::MOST_ACTORS;
 use scripts::{ScriptWord, ask_core};
 use smt_core::{Config, Core, CoreRefused, Predict};
 use std::alloc::{AllocError, Global};
@@ -26,10 +27,11 @@ pub struct Simulation<'a, P> {
     pub alloc: Global,
 }
 
-/// A core, and its answers to all that it was asked.
+/// A core, how many of each actor's asks it has answered idle, and its answers to all that it was asked.
 #[derive(Drop)]
 pub(crate) struct Asked {
     pub core: Core,
+    pub idle: [u64; MOST_ACTORS],
     pub text: Vec<u8>,
 }
 
@@ -39,7 +41,7 @@ impl<P: Predict + Copy> Simulation<'_, P> {
         requires { AreInRange (kept_in lines.now) }
         ensures asked { IfOk result (λ asked. IsAskedAll P.predicts self.now.predict
             (setup_of self.now.image.now self.now.config.now) self.now.limit (kept_in lines.now)
-            asked.core asked.text.items) }
+            asked.core asked.idle asked.text.items) }
         ensures accepted { OnOk result
             (is_accepted (setup_of self.now.image.now self.now.config.now) self.now.limit ≡ true) }
         ensures refused { result ≡ Err CoreRefused.Config
@@ -58,8 +60,8 @@ impl<P: Predict + Copy> Simulation<'_, P> {
         ensures setup { IfOk result (λ asked. asked.core.setup ≡ core.setup) }
         ensures limit { IfOk result (λ asked. asked.core.limit ≡ core.limit) }
         ensures shown { IfOk result (λ asked. Shown asked.core) }
-        ensures asked { IfOk result (λ asked. HaveAsked words.now core asked.core
-            asked.text.items) }
+        ensures asked { IfOk result (λ asked. HaveCounted words.now core asked.core
+            asked.idle asked.text.items) }
         ensures guessed { IfOk result (λ asked. (after : P) × HasGuessed P.predicts core.past
             asked.core.past self.now.predict after) }
         ensures refused { IfErr result (λ why. why ≡ CoreRefused.Memory) }
@@ -75,10 +77,14 @@ impl<P: Predict + Copy> Simulation<'_, P> {
             &mut predict,
             &mut text,
         ) {
-            Ok(finished) => Ok(Asked {
-                core: finished.core,
-                text,
-            }),
+            Ok(finished) => {
+                let idle = finished.idle;
+                Ok(Asked {
+                    core: finished.core,
+                    idle,
+                    text,
+                })
+            }
             Err(_) => Err(CoreRefused::Memory),
         }
     }

@@ -25,6 +25,7 @@ use Rattle.sim_inputs.specs.{declared.line.WordsRefused.TheVariants.Help}
 use Rattle.sim_inputs.specs.{declared.line.WordsRefused.TheVariants.Refused}
 use Rattle.sim_inputs.specs.{declared.line.WordsRefused.TheVariants.Memory}
 use Rattle.sim_inputs.specs.declared.line.OutcomesCommand.{OutcomesCommand}
+use Rattle.sim_inputs.specs.declared.line.LitmusCommand.{LitmusCommand}
 use Rattle.sim_inputs.specs.Rules.{smtsim}
 use Rattle.sim_inputs.specs.Files.{reads_input_once}
 
@@ -220,6 +221,18 @@ pub record IsOutcomes (rows : List Row) (outcomes : OutcomesCommand) : Type 0 wh
   pub script : IsFileOption rows (codes "script") outcomes.script
   pub together : can_be_searched outcomes ≡ true
 
+-- Some state is looked at, and one file at most is written: the image, or the picture.
+abbrev pub can_be_tested : LitmusCommand → Bool
+can_be_tested litmus = nat_le 1 litmus.states && not (is_some litmus.image && is_some litmus.svg)
+
+pub record IsLitmus (rows : List Row) (litmus : LitmusCommand) : Type 0 where
+  pub test : IsFile rows (codes "TEST") litmus.test
+  pub states : IsNumber rows (codes "states") usual_states most_states litmus.states
+  pub why : IsFlag rows (codes "why") litmus.why
+  pub image : IsFileOption rows (codes "image") litmus.image
+  pub svg : IsFileOption rows (codes "svg") litmus.svg
+  pub together : can_be_tested litmus ≡ true
+
 -- A subcommand of this name, with what was found for it, is the command.
 abbrev pub IsCommandOf : Text → List Row → LineCommand → Type 0
 IsCommandOf name rows (commands.Step step) = (name ≡ codes "step") × IsStep rows step
@@ -234,6 +247,7 @@ IsCommandOf name rows (commands.Chart chart) = (name ≡ codes "chart") × IsCha
 IsCommandOf name rows (commands.Explain explain) = (name ≡ codes "explain") × IsExplain rows explain
 IsCommandOf name rows (commands.Outcomes outcomes) =
     (name ≡ codes "outcomes") × IsOutcomes rows outcomes
+IsCommandOf name rows (commands.Litmus litmus) = (name ≡ codes "litmus") × IsLitmus rows litmus
 
 -- A subcommand of this name, with what was found for it, is the line: its command, and the
 -- configuration, which every command may have. One of its files at most is standard input.

@@ -6,6 +6,7 @@ use Rattle.sim_inputs.specs.{declared.files.Files.Files}
 use Rattle.sim_inputs.specs.{declared.line.Line.Line, declared.line.Command.Command}
 use Rattle.sim_inputs.specs.{declared.line.ChartCommand.ChartCommand}
 use Rattle.sim_inputs.specs.{declared.line.OutcomesCommand.OutcomesCommand}
+use Rattle.sim_inputs.specs.{declared.line.LitmusCommand.LitmusCommand}
 use Rattle.sim_inputs.specs.declared.line.Command.TheVariants as commands
 
 -- The file that a chart is written to: a picture, or Konata's log.
@@ -15,6 +16,10 @@ written_chart chart = if is_some chart.svg then chart.svg else chart.kanata
 -- The file that an order is written to, or its script.
 abbrev pub written_order : OutcomesCommand → Option (Bor (List ℕ))
 written_order outcomes = if is_some outcomes.witness then outcomes.witness else outcomes.script
+
+-- The file that a test's image is written to, or the picture of why it can't end so.
+abbrev pub written_for_test : LitmusCommand → Option (Bor (List ℕ))
+written_for_test litmus = if is_some litmus.image then litmus.image else litmus.svg
 
 -- The files of a command, beside the configuration of its line.
 abbrev files_with : Option (Bor (List ℕ)) → Command → Files
@@ -78,10 +83,16 @@ files_with config (commands.Outcomes outcomes) = record {
   second = None;
   trace = written_order outcomes;
 }
+files_with config (commands.Litmus litmus) = record {
+  config = config;
+  image = Some litmus.test;
+  second = None;
+  trace = written_for_test litmus;
+}
 
--- The configuration, the image, the file that is read beside them (the script, the trace that is
--- read, or the order), and the file that is written: the trace of a core, a chart, or an order or its
--- script.
+-- The configuration, the image or the litmus test, the file that is read beside them (the script, the
+-- trace that is read, or the order), and the file that is written: the trace of a core, a chart, an order
+-- or its script, or what is made of a test.
 abbrev pub files_of : Line → Files
 files_of line = files_with line.config line.command
 

@@ -5,7 +5,8 @@ use Rattle.std.specs.{List.fold}
 use Rattle.clap.specs.Words.{App, Rule, Text, new_app, new_rule, with_rule, with_subcommand}
 use Rattle.clap.specs.{declared.builder.action.ArgAction.TheVariants.SetTrue}
 
--- An argument that names a file and must be there: the image, the script, the trace, and the order.
+-- An argument that names a file and must be there: the image, the script, the trace, the order, and the
+-- litmus test.
 abbrev pub file_rule : Text → Rule
 file_rule name = record (new_rule name) { required = true }
 
@@ -121,6 +122,12 @@ witness_rule = file_option_rule (codes "witness")
 abbrev pub written_script_rule : Rule
 written_script_rule = file_option_rule (codes "script")
 
+abbrev pub test_rule : Rule
+test_rule = file_rule (codes "TEST")
+
+abbrev pub written_image_rule : Rule
+written_image_rule = file_option_rule (codes "image")
+
 -- A subcommand of this name, with its arguments in order.
 abbrev pub subcommand : Text → List Rule → App
 subcommand name rules = fold with_rule (new_app name) rules
@@ -176,7 +183,12 @@ abbrev pub outcomes_command : App
 outcomes_command = subcommand (codes "outcomes") (image_rule ∷ config_rule ∷ states_rule ∷ watch_rule
     ∷ exists_rule ∷ outcome_rule ∷ stuck_rule ∷ witness_rule ∷ written_script_rule ∷ [])
 
--- The whole command line: one of the ten subcommands must be there. `clap` adds `--help` and
+-- `litmus TEST`, with `--config FILE`, `--states N`, `--image FILE`, `--why` and `--svg FILE`.
+abbrev pub litmus_command : App
+litmus_command = subcommand (codes "litmus") (test_rule ∷ config_rule ∷ states_rule ∷ written_image_rule
+    ∷ why_rule ∷ svg_rule ∷ [])
+
+-- The whole command line: one of the eleven subcommands must be there. `clap` adds `--help` and
 -- `help`.
 abbrev pub top : App
 top = let app =
@@ -185,4 +197,4 @@ top = let app =
 abbrev pub smtsim : App
 smtsim = fold (λ app sub. with_subcommand app sub.top) top (step_command ∷ run_command
     ∷ check_command ∷ plain_command ∷ schedule_command ∷ script_command ∷ list_command
-    ∷ chart_command ∷ explain_command ∷ outcomes_command ∷ [])
+    ∷ chart_command ∷ explain_command ∷ outcomes_command ∷ litmus_command ∷ [])

@@ -6,7 +6,7 @@ ghost use Rattle.sim_inputs.specs.Rules.{smtsim};
 ghost use Rattle.sim_inputs.specs.Table.{rule_in, subcommand_in, with_row};
 
 use crate::forms::{
-    CHART_FORM, CONFIGURATION_FORM, ORDER_FORM, OUTCOMES_FORM, SCRIPT_FORM, TRACE_FORM,
+    CHART_FORM, CONFIGURATION_FORM, LITMUS_FORM, ORDER_FORM, OUTCOMES_FORM, SCRIPT_FORM, TRACE_FORM,
 };
 use clap::{Arg, ArgAction, Command};
 use std::alloc::{AllocError, Global};
@@ -200,7 +200,7 @@ const KANATA: Argument = Argument {
 const STATES: Argument = Argument {
     kind: Kind::Number,
     name: "states",
-    help: "The most states that are looked at: 1000000",
+    help: "The most states, some 150 bytes each: 1000000",
 };
 
 const WATCH: Argument = Argument {
@@ -239,8 +239,32 @@ const WRITTEN_SCRIPT: Argument = Argument {
     help: "The file for the script of that order",
 };
 
+const TEST: Argument = Argument {
+    kind: Kind::File,
+    name: "TEST",
+    help: "The litmus test, in herd's RISC-V format",
+};
+
+const WRITTEN_IMAGE: Argument = Argument {
+    kind: Kind::Option,
+    name: "image",
+    help: "The file for the test's program: an ELF file",
+};
+
+const WHY_NEVER: Argument = Argument {
+    kind: Kind::Flag,
+    name: "why",
+    help: "Tell why the condition holds of no state",
+};
+
+const SVG_OF_WHY: Argument = Argument {
+    kind: Kind::Option,
+    name: "svg",
+    help: "The file for a picture of that",
+};
+
 /// The subcommands, in the order in which help lists them.
-static SUBCOMMANDS: [Subcommand; 10] = [
+static SUBCOMMANDS: [Subcommand; 11] = [
     Subcommand {
         name: "step",
         about: "Make a script's asks of the core in order, and print a report",
@@ -331,6 +355,12 @@ static SUBCOMMANDS: [Subcommand; 10] = [
             WRITTEN_SCRIPT,
         ],
         form: OUTCOMES_FORM,
+    },
+    Subcommand {
+        name: "litmus",
+        about: "List every final state of a litmus test, as herd does",
+        arguments: &[TEST, CONFIG, STATES, WRITTEN_IMAGE, WHY_NEVER, SVG_OF_WHY],
+        form: LITMUS_FORM,
     },
 ];
 

@@ -1,19 +1,20 @@
 ghost use Rattle.std.specs.Prelude.{◌≡◌, ◌≤◌, option_map};
-ghost use Rattle.sim_inputs.specs.Files.{files_of, written_chart, written_order, is_standard_input};
-ghost use Rattle.sim_inputs.specs.Files.{input_count, reads_input_once};
+ghost use Rattle.sim_inputs.specs.Files.{files_of, written_chart, written_order, written_for_test};
+ghost use Rattle.sim_inputs.specs.Files.{is_standard_input, input_count, reads_input_once};
 
-use crate::line::{ChartCommand, Command, Line, OutcomesCommand};
+use crate::line::{ChartCommand, Command, Line, LitmusCommand, OutcomesCommand};
 
 /// The files that a line names: three that are read, in this order, and one that is written.
 #[derive(Clone, Copy, Drop)]
 pub struct Files<'a> {
     /// The configuration.
     pub config: Option<&'a str>,
-    /// The program that the harts run.
+    /// The program that the harts run, or the litmus test that says it.
     pub image: Option<&'a str>,
     /// The script, the trace that is read, or the order.
     pub second: Option<&'a str>,
-    /// The file that is written: the trace of a core, a chart, or an order or its script.
+    /// The file that is written: the trace of a core, a chart, an order or its script, or what is made of
+    /// a litmus test.
     pub trace: Option<&'a str>,
 }
 
@@ -41,6 +42,18 @@ impl<'a> OutcomesCommand<'a> {
     }
 }
 
+impl<'a> LitmusCommand<'a> {
+    /// The file that the test's image is written to, or the picture; none where nothing is written.
+    pub fn written(&self) -> Option<&'a str>
+        ensures { result ≡ written_for_test self.now }
+    {
+        if self.image.is_some() {
+            return self.image;
+        }
+        self.svg
+    }
+}
+
 impl<'a> Line<'a> {
     /// The files that the line names.
     pub fn files(&self) -> Files<'a>
@@ -57,6 +70,7 @@ impl<'a> Line<'a> {
             Command::Chart(chart) => (Some(chart.image), Some(chart.trace), chart.written()),
             Command::Explain(explain) => (Some(explain.image), None, None),
             Command::Outcomes(outcomes) => (Some(outcomes.image), None, outcomes.written()),
+            Command::Litmus(litmus) => (Some(litmus.test), None, litmus.written()),
         };
         Files {
             config: self.config,

@@ -69,3 +69,9 @@ CONDITION has terms joined by &, which hold together: h0=1 & a0@1=2.
   80001000:4=7   so has the word at this address, which is hexadecimal
 Numbers are decimal, or hexadecimal behind 0x. What it names is watched too.
 Of outcomes it says: exists: yes, and which, or exists: no.";
+
+/// What a test is, for the help of `litmus`.
+pub(crate) const LITMUS_FORM: &str = "\
+TEST is a litmus test in herd's RISC-V format. The plain machine has as many
+harts as the test, whatever the configuration says, and a word of memory for
+each location. The states are printed as herd prints them, each once.";

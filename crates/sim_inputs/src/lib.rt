@@ -26,8 +26,9 @@ pub use explained::{
 };
 pub use files::{Files, is_standard_input};
 pub use line::{
-    ChartCommand, CheckCommand, Command, ExplainCommand, Line, ListCommand, OutcomesCommand,
-    PlainCommand, RunCommand, ScheduleCommand, ScriptCommand, StepCommand, WordsRefused,
+    ChartCommand, CheckCommand, Command, ExplainCommand, Line, ListCommand, LitmusCommand,
+    OutcomesCommand, PlainCommand, RunCommand, ScheduleCommand, ScriptCommand, StepCommand,
+    WordsRefused,
 };
 pub use settings::Settings;
 pub use words::read_words;

@@ -21,6 +21,7 @@ pub enum Command<'a> {
     Chart(ChartCommand<'a>),
     Explain(ExplainCommand<'a>),
     Outcomes(OutcomesCommand<'a>),
+    Litmus(LitmusCommand<'a>),
 }
 
 /// `step IMAGE SCRIPT`: the script's asks are made in order, without threads.
@@ -168,6 +169,22 @@ pub struct OutcomesCommand<'a> {
     /// `--script FILE`: the file that the order's script is written to. There is one of the two at
     /// most.
     pub script: Option<&'a str>,
+}
+
+/// `litmus TEST`: every final state of a litmus test is listed, and whether they are as it asks.
+#[derive(Clone, Copy, Drop)]
+pub struct LitmusCommand<'a> {
+    /// The file of the test.
+    pub test: &'a str,
+    /// `--states N`: how many states are looked at the most, 1 to `MOST_STATES`.
+    pub states: u32,
+    /// `--why`: behind the states, why the condition holds of none.
+    pub why: bool,
+    /// `--image FILE`: the file that the test's image is written to.
+    pub image: Option<&'a str>,
+    /// `--svg FILE`: the file that a picture is written to, of why the condition holds of none. There is
+    /// one of the two at most.
+    pub svg: Option<&'a str>,
 }
 
 /// Why there is nothing to do.

@@ -5,15 +5,16 @@ ghost use Rattle.sim_inputs.specs.CommandLine.{IsStep, IsRun, IsCheck, IsPlain, 
 ghost use Rattle.sim_inputs.specs.CommandLine.{IsList, IsChart, IsExplain, can_be_drawn, can_be_run};
 ghost use Rattle.sim_inputs.specs.CommandLine.{is_reported, can_be_plain, number_or, number_in};
 ghost use Rattle.sim_inputs.specs.CommandLine.{IsOutcomes, can_be_searched, are_orders_together};
-ghost use Rattle.sim_inputs.specs.CommandLine.{has_one_file};
+ghost use Rattle.sim_inputs.specs.CommandLine.{has_one_file, IsLitmus, can_be_tested};
 ghost use Rattle.sim_inputs.specs.CommandLine.{AreWordsRefusedFor, IsRefusalOf};
 
 use crate::description::describe;
 use crate::files::reads_input_once;
 use crate::limits::with_limits;
 use crate::line::{
-    ChartCommand, CheckCommand, Command, ExplainCommand, Line, ListCommand, OutcomesCommand,
-    PlainCommand, RunCommand, ScheduleCommand, ScriptCommand, StepCommand, WordsRefused,
+    ChartCommand, CheckCommand, Command, ExplainCommand, Line, ListCommand, LitmusCommand,
+    OutcomesCommand, PlainCommand, RunCommand, ScheduleCommand, ScriptCommand, StepCommand,
+    WordsRefused,
 };
 use clap::error::ErrorKind;
 use clap::{ArgMatches, Error};
@@ -84,12 +85,13 @@ fn command_named<'a>(name: &str, found: &ArgMatches<'a>) -> Option<Command<'a>>
         "chart" => Some(Command::Chart(chart_in(found)?)),
         "explain" => Some(Command::Explain(explain_in(found)?)),
         "outcomes" => Some(Command::Outcomes(outcomes_in(found)?)),
+        "litmus" => Some(Command::Litmus(litmus_in(found)?)),
         _ => None,
     }
 }
 
-/// The command `step` of what was found; none where a file is missing that it must have. The nine
-/// below answer for their commands; four of them have options that don't go together.
+/// The command `step` of what was found; none where a file is missing that it must have. The ten
+/// below answer for their commands; five of them have options that don't go together.
 fn step_in<'a>(found: &ArgMatches<'a>) -> Option<StepCommand<'a>>
     ensures { Finds (IsStep (rows_of (found_of found.now))) result }
 {
@@ -290,6 +292,29 @@ fn has_one_file(outcomes: &OutcomesCommand<'_>) -> bool
         return outcomes.script.is_none();
     }
     outcomes.script.is_some()
+}
+
+fn litmus_in<'a>(found: &ArgMatches<'a>) -> Option<LitmusCommand<'a>>
+    ensures { Finds (IsLitmus (rows_of (found_of found.now))) result }
+{
+    let litmus = LitmusCommand {
+        test: file(found, "TEST")?,
+        states: number_or(found, "states", USUAL_STATES, u32::MAX)?,
+        why: is_set(found, "why"),
+        image: file(found, "image"),
+        svg: file(found, "svg"),
+    };
+    if !can_be_tested(&litmus) {
+        return None;
+    }
+    Some(litmus)
+}
+
+/// Whether some state is looked at, and one file at most is written.
+fn can_be_tested(litmus: &LitmusCommand<'_>) -> bool
+    ensures { result ≡ can_be_tested litmus.now }
+{
+    litmus.states >= 1 && !(litmus.image.is_some() && litmus.svg.is_some())
 }
 
 /// The number that was found for an option, of at most `greatest`, or the default where it isn't

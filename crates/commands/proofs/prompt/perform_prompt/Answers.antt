@@ -23,16 +23,17 @@ returns g c =
     let came = c.in-Ok.ensures in
     let account = c.write_account.ensures in
     let answer = c.write_account.result in
+    let reported = rw c.idle_of-idle.ensures at account.reported in
     let accepted = accepted_all c.args.settings.now c.args.image.now came.accepted in
     record {
       refused =
           IfErr-weaker answer _ _
           (λ reason is. report_refusal c.args.settings.now [] reason accepted empty_asks is) account.refused;
       ended =
-          with_both answer _ _ _ account.traced account.reported
+          with_both answer _ _ _ account.traced reported
           (λ traced status reported. prompt_comes_to g.P.Predict.predicts c.args.predict c.args.settings.now
           (g.R.Read.remaining c.args.reader.now) c.args.wanted _ c.args.image.now c.in-Ok.prompted.ended
-          c.in-Ok.prompted.core _ _ _ status accepted came.prompted came.printed traced reported);
+          c.in-Ok.prompted.core c.in-Ok.prompted.idle _ _ _ status accepted came.prompted came.printed traced reported);
       unwanted = account.unwanted;
       unbroken = account.unbroken;
     }

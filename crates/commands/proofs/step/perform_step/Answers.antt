@@ -8,19 +8,20 @@ returns g c =
     let asked = c.in_ok-finished.ensures in
     let account = c.write_account.ensures in
     let answer = c.write_account.result in
+    let reported = rw c.idle_of-idle.ensures at account.reported in
     record {
       refused =
           IfErr-weaker answer _ _
           (λ reason is. report_refusal c.args.settings.now c.args.script.now reason asked.accepted asked.script is)
           account.refused;
       ended =
-          with_both answer _ _ _ account.traced account.reported
+          with_both answer _ _ _ account.traced reported
           (λ traced status reported. comes_to c.args.settings.now c.args.image.now c.args.script.now c.args.why
-          c.args.wanted c.in_ok-finished.finished.core _ _ _ _ status
+          c.args.wanted c.in_ok-finished.finished.core c.in_ok-finished.finished.idle _ _ _ _ status
           asked.accepted asked.script asked.setup asked.limit asked.shown asked.printed traced reported);
       unwanted = account.unwanted;
       unbroken = account.unbroken;
       unreported = λ failed.
-          unreported c.args.why c.args.script.now c.in_ok-finished.finished.core _ _ _ asked.printed
+          unreported c.args.why c.args.script.now c.in_ok-finished.finished.core c.in_ok-finished.finished.idle _ _ _ asked.printed
           (account.unreported failed);
     }

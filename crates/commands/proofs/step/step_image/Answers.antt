@@ -1,4 +1,4 @@
-use Rattle.scripts.proofs.Sessions.{of_words}
+use Rattle.scripts.proofs.Sessions.{of_words, of_counted}
 use Rattle.commands.proofs.step.step_image.Goals as goal
 
 pub returns-clause-refused : goal.returns-clause-refused
@@ -10,6 +10,13 @@ returns-in-Ok-clause-asked g c =
     let words = rw c.as_slice.ensures.value at asked.asked in
     of_words g.P.Predict.predicts c.args.script.now c.in_ok-words.words.items _ _ _ _ _ _
     c.in_ok-words.ensures.script c.in_ok-core.ensures.unasked asked.setup asked.limit words asked.guessed
+
+pub returns-in-Ok-clause-idle : goal.returns-in-Ok-clause-idle
+returns-in-Ok-clause-idle g c =
+    let asked = c.in-Ok.ensures in
+    let words = rw c.as_slice.ensures.value at asked.idle in
+    of_counted c.args.script.now c.in_ok-words.words.items _ _ _ _ _
+    c.in_ok-words.ensures.script c.in_ok-core.ensures.unasked asked.setup asked.limit words
 
 pub returns-in-Ok-clause-own : goal.returns-in-Ok-clause-own
 returns-in-Ok-clause-own g c = c.in-Ok.ensures.own.1 c.in_ok-core.ensures.setup

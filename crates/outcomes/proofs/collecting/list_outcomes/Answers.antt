@@ -13,17 +13,24 @@ loop-index-preserved c =
     c.loop-index-test.true in
     elim c.match-state.branch [
       | in-Some+in_ok-outcome+in_ok-put w ↦
-          rw w.listed-is
-          (one_more c.args.machine.now c.args.watch.now c.args.search.now.states ends k p w.in-Some.state _ _ _ at_end
-          (sym c.state.ensures ∙ w.in-Some.is) refl w.in_ok-outcome.ensures w.in_ok-put.ensures c.loop-index.invariant)
+          rw w.listed-is (
+            one_more c.args.machine.now c.args.watch.now c.args.search.now.states ends k p w.in-Some.state _ _ _ at_end
+                (sym c.state.ensures ∙ w.in-Some.is) refl w.in_ok-outcome.ensures w.in_ok-put.ensures.put c.loop-index.invariant.0,
+            w.in_ok-put.ensures.once c.loop-index.invariant.1,
+          )
       | in_default w ↦
-          rw w.listed-is
-          (no_more c.args.machine.now c.args.watch.now c.args.search.now.states ends k p _ at_end
-          (sym c.state.ensures ∙ w.in_default.is) c.loop-index.invariant)
+          rw w.listed-is (
+            no_more c.args.machine.now c.args.watch.now c.args.search.now.states ends k p _ at_end
+                (sym c.state.ensures ∙ w.in_default.is) c.loop-index.invariant.0,
+            c.loop-index.invariant.1,
+          )
     ]
 
-pub returns : goal.returns
-returns c =
+pub returns-clause-once : goal.returns-clause-once
+returns-clause-once c = c.loop-index.invariant.1
+
+pub returns-clause-outcomes : goal.returns-clause-outcomes
+returns-clause-outcomes c =
     all_listed c.args.machine.now c.args.watch.now c.args.search.now.states c.args.search.now.ends c.loop-index.index
     c.loop-index.listed.items
-    (omega (arith, ap length c.ends-index-end.ensures, c.loop-index-test.false)) c.loop-index.invariant
+    (omega (arith, ap length c.ends-index-end.ensures, c.loop-index-test.false)) c.loop-index.invariant.0

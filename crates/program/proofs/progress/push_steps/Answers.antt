@@ -1,14 +1,7 @@
-use Rattle.std.specs.Prelude.{◌≡◌, ℕ, List, ◌++◌, codes}
+use Rattle.std.specs.Prelude.{codes}
 use Rattle.std.specs.Fmt.{decimal}
-use Rattle.reports.proofs.Appending.{appended_twice}
+use Rattle.program.proofs.Pieces.{four_pieces}
 use Rattle.program.proofs.progress.push_steps.Goals as goal
-
--- What was appended in four pieces.
-four_pieces : (old one two three new a b c d : List ℕ) → one ≡ old ++ a → two ≡ one ++ b → three ≡ two ++ c
-    → new ≡ three ++ d → new ≡ old ++ (a ++ (b ++ (c ++ d)))
-four_pieces old one two three new a b c d first second third fourth =
-    appended_twice old one new a (b ++ (c ++ d)) first
-    (appended_twice one two new b (c ++ d) second (appended_twice two three new c d third fourth))
 
 pub returns-clause-spelled : goal.returns-clause-spelled
 returns-clause-spelled c =

@@ -1,5 +1,5 @@
 use Rattle.std.specs.Prelude.{[]}
-use Rattle.std.proofs.Common.{refl, sym, ap}
+use Rattle.std.proofs.Common.{ap}
 use Rattle.std.proofs.KnownBytes.{Keeps-refl}
 use Rattle.prompts.specs.Kept.{kept_in}
 use Rattle.prompts.proofs.Turns.{comes_on, ends_so, stops, prints_more, prints_nothing}

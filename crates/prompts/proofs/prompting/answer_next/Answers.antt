@@ -1,4 +1,4 @@
-use Rattle.std.proofs.Common.{sym, ap}
+use Rattle.std.proofs.Common.{ap}
 use Rattle.text_fields.specs.Printing.{Prints}
 use Rattle.prompts.proofs.Turns.{Anything, prints_more, prints_text, prints_into}
 use Rattle.prompts.proofs.prompting.answer_next.Goals.{in-Ok+in_ok-put-in-Ok, in-Err-answer+in_ok-complain-in-Err-answer}

@@ -15,5 +15,5 @@ returns-in-Ok-clause-session g c =
     record {
       in_range = subst AreInRange same (in_range_seen (c.len-count.result - 1) c.args.self.now.lines.items
           c.as_slice.result.now c.as_slice.ensures.value c.requires.in_range);
-      asked = asked_before g.P.Predict.predicts _ _ _ _ _ same _ _ c.in-Ok.ensures.asked;
+      asked = asked_before g.P.Predict.predicts _ _ _ _ _ same _ _ _ c.in-Ok.ensures.asked;
     }

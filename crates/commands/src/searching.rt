@@ -1,0 +1,46 @@
+//! The search for all outcomes, and who is shown how far it is.
+
+ghost use Rattle.std.specs.Prelude.{IfOk, IfErr, OnOk};
+ghost use Rattle.outcomes.specs.Found.{InEachSetup, AreAll, CoversCores, IsOnce};
+ghost use Rattle.outcomes.specs.Refusals.{IsRefusedFor, AreWords};
+ghost use Rattle.outcomes.specs.Watching.{AreThere};
+
+use actors::Gate;
+use elf_image::Image;
+use outcomes::{Onlooker, Outcomes, OutcomesRefused, Watch, find_outcomes};
+use std::alloc::Global;
+
+/// Shows a gate how far a search is.
+#[derive(Drop)]
+struct Shown<'a, G: Gate> {
+    gate: &'a G,
+}
+
+impl<G: Gate> Onlooker for Shown<'_, G> {
+    fn see(&self, states: u32, swept: u32) {
+        self.gate.at_states(states, swept);
+    }
+}
+
+/// Finds all outcomes of a program, as `find_outcomes` does; `gate` is shown how far it is.
+pub(crate) fn find_shown<G: Gate>(
+    image: &Image,
+    harts: u8,
+    watch: &Watch,
+    budget: u32,
+    gate: &G,
+    alloc: Global,
+) -> Result<Outcomes, OutcomesRefused>
+    ensures all { IfOk result (λ found.
+        InEachSetup image.now harts (λ setup. AreAll setup watch.now found)) }
+    ensures cores { IfOk result (λ found.
+        InEachSetup image.now harts (λ setup. CoversCores setup watch.now found)) }
+    ensures once { IfOk result IsOnce }
+    ensures present { OnOk result (AreThere harts watch.now × AreWords image.now watch.now) }
+    ensures refused { IfErr result (IsRefusedFor image.now harts watch.now budget) }
+{
+    gate.begin_search();
+    let found = find_outcomes(image, harts, watch, budget, &Shown { gate }, alloc);
+    gate.end();
+    found
+}

@@ -1,0 +1,10 @@
+/// What one hart does with memory at a step.
+#[derive(Clone, Copy, Drop)]
+pub(crate) struct Access {
+    pub step: usize,
+    pub location: usize,
+    pub reads: Option<u32>,
+    pub writes: Option<u32>,
+    /// Of a store-conditional, the index of its load-reserved among its hart's accesses.
+    pub reserved_by: Option<usize>,
+}

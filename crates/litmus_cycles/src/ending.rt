@@ -1,0 +1,80 @@
+//! Whether a condition holds where harts have chosen their runs, as far as that can be said.
+
+use crate::event::MemoryEvent;
+use crate::number::{initial_number, word_of};
+use crate::runs::AllRuns;
+use litmus_tests::{Condition, LitmusTest, Observed, Term};
+use numbers::Reg;
+
+/// The runs that the first harts have chosen, and what they have written in coherence order, once that is chosen.
+#[derive(Clone, Copy, Drop)]
+pub(crate) struct Ending<'test, 'runs, 'chosen, 'events> {
+    pub test: &'test LitmusTest,
+    pub runs: &'runs AllRuns,
+    /// Of each hart that has chosen, the index of its run.
+    pub chosen: &'chosen [usize],
+    pub events: Option<&'events [MemoryEvent]>,
+}
+
+impl Ending<'_, '_, '_, '_> {
+    /// Whether a condition holds; none where what isn't chosen yet decides.
+    pub fn meets(&self, condition: &Condition) -> Option<bool> {
+        match condition {
+            Condition::Always => Some(true),
+            Condition::Holds(term) => self.meets_term(term),
+            Condition::Not(negated) => Some(!self.meets(negated)?),
+            Condition::Both(first, second) => both(self.meets(first), self.meets(second)),
+            Condition::Either(first, second) => either(self.meets(first), self.meets(second)),
+        }
+    }
+
+    fn meets_term(&self, term: &Term) -> Option<bool> {
+        let found = match term.observed {
+            Observed::Register { hart, register } => self.register(hart, register)?,
+            Observed::Location(location) => self.last_number(location)?,
+        };
+        Some(found == word_of(term.value))
+    }
+
+    fn register(&self, hart: u8, register: Reg) -> Option<u32> {
+        let index = *self.chosen.get(usize::from(hart))?;
+        let run = self.runs.run(usize::from(hart), index)?;
+        run.registers.get(usize::from(register)).copied()
+    }
+
+    fn last_number(&self, location: usize) -> Option<u32> {
+        match last_write(self.events?, location) {
+            Some(number) => Some(number),
+            None => initial_number(self.test, location),
+        }
+    }
+}
+
+/// What the write of a location that is last in coherence order writes.
+fn last_write(events: &[MemoryEvent], location: usize) -> Option<u32> {
+    let mut last = None;
+    let mut rank = 0_usize;
+    for event in events {
+        if event.location == location && event.writes.is_some() && rank <= event.rank {
+            rank = event.rank;
+            last = event.writes;
+        }
+    }
+    last
+}
+
+fn both(first: Option<bool>, second: Option<bool>) -> Option<bool> {
+    match (first, second) {
+        (Some(false), _) | (_, Some(false)) => Some(false),
+        (Some(true), Some(true)) => Some(true),
+        (None, _) | (_, None) => None,
+    }
+}
+
+fn either(first: Option<bool>, second: Option<bool>) -> Option<bool> {
+    match (first, second) {
+        (Some(true), _) | (_, Some(true)) => Some(true),
+        (Some(false), Some(false)) => Some(false),
+        (None, _) | (_, None) => None,
+    }
+}

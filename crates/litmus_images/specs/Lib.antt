@@ -1,0 +1,5 @@
+pub mod Words
+pub mod Steps
+pub mod Code
+pub mod Image
+pub mod Watching

@@ -1,0 +1,83 @@
+//! The words of a hart's steps.
+
+ghost use Rattle.std.specs.Prelude.{◌≡◌, ◌≤◌, ◌<◌, ◌*◌, ◌++◌, length, All, OnOk};
+ghost use Rattle.litmus_tests.specs.WellFormed.{IsStep};
+ghost use Rattle.litmus_images.specs.Steps.{step_length, step_place, words_at, steps_words, branch_op};
+
+use crate::constants::{distance, push_constant};
+use litmus_tests::{Comparison, LitmusStep};
+use rv_instr::{BranchOp, Instr};
+use std::alloc::AllocError;
+
+/// How many words a step has.
+fn step_length(step: LitmusStep) -> usize
+    ensures { result ≡ step_length step }
+{
+    match step {
+        LitmusStep::Straight(_) => 1,
+        LitmusStep::Constant { .. } => 2,
+        LitmusStep::Branch { .. } => 1,
+    }
+}
+
+/// How many words stand before the step with this index, the end of the steps among them.
+#[tactic(auto, unfolding(crate::specs::Steps::step_place))]
+pub(crate) fn step_place(steps: &[LitmusStep], index: usize) -> usize
+    requires short { length steps.now ≤ 500 }
+    requires index { index ≤ length steps.now }
+    ensures place { result ≡ step_place steps.now index }
+    ensures small { result ≤ 2 * index }
+{
+    let mut place = 0;
+    for step in &steps[..index] {
+        place += step_length(*step);
+    }
+    place
+}
+
+fn branch_op(comparison: Comparison) -> BranchOp
+    ensures { result ≡ branch_op comparison }
+{
+    match comparison {
+        Comparison::Equal => BranchOp::Beq,
+        Comparison::Different => BranchOp::Bne,
+    }
+}
+
+/// Appends the words of a step.
+fn push_step(code: &mut Vec<Instr>, steps: &[LitmusStep], index: usize) -> Result<(), AllocError>
+    requires short { length steps.now ≤ 500 }
+    requires sound { All (IsStep (length steps.now)) steps.now }
+    requires index { index < length steps.now }
+    ensures { OnOk result (code.new.items ≡ code.old.items ++ words_at steps.now index) }
+{
+    match steps[index] {
+        LitmusStep::Straight(instruction) => code.push(instruction)?,
+        LitmusStep::Constant { register, value } => push_constant(code, register, value)?,
+        LitmusStep::Branch {
+            comparison,
+            left,
+            right,
+            target,
+        } => code.push(Instr::Branch {
+            op: branch_op(comparison),
+            rs1: left,
+            rs2: right,
+            offset: distance(step_place(steps, index), step_place(steps, target)),
+        })?,
+    }
+    Ok(())
+}
+
+/// Appends the words of all steps of a hart.
+#[tactic(auto, unfolding(crate::specs::Steps::steps_words))]
+pub(crate) fn push_steps(code: &mut Vec<Instr>, steps: &[LitmusStep]) -> Result<(), AllocError>
+    requires short { length steps.now ≤ 500 }
+    requires sound { All (IsStep (length steps.now)) steps.now }
+    ensures { OnOk result (code.new.items ≡ code.old.items ++ steps_words steps.now) }
+{
+    for index in 0..steps.len() {
+        push_step(code, steps, index)?;
+    }
+    Ok(())
+}

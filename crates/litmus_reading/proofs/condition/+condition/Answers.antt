@@ -1,0 +1,27 @@
+use Rattle.std.proofs.Common.{arith}
+use Rattle.litmus_reading.proofs.Conditions.{at_higher, conjoined, disjoined, in_parentheses, of_negation}
+use Rattle.litmus_reading.proofs.condition.+condition.Goals as goal
+
+pub read_alone-returns-in-Some : goal.read_alone-returns-in-Some
+read_alone-returns-in-Some t c =
+    of_negation _ _ _ _ _ c.in-Some.ensures.spelled c.in_ok-inner.ensures c.in_ok-negation.ensures
+
+pub read_alone-returns-in-Some-behind_mark : goal.read_alone-returns-in-Some-behind_mark
+read_alone-returns-in-Some-behind_mark t c =
+    in_parentheses _ _ _ _ _ c.in-Some-behind_mark.ensures.spelled c.in_ok-inner-2.ensures c.in_ok-rest.ensures.spelled
+
+pub read_both-loop-behind-init : goal.read_both-loop-behind-init
+read_both-loop-behind-init t c = at_higher 0 1 _ _ _ (omega arith) c.in_ok-condition.ensures
+
+pub read_both-loop-behind-preserved : goal.read_both-loop-behind-preserved
+read_both-loop-behind-preserved t c =
+    conjoined _ _ _ _ _ _ _ c.loop-behind.invariant c.in-Some.ensures.spelled c.in_ok-right.ensures
+    c.in_ok-condition-2.ensures
+
+pub read_condition-loop-behind-init : goal.read_condition-loop-behind-init
+read_condition-loop-behind-init t c = at_higher 1 2 _ _ _ (omega arith) c.in_ok-condition.ensures
+
+pub read_condition-loop-behind-preserved : goal.read_condition-loop-behind-preserved
+read_condition-loop-behind-preserved t c =
+    disjoined _ _ _ _ _ _ _ c.loop-behind.invariant c.in-Some.ensures.spelled c.in_ok-right.ensures
+    c.in_ok-condition-2.ensures

@@ -1,0 +1,25 @@
+use Rattle.std.proofs.Common.{◌+◌, ◌*◌, length}
+use Rattle.litmus_reading.specs.Grammar.{ConditionTaken}
+use Rattle.litmus_reading.proofs.condition.+condition.Given as goal
+
+-- each level of nesting calls all three, the one for `\/` first
+abbrev pub decreases-read_alone : goal.decreases-read_alone
+decreases-read_alone l = 3 * l.room
+
+abbrev pub decreases-read_both : goal.decreases-read_both
+decreases-read_both l = 3 * l.room + 1
+
+abbrev pub decreases-read_condition : goal.decreases-read_condition
+decreases-read_condition l = 3 * l.room + 2
+
+abbrev pub invariant-read_both-loop-behind : goal.invariant-read_both-loop-behind
+invariant-read_both-loop-behind l = ConditionTaken 1 l.words l.condition l.rest
+
+abbrev pub decreases-read_both-loop-behind : goal.decreases-read_both-loop-behind
+decreases-read_both-loop-behind l = length l.rest
+
+abbrev pub invariant-read_condition-loop-behind : goal.invariant-read_condition-loop-behind
+invariant-read_condition-loop-behind l = ConditionTaken 2 l.words l.condition l.rest
+
+abbrev pub decreases-read_condition-loop-behind : goal.decreases-read_condition-loop-behind
+decreases-read_condition-loop-behind l = length l.rest

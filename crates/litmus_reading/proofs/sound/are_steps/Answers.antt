@@ -1,0 +1,14 @@
+use Rattle.std.proofs.Common.{length}
+use Rattle.std.proofs.lemmas.List.Elements.{All-more}
+use Rattle.litmus_tests.specs.WellFormed.{IsStep}
+use Rattle.litmus_reading.proofs.Told.{all_told}
+use Rattle.litmus_reading.proofs.sound.are_steps.Goals as goal
+
+pub loop-step-preserved : goal.loop-step-preserved
+loop-step-preserved c =
+    All-more (IsStep (length c.args.steps.now)) c.args.steps.now _ _ c.loop-step-test.true c.loop-step.invariant
+    (c.is_step.ensures c.if-not-is_step.false)
+
+pub returns : goal.returns
+returns c = λ is.
+    all_told (IsStep (length c.args.steps.now)) c.args.steps.now c.loop-step.step-index c.loop-step-test.false c.loop-step.invariant

@@ -1,0 +1,17 @@
+use Rattle.std.proofs.Common.{subst}
+use Rattle.litmus_tests.specs.declared.test.Thread.{Thread}
+use Rattle.std.proofs.lemmas.List.Elements.{All-more}
+use Rattle.litmus_tests.specs.WellFormed.{IsThread}
+use Rattle.litmus_reading.proofs.Told.{all_told}
+use Rattle.litmus_reading.proofs.sound.are_threads.Goals as goal
+
+pub loop-thread-preserved : goal.loop-thread-preserved
+loop-thread-preserved c =
+    All-more (IsThread c.args.locations) c.args.threads.now _ c.thread-item.result c.loop-thread-test.true
+    c.loop-thread.invariant
+    (subst (λ (thread : Thread). IsThread c.args.locations thread) c.thread-item.is
+    (c.is_thread.ensures c.if-not-is_thread.false))
+
+pub returns : goal.returns
+returns c = λ is.
+    all_told (IsThread c.args.locations) c.args.threads.now c.loop-thread.thread-index c.loop-thread-test.false c.loop-thread.invariant

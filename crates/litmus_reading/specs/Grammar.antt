@@ -1,0 +1,76 @@
+-- How conditions are written. [herd's conditions: `~` binds most, then `/\`, then `\/`]
+use Rattle.std.specs.Prelude.{◌≡◌, ℕ, ◌≤◌, List, [], ◌∷◌, ◌++◌}
+use Rattle.litmus_tests.specs.declared.condition.Term.{Term}
+use Rattle.litmus_tests.specs.declared.condition.Condition.{Condition, Always, Holds, Not', Both', Either'}
+use Rattle.litmus_reading.specs.declared.word.Word.{Word}
+use Rattle.litmus_reading.specs.declared.word.Token.{Token}
+use Rattle.litmus_reading.specs.declared.word.Token.TheVariants.{Mark}
+use Rattle.litmus_reading.specs.declared.word.Mark.TheVariants as mark
+use Rattle.litmus_reading.specs.Parts.{SpellsObserved, SpellsValue}
+use Rattle.litmus_reading.specs.Tokens.{Takes}
+
+-- What is looked at, `=`, and the value.
+pub record SpellsTerm (text : List Token) (term : Term) : Type 0 where
+  pub left : List Token
+  pub right : List Token
+  pub spelled : text ≡ left ++ Mark mark.Equals ∷ right
+  pub observed : SpellsObserved left term.observed
+  pub value : SpellsValue right term.value
+
+-- A condition with its parentheses. A leaf has the tokens of a term.
+pub data Syntax : Type 0 where
+  leaf : List Token → Syntax
+  always : Syntax
+  negated : Syntax → Syntax
+  grouped : Syntax → Syntax
+  conjunction : Syntax → Syntax → Syntax
+  disjunction : Syntax → Syntax → Syntax
+
+-- Its tokens.
+abbrev pub text_of : Syntax → List Token
+text_of (leaf text) = text
+text_of always = Mark mark.True ∷ []
+text_of (negated inner) = Mark mark.Not ∷ text_of inner
+text_of (grouped inner) = Mark mark.LeftParenthesis ∷ text_of inner ++ Mark mark.RightParenthesis ∷ []
+text_of (conjunction left right) = text_of left ++ Mark mark.And ∷ text_of right
+text_of (disjunction left right) = text_of left ++ Mark mark.Or ∷ text_of right
+
+-- What stands alone (level 0), what `/\` joins (1), and what `\/` joins (2): a lower level stands at a higher
+-- one, and all stand in parentheses.
+abbrev pub IsAtLevel : ℕ → Syntax → Type 0
+IsAtLevel level (leaf text) = Unit {0}
+IsAtLevel level always = Unit {0}
+IsAtLevel level (negated inner) = IsAtLevel 0 inner
+IsAtLevel level (grouped inner) = IsAtLevel 2 inner
+IsAtLevel level (conjunction left right) = (1 ≤ level) × IsAtLevel 1 left × IsAtLevel 0 right
+IsAtLevel level (disjunction left right) = (2 ≤ level) × IsAtLevel 2 left × IsAtLevel 1 right
+
+-- The condition that it is.
+abbrev pub Means : Syntax → Condition → Type 0
+Means (leaf text) (Holds term) = SpellsTerm text term
+Means always Always = Unit {0}
+Means (negated inner) (Not' p condition) = Means inner condition
+Means (grouped inner) condition = Means inner condition
+Means (conjunction left right) (Both' p first q second) = Means left first × Means right second
+Means (disjunction left right) (Either' p first q second) = Means left first × Means right second
+Means syntax condition = ⊥
+
+-- A condition of a level stands before the rest of the words.
+pub record ConditionTaken (level : ℕ) (words : List Word) (condition : Condition) (rest : List Word) : Type 0 where
+  pub syntax : Syntax
+  pub stands : IsAtLevel level syntax
+  pub means : Means syntax condition
+  pub takes : Takes words (text_of syntax) rest
+
+-- A condition that is made of these.
+abbrev pub IsNegation : Condition → Condition → Type 0
+IsNegation inner (Not' p condition) = condition ≡ inner
+IsNegation inner condition = ⊥
+
+abbrev pub IsConjunction : Condition → Condition → Condition → Type 0
+IsConjunction left right (Both' p first q second) = (first ≡ left) × (second ≡ right)
+IsConjunction left right condition = ⊥
+
+abbrev pub IsDisjunction : Condition → Condition → Condition → Type 0
+IsDisjunction left right (Either' p first q second) = (first ≡ left) × (second ≡ right)
+IsDisjunction left right condition = ⊥

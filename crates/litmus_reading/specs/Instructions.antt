@@ -1,0 +1,137 @@
+-- Which tokens spell an instruction: its name, and its operands (RISC-V Unprivileged ISA; the RISC-V Assembly
+-- Programmer's Manual for the order of operands).
+use Rattle.std.specs.Prelude.{◌≡◌, ◌⊎◌, ◌≤◌, ℕ, ℤ, pos, List, [], ◌∷◌, ◌++◌}
+use Rattle.rv_instr.specs.Table.{IsSigned}
+use Rattle.rv_instr.specs.declared.instr.Instr.{Instr}
+use Rattle.rv_instr.specs.declared.instr.Instr.TheVariants as instr
+use Rattle.rv_instr.specs.declared.instr.LoadOp.TheVariants.{Lw}
+use Rattle.rv_instr.specs.declared.instr.StoreOp.TheVariants.{Sw}
+use Rattle.rv_instr.specs.declared.instr.ImmediateOp.TheVariants.{Addi}
+use Rattle.rv_instr.specs.declared.instr.ShiftOp.TheVariants.{Slli}
+use Rattle.litmus_reading.specs.declared.instruction.Written.{Written}
+use Rattle.litmus_reading.specs.declared.instruction.Written.TheVariants.{Straight, Constant, Branch}
+use Rattle.litmus_reading.specs.declared.mnemonic.Mnemonic.{Mnemonic}
+use Rattle.litmus_reading.specs.declared.mnemonic.Mnemonic.TheVariants as name
+use Rattle.litmus_reading.specs.declared.mnemonic.Atomic.TheVariants as atomic
+use Rattle.litmus_reading.specs.declared.word.Token.{Token}
+use Rattle.litmus_reading.specs.declared.word.Token.TheVariants.{Register, Mark}
+use Rattle.litmus_reading.specs.declared.word.Token.TheVariants.{Mnemonic as name_token}
+use Rattle.litmus_reading.specs.declared.word.Mark.TheVariants as mark
+use Rattle.litmus_reading.specs.declared.word.Word.{Word}
+use Rattle.litmus_reading.specs.Parts.{SpellsInteger, SpellsNumber}
+use Rattle.litmus_reading.specs.Tokens.{Takes, tokens}
+
+-- `x5,x6` and `x5,x6,x7`.
+abbrev pub pair : ℕ → ℕ → List Token
+pair first second = Register first ∷ Mark mark.Comma ∷ Register second ∷ []
+
+abbrev pub triple : ℕ → ℕ → ℕ → List Token
+triple first second third = Register first ∷ Mark mark.Comma ∷ pair second third
+
+-- A number from -2048 to 2047.
+pub record SpellsShort (text : List Token) (number : ℤ) : Type 0 where
+  pub spelled : SpellsInteger text number
+  pub short : IsSigned 12 number
+
+-- `(x6)`, and with an offset before it; none is 0.
+abbrev pub base_tokens : ℕ → List Token
+base_tokens base = Mark mark.LeftParenthesis ∷ Register base ∷ Mark mark.RightParenthesis ∷ []
+
+abbrev pub SpellsOffset : List Token → ℤ → Type 0
+SpellsOffset text offset = ((text ≡ []) × (offset ≡ pos 0)) ⊎ SpellsShort text offset
+
+pub record SpellsAddress (text : List Token) (offset : ℤ) (base : ℕ) : Type 0 where
+  pub before : List Token
+  pub first : SpellsOffset before offset
+  pub spelled : text ≡ before ++ base_tokens base
+
+pub record OffsetTaken (words : List Word) (offset : ℤ) (rest : List Word) : Type 0 where
+  pub text : List Token
+  pub spells : SpellsOffset text offset
+  pub takes : Takes words text rest
+
+pub record ShortTaken (words : List Word) (number : ℤ) (rest : List Word) : Type 0 where
+  pub text : List Token
+  pub spells : SpellsShort text number
+  pub takes : Takes words text rest
+
+-- `,(x6)`.
+pub record IsCommaBase (text : List Token) (base : ℕ) : Type 0 where
+  pub address : List Token
+  pub spells : SpellsAddress address (pos 0) base
+  pub spelled : text ≡ Mark mark.Comma ∷ address
+
+-- `x5,4(x6)`.
+pub record SpellsMemory (text : List Token) (register : ℕ) (offset : ℤ) (base : ℕ) : Type 0 where
+  pub address : List Token
+  pub spells : SpellsAddress address offset base
+  pub spelled : text ≡ Register register ∷ Mark mark.Comma ∷ address
+
+-- `x5,x6,1`.
+pub record SpellsImmediate (text : List Token) (rd rs1 : ℕ) (imm : ℤ) : Type 0 where
+  pub number : List Token
+  pub spells : SpellsShort number imm
+  pub spelled : text ≡ Register rd ∷ Mark mark.Comma ∷ Register rs1 ∷ Mark mark.Comma ∷ number
+
+-- `x5,x6,4`, the amount of a shift.
+pub record SpellsAmount (text : List Token) (rd rs1 amount : ℕ) : Type 0 where
+  pub number : List Token
+  pub spells : SpellsInteger number (pos amount)
+  pub small : amount ≤ 31
+  pub spelled : text ≡ Register rd ∷ Mark mark.Comma ∷ Register rs1 ∷ Mark mark.Comma ∷ number
+
+-- `x7,x5,(x6)`.
+pub record SpellsAtomic (text : List Token) (rd rs2 rs1 : ℕ) : Type 0 where
+  pub address : List Token
+  pub spells : SpellsAddress address (pos 0) rs1
+  pub spelled : text ≡ Register rd ∷ Mark mark.Comma ∷ Register rs2 ∷ Mark mark.Comma ∷ address
+
+-- `x5,1`.
+pub record SpellsConstant (text : List Token) (register value : ℕ) : Type 0 where
+  pub number : List Token
+  pub spells : SpellsNumber number value
+  pub spelled : text ≡ Register register ∷ Mark mark.Comma ∷ number
+
+-- The operands of an instruction behind which the hart goes on. A fence may have any.
+abbrev pub SpellsOperands : Mnemonic → List Token → Instr → Type 0
+SpellsOperands name.Load text (instr.Load Lw rd rs1 offset) = SpellsMemory text rd offset rs1
+SpellsOperands name.Store text (instr.Store Sw rs2 rs1 offset) = SpellsMemory text rs2 offset rs1
+SpellsOperands (name.Immediate op) text (instr.Immediate op' rd rs1 imm) =
+    (op ≡ op') × SpellsImmediate text rd rs1 imm
+SpellsOperands name.ShiftLeft text (instr.Shift Slli rd rs1 amount) = SpellsAmount text rd rs1 amount
+SpellsOperands (name.Register op) text (instr.Register op' rd rs1 rs2) = (op ≡ op') × (text ≡ triple rd rs1 rs2)
+SpellsOperands (name.Atomic atomic.LoadReserved ordering) text (instr.LoadReserved rd rs1 ordering') =
+    (ordering ≡ ordering') × SpellsMemory text rd (pos 0) rs1
+SpellsOperands (name.Atomic atomic.StoreConditional ordering) text (instr.StoreConditional rd rs1 rs2 ordering') =
+    (ordering ≡ ordering') × SpellsAtomic text rd rs2 rs1
+SpellsOperands (name.Atomic (atomic.Amo kind) ordering) text (instr.Amo kind' rd rs1 rs2 ordering') =
+    (kind ≡ kind') × (ordering ≡ ordering') × SpellsAtomic text rd rs2 rs1
+SpellsOperands name.Move text (instr.Immediate Addi rd rs1 imm) = (imm ≡ pos 0) × (text ≡ pair rd rs1)
+SpellsOperands name.Nothing text (instr.Immediate Addi rd rs1 imm) =
+    (imm ≡ pos 0) × (rd ≡ 0) × (rs1 ≡ 0) × (text ≡ [])
+SpellsOperands name.Fence text instr.Fence = Unit {0}
+SpellsOperands name.TotalStoreOrderFence text instr.Fence = text ≡ []
+SpellsOperands mnemonic text instruction = ⊥
+
+-- A branch names its target by a word.
+abbrev pub SpellsBranch : Mnemonic → List Token → Written → Type 0
+SpellsBranch (name.Branch comparison) text (Branch comparison' left right label) = (comparison ≡ comparison')
+    × (text ≡ Register left ∷ Mark mark.Comma ∷ Register right ∷ Mark mark.Comma ∷ label.token ∷ [])
+SpellsBranch (name.BranchZero comparison) text (Branch comparison' left right label) = (comparison ≡ comparison')
+    × (right ≡ 0) × (text ≡ Register left ∷ Mark mark.Comma ∷ label.token ∷ [])
+SpellsBranch mnemonic text written = ⊥
+
+-- The operands of an instruction of this name.
+abbrev pub SpellsWritten : Mnemonic → List Token → Written → Type 0
+SpellsWritten mnemonic text (Straight instruction) = SpellsOperands mnemonic text instruction
+SpellsWritten name.Constant text (Constant register value) = SpellsConstant text register value
+SpellsWritten mnemonic text (Constant register value) = ⊥
+SpellsWritten mnemonic text (Branch comparison left right label) =
+    SpellsBranch mnemonic text (Branch comparison left right label)
+
+-- The words spell the instruction: its name, and behind it its operands.
+pub record SpellsInstruction (words : List Word) (written : Written) : Type 0 where
+  pub mnemonic : Mnemonic
+  pub operands : List Token
+  pub spelled : tokens words ≡ name_token mnemonic ∷ operands
+  pub spells : SpellsWritten mnemonic operands written

@@ -1,0 +1,161 @@
+//! Conditions, by recursive descent: `\/` of `/\` of what stands alone. The recursion is as deep as `not` and
+//! parentheses are nested, which is bounded.
+
+ghost use Rattle.std.specs.Prelude.{◌<◌, IfOk};
+ghost use Rattle.litmus_reading.specs.Grammar.{
+  ConditionTaken,
+  IsNegation,
+  IsConjunction,
+  IsDisjunction,
+};
+ghost use Rattle.litmus_reading.specs.Parts.{ObservedTaken};
+
+use crate::refused::{Fault, Stop};
+use crate::take::{behind_mark, location, mark, next, register_but_zero, start_of, value};
+use crate::word::{Mark, Token, Word};
+use litmus_tests::test::MOST_TERMS;
+use litmus_tests::{Condition, Observed, Term};
+use std::alloc::{AllocError, Global};
+
+/// What a condition is read with: how many harts there are, where the text ends, and the allocator.
+#[derive(Clone, Copy, Drop)]
+pub(crate) struct Asked {
+    pub harts: u8,
+    pub end: usize,
+    pub alloc: Global,
+}
+
+/// Reads conditions with `\/` between. What its terms look at goes behind `terms`; `room` says how many levels may
+/// be nested in it.
+#[cycle(condition)]
+pub(crate) fn read_condition<'a>(
+    asked: &Asked,
+    words: &'a [Word],
+    room: u8,
+    terms: &mut Vec<Observed>,
+) -> Result<(Condition, &'a [Word]), Stop>
+    ensures { IfOk result (λ p. ConditionTaken 2 words.now p.0 p.1.now) }
+{
+    let (mut condition, mut rest) = read_both(asked, words, room, terms)?;
+    while let Some(behind) = behind_mark(rest, Mark::Or) {
+        let (right, behind) = read_both(asked, behind, room, terms)?;
+        condition = either(condition, right, asked.alloc)?;
+        rest = behind;
+    }
+    Ok((condition, rest))
+}
+
+/// Reads conditions with `/\` between.
+#[cycle(condition)]
+fn read_both<'a>(
+    asked: &Asked,
+    words: &'a [Word],
+    room: u8,
+    terms: &mut Vec<Observed>,
+) -> Result<(Condition, &'a [Word]), Stop>
+    ensures { IfOk result (λ p. ConditionTaken 1 words.now p.0 p.1.now) }
+{
+    let (mut condition, mut rest) = read_alone(asked, words, room, terms)?;
+    while let Some(behind) = behind_mark(rest, Mark::And) {
+        let (right, behind) = read_alone(asked, behind, room, terms)?;
+        condition = both(condition, right, asked.alloc)?;
+        rest = behind;
+    }
+    Ok((condition, rest))
+}
+
+/// Reads a term, `true`, `not` and a condition that stands alone, or a condition in parentheses.
+#[cycle(condition)]
+fn read_alone<'a>(
+    asked: &Asked,
+    words: &'a [Word],
+    room: u8,
+    terms: &mut Vec<Observed>,
+) -> Result<(Condition, &'a [Word]), Stop>
+    ensures { IfOk result (λ p. ConditionTaken 0 words.now p.0 p.1.now) }
+{
+    if let Some(behind) = behind_mark(words, Mark::Not) {
+        let room = deeper(asked, words, room)?;
+        let (inner, rest) = read_alone(asked, behind, room, terms)?;
+        return Ok((negation(inner, asked.alloc)?, rest));
+    }
+    if let Some(behind) = behind_mark(words, Mark::LeftParenthesis) {
+        let room = deeper(asked, words, room)?;
+        let (inner, rest) = read_condition(asked, behind, room, terms)?;
+        let rest = mark(rest, Mark::RightParenthesis, asked.end)?;
+        return Ok((inner, rest));
+    }
+    read_leaf(asked, words, terms)
+}
+
+/// How many levels may be nested in what is nested here.
+fn deeper(asked: &Asked, words: &[Word], room: u8) -> Result<u8, Stop>
+    ensures { IfOk result (λ less. less < room) }
+{
+    if room == 0 {
+        return Err(Stop::at(start_of(words, asked.end), Fault::TooDeep));
+    }
+    Ok(room - 1)
+}
+
+/// Reads a term or `true`.
+fn read_leaf<'a>(
+    asked: &Asked,
+    words: &'a [Word],
+    terms: &mut Vec<Observed>,
+) -> Result<(Condition, &'a [Word]), Stop>
+    ensures { IfOk result (λ p. ConditionTaken 0 words.now p.0 p.1.now) }
+{
+    if let Some(behind) = behind_mark(words, Mark::True) {
+        return Ok((Condition::Always, behind));
+    }
+    let (observed, rest) = read_observed(asked, words)?;
+    let rest = mark(rest, Mark::Equals, asked.end)?;
+    let (value, rest) = value(rest, asked.end)?;
+    if terms.len() >= MOST_TERMS {
+        return Err(Stop::at(start_of(words, asked.end), Fault::TooManyTerms));
+    }
+    terms.push(observed)?;
+    Ok((Condition::Holds(Term { observed, value }), rest))
+}
+
+/// Reads what is looked at: `0:x7`, `x` or `[x]`.
+pub(crate) fn read_observed<'a>(
+    asked: &Asked,
+    words: &'a [Word],
+) -> Result<(Observed, &'a [Word]), Stop>
+    ensures { IfOk result (λ p. ObservedTaken words.now p.0 p.1.now) }
+{
+    let (word, rest) = next(words, asked.end)?;
+    let Token::Number(hart) = word.token else {
+        let (index, rest) = location(words, asked.end)?;
+        return Ok((Observed::Location(index), rest));
+    };
+    if hart >= u32::from(asked.harts) {
+        return Err(Stop::at(word.start, Fault::NoHart));
+    }
+    let rest = mark(rest, Mark::Colon, asked.end)?;
+    let (register, rest) = register_but_zero(rest, asked.end)?;
+    let hart = hart as u8;
+    Ok((Observed::Register { hart, register }, rest))
+}
+
+fn negation(inner: Condition, alloc: Global) -> Result<Condition, AllocError>
+    ensures { IfOk result (IsNegation inner) }
+{
+    Ok(Condition::Not(Box::new(alloc, inner)?))
+}
+
+fn both(left: Condition, right: Condition, alloc: Global) -> Result<Condition, AllocError>
+    ensures { IfOk result (IsConjunction left right) }
+{
+    let left = Box::new(alloc, left)?;
+    Ok(Condition::Both(left, Box::new(alloc, right)?))
+}
+
+fn either(left: Condition, right: Condition, alloc: Global) -> Result<Condition, AllocError>
+    ensures { IfOk result (IsDisjunction left right) }
+{
+    let left = Box::new(alloc, left)?;
+    Ok(Condition::Either(left, Box::new(alloc, right)?))
+}

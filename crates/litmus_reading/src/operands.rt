@@ -1,0 +1,195 @@
+//! The operands of an instruction, all of them.
+
+ghost use Rattle.std.specs.Prelude.{◌≡◌, ◌∷◌, [], pos, IfOk};
+ghost use Rattle.litmus_reading.specs.Tokens.{Takes, tokens};
+ghost use Rattle.litmus_reading.specs.Instructions.{
+  pair,
+  triple,
+  SpellsAddress,
+  SpellsAmount,
+  SpellsAtomic,
+  SpellsImmediate,
+  SpellsMemory,
+  IsCommaBase,
+  OffsetTaken,
+  ShortTaken,
+};
+ghost use Rattle.litmus_reading.specs.declared.word.Token.TheVariants as token;
+ghost use Rattle.litmus_reading.specs.declared.word.Mark.TheVariants as mark_of;
+
+use crate::refused::{Fault, Stop};
+use crate::take::{begins_with, mark, next, nothing, number, register, start_of};
+use crate::word::{Mark, Token, Word};
+use numbers::Reg;
+
+/// `x5,x6`.
+pub(crate) fn two_registers(words: &[Word], end: usize) -> Result<(Reg, Reg), Stop>
+    ensures { IfOk result (λ p. tokens words.now ≡ pair p.0 p.1) }
+{
+    let (first, rest) = register(words, end)?;
+    let (second, rest) = comma_register(rest, end)?;
+    nothing(rest, Fault::NotOfSubset)?;
+    Ok((first, second))
+}
+
+/// `x5,x6,x7`.
+pub(crate) fn three_registers(words: &[Word], end: usize) -> Result<(Reg, Reg, Reg), Stop>
+    ensures { IfOk result (λ p. tokens words.now ≡ triple p.0 p.1 p.2) }
+{
+    let (first, rest) = register(words, end)?;
+    let (second, rest) = comma_register(rest, end)?;
+    let (third, rest) = comma_register(rest, end)?;
+    nothing(rest, Fault::NotOfSubset)?;
+    Ok((first, second, third))
+}
+
+/// `x5,x6,1`, the number from -2048 to 2047.
+pub(crate) fn registers_short(words: &[Word], end: usize) -> Result<(Reg, Reg, i32), Stop>
+    ensures { IfOk result (λ p. SpellsImmediate (tokens words.now) p.0 p.1 p.2) }
+{
+    let (first, rest) = register(words, end)?;
+    let (second, rest) = comma_register(rest, end)?;
+    let rest = mark(rest, Mark::Comma, end)?;
+    let (number, rest) = short(rest, end)?;
+    nothing(rest, Fault::NotOfSubset)?;
+    Ok((first, second, number))
+}
+
+/// `x5,x6,L0`.
+pub(crate) fn registers_label(words: &[Word], end: usize) -> Result<(Reg, Reg, Word), Stop>
+    ensures { IfOk result (λ p. tokens words.now ≡ token.Register p.0 ∷ token.Mark mark_of.Comma ∷ token.Register p.1
+        ∷ token.Mark mark_of.Comma ∷ p.2.token ∷ []) }
+{
+    let (first, rest) = register(words, end)?;
+    let (second, rest) = comma_register(rest, end)?;
+    let label = comma_label(rest, end)?;
+    Ok((first, second, label))
+}
+
+/// `x5,L0`.
+pub(crate) fn register_label(words: &[Word], end: usize) -> Result<(Reg, Word), Stop>
+    ensures { IfOk result (λ p. tokens words.now ≡ token.Register p.0 ∷ token.Mark mark_of.Comma ∷ p.1.token ∷ []) }
+{
+    let (first, rest) = register(words, end)?;
+    let label = comma_label(rest, end)?;
+    Ok((first, label))
+}
+
+/// `x5,4(x6)`: the register, the offset from -2048 to 2047, and the base.
+pub(crate) fn register_address(words: &[Word], end: usize) -> Result<(Reg, i32, Reg), Stop>
+    ensures { IfOk result (λ p. SpellsMemory (tokens words.now) p.0 p.1 p.2) }
+{
+    let (first, rest) = register(words, end)?;
+    let rest = mark(rest, Mark::Comma, end)?;
+    let (offset, base) = address(rest, end)?;
+    Ok((first, offset, base))
+}
+
+/// `x5,(x6)`: the register and the base.
+pub(crate) fn register_base(words: &[Word], end: usize) -> Result<(Reg, Reg), Stop>
+    ensures { IfOk result (λ p. SpellsMemory (tokens words.now) p.0 (pos 0) p.1) }
+{
+    let (first, rest) = register(words, end)?;
+    let base = comma_base(rest, end)?;
+    Ok((first, base))
+}
+
+/// `x7,x5,(x6)`: the registers and the base.
+pub(crate) fn registers_base(words: &[Word], end: usize) -> Result<(Reg, Reg, Reg), Stop>
+    ensures { IfOk result (λ p. SpellsAtomic (tokens words.now) p.0 p.1 p.2) }
+{
+    let (first, rest) = register(words, end)?;
+    let (second, rest) = comma_register(rest, end)?;
+    let base = comma_base(rest, end)?;
+    Ok((first, second, base))
+}
+
+/// A comma and a register.
+fn comma_register(words: &[Word], end: usize) -> Result<(Reg, &[Word]), Stop>
+    ensures { IfOk result (λ p. Takes words.now (token.Mark mark_of.Comma ∷ token.Register p.0 ∷ []) p.1.now) }
+{
+    let rest = mark(words, Mark::Comma, end)?;
+    register(rest, end)
+}
+
+/// A comma and a label, with nothing behind.
+fn comma_label(words: &[Word], end: usize) -> Result<Word, Stop>
+    ensures { IfOk result (λ p. tokens words.now ≡ token.Mark mark_of.Comma ∷ p.token ∷ []) }
+{
+    let rest = mark(words, Mark::Comma, end)?;
+    let (label, rest) = next(rest, end)?;
+    if !is_label(label) {
+        return Err(Stop::at(label.start, Fault::NotOfSubset));
+    }
+    nothing(rest, Fault::NotOfSubset)?;
+    Ok(label)
+}
+
+/// Whether a word can be the name of a label. A location may have the same name.
+pub(crate) fn is_label(word: Word) -> bool {
+    match word.token {
+        Token::Name => true,
+        Token::Location(_) => true,
+        _ => false,
+    }
+}
+
+/// A comma and an address without an offset, with nothing behind.
+fn comma_base(words: &[Word], end: usize) -> Result<Reg, Stop>
+    ensures { IfOk result (λ p. IsCommaBase (tokens words.now) p) }
+{
+    let rest = mark(words, Mark::Comma, end)?;
+    let (offset, base) = address(rest, end)?;
+    if offset != 0 {
+        return Err(Stop::at(start_of(rest, end), Fault::NotOfSubset));
+    }
+    Ok(base)
+}
+
+/// `4(x6)` or `(x6)`, with nothing behind: the offset and the base.
+fn address(words: &[Word], end: usize) -> Result<(i32, Reg), Stop>
+    ensures { IfOk result (λ p. SpellsAddress (tokens words.now) p.0 p.1) }
+{
+    let (offset, rest) = offset(words, end)?;
+    let rest = mark(rest, Mark::LeftParenthesis, end)?;
+    let (base, rest) = register(rest, end)?;
+    let rest = mark(rest, Mark::RightParenthesis, end)?;
+    nothing(rest, Fault::NotOfSubset)?;
+    Ok((offset, base))
+}
+
+/// The offset before a parenthesis: 0 where there is none.
+fn offset(words: &[Word], end: usize) -> Result<(i32, &[Word]), Stop>
+    ensures { IfOk result (λ p. OffsetTaken words.now p.0 p.1.now) }
+{
+    if begins_with(words, Mark::LeftParenthesis) {
+        return Ok((0, words));
+    }
+    short(words, end)
+}
+
+/// A number from -2048 to 2047.
+fn short(words: &[Word], end: usize) -> Result<(i32, &[Word]), Stop>
+    ensures { IfOk result (λ p. ShortTaken words.now p.0 p.1.now) }
+{
+    let (number, rest) = number(words, end)?;
+    if number < -2048 || number > 2047 {
+        return Err(Stop::at(start_of(words, end), Fault::NumberTooLarge));
+    }
+    Ok((number as i32, rest))
+}
+
+/// `x5,x6,4`, the amount of a shift from 0 to 31.
+pub(crate) fn registers_amount(words: &[Word], end: usize) -> Result<(Reg, Reg, u8), Stop>
+    ensures { IfOk result (λ p. SpellsAmount (tokens words.now) p.0 p.1 p.2) }
+{
+    let (first, rest) = register(words, end)?;
+    let (second, rest) = comma_register(rest, end)?;
+    let rest = mark(rest, Mark::Comma, end)?;
+    let (number, behind) = number(rest, end)?;
+    nothing(behind, Fault::NotOfSubset)?;
+    if number < 0 || number > 31 {
+        return Err(Stop::at(start_of(rest, end), Fault::NumberTooLarge));
+    }
+    Ok((first, second, number as u8))
+}

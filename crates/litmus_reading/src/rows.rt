@@ -1,0 +1,90 @@
+//! The harts, and the rows below them.
+
+use crate::cut::cut;
+use crate::refused::{Fault, Stop};
+use crate::sound::MOST_HARTS;
+use crate::take::start_of;
+use crate::word::{Mark, Token, Word, is_mark};
+
+/// Reads `P0 | P1 ;`: how many harts there are, and the words behind.
+pub(crate) fn read_harts(words: &[Word], end: usize) -> Result<(u8, &[Word]), Stop> {
+    let (row, behind) = cut(words, Mark::Semicolon);
+    if row.len() == words.len() {
+        return Err(Stop::at(end, Fault::Unfinished));
+    }
+    if let Some(word) = row.get(2 * MOST_HARTS) {
+        return Err(Stop::at(word.start, Fault::TooManyHarts));
+    }
+    for (place, word) in row.iter().enumerate() {
+        check_head(place, *word)?;
+    }
+    if row.len() % 2 == 0 {
+        return Err(Stop::at(start_of(row, end), Fault::Unfinished));
+    }
+    Ok(((row.len() / 2 + 1) as u8, behind))
+}
+
+/// Refuses a word that doesn't belong at this place of the row of harts: they have a bar between.
+fn check_head(place: usize, word: Word) -> Result<(), Stop> {
+    if place % 2 == 1 {
+        if is_mark(word, Mark::Bar) {
+            return Ok(());
+        }
+        return Err(Stop::at(word.start, Fault::NotOfSubset));
+    }
+    match word.token {
+        Token::Hart(hart) if hart as usize == place / 2 => Ok(()),
+        _ => Err(Stop::at(word.start, Fault::HartOrder)),
+    }
+}
+
+/// The rows, with a column for each of so many harts and a `;` behind each, and the words behind them.
+pub(crate) fn rows_of(words: &[Word], harts: u8, end: usize) -> Result<(&[Word], &[Word]), Stop> {
+    let mut rest = words;
+    while !asks(rest) {
+        let (row, behind) = cut(rest, Mark::Semicolon);
+        if row.len() == rest.len() {
+            return Err(Stop::at(end, Fault::NoCondition));
+        }
+        let (columns, harts) = (columns_of(row), usize::from(harts));
+        if columns != harts {
+            return Err(Stop::at(start_of(rest, end), Fault::Columns { columns, harts }));
+        }
+        rest = behind;
+    }
+    Ok((&words[..words.len() - rest.len()], rest))
+}
+
+/// Whether what comes next is no row.
+fn asks(words: &[Word]) -> bool {
+    let Some(word) = words.first() else {
+        return false;
+    };
+    match word.token {
+        Token::Mark(mark) => match mark {
+            Mark::Exists | Mark::ForAll | Mark::Not | Mark::Locations | Mark::Filter => true,
+            _ => false,
+        },
+        _ => false,
+    }
+}
+
+/// How many columns a row has.
+fn columns_of(row: &[Word]) -> usize {
+    let mut columns = 1;
+    for word in row {
+        if is_mark(*word, Mark::Bar) {
+            columns += 1;
+        }
+    }
+    columns
+}
+
+/// The cell of a row in the column of a hart.
+pub(crate) fn cell_of(row: &[Word], hart: u8) -> &[Word] {
+    let mut rest = row;
+    for _ in 0..hart {
+        rest = cut(rest, Mark::Bar).1;
+    }
+    cut(rest, Mark::Bar).0
+}

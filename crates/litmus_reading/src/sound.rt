@@ -1,0 +1,234 @@
+//! Whether a test makes sense: what it names is there, and there isn't too much of anything. It is asked of each
+//! test that was read, so nobody has to rely on how it was read.
+
+ghost use Rattle.std.specs.Prelude.{◌≡◌, true, length, All};
+ghost use Rattle.rv_instr.specs.Table.{IsInstructionInRange, IsSigned};
+ghost use Rattle.litmus_tests.specs.WellFormed.{
+  is_straight,
+  IsCondition,
+  IsObserved,
+  IsStart,
+  IsStep,
+  IsTerm,
+  IsThread,
+  IsValue,
+  IsWellFormed,
+};
+
+use litmus_tests::test::{MOST_LOCATIONS, MOST_OBSERVED, MOST_STEPS};
+use litmus_tests::{
+    Condition, LitmusStep, LitmusTest, Location, Observed, RegisterStart, Term, Thread, Value,
+};
+use rv_instr::Instr;
+
+/// How many harts a test has at most.
+pub(crate) const MOST_HARTS: usize = 8;
+
+/// How many registers have a start at most.
+const MOST_STARTS: usize = 31;
+
+/// Whether a test makes sense.
+pub(crate) fn makes_sense(test: &LitmusTest) -> bool
+    ensures { result ≡ true → IsWellFormed test.now }
+{
+    let (harts, locations) = (test.threads.len(), test.locations.len());
+    if harts < 1 || harts > MOST_HARTS || locations > MOST_LOCATIONS {
+        return false;
+    }
+    if test.observed.len() > MOST_OBSERVED {
+        return false;
+    }
+    if !are_initials(test.locations.as_slice()) {
+        return false;
+    }
+    if !are_threads(test.threads.as_slice(), locations) {
+        return false;
+    }
+    if !are_observed(test.observed.as_slice(), harts, locations) {
+        return false;
+    }
+    is_condition(&test.condition, locations, test.observed.as_slice())
+}
+
+fn are_initials(locations: &[Location]) -> bool
+    ensures { result ≡ true
+        → All (λ location. IsValue (length locations.now) location.initial) locations.now }
+{
+    for location in locations {
+        if !is_value(location.initial, locations.len()) {
+            return false;
+        }
+    }
+    true
+}
+
+fn are_threads(threads: &[Thread], locations: usize) -> bool
+    ensures { result ≡ true → All (IsThread locations) threads.now }
+{
+    for thread in threads {
+        if !is_thread(thread, locations) {
+            return false;
+        }
+    }
+    true
+}
+
+fn are_observed(observed: &[Observed], harts: usize, locations: usize) -> bool
+    ensures { result ≡ true → All (IsObserved harts locations) observed.now }
+{
+    for one in observed {
+        if !is_observed(*one, harts, locations) {
+            return false;
+        }
+    }
+    true
+}
+
+fn is_thread(thread: &Thread, locations: usize) -> bool
+    ensures { result ≡ true → IsThread locations thread.now }
+{
+    if thread.starts.len() > MOST_STARTS || thread.steps.len() > MOST_STEPS {
+        return false;
+    }
+    if !are_starts(thread.starts.as_slice(), locations) {
+        return false;
+    }
+    are_steps(thread.steps.as_slice())
+}
+
+fn are_starts(starts: &[RegisterStart], locations: usize) -> bool
+    ensures { result ≡ true → All (IsStart locations) starts.now }
+{
+    for start in starts {
+        if !is_start(*start, locations) {
+            return false;
+        }
+    }
+    true
+}
+
+fn are_steps(steps: &[LitmusStep]) -> bool
+    ensures { result ≡ true → All (IsStep (length steps.now)) steps.now }
+{
+    for step in steps {
+        if !is_step(*step, steps.len()) {
+            return false;
+        }
+    }
+    true
+}
+
+fn is_condition(condition: &Condition, locations: usize, observed: &[Observed]) -> bool
+    ensures { result ≡ true → IsCondition locations observed.now condition.now }
+{
+    match condition {
+        Condition::Always => true,
+        Condition::Holds(term) => is_term(*term, locations, observed),
+        Condition::Not(inner) => is_condition(inner, locations, observed),
+        Condition::Both(left, right) => {
+            if !is_condition(left, locations, observed) {
+                return false;
+            }
+            is_condition(right, locations, observed)
+        }
+        Condition::Either(left, right) => {
+            if !is_condition(left, locations, observed) {
+                return false;
+            }
+            is_condition(right, locations, observed)
+        }
+    }
+}
+
+fn is_term(term: Term, locations: usize, observed: &[Observed]) -> bool
+    ensures { result ≡ true → IsTerm locations observed.now term }
+{
+    if !observed.contains(&term.observed) {
+        return false;
+    }
+    is_value(term.value, locations)
+}
+
+fn is_value(value: Value, locations: usize) -> bool
+    ensures { result ≡ true → IsValue locations value }
+{
+    match value {
+        Value::Number(_) => true,
+        Value::Address(index) => index < locations,
+    }
+}
+
+fn is_observed(observed: Observed, harts: usize, locations: usize) -> bool
+    ensures { result ≡ true → IsObserved harts locations observed }
+{
+    match observed {
+        Observed::Register { hart, register } => {
+            usize::from(hart) < harts && register > 0 && register < 32
+        }
+        Observed::Location(index) => index < locations,
+    }
+}
+
+fn is_start(start: RegisterStart, locations: usize) -> bool
+    ensures { result ≡ true → IsStart locations start }
+{
+    if start.register == 0 || start.register >= 32 {
+        return false;
+    }
+    is_value(start.value, locations)
+}
+
+fn is_step(step: LitmusStep, steps: usize) -> bool
+    ensures { result ≡ true → IsStep steps step }
+{
+    match step {
+        LitmusStep::Straight(instr) => is_straight(instr),
+        LitmusStep::Constant { register, .. } => register < 32,
+        LitmusStep::Branch {
+            left,
+            right,
+            target,
+            ..
+        } => left < 32 && right < 32 && target <= steps,
+    }
+}
+
+/// Whether an instruction is one of the subset, and in range.
+fn is_straight(instr: Instr) -> bool
+    ensures { result ≡ true → IsInstructionInRange instr × (is_straight instr ≡ true) }
+{
+    match instr {
+        Instr::Load {
+            rd,
+            rs1,
+            offset,
+            ..
+        } => rd < 32 && rs1 < 32 && is_short(offset),
+        Instr::Store {
+            rs2,
+            rs1,
+            offset,
+            ..
+        } => rs2 < 32 && rs1 < 32 && is_short(offset),
+        Instr::Immediate { rd, rs1, imm, .. } => rd < 32 && rs1 < 32 && is_short(imm),
+        Instr::Shift {
+            rd,
+            rs1,
+            amount,
+            ..
+        } => rd < 32 && rs1 < 32 && amount < 32,
+        Instr::Register { rd, rs1, rs2, .. } => rd < 32 && rs1 < 32 && rs2 < 32,
+        Instr::Fence => true,
+        Instr::LoadReserved { rd, rs1, .. } => rd < 32 && rs1 < 32,
+        Instr::StoreConditional { rd, rs1, rs2, .. } => rd < 32 && rs1 < 32 && rs2 < 32,
+        Instr::Amo { rd, rs1, rs2, .. } => rd < 32 && rs1 < 32 && rs2 < 32,
+        _ => false,
+    }
+}
+
+/// Whether a number fits in twelve bits.
+fn is_short(number: i32) -> bool
+    ensures { result ≡ true → IsSigned 12 number }
+{
+    -2048 <= number && number < 2048
+}

@@ -1,0 +1,158 @@
+//! A whole test.
+
+ghost use Rattle.std.specs.Prelude.{◌≤◌, length, IfOk, IfErr};
+ghost use Rattle.litmus_tests.specs.WellFormed.{IsWellFormed};
+ghost use Rattle.litmus_reading.specs.Places.{IsRefusedIn};
+
+use crate::condition::Asked;
+use crate::cut::cut;
+use crate::head::{Head, read_head};
+use crate::lexer::{name_end, words_of};
+use crate::locations::{located, locations_in};
+use crate::observed::observed_of;
+use crate::place::place_of;
+use crate::question::read_question;
+use crate::refused::{Fault, ReadingRefused, Shown, Stop};
+use crate::rows::{read_harts, rows_of};
+use crate::sound::makes_sense;
+use crate::start::{Start, read_start};
+use crate::take::start_of;
+use crate::thread::read_steps;
+use crate::word::{Mark, Word, bytes_of};
+use litmus_tests::{LitmusTest, Location, Thread};
+use std::alloc::Global;
+use std::str;
+
+/// How many bytes a text has at most.
+pub const MOST_BYTES: usize = 65_536;
+
+/// Reads a litmus test in the subset of herd's format that docs/FORMATS.md states. What is refused for another
+/// reason than want of memory is refused at a place of the text.
+pub fn read_litmus(text: &[u8], alloc: Global) -> Result<LitmusTest, ReadingRefused>
+    ensures sound { IfOk result IsWellFormed }
+    ensures refused { IfErr result (IsRefusedIn text.now) }
+{
+    match read_test(text, alloc) {
+        Ok(test) => Ok(test),
+        Err(Stop::Memory) => Err(ReadingRefused::Memory),
+        Err(Stop::Fault { at, fault }) => Err(refused_at(text, at.min(text.len()), fault)),
+    }
+}
+
+/// The refusal for a fault at this byte.
+fn refused_at(text: &[u8], at: usize, fault: Fault) -> ReadingRefused
+    requires { at ≤ length text.now }
+    ensures { IsRefusedIn text.now result }
+{
+    let shown = if fault.shows_word() {
+        shown_at(text, at)
+    } else {
+        Shown::new()
+    };
+    ReadingRefused::At(place_of(text, at), fault, shown)
+}
+
+/// As much as is shown of the word that begins at this byte.
+fn shown_at(text: &[u8], at: usize) -> Shown
+    requires { at ≤ length text.now }
+{
+    let end = name_end(text, at).max(at + 1).min(at + 24).min(text.len());
+    match str::from_utf8(&text[at..end]) {
+        Ok(word) => Shown::from(word).unwrap_or_default(),
+        Err(_) => Shown::new(),
+    }
+}
+
+fn read_test(text: &[u8], alloc: Global) -> Result<LitmusTest, Stop>
+    ensures { IfOk result IsWellFormed }
+{
+    if text.len() > MOST_BYTES {
+        return Err(Stop::at(MOST_BYTES, Fault::TooLong));
+    }
+    let head = read_head(text)?;
+    let words = words_of(text, head.braces, alloc)?;
+    let (inside, _) = braces(words.as_slice(), text.len())?;
+    let names = locations_in(text, inside, alloc)?;
+    let words = located(text, words.as_slice(), names.as_slice(), alloc)?;
+    let test = read_words(text, head, words.as_slice(), names.as_slice(), alloc)?;
+    if !makes_sense(&test) {
+        return Err(Stop::at(head.braces, Fault::NotOfSubset));
+    }
+    Ok(test)
+}
+
+/// The words in the braces, and behind them.
+fn braces(words: &[Word], end: usize) -> Result<(&[Word], &[Word]), Stop> {
+    if words.is_empty() {
+        return Err(Stop::at(end, Fault::Unfinished));
+    }
+    let words = &words[1..];
+    let (inside, behind) = cut(words, Mark::RightBrace);
+    if inside.len() == words.len() {
+        return Err(Stop::at(end, Fault::Unfinished));
+    }
+    Ok((inside, behind))
+}
+
+/// Reads the words of a test, in which the names of locations are known.
+fn read_words(
+    text: &[u8],
+    head: Head,
+    words: &[Word],
+    names: &[Word],
+    alloc: Global,
+) -> Result<LitmusTest, Stop>
+    requires { (head.name_start ≤ head.name_end) × (head.name_end ≤ length text.now) }
+{
+    let end = text.len();
+    let (inside, behind) = braces(words, end)?;
+    let start = read_start(inside, end, alloc)?;
+    let (harts, behind) = read_harts(behind, end)?;
+    start.names_harts(harts)?;
+    let (rows, behind) = rows_of(behind, harts, end)?;
+    let question = read_question(&Asked { harts, end, alloc }, behind)?;
+    let observed = observed_of(&question, harts, names.len(), start_of(behind, end), alloc)?;
+    Ok(LitmusTest {
+        name: Vec::from_slice(alloc, &text[head.name_start..head.name_end])?,
+        locations: read_locations(text, names, &start, alloc)?,
+        threads: read_threads(text, rows, harts, &start, alloc)?,
+        quantifier: question.quantifier,
+        condition: question.condition,
+        observed,
+    })
+}
+
+/// The locations of a test.
+fn read_locations(
+    text: &[u8],
+    names: &[Word],
+    start: &Start,
+    alloc: Global,
+) -> Result<Vec<Location>, Stop> {
+    let mut locations = Vec::new(alloc);
+    for (index, name) in names.iter().enumerate() {
+        locations.push(Location {
+            name: Vec::from_slice(alloc, bytes_of(text, *name))?,
+            initial: start.initial(index),
+        })?;
+    }
+    Ok(locations)
+}
+
+/// What the harts do.
+fn read_threads(
+    text: &[u8],
+    rows: &[Word],
+    harts: u8,
+    start: &Start,
+    alloc: Global,
+) -> Result<Vec<Thread>, Stop> {
+    let mut threads = Vec::new(alloc);
+    for hart in 0..harts {
+        threads.push(Thread {
+            starts: start.of_hart(hart, alloc)?,
+            steps: read_steps(text, rows, hart, alloc)?,
+        })?;
+    }
+    Ok(threads)
+}

@@ -1,0 +1,71 @@
+-- When a litmus test makes sense: what it names is there.
+use Rattle.std.specs.Prelude.{◌≡◌, ℕ, ◌≤◌, ◌<◌, Bool, true, false, List, length, All, Contains}
+use Rattle.rv_instr.specs.{declared.instr.Instr.Instr, Table.IsInstructionInRange}
+use Rattle.rv_instr.specs.declared.instr.Instr.TheVariants as instr
+use Rattle.litmus_tests.specs.declared.value.Value.{Value}
+use Rattle.litmus_tests.specs.declared.value.Value.TheVariants.{Number, Address}
+use Rattle.litmus_tests.specs.declared.step.LitmusStep.{LitmusStep}
+use Rattle.litmus_tests.specs.declared.step.LitmusStep.TheVariants.{Straight, Constant, Branch}
+use Rattle.litmus_tests.specs.declared.condition.{Observed.Observed, Term.Term}
+use Rattle.litmus_tests.specs.declared.condition.Observed.TheVariants as observed
+use Rattle.litmus_tests.specs.declared.condition.Condition.{Condition, Always, Holds, Not', Both', Either'}
+use Rattle.litmus_tests.specs.declared.test.{LitmusTest.LitmusTest, RegisterStart.RegisterStart}
+use Rattle.litmus_tests.specs.declared.test.{Thread.Thread, Location.Location}
+
+-- Behind the instruction the hart goes on with the next one, whatever its registers hold, and nothing that it
+-- computes depends on where it stands.
+abbrev pub is_straight : Instr → Bool
+is_straight (instr.Auipc rd imm) = false
+is_straight (instr.Jal rd offset) = false
+is_straight (instr.Jalr rd rs1 offset) = false
+is_straight (instr.Branch op rs1 rs2 offset) = false
+is_straight instr.Ecall = false
+is_straight instr.Ebreak = false
+is_straight instruction = true
+
+-- The location that a value names is there; of so many.
+abbrev pub IsValue : ℕ → Value → Type 0
+IsValue locations (Number number) = Unit {0}
+IsValue locations (Address index) = index < locations
+
+-- What is looked at is there.
+abbrev pub IsObserved : ℕ → ℕ → Observed → Type 0
+IsObserved threads locations (observed.Register hart register) = (hart < threads) × (0 < register) × (register < 32)
+IsObserved threads locations (observed.Location index) = index < locations
+
+-- So is what a step names, of so many steps.
+abbrev pub IsStep : ℕ → LitmusStep → Type 0
+IsStep steps (Straight instruction) = IsInstructionInRange instruction × (is_straight instruction ≡ true)
+IsStep steps (Constant register value) = register < 32
+IsStep steps (Branch comparison left right target) = (left < 32) × (right < 32) × (target ≤ steps)
+
+abbrev pub IsStart : ℕ → RegisterStart → Type 0
+IsStart locations start = (0 < start.register) × (start.register < 32) × IsValue locations start.value
+
+pub record IsThread (locations : ℕ) (thread : Thread) : Type 0 where
+  pub starts : All (IsStart locations) thread.starts.items
+  pub few : length thread.starts.items ≤ 31
+  pub steps : All (IsStep (length thread.steps.items)) thread.steps.items
+  pub short : length thread.steps.items ≤ 500
+
+-- Each term of the condition is about something that tells final states apart.
+abbrev pub IsTerm : ℕ → List Observed → Term → Type 0
+IsTerm locations observed term = Contains observed term.observed × IsValue locations term.value
+
+abbrev pub IsCondition : ℕ → List Observed → Condition → Type 0
+IsCondition locations observed Always = Unit {0}
+IsCondition locations observed (Holds term) = IsTerm locations observed term
+IsCondition locations observed (Not' p condition) = IsCondition locations observed condition
+IsCondition locations observed (Both' p first q second) =
+    IsCondition locations observed first × IsCondition locations observed second
+IsCondition locations observed (Either' p first q second) =
+    IsCondition locations observed first × IsCondition locations observed second
+
+pub record IsWellFormed (test : LitmusTest) : Type 0 where
+  pub harts : (1 ≤ length test.threads.items) × (length test.threads.items ≤ 8)
+  pub locations : length test.locations.items ≤ 64
+  pub initials : All (λ location. IsValue (length test.locations.items) location.initial) test.locations.items
+  pub threads : All (IsThread (length test.locations.items)) test.threads.items
+  pub condition : IsCondition (length test.locations.items) test.observed.items test.condition
+  pub observed : All (IsObserved (length test.threads.items) (length test.locations.items)) test.observed.items
+  pub few : length test.observed.items ≤ 64

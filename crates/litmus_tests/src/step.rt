@@ -1,0 +1,30 @@
+use numbers::Reg;
+use rv_instr::Instr;
+
+/// How a branch compares its two registers.
+#[derive(Clone, Copy, Debug, PartialEq, Eq, Drop)]
+pub enum Comparison {
+    /// BEQ: it is taken where they are equal.
+    Equal,
+    /// BNE: it is taken where they differ.
+    Different,
+}
+
+/// One instruction of a hart, as a litmus test writes it.
+#[derive(Clone, Copy, PartialEq, Eq, Drop)]
+pub enum LitmusStep {
+    /// An instruction behind which the hart goes on with the next one.
+    Straight(Instr),
+    /// A number into a register: `li`.
+    Constant {
+        register: Reg,
+        value: u32,
+    },
+    /// A branch to the step with the index `target` of its hart; one past the last is its end.
+    Branch {
+        comparison: Comparison,
+        left: Reg,
+        right: Reg,
+        target: usize,
+    },
+}

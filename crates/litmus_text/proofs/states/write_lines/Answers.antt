@@ -1,0 +1,8 @@
+use Rattle.litmus_text.proofs.Appending.{told_step}
+use Rattle.litmus_text.specs.State.{told_line}
+use Rattle.litmus_text.proofs.states.write_lines.Goals as goal
+
+pub loop-index-preserved : goal.loop-index-preserved
+loop-index-preserved g c =
+    told_step (told_line c.args.test.now) _ _ _ c.args.outcomes.now.listed c.loop-index.index _
+    c.loop-index-test.true c.count-index-end.ensures c.loop-index.invariant c.in_ok-write_line_at.ensures

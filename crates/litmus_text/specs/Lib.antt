@@ -1,0 +1,6 @@
+pub mod Each
+pub mod Value
+pub mod Condition
+pub mod State
+pub mod Summary
+pub mod States

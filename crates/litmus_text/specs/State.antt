@@ -1,0 +1,41 @@
+-- The line of a final state. [herd's own form: Alglave, Maranget and Tautschnig 2014, "Herding Cats"]
+use Rattle.std.specs.Prelude.{ℕ, ◌==◌, if◌then◌else◌, List, [], ◌∷◌, ◌++◌, codes}
+use Rattle.std.specs.{Fmt.decimal}
+use Rattle.smt_model.specs.{declared.config.Status.Status, declared.config.Status.TheVariants.Going}
+use Rattle.smt_model.specs.{declared.config.Status.TheVariants.Ended}
+use Rattle.smt_model.specs.{declared.config.Status.TheVariants.Stopped}
+use Rattle.outcomes.specs.{Endings.Ending, Found.Told}
+use Rattle.litmus_text.specs.Each.{each_from}
+use Rattle.litmus_tests.specs.declared.test.LitmusTest.{LitmusTest}
+use Rattle.litmus_tests.specs.declared.condition.Observed.{Observed}
+use Rattle.litmus_images.specs.Watching.{final_state}
+use Rattle.litmus_text.specs.Value.{observed_text, number_text}
+
+-- What is looked at, each with its number; one space between two.
+abbrev pub space_of : ℕ → List ℕ
+space_of index = if index == 0 then [] else codes " "
+
+abbrev pub equation_text : LitmusTest → ℕ → Observed → ℕ → List ℕ
+equation_text test index observed number = space_of index
+    ++ (observed_text test observed ++ (codes "=" ++ (number_text test number ++ codes ";")))
+
+abbrev pub part_text : LitmusTest → Ending → ℕ → Observed → List ℕ
+part_text test ending index observed = equation_text test index observed (final_state test ending observed)
+
+-- A hart that stopped otherwise than at its EBREAK, whose cause is 3.
+abbrev pub stopped_text : ℕ → List ℕ → ℕ → List ℕ
+stopped_text hart how number =
+    codes " P" ++ (decimal hart ++ (how ++ (decimal number ++ codes ";")))
+
+abbrev pub stop_text : ℕ → Status → List ℕ
+stop_text hart Going = []
+stop_text hart (Ended number) = stopped_text hart (codes " ended ") number
+stop_text hart (Stopped cause) = if cause == 3 then [] else stopped_text hart (codes " stopped ") cause
+
+-- The whole line.
+unfoldable pub state_line : LitmusTest → Ending → List ℕ
+state_line test ending = each_from (part_text test ending) 0 test.observed.items
+    ++ (each_from stop_text 0 ending.statuses ++ 10 ∷ [])
+
+abbrev pub told_line : LitmusTest → ℕ → Told → List ℕ
+told_line test index told = state_line test told.ending

@@ -1,0 +1,96 @@
+//! The text of all final states.
+
+ghost use Rattle.std.specs.Prelude.{◌≡◌, ◌≤◌, ◌<◌, nat_lt, length, Some, slice_get, OnOk};
+ghost use Rattle.std.specs.Io.KnownBytes.{Appends};
+ghost use Rattle.litmus_tests.specs.WellFormed.{IsWellFormed};
+ghost use Rattle.litmus_tests.specs.Conditions.{holding};
+ghost use Rattle.outcomes.specs.Found.{Told};
+ghost use Rattle.litmus_text.specs.Each.{each_from};
+ghost use Rattle.litmus_text.specs.State.{told_line};
+ghost use Rattle.litmus_text.specs.States.{states_text, states_in, holds_of};
+
+use crate::state::write_state;
+use crate::summary::{is_as_asked, write_head, write_summary};
+use litmus_images::holds_in;
+use litmus_tests::LitmusTest;
+use outcomes::Outcomes;
+use std::io;
+use std::io::Write;
+
+/// Writes the final states of a test, which are the outcomes of its image: a line for each, whether they are
+/// as the test asks, of how many its condition holds, and the condition. Where it answers Ok, it has written
+/// exactly these lines.
+#[tactic(auto, unfolding(crate::specs::States::states_text))]
+pub fn write_states<W: Write>(test: &LitmusTest, outcomes: &Outcomes, out: &mut W) -> io::Result<()>
+    requires { IsWellFormed test.now }
+    ensures { OnOk result (Appends (W.contents out.old) (W.contents out.new)
+        (states_text test.now outcomes.now.listed)) }
+{
+    let count = outcomes.count();
+    let held = held_of(test, outcomes);
+    let as_asked = is_as_asked(test, held, count);
+    write_head(test, count, out)?;
+    write_lines(test, outcomes, out)?;
+    write_summary(test, as_asked, held, count, out)
+}
+
+/// Whether the condition of a test holds of one of its final states at least.
+pub fn holds_of_any(test: &LitmusTest, outcomes: &Outcomes) -> bool
+    requires { IsWellFormed test.now }
+    ensures { result ≡ nat_lt 0 (holding (states_in test.now outcomes.now.listed) test.now.condition) }
+{
+    held_of(test, outcomes) > 0
+}
+
+/// Of how many outcomes the condition holds.
+fn held_of(test: &LitmusTest, outcomes: &Outcomes) -> usize
+    requires { IsWellFormed test.now }
+    ensures held { result ≡ holding (states_in test.now outcomes.now.listed) test.now.condition }
+    ensures few { result ≤ length outcomes.now.listed }
+{
+    let mut held = 0;
+    for index in 0..outcomes.count() {
+        held += usize::from(holds_at(test, outcomes, index));
+    }
+    held
+}
+
+/// Whether the condition holds of the outcome with this index.
+fn holds_at(test: &LitmusTest, outcomes: &Outcomes, index: usize) -> bool
+    requires sound { IsWellFormed test.now }
+    requires within { index < length outcomes.now.listed }
+    ensures { (told : Told) → slice_get outcomes.now.listed index ≡ Some told
+        → result ≡ holds_of test.now told }
+{
+    match outcomes.outcome(index) {
+        Some(outcome) => holds_in(test, outcome),
+        None => false,
+    }
+}
+
+fn write_lines<W: Write>(test: &LitmusTest, outcomes: &Outcomes, out: &mut W) -> io::Result<()>
+    ensures { OnOk result (Appends (W.contents out.old) (W.contents out.new)
+        (each_from (told_line test.now) 0 outcomes.now.listed)) }
+{
+    for index in 0..outcomes.count() {
+        write_line_at(test, outcomes, index, out)?;
+    }
+    Ok(())
+}
+
+/// Writes the line of the outcome with this index.
+fn write_line_at<W: Write>(
+    test: &LitmusTest,
+    outcomes: &Outcomes,
+    index: usize,
+    out: &mut W,
+) -> io::Result<()>
+    requires { index < length outcomes.now.listed }
+    ensures { OnOk result ((told : Told) → slice_get outcomes.now.listed index ≡ Some told
+        → Appends (W.contents out.old) (W.contents out.new) (told_line test.now index told)) }
+{
+    match outcomes.outcome(index) {
+        Some(outcome) => write_state(test, outcome, out),
+        None => Ok(()),
+    }
+}
