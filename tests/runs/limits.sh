@@ -1,5 +1,5 @@
 # Read by run.sh. With little memory the program says so, or it gives its answer; it never says or
-# does anything else.
+# does anything else, and no signal ends it.
 
 # Prints the least address space in KiB, to 4, with which the program begins at all: below it the
 # dynamic linker, or the system, has no room for the program's own pages. It is looked for once.
@@ -27,15 +27,16 @@ has_no_room() { grep -q -e 'shared librar' -e 'ut of space' -e 'annot allocate' 
 # it begins, and then with STEP KiB more each time, until it gave its answer three times in a row,
 # or COUNT times. Prints what came of it, one line for each kind of outcome in a row: `memory` for
 # exactly that refusal, `answer` for exactly what the program does with all the memory that it
-# wants, and all else in full.
+# wants, and all else in full, a signal too.
 limits() {
     count=$1
     step=$2
     shift 2
     limit=$(least)
     answers=0
-    signals=0
     has_begun=
+    many=
+    [ $# -lt 1000 ] || many=yes
     "$smtsim" "$@" >answer.out 2>answer.err
     wanted=$?
     while [ "$count" -gt 0 ] && [ "$answers" -lt 3 ]; do
@@ -47,27 +48,16 @@ limits() {
     uniq outcomes
 }
 
-# How many limits may fall into the 64 KiB in which the stack grows: two at least.
-stack_steps() {
-    if [ "$step" -lt 32 ]; then echo $((64 / step)); else echo 2; fi
-}
-
 # What came of one limit, which gave this status.
 outcome() {
     said='' && more=''
     { IFS= read -r said; IFS= read -r more; } <limit.err
-    # With long words there may be no room yet for them, and the system ends what hasn't begun by a
+    # For thousands of words there may be no room yet, and the system ends what hasn't begun by a
     # signal.
     is_silent=
     [ -s limit.out ] || [ -s limit.err ] || is_silent=yes
-    if [ -z "$has_begun" ] && [ "$1" -ge 128 ] && [ "$is_silent" ]; then return; fi
+    if [ "$many" ] && [ -z "$has_begun" ] && [ "$1" -ge 128 ] && [ "$is_silent" ]; then return; fi
     if has_no_room limit.err; then return; fi
-    # The system ends by a signal what has no room for its stack to grow, and that is no answer: the
-    # frames in which a core is made take some 156 KiB, of which the system gives 128 at the start.
-    if [ "$1" -ge 128 ] && [ "$signals" -lt "$(stack_steps)" ] && [ "$is_silent" ]; then
-        signals=$((signals + 1))
-        return
-    fi
     has_begun=yes
     if [ "$1" = "$wanted" ] && cmp -s answer.out limit.out && cmp -s answer.err limit.err; then
         echo answer

@@ -264,7 +264,8 @@ fn ask_alone(core: Core, image: &Image) -> Alone {
     ask_alone_with::<Brand>(core, Blank::new(16), image)
 }
 
-/// What is asserted of such a core: besides the answers, what the first two passes counted, whether
+/// What is asserted of such a core: besides the answers, what the first two passes counted and how many
+/// of their asks were idle, whether
 /// all passes agreed at the end, whether the core was of its image and sizes, and where a pass
 /// miscounted.
 #[derive(Clone, Copy, Drop)]
@@ -278,6 +279,8 @@ struct AskedAlone {
     going: u8,
     first_count: u64,
     second_count: u64,
+    first_idle: u64,
+    second_idle: u64,
     all_agreed: bool,
     own: bool,
     miscount: Option<Miscount>,
@@ -295,6 +298,8 @@ fn seen_of(alone: &Alone) -> AskedAlone {
         going: alone.going,
         first_count: finished.counts[0],
         second_count: finished.counts[1],
+        first_idle: finished.idle[0],
+        second_idle: finished.idle[1],
         all_agreed: finished.told,
         own: finished.own,
         miscount: first_miscount(finished),
@@ -330,6 +335,8 @@ fn passes_begin_with_the_counts_of_their_actors(rt: HostRuntime) {
     assert!(rt; asked.going == 1);
     assert!(rt; asked.first_count == 1);
     assert!(rt; asked.second_count == 3);
+    assert!(rt; asked.first_idle == 0);
+    assert!(rt; asked.second_idle == 1);
     assert!(rt; asked.all_agreed);
     assert!(rt; asked.own);
     counts(&rt, "alone", asked.miscount);

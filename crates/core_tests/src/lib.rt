@@ -21,6 +21,10 @@ mod first_trace;
 #[cfg(test)]
 mod history_check_tests;
 #[cfg(test)]
+mod litmus_images_tests;
+#[cfg(test)]
+mod litmus_reading_tests;
+#[cfg(test)]
 mod live_registers_tests;
 #[cfg(test)]
 mod outcomes_tests;

@@ -3,7 +3,7 @@
 use crate::rows::holds;
 use arrayvec::ArrayVec;
 use elf_image::Image;
-use outcomes::{Outcomes, OutcomesRefused, Watch, find_outcomes};
+use outcomes::{Outcomes, OutcomesRefused, Watch, WatchedRegister, find_outcomes};
 use smt_model::Status;
 use std::alloc::Global;
 use test_files::{file_of, image_of};
@@ -108,6 +108,59 @@ fn a_hart_that_goes_round(rt: HostRuntime) {
         Ok(found) => {
             holds(&rt, "none", found.count() == 0);
             holds(&rt, "stuck", matches!(found.stuck(rt.alloc()), Ok(Some(_))));
+        }
+        Err(_) => holds(&rt, "found", false),
+    }
+}
+
+/// `lui x5,0x80001`, `amoswap.w x10,x11,(x5)`, `ebreak`: a hart puts how many harts there are, 2, into a word
+/// that is 0 at first, and has what was there in x10, where its own number was.
+static SWAP: [u32; 3] = [0x8000_12b7, 0x08b2_a52f, 0x0010_0073];
+
+/// By hand: the six instructions have 20 orders. In each of them one hart's AMO is the first, and gets 0; the
+/// other one gets 2. The word is 2 at the end, and EBREAK stops a hart with cause 3. So there are two outcomes.
+const SWAPPED: [[u32; 2]; 2] = [[0, 2], [2, 0]];
+
+/// x10 of both harts, and the word.
+fn watching_swap() -> Watch {
+    let mut registers = ArrayVec::new();
+    registers.push(WatchedRegister {
+        hart: 0,
+        register: 10,
+    });
+    registers.push(WatchedRegister {
+        hart: 1,
+        register: 10,
+    });
+    let mut words = ArrayVec::new();
+    words.push(0x8000_1000);
+    Watch { registers, words }
+}
+
+/// Whether an outcome has these numbers in x10 of the two harts, both stopped by EBREAK.
+fn has_swapped(found: &Outcomes, index: usize, row: [u32; 2]) -> bool {
+    match found.outcome(index) {
+        None => false,
+        Some(outcome) => {
+            outcome.statuses.as_slice() == [Status::Stopped(3), Status::Stopped(3)].as_slice()
+                && outcome.registers.as_slice() == row.as_slice()
+                && outcome.words.as_slice() == [2].as_slice()
+        }
+    }
+}
+
+#[test]
+fn three_instructions_of_each_of_two_harts(rt: HostRuntime) {
+    let found = match image_with(&SWAP, rt.alloc()) {
+        Some(image) => find_outcomes(&image, 2, &watching_swap(), 100, &(), rt.alloc()),
+        None => Err(OutcomesRefused::Memory),
+    };
+    match found {
+        Ok(found) => {
+            holds(&rt, "two", found.count() == 2);
+            holds(&rt, "first", has_swapped(&found, 0, SWAPPED[0]));
+            holds(&rt, "second", has_swapped(&found, 1, SWAPPED[1]));
+            holds(&rt, "stuck", matches!(found.stuck(rt.alloc()), Ok(None)));
         }
         Err(_) => holds(&rt, "found", false),
     }

@@ -24,6 +24,8 @@ mod image_tests;
 #[cfg(test)]
 mod issue_queue_tests;
 #[cfg(test)]
+mod litmus_cycles_tests;
+#[cfg(test)]
 mod load_store_tests;
 #[cfg(test)]
 mod placing;

@@ -50,7 +50,7 @@ fn pop_oldest(active: &mut ActiveList) -> Option<Leaving> {
 
 #[test]
 fn instructions_leave_from_the_old_end_and_are_cut_from_the_young_end(rt: HostRuntime) {
-    let mut active = ActiveList::new();
+    let mut active = ActiveList::new(rt.alloc()).expect(&rt, "a list");
     assert!(rt; active.is_empty());
     active.append(renamed(2));
     active.append(renamed(3));
@@ -88,7 +88,7 @@ fn a_stage_is_set_at_one_number_alone(rt: HostRuntime) {
         datum: None,
         out: None,
     };
-    let mut active = ActiveList::new();
+    let mut active = ActiveList::new(rt.alloc()).expect(&rt, "a list");
     active.append(renamed(2));
     active.append(renamed(3));
     active.append(renamed(5));
@@ -111,7 +111,7 @@ fn add(active: &mut ActiveList, seq: u32) -> bool {
 
 #[test]
 fn two_hundred_leave_in_order_through_room_for_sixty_four(rt: HostRuntime) {
-    let mut active = ActiveList::new();
+    let mut active = ActiveList::new(rt.alloc()).expect(&rt, "a list");
     for seq in 0..200u32 {
         assert!(rt; add(&mut active, seq));
         active.issue(seq);

@@ -7,6 +7,7 @@ mod chart;
 mod check;
 mod explain;
 mod list;
+mod litmus;
 mod looks;
 mod meeting;
 mod plain;

@@ -4,10 +4,10 @@ use crate::rows::{shows, text_of};
 use actors::StaticPredictor;
 use commands::step_bytes;
 use history_counts::{Counts, count_retired, counts_of};
-use reports::{RunEnd, report_counts, report_ends, report_json};
+use reports::{RunEnd, report_counts, report_ends, report_idle, report_json};
 use rv_instr::UnitKind;
 use sim_inputs::read_config;
-use smt_core::Core;
+use smt_core::{Core, Finished};
 use std::alloc::Global;
 use std::process::Abort;
 use test_files::EXIT_WITH_5;
@@ -19,13 +19,28 @@ const ONE_HART: &[u8] = b"actors = [\"alu\", \"alu\"]\n";
 /// events.
 const ONE_RETIRED: &str = "F0*3 D0.0*3 R0.0*3 U0 T0.0";
 
-/// The core that a script of the first program comes to.
-fn core_after(script: &str, alloc: Global) -> Option<Core> {
+/// The same, with asks in vain: actor 0 asks for a fourth decode and a second retirement, and actor 1 twice
+/// for a job that is not ready.
+const ASKS_IN_VAIN: &str = "F0*3 D0.0*4 R0.0*3 U0 T0.0*2 I0 I1*2";
+
+/// What a script of the first program comes to.
+fn finished_after(script: &str, alloc: Global) -> Option<Finished> {
     let settings = read_config(ONE_HART, alloc).ok()?;
     let mut lines = Vec::new(alloc);
     let (script, predict) = (script.as_bytes(), &mut StaticPredictor);
-    let stepped = step_bytes(&EXIT_WITH_5, &settings, script, predict, &mut lines, alloc);
-    Some(stepped.ok()?.core)
+    step_bytes(&EXIT_WITH_5, &settings, script, predict, &mut lines, alloc).ok()
+}
+
+fn core_after(script: &str, alloc: Global) -> Option<Core> {
+    Some(finished_after(script, alloc)?.core)
+}
+
+/// The lines of the idle asks of the two actors.
+fn idle_after(script: &str, alloc: Global) -> Option<Vec<u8>> {
+    let finished = finished_after(script, alloc)?;
+    let mut text = Vec::new(alloc);
+    report_idle(&finished.idle[..2], &mut text).ok()?;
+    Some(text)
 }
 
 /// The numbers of a core's history.
@@ -47,7 +62,7 @@ fn object_after(script: &str, alloc: Global) -> Option<Vec<u8>> {
     let core = core_after(script, alloc)?;
     let counts = Some(numbers_of(&core, alloc)?);
     let mut text = Vec::new(alloc);
-    report_json(&core.account(), &counts, &mut text).ok()?;
+    report_json(&core.account(), &counts, &[3, 0], &mut text).ok()?;
     Some(text)
 }
 
@@ -86,7 +101,16 @@ fn the_report_is_an_object(rt: HostRuntime) {
         \"output\":\"\",\"counts\":{\"fetched\":3,\"decoded\":3,\"renamed\":3,\"issued\":1,\
         \"completed\":1,\"dropped\":0,\"retired\":1,\"mispredicted\":0,\"replayed\":0,\
         \"squashed-mispredicted\":0,\"squashed-replayed\":0,\"squashed-ended\":0,\
-        \"squashed-stopped\":0,\"hart-0-alu\":1,\"hart-0-mul\":0,\"hart-0-mem\":0}}\n",
+        \"squashed-stopped\":0,\"hart-0-alu\":1,\"hart-0-mul\":0,\"hart-0-mem\":0,\"idle\":[3,0]}}\n",
+    );
+}
+
+#[test]
+fn asks_in_vain_are_told_of_each_actor(rt: HostRuntime) {
+    are(
+        &rt,
+        idle_after(ASKS_IN_VAIN, rt.alloc()),
+        "idle-0 2\nidle-1 2\n",
     );
 }
 

@@ -1,8 +1,8 @@
 //! Lines of the program, as their words are read. None names a configuration.
 
 use sim_inputs::{
-    ChartCommand, CheckCommand, Command, ExplainCommand, Line, ListCommand, OutcomesCommand,
-    PlainCommand, RunCommand, ScheduleCommand, ScriptCommand, StepCommand,
+    ChartCommand, CheckCommand, Command, ExplainCommand, Line, ListCommand, LitmusCommand,
+    OutcomesCommand, PlainCommand, RunCommand, ScheduleCommand, ScriptCommand, StepCommand,
 };
 
 macro_rules! line {
@@ -139,5 +139,16 @@ pub fn outcomes_line(states: u32) -> Line<'static> {
         stuck: false,
         witness: None,
         script: None,
+    },))
+}
+
+/// The final states of a litmus test, and why its condition holds of none.
+pub fn litmus_line(why: bool) -> Line<'static> {
+    line!(Command::Litmus(LitmusCommand {
+        test: "test",
+        states: 1_000_000,
+        why,
+        image: None,
+        svg: None,
     },))
 }

@@ -163,6 +163,35 @@ fn rounds_show_their_steps_and_the_harts_that_go(rt: HostRuntime) {
     assert!(rt; shows_rounds(false, 1500, 2, "", rt.alloc()) == Some(true));
 }
 
+/// Whether a search shows this text, that is looked at so often; each look at the clock takes `step` milliseconds.
+fn shows_search(
+    is_terminal: bool,
+    step: u64,
+    looks: u32,
+    text: &str,
+    alloc: Global,
+) -> Option<bool> {
+    let clock = Ticking::new(step);
+    let screen = Screen::new(alloc).ok()?;
+    let progress = Progress::new(&clock, &screen, is_terminal);
+    progress.begin_search();
+    for look in 0..looks {
+        let seen = look.wrapping_add(1);
+        progress.at_states(seen.wrapping_mul(5_000), seen.wrapping_mul(4_096));
+    }
+    progress.end();
+    Some(screen.has(text))
+}
+
+#[test]
+fn a_search_shows_its_states_and_those_to_look_at(rt: HostRuntime) {
+    let shown = "\rsmtsim: 5000 states, 904 to look at, 1 s\x1b[K\
+        \rsmtsim: 10000 states, 1808 to look at, 3 s\x1b[K\r\x1b[K";
+    assert!(rt; shows_search(true, 1500, 2, shown, rt.alloc()) == Some(true));
+    assert!(rt; shows_search(true, 999, 1, "", rt.alloc()) == Some(true));
+    assert!(rt; shows_search(false, 1500, 2, "", rt.alloc()) == Some(true));
+}
+
 #[test]
 fn nothing_is_shown_where_there_is_no_terminal(rt: HostRuntime) {
     assert!(rt; shows(false, 1500, TURN, 1025, "", rt.alloc()) == Some(true));

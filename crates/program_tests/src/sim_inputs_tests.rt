@@ -7,8 +7,9 @@ mod refused_words;
 
 use crate::rows::holds;
 use sim_inputs::{
-    ChartCommand, CheckCommand, Command, ExplainCommand, Line, ListCommand, OutcomesCommand,
-    PlainCommand, RunCommand, ScheduleCommand, ScriptCommand, StepCommand, read_words,
+    ChartCommand, CheckCommand, Command, ExplainCommand, Line, ListCommand, LitmusCommand,
+    OutcomesCommand, PlainCommand, RunCommand, ScheduleCommand, ScriptCommand, StepCommand,
+    read_words,
 };
 use std::alloc::{AllocError, Global};
 
@@ -22,7 +23,7 @@ fn words_of(text: &str, alloc: Global) -> Result<Vec<&str>, AllocError> {
 }
 
 /// Words, and what they ask for.
-static LINES: [(&str, Line<'_>); 33] = [
+static LINES: [(&str, Line<'_>); 36] = [
     (
         "smtsim chart a t",
         Line {
@@ -495,6 +496,45 @@ static LINES: [(&str, Line<'_>); 33] = [
             }),
         },
     ),
+    (
+        "smtsim litmus a",
+        Line {
+            config: None,
+            command: Command::Litmus(LitmusCommand {
+                test: "a",
+                states: 1_000_000,
+                why: false,
+                image: None,
+                svg: None,
+            }),
+        },
+    ),
+    (
+        "smtsim litmus --why a --config c --states 5 --svg s",
+        Line {
+            config: Some("c"),
+            command: Command::Litmus(LitmusCommand {
+                test: "a",
+                states: 5,
+                why: true,
+                image: None,
+                svg: Some("s"),
+            }),
+        },
+    ),
+    (
+        "smtsim litmus --image i -",
+        Line {
+            config: None,
+            command: Command::Litmus(LitmusCommand {
+                test: "-",
+                states: 1_000_000,
+                why: false,
+                image: Some("i"),
+                svg: None,
+            }),
+        },
+    ),
 ];
 
 /// The files of a line: its configuration, its image, the other one that is read, and the one that is
@@ -511,8 +551,8 @@ fn files_of<'a>(line: &Line<'a>) -> Named<'a> {
     (files.config, files.image, files.second, files.trace)
 }
 
-/// The command of a line, and its flags: records, tables and looks, or whether a state is asked for
-/// that is stuck.
+/// The command of a line, and its flags: records, tables and looks, whether a state is asked for that is
+/// stuck, or whether an image is written.
 fn flags_of(line: &Line<'_>) -> (&'static str, [bool; 3]) {
     match line.command {
         Command::Step(step) => ("step", [step.records, step.show, step.looks]),
@@ -525,6 +565,7 @@ fn flags_of(line: &Line<'_>) -> (&'static str, [bool; 3]) {
         Command::Chart(_) => ("chart", [false; 3]),
         Command::Explain(_) => ("explain", [false; 3]),
         Command::Outcomes(outcomes) => ("outcomes", [outcomes.stuck, false, false]),
+        Command::Litmus(litmus) => ("litmus", [litmus.image.is_some(), false, false]),
     }
 }
 
@@ -534,6 +575,7 @@ fn forms_of(line: &Line<'_>) -> [bool; 3] {
         Command::Step(step) => [step.why, step.counts, step.json],
         Command::Run(run) => [run.why, run.counts, run.json],
         Command::Check(check) => [check.why, check.counts, check.json],
+        Command::Litmus(litmus) => [litmus.why, false, false],
         _ => [false; 3],
     }
 }
@@ -544,6 +586,7 @@ fn numbers_of<'a>(line: &Line<'a>) -> ([Option<u32>; 3], Option<&'a str>) {
         Command::Run(run) => ([run.times, None, None], run.keep),
         Command::Plain(plain) => ([plain.rounds, plain.steps, plain.seed], None),
         Command::Outcomes(outcomes) => ([Some(outcomes.states), outcomes.outcome, None], None),
+        Command::Litmus(litmus) => ([Some(litmus.states), None, None], None),
         _ => ([None, None, None], None),
     }
 }
@@ -600,7 +643,7 @@ fn each_line_is_read_with_its_files_and_options(rt: HostRuntime) {
 }
 
 /// A line of each command, and its files.
-static NAMED: [(Line<'_>, Named<'_>); 11] = [
+static NAMED: [(Line<'_>, Named<'_>); 13] = [
     (
         Line {
             config: Some("c"),
@@ -740,6 +783,32 @@ static NAMED: [(Line<'_>, Named<'_>); 11] = [
                 stuck: true,
                 witness: None,
                 script: Some("s"),
+            }),
+        },
+        (Some("c"), Some("a"), None, Some("s")),
+    ),
+    (
+        Line {
+            config: None,
+            command: Command::Litmus(LitmusCommand {
+                test: "a",
+                states: 1,
+                why: false,
+                image: Some("i"),
+                svg: None,
+            }),
+        },
+        (None, Some("a"), None, Some("i")),
+    ),
+    (
+        Line {
+            config: Some("c"),
+            command: Command::Litmus(LitmusCommand {
+                test: "a",
+                states: 1,
+                why: true,
+                image: None,
+                svg: Some("s"),
             }),
         },
         (Some("c"), Some("a"), None, Some("s")),

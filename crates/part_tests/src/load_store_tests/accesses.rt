@@ -9,6 +9,7 @@ use events::{Effect, Next, Outcome, Written};
 use load_store::{LoadStore, completion, effect, looks_after};
 use rv_decode::decode_op;
 use shared_memory::Memory;
+use std::alloc::Global;
 use std::test::Fail;
 
 // Each reads its address from x6, gives its number to x5, and takes what it writes from x7.
@@ -152,7 +153,7 @@ fn retired(value: Option<u32>, write: Write) -> Effect {
 fn a_completion_says_its_fault_or_its_first_look(rt: HostRuntime) -> Result<(), Fail> {
     let mut memory = first_memory(rt.alloc()).ok_or("refused")?;
     put(&mut memory, WORD, 4, 0x1234_8080).map_err(|_| "fault")?;
-    let queues = LoadStore::new();
+    let queues = LoadStore::new(rt.alloc()).expect(&rt, "queues");
     for (word, addr, datum, value) in &COMPLETIONS {
         let handed = computed(*addr, *datum);
         let op = decode_op(Some(*word));
@@ -164,8 +165,10 @@ fn a_completion_says_its_fault_or_its_first_look(rt: HostRuntime) -> Result<(), 
 
 /// Store 6 of hart 2, which isn't resolved; and load 5 of hart 0, 5 and 7 of hart 2 and 7 of hart 3,
 /// which have looked at a word; it was written since.
-fn touched_loads() -> LoadStore {
-    let mut queues = LoadStore::new();
+fn touched_loads(alloc: Global) -> Option<LoadStore> {
+    let Ok(mut queues) = LoadStore::new(alloc) else {
+        return None;
+    };
     queues.add_store(2, 6);
     queues.add_load(2, 5);
     queues.add_load(2, 7);
@@ -180,7 +183,7 @@ fn touched_loads() -> LoadStore {
         n: 4,
         datum: 0,
     });
-    queues
+    Some(queues)
 }
 
 #[test]
@@ -189,7 +192,7 @@ fn an_instruction_retires_by_memory_as_it_is(rt: HostRuntime) -> Result<(), Fail
     put(&mut memory, WORD, 4, ONES).map_err(|_| "fault")?;
     memory.reserve(0, WORD);
     memory.reserve(1, NEXT_WORD);
-    let queues = touched_loads();
+    let queues = touched_loads(rt.alloc()).ok_or("refused")?;
     for (word, addr, datum, value, write) in &EFFECTS {
         let op = decode_op(Some(*word));
         let came = effect(&memory, &queues, 0, 5, op, computed(*addr, *datum));
@@ -213,7 +216,7 @@ fn looks(memory: &Memory, queues: &LoadStore, hart: u8, seq: u32) -> (Option<u32
 #[test]
 fn a_load_sees_a_store_in_flight_at_its_first_look_alone(rt: HostRuntime) -> Result<(), Fail> {
     let memory = first_memory(rt.alloc()).ok_or("refused")?;
-    let mut queues = touched_loads();
+    let mut queues = touched_loads(rt.alloc()).ok_or("refused")?;
     queues.resolve_store(2, 6, WORD, 1, 0x80);
     let numbers = [
         looks(&memory, &queues, 2, 7),
@@ -234,7 +237,7 @@ fn a_load_sees_a_store_in_flight_at_its_first_look_alone(rt: HostRuntime) -> Res
 #[test]
 fn what_touches_no_memory_stays(rt: HostRuntime) -> Result<(), Fail> {
     let memory = first_memory(rt.alloc()).ok_or("refused")?;
-    let queues = LoadStore::new();
+    let queues = LoadStore::new(rt.alloc()).expect(&rt, "queues");
     // The byte of a call stands beside its number.
     let op = decode_op(Some(ADDI));
     let outcome = Outcome {
@@ -255,7 +258,7 @@ fn what_touches_no_memory_stays(rt: HostRuntime) -> Result<(), Fail> {
 fn an_untouched_load_keeps_its_first_number(rt: HostRuntime) -> Result<(), Fail> {
     let mut memory = first_memory(rt.alloc()).ok_or("refused")?;
     put(&mut memory, WORD, 4, 0x0000_0070).map_err(|_| "fault")?;
-    let mut queues = LoadStore::new();
+    let mut queues = LoadStore::new(rt.alloc()).expect(&rt, "queues");
     queues.add_load(1, 3);
     let op = decode_op(Some(LB));
     let outcome = completion(&memory, &queues, 1, 3, op, computed(WORD, None));

@@ -26,7 +26,7 @@ fn looks(queues: &LoadStore, memory: &Memory, hart: u8, seq: u32, addr: u32) -> 
 fn a_load_sees_the_older_resolved_stores_of_its_hart(rt: HostRuntime) -> Result<(), Fail> {
     let mut memory = first_memory(rt.alloc()).ok_or("refused")?;
     let begun = put(&mut memory, 0x8000_0100, 4, 0x1122_3344);
-    let mut queues = LoadStore::new();
+    let mut queues = LoadStore::new(rt.alloc()).expect(&rt, "queues");
     queues.add_store(0, 3);
     queues.add_store(0, 5);
     queues.add_load(0, 6);
@@ -63,7 +63,7 @@ fn a_load_sees_the_older_resolved_stores_of_its_hart(rt: HostRuntime) -> Result<
 #[test]
 fn the_oldest_store_writes_as_it_retires(rt: HostRuntime) -> Result<(), Fail> {
     let mut memory = first_memory(rt.alloc()).ok_or("refused")?;
-    let mut queues = LoadStore::new();
+    let mut queues = LoadStore::new(rt.alloc()).expect(&rt, "queues");
     queues.add_store(3, 9);
     queues.resolve_store(3, 9, 0x8000_0100, 4, 0x5566_7788);
     let is_free = memory.fault(0x8000_0100, 4, AccessKind::Store).is_none();
@@ -79,7 +79,7 @@ fn the_oldest_store_writes_as_it_retires(rt: HostRuntime) -> Result<(), Fail> {
 
 #[test]
 fn what_is_added_can_be_taken_out(rt: HostRuntime) {
-    let mut queues = LoadStore::new();
+    let mut queues = LoadStore::new(rt.alloc()).expect(&rt, "queues");
     queues.add_load(5, 1);
     queues.add_store(6, 2);
     let full = [queues.loads_full(5), queues.stores_full(6)];
@@ -100,7 +100,7 @@ fn needs(queues: &LoadStore) -> [bool; 3] {
 
 #[test]
 fn a_write_touches_the_loads_of_all_harts_that_share_a_byte(rt: HostRuntime) {
-    let mut queues = LoadStore::new();
+    let mut queues = LoadStore::new(rt.alloc()).expect(&rt, "queues");
     queues.add_load(1, 3);
     queues.add_load(1, 4);
     queues.add_load(7, 3);

@@ -33,8 +33,11 @@ fn runs_of_one_end_are_counted_and_the_first_is_kept(rt: HostRuntime) {
     );
     assert!(rt; ending.status == 1);
     assert!(rt; text_of(&out) == TABLE);
-    // A trace of the one end, and behind it its order: three instructions of hart 0.
+    // A trace of the one end, and behind it its order: three instructions of hart 0. What a unit
+    // hands back of a squashed instruction may come behind the last retirement.
     let kept = kept.into_inner();
-    assert!(rt; kept.starts_with(b"smt-trace 1\n"));
-    assert!(rt; kept.ends_with(b"- e00000005 - - -\n0\n0\n0\n"));
+    let text = text_of(&kept);
+    assert!(rt; text.starts_with("smt-trace 1\n"));
+    assert!(rt; text.contains("- e00000005 - - -\n"));
+    assert!(rt; text.ends_with("\n0\n0\n0\n"));
 }

@@ -12,11 +12,11 @@ use std::test::Fail;
 const COLUMNS: usize = 80;
 
 /// The words that ask for help, and what it tells; a bar stands between two of those.
-static HELPS: [(&str, &str); 11] = [
+static HELPS: [(&str, &str); 12] = [
     (
         "smtsim --help",
         "Usage: smtsim <COMMAND>|step|run|check|plain|schedule|script|list|chart|\
-explain|outcomes|harts|extra|queue|ram|limit|turns|actors",
+explain|outcomes|litmus|harts|extra|queue|ram|limit|turns|actors",
     ),
     (
         "smtsim step --help",
@@ -56,6 +56,11 @@ F actor hart number pc word predicted|T actor number value next address data out
         "Usage: smtsim outcomes [OPTIONS] <IMAGE>|--config <FILE>|--states <N>|--watch <LIST>|\
 --exists <CONDITION>|--outcome <N>|--stuck|--witness <FILE>|--script <FILE>|a0@1,x5@0,80001000:4|\
 h0=1 & a0@1=2",
+    ),
+    (
+        "smtsim litmus --help",
+        "Usage: smtsim litmus [OPTIONS] <TEST>|--config <FILE>|--states <N>|--image <FILE>|--why|\
+--svg <FILE>|herd's RISC-V format",
     ),
     (
         "smtsim list --help",

@@ -78,6 +78,13 @@ smtsim outcomes --outcome 1 --stuck --witness w a
 smtsim outcomes --outcome 1 --witness w --script s a
 smtsim outcomes --stuck --witness w --script s a
 smtsim outcomes --records a
+smtsim litmus
+smtsim litmus a b
+smtsim litmus --states 0 a
+smtsim litmus --states 4294967296 a
+smtsim litmus --image i --svg s a
+smtsim litmus --watch x7@0 a
+smtsim litmus - --config -
 smtsim list
 smtsim list first.elf first.script
 smtsim list --records first.elf
@@ -112,6 +119,6 @@ fn other_words_are_refused(rt: HostRuntime) {
         holds(&rt, text, are_refused(text, rt.alloc()) == Ok(true));
         rows = rows.wrapping_add(1);
     }
-    assert!(rt; rows == 88);
+    assert!(rt; rows == 95);
     assert!(rt; is_refusal(read_words(&[], rt.alloc())));
 }
