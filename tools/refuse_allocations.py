@@ -37,6 +37,10 @@ RUNS = {
     "outcomes": ("outcomes locks/swap.elf --config locks/two.toml --watch 80001004:4 --exists h0=16", False),
     "outcomes_witness": ("outcomes litmus/message_passing.elf --config litmus/two.toml --outcome 2 --witness OUT", False),
     "outcomes_script": ("outcomes litmus/message_passing.elf --config litmus/two.toml --outcome 3 --script OUT", False),
+    "litmus": ("litmus litmus/LRSC.litmus", False),
+    "litmus_why": ("litmus litmus/SB.litmus --why", False),
+    "litmus_svg": ("litmus litmus/SB.litmus --svg OUT", False),
+    "litmus_image": ("litmus litmus/SB.litmus --image OUT", False),
     "help": ("--help", False),
 }
 

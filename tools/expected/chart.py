@@ -163,7 +163,7 @@ def main(words):
         return refused.status
     history = judge.Rules(settings, image, events)
     rows = rows_of(history)
-    last = min(asked.last, max(len(events) - 1, 0))
+    last = min(asked.last, len(events) - 1)
     if asked.kanata:
         lines = kanata(history, rows, asked.first, last, asked.hart)
     else:

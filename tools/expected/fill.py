@@ -93,7 +93,7 @@ def main(names):
         mine = {
             name: run
             for name, run in known.items()
-            if run[0].get("from", "").startswith("tools/expected")
+            if re.match(r"tools/expected(?!/)", run[0].get("from", "")) and "words" in run[0]
         }
         wrong = [name for name, run in mine.items() if not agrees(*run)]
         for name in wrong:

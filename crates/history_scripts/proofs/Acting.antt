@@ -15,7 +15,7 @@ use Rattle.smt_laws.specs.Shown.{Predictor, AsksHaveOneAnswer}
 use Rattle.core_state.specs.{View.CoreView, Answers.AllowsNone, Answers.IsJobOf}
 use Rattle.smt_core.specs.Answers.{IsMade}
 use Rattle.core_lock.specs.{declared.ask.Said.Said}
-use Rattle.core_lock.specs.Asks.{PlainlyReplied, IssueReplied, CompleteReplied}
+use Rattle.core_lock.specs.Asks.{Replied, PlainlyReplied, IssueReplied, CompleteReplied}
 use Rattle.core_lock.specs.declared.ask.Said.TheVariants as said
 use Rattle.core_lock.specs.declared.ask.Ask.TheVariants as ask
 use Rattle.scripts.specs.{declared.actions.Action.Action, declared.actions.ScriptWord.ScriptWord}
@@ -165,7 +165,7 @@ module _ (law : AsksHaveOneAnswer) (setup : Setup) (limit : ℕ) (guess : ℕ �
 
   issue_stands : (past : List Event) (e : Event) (k : ℕ) (s : Said) (core mid : CoreView)
       (held between : Holding) (text : List ℕ) → k < most_actors → length past < limit
-      → IsNext setup by_guess past (AskIssue k) e → IsIssue k s held between core mid text → Stands past core held
+      → IsNext setup by_guess past (AskIssue k) e → IsIssue Replied k s held between core mid text → Stands past core held
       → Stands (e ∷ past) mid between
   issue_stands past e k s core mid held between text inside room next issue so =
       issue_stands_by past e k s core mid held between inside room next
@@ -208,11 +208,11 @@ module _ (law : AsksHaveOneAnswer) (setup : Setup) (limit : ℕ) (guess : ℕ �
 
   back_stands : (past : List Event) (e : Event) (k : ℕ) (core now : CoreView) (held after : Holding)
       (text : List ℕ) → length past < limit → IsNext setup by_guess past (AskComplete k) e
-      → HandsBack k held after core now text → Stands past core held → Stands (e ∷ past) now after
+      → HandsBack Replied k held after core now text → Stands past core held → Stands (e ∷ past) now after
   back_stands past e k core now held after text room next back so =
       let has = completes_its_job setup past k e next.suits next.allowed in
       let holding = so.holds k has.seq has.lent in
-      let over = subst (λ slot. HandsOver k slot core now text) holding.slot back.over in
+      let over = subst (λ slot. HandsOver Replied k slot core now text) holding.slot back.over in
       let replied = subst (λ c. CompleteReplied k holding.done.job c over.0 now) so.core_is over.1.replied in
       record {
         legal = (next.allowed, so.legal);
@@ -226,7 +226,7 @@ module _ (law : AsksHaveOneAnswer) (setup : Setup) (limit : ℕ) (guess : ℕ �
   unit_stands_by : (past : List Event) (e f : Event) (k : ℕ) (s : Said) (core mid now : CoreView)
       (held between after : Holding) (first second : List ℕ) → k < most_actors → length past + 1 < limit
       → IsNext setup by_guess past (AskIssue k) e → IsNext setup by_guess (e ∷ past) (AskComplete k) f
-      → IsIssue k s held between core mid first → HandsBackWhere (job_in s) k between after mid now second
+      → IsIssue Replied k s held between core mid first → HandsBackWhere Replied (job_in s) k between after mid now second
       → Stands past core held → Stands (f ∷ e ∷ past) now after
   unit_stands_by past e f k (said.Job view made) core mid now held between after first second inside room next last
       issue back so =
@@ -274,7 +274,7 @@ module _ (law : AsksHaveOneAnswer) (setup : Setup) (limit : ℕ) (guess : ℕ �
   both_taken : (k : ℕ) (asks : List Ask) (past later : List Event) (core now : CoreView)
       (held after : Holding) (text : List ℕ) → k < most_actors → length later + length past ≤ limit
       → Follow setup by_guess past (AskIssue k ∷ AskComplete k ∷ asks) later
-      → IsUnit k held after core now text → Stands past core held → HasActed asks past later now after
+      → IsUnit Replied k held after core now text → Stands past core held → HasActed asks past later now after
   both_taken k asks past [] core now held after text inside short next unit so = absurd next
   both_taken k asks past (e ∷ []) core now held after text inside short next unit so = absurd next.1
   both_taken k asks past (e ∷ f ∷ later) core now held after text inside short next unit so = record {
@@ -290,7 +290,7 @@ module _ (law : AsksHaveOneAnswer) (setup : Setup) (limit : ℕ) (guess : ℕ �
 
   acted : (x : Action) (asks : List Ask) (past later : List Event) (core now : CoreView)
       (held after : Holding) (text : List ℕ) → IsInRange x → length later + length past ≤ limit
-      → Follow setup by_guess past (asks_of_action x ++ asks) later → Acts x held after core now text
+      → Follow setup by_guess past (asks_of_action x ++ asks) later → Acts Replied x held after core now text
       → AllFollow guess now.past → Stands past core held → HasActed asks past later now after
   acted (action.Fetch k) asks past later core now held after text inside short next acts all so =
       let s = acts.1.0 in
@@ -327,7 +327,7 @@ module _ (law : AsksHaveOneAnswer) (setup : Setup) (limit : ℕ) (guess : ℕ �
       (held after : Holding) (text : List ℕ) → AllByRecursion IsInRange actions
       → length later + length past ≤ limit
       → Follow setup by_guess past (flat_map asks_of_action actions) later
-      → AllAct actions held after core now text → AllFollow guess now.past → Stands past core held
+      → AllAct Replied actions held after core now text → AllFollow guess now.past → Stands past core held
       → now ≡ core_of (onto later past)
   all_made [] past [] core now held after text inside short next acts all so = acts.1 ∙ so.core_is
   all_made [] past (e ∷ later) core now held after text inside short next acts all so = absurd next

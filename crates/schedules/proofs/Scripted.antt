@@ -16,7 +16,7 @@ use Rattle.smt_laws.specs.Scripts.{RepliesAreOne}
 use Rattle.core_state.specs.{View.CoreView, Answers.IsJobOf}
 use Rattle.smt_core.specs.Answers.{IsMade}
 use Rattle.core_lock.specs.{declared.ask.Said.Said}
-use Rattle.core_lock.specs.Asks.{PlainlyReplied, IssueReplied, CompleteReplied}
+use Rattle.core_lock.specs.Asks.{Replied, PlainlyReplied, IssueReplied, CompleteReplied}
 use Rattle.core_lock.specs.declared.ask.Said.TheVariants as said
 use Rattle.scripts.specs.{declared.actions.Action.Action, declared.actions.ScriptWord.ScriptWord}
 use Rattle.scripts.specs.Script.{IsInRange, SpellsWord, pieces}
@@ -152,10 +152,10 @@ nothing_acted predict k core held so =
     ]
 
 back_nothing : (predict : Predictor) (k : ℕ) (core now : CoreView) (held after : Holding) (text : List ℕ)
-    → HandsBack k held after core now text → IsEmptyHanded core held
+    → HandsBack Replied k held after core now text → IsEmptyHanded core held
     → HasActed predict (AskComplete k ∷ []) core now after
 back_nothing predict k core now held after text back so =
-    let over = subst (λ slot. HandsOver k slot core now text) (so.empty k) back.over in
+    let over = subst (λ slot. HandsOver Replied k slot core now text) (so.empty k) back.over in
     let same : now ≡ core = over.0 in
     record {
       steps = (core, nothing_acted predict k core held so, same);
@@ -210,14 +210,14 @@ module _ (predict : Predictor) (k : ℕ) (core : CoreView) (done : DoneView) (le
 came_acted : (predict : Predictor) (k : ℕ) (core mid now : CoreView) (held between after : Holding)
     (job_came : JobView) (e : Event) (done : DoneView) (text : List ℕ) → k < most_actors
     → IssueReplied k core (said.Job job_came e) mid → done.job ≡ job_came
-    → between ≡ slice_set held k (Some done) → HandsBack k between after mid now text
+    → between ≡ slice_set held k (Some done) → HandsBack Replied k between after mid now text
     → IsEmptyHanded core held → HasActed predict (AskIssue k ∷ AskComplete k ∷ []) core now after
 came_acted predict k core mid now held between after job_came e done text inside issued is holds back so =
     let places = so.places in
     let under : k < length held = omega (arith, inside, places) in
     let slot : slice_index_or between k None ≡ Some done =
     ap (λ l. slice_index_or l k None) holds ∙ held-there held k done under in
-    let over = subst (λ s. HandsOver k s mid now text) slot back.over in
+    let over = subst (λ s. HandsOver Replied k s mid now text) slot back.over in
     let replied = over.1.replied in
     let lent = subst (IsJobOf mid.setup mid.past k) (sym is) issued.lent in
     let last : after ≡ slice_set (slice_set held k (Some done)) k None =
@@ -257,7 +257,7 @@ full_acted predict asks core now after full same = record {
 
 unit_by : (predict : Predictor) (k : ℕ) (core mid now : CoreView) (held between after : Holding)
     (s : Said) (text : List ℕ) → k < most_actors → IssueReplied k core s mid → Holds k (job_in s) held between
-    → HandsBackWhere (job_in s) k between after mid now text → IsEmptyHanded core held
+    → HandsBackWhere Replied (job_in s) k between after mid now text → IsEmptyHanded core held
     → HasActed predict (AskIssue k ∷ AskComplete k ∷ []) core now after
 unit_by predict k core mid now held between after (said.Job j e) text inside replied holds back so =
     came_acted predict k core mid now held between after j e holds.0 text inside replied holds.1 holds.2 back so
@@ -272,7 +272,7 @@ unit_by predict k core mid now held between after said.Full text inside replied 
     (back.1 ∙ replied.unchanged)
 
 unit_acted : (predict : Predictor) (k : ℕ) (core now : CoreView) (held after : Holding) (text : List ℕ) → k < most_actors
-    → IsUnit k held after core now text → IsEmptyHanded core held
+    → IsUnit Replied k held after core now text → IsEmptyHanded core held
     → HasActed predict (AskIssue k ∷ AskComplete k ∷ []) core now after
 unit_acted predict k core now held after text inside unit so =
     unit_by predict k core unit.mid now held unit.between after unit.said unit.second inside
@@ -289,7 +289,7 @@ module _ (guess : ℕ → ℕ → ℕ → ℕ) where
       (leaves_decided (predictor_of guess) ask core s now replied leaves) replied so
 
   acted : (x : Action) (core now : CoreView) (held after : Holding) (text : List ℕ) → IsNoIssue x → IsInRange x
-      → Acts x held after core now text → AllFollow guess now.past → IsEmptyHanded core held
+      → Acts Replied x held after core now text → AllFollow guess now.past → IsEmptyHanded core held
       → HasActed (predictor_of guess) (asks_of_action x) core now after
   acted (action.Fetch k) core now held after text alone inside acts all so =
       let s = acts.1.0 in
@@ -365,18 +365,18 @@ complete_grown k job core said.Idle now replied = absurd replied
 complete_grown k job core said.Stranger now replied = stands_grown core now replied.unchanged
 complete_grown k job core said.Full now replied = stands_grown core now replied.unchanged
 
-back_grown : (k : ℕ) (held : Option DoneView) (core now : CoreView) (text : List ℕ) → HandsOver k held core now text
+back_grown : (k : ℕ) (held : Option DoneView) (core now : CoreView) (text : List ℕ) → HandsOver Replied k held core now text
     → HasGrown core now
 back_grown k None core now text over = stands_grown core now over.0
 back_grown k (Some done) core now text over = complete_grown k done.job core over.0 now over.1.replied
 
 where_grown : (job : Option JobView) (k : ℕ) (held after : Holding) (core now : CoreView) (text : List ℕ)
-    → HandsBackWhere job k held after core now text → HasGrown core now
+    → HandsBackWhere Replied job k held after core now text → HasGrown core now
 where_grown None k held after core now text back = stands_grown core now back.1
 where_grown (Some job) k held after core now text back =
     back_grown k (slice_index_or held k None) core now text back.over
 
-acts_grown : (x : Action) (held after : Holding) (core now : CoreView) (text : List ℕ) → Acts x held after core now text
+acts_grown : (x : Action) (held after : Holding) (core now : CoreView) (text : List ℕ) → Acts Replied x held after core now text
     → HasGrown core now
 acts_grown (action.Fetch k) held after core now text acts =
     plainly_grown (AskFetch k) core acts.1.0 now acts.1.1.replied
@@ -395,7 +395,7 @@ acts_grown (action.Unit k) held after core now text acts =
     (where_grown (job_in acts.said) k acts.between after acts.mid now acts.second acts.back)
 
 pub all_grown : (actions : List Action) (held after : Holding) (core now : CoreView) (text : List ℕ)
-    → AllAct actions held after core now text → HasGrown core now
+    → AllAct Replied actions held after core now text → HasGrown core now
 all_grown [] held after core now text acts = stands_grown core now acts.1
 all_grown (x ∷ others) held after core now text acts =
     grown_on core acts.1 now (acts_grown x held acts.0 core acts.1 acts.2 acts.4)
@@ -406,7 +406,7 @@ IsGoodAction x = IsNoIssue x × IsInRange x
 
 module _ (guess : ℕ → ℕ → ℕ → ℕ) where
   all_acted : (actions : List Action) (core now : CoreView) (held after : Holding) (text : List ℕ)
-      → AllByRecursion IsGoodAction actions → AllAct actions held after core now text → AllFollow guess now.past
+      → AllByRecursion IsGoodAction actions → AllAct Replied actions held after core now text → AllFollow guess now.past
       → Stands core held → HaveStepped (predictor_of guess) (flat_map asks_of_action actions) core now
   all_acted actions core now held after text good acts all (inr full) =
       subst (HaveStepped (predictor_of guess) (flat_map asks_of_action actions) core)

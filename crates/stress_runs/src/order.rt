@@ -4,7 +4,7 @@ ghost use Rattle.event_text.specs.Sinking.{HasPut, HasPutBut};
 ghost use Rattle.stress_runs.specs.Kept.{order_line, order_text};
 
 use arrayvec::ArrayString;
-use event_text::{Broken, Sink};
+use event_text::{Broken, Sink, put_all};
 use events::Record;
 use text_fields::{push_ascii, push_decimal};
 
@@ -52,18 +52,4 @@ fn push_line(piece: &mut Piece, hart: u8)
 {
     push_decimal(piece, hart);
     push_ascii(piece, b'\n');
-}
-
-// All these bytes, in as many pieces as the sink takes.
-fn put_all<S: Sink>(bytes: &[u8], sink: &mut S) -> Result<(), Broken>
-    requires { S.has_failed sink.old ≡ false }
-    ensures put { OnOk result (HasPut S.written S.has_failed sink.old sink.new bytes.now) }
-    ensures broken { OnErr result (S.has_failed sink.new ≡ true) }
-{
-    let mut rest = bytes;
-    while !rest.is_empty() {
-        let count = sink.put(rest)?;
-        rest = &rest[count..];
-    }
-    Ok(())
 }

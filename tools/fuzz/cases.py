@@ -1,0 +1,211 @@
+"""The kinds of cases: how the files and the command line of one are made, and what its model says."""
+
+import contextlib
+import io
+import os
+import random
+import signal
+from typing import NamedTuple
+
+import chart
+import damage
+import every_order
+import history_script
+import image
+import inputs
+import judge
+import judge_inputs
+import outcomes_compare
+import program
+import random_runs
+import schedule
+import traces
+from trace_changes import changed
+
+# How many seconds a model has for one case.
+PATIENCE = 10
+
+
+class TooLong(Exception):
+    """The model takes too long, or its case is too large for it."""
+
+
+class Case(NamedTuple):
+    kind: object
+    number: int
+    files: dict
+    line: list
+
+
+class Kind:
+    """A kind of case, under the name of what it tries. Of what the program prints the model doesn't know the
+    lines that begin with `unknown`."""
+
+    def __init__(self, name, make, model, unknown=None):
+        self.name, self.make, self.model, self.unknown = name, make, model, unknown
+
+    def known(self, text):
+        """What a program has printed, as far as the model knows it."""
+        if self.unknown is None:
+            return text
+        return "".join(one for one in text.splitlines(keepends=True) if not one.startswith(self.unknown))
+
+    def said(self, folder, line):
+        """What the model says: standard output, standard error, the exit status."""
+        here = os.getcwd()
+        os.chdir(folder)
+        signal.signal(signal.SIGALRM, late)
+        signal.alarm(PATIENCE)
+        try:
+            return self.model(line)
+        finally:
+            signal.alarm(0)
+            os.chdir(here)
+
+
+def late(_signal, _frame):
+    raise TooLong
+
+
+def captured(main, words):
+    """What a model prints and answers that is a program of its own."""
+    out, err = io.StringIO(), io.StringIO()
+    try:
+        with contextlib.redirect_stdout(out), contextlib.redirect_stderr(err):
+            status = main(words) or 0
+    except inputs.Refused as refused:
+        return "", f"smtsim: {refused.why}\n", refused.status
+    except judge_inputs.Refused as refused:
+        return "", f"smtsim: {refused.said}\n", refused.status
+    return out.getvalue(), err.getvalue(), status
+
+
+# ---- What the models say
+
+
+def by_model(line):
+    out, err, status = program.run(line)
+    return "".join(f"{t}\n" for t in out), "".join(f"{t}\n" for t in err), status
+
+
+def by_judge(line):
+    return captured(judge.main, line[1:])
+
+
+def by_schedule(line):
+    return captured(lambda words: schedule.main(*words), [line[1], line[2], line[4]])
+
+
+def by_history_script(line):
+    return captured(lambda words: history_script.main(*words), [line[1], line[2], line[4]])
+
+
+def by_chart(line):
+    return captured(chart.main, line[1:])
+
+
+def by_every_order(line):
+    """The lines of all outcomes but the number of states."""
+    with open("image.elf", "rb") as file:
+        made = image.load(file.read(), 4096)
+    with open("config.toml", encoding="ascii") as file:
+        harts = int(file.readline().split()[-1])
+    options = dict(zip(line[4::2], line[5::2], strict=True))
+    try:
+        watch, exists = options.get("--watch", ""), options.get("--exists")
+        lines = list(every_order.lines(made, harts, watch, exists, outcomes_compare.MOST))
+    except every_order.TooMany:
+        raise TooLong from None
+    return "".join(f"{text}\n" for text in lines), "", 0
+
+
+# ---- How a case is made
+
+
+def some_asks(r):
+    """A script, an order or a listing, as random_runs makes them; now and then rounds."""
+    files, line = random_runs.inputs_of(r.getrandbits(64), 0)
+    if line[0] == "plain" and r.random() < 0.4:
+        del files["order"]
+        rounds = ["--rounds", str(r.choice((1, 2, 7, 1000))), "--steps", str(r.choice((0, 1, 50, 2000)))]
+        rounds += ["--seed", str(r.randrange(2**32))] if r.random() < 0.5 else []
+        line = [*line[:2], *rounds, *line[3:]]
+    return files, line
+
+
+def some_script(r):
+    while True:
+        files, line = random_runs.inputs_of(r.getrandbits(64), 0)
+        if line[0] == "step":
+            return files
+
+
+def some_trace(r):
+    """The files of a trace: of a legal history, or with one change."""
+    files = some_script(r)
+    settings = inputs.read_config(files["config.toml"])
+    made = image.load(files["image.elf"], settings["ram"])
+    machine = traces.OpenCore(made, settings, r, r.choice((0, 0, 0.2)))
+    lines = traces.history_of(machine, inputs.read_script(files["script"]), r.choice(traces.MOST_LINES))
+    if lines and r.random() < 0.4:
+        lines, _ = changed(r, lines, machine)
+    del files["script"]
+    files["trace"] = "".join(f"{text}\n" for text in ["smt-trace 1", *lines]).encode()
+    return files
+
+
+def some_check(r):
+    return some_trace(r), ["check", "image.elf", "trace", "--config", "config.toml", "--records"][: r.choice((5, 6))]
+
+
+def some_history(r):
+    return some_trace(r), ["script", "image.elf", "trace", "--config", "config.toml"]
+
+
+def some_chart(r):
+    first = r.choice((0, 0, 3, 40))
+    line = ["chart", "image.elf", "trace", "--config", "config.toml", "--from", str(first)]
+    line += ["--to", str(first + r.choice((0, 5, 300)))] if r.random() < 0.6 else []
+    line += ["--width", str(r.choice((40, 80, 120, 300)))] if r.random() < 0.6 else []
+    return some_trace(r), line
+
+
+def some_schedule(r):
+    files = some_script(r)
+    settings = inputs.read_config(files["config.toml"])
+    made = image.load(files["image.elf"], settings["ram"])
+    del files["script"]
+    files["order"] = random_runs.some_order(r, made, settings["harts"]).encode()
+    return files, ["schedule", "image.elf", "order", "--config", "config.toml"]
+
+
+def some_outcomes(r):
+    harts, file, watch, exists = outcomes_compare.inputs_of(r.getrandbits(64), 0)
+    files = {"image.elf": file, "config.toml": f"harts = {harts}\nram = 4096\n".encode()}
+    line = ["outcomes", "image.elf", "--config", "config.toml"]
+    line += ["--watch", watch] if watch else []
+    return files, line + (["--exists", exists] if exists is not None else [])
+
+
+KINDS = {
+    kind.name: kind
+    for kind in (
+        Kind("asks", some_asks, by_model),
+        Kind("check", some_check, by_judge),
+        Kind("schedule", some_schedule, by_schedule),
+        Kind("script", some_history, by_history_script),
+        Kind("chart", some_chart, by_chart),
+        Kind("outcomes", some_outcomes, by_every_order, "states "),
+    )
+}
+
+
+def case(name, seed, number):
+    """Case `number` of a seed and a kind."""
+    r = random.Random(f"{name} {seed} {number}")
+    kind = KINDS[name]
+    files, line = kind.make(r)
+    if name != "outcomes" and r.random() < 0.5:
+        hurt = r.choice(sorted(files))
+        files[hurt] = damage.damaged(r, hurt, files[hurt])
+    return Case(kind, number, files, line)

@@ -1,0 +1,65 @@
+"""Damage to a file: of its bytes, or, as its name says, of a header's fields or of the words of a text."""
+
+BYTES = (0, 1, 9, 10, 13, 32, 34, 42, 45, 46, 48, 57, 61, 65, 127, 128, 255)
+NUMBERS = (0, 1, 2, 3, 4, 5, 7, 8, 32, 51, 52, 53, 84, 256, 4095, 4096, 65535, 65536, 2**31 - 1, 2**31, 2**31 + 256, 2**32 - 1)
+WORDS = (b"", b"-", b"0", b"00", b"-1", b"16", b"256", b"4294967296", b"F0*100001", b"Z", b"\xff", b"\xc3\xa9", b"[", b"= 1")
+
+
+def cut(r, data):
+    return data[: r.randrange(len(data) + 1)]
+
+
+def without(r, data):
+    first = r.randrange(len(data) + 1)
+    return data[:first] + data[first + r.choice((1, 1, 2, 8, 40)) :]
+
+
+def doubled(r, data):
+    first = r.randrange(len(data) + 1)
+    last = first + r.choice((1, 4, 32, 100))
+    return data[:last] + data[first:]
+
+
+def flipped(r, data):
+    if not data:
+        return b"\0"
+    at = r.randrange(len(data))
+    return data[:at] + bytes([data[at] ^ 1 << r.randrange(8)]) + data[at + 1 :]
+
+
+def other_byte(r, data):
+    at = r.randrange(len(data) + 1)
+    return data[:at] + bytes([r.choice(BYTES)]) + data[at + r.choice((0, 1)) :]
+
+
+def other_field(r, data):
+    """Another number in one of the headers of an ELF file."""
+    size = r.choice((1, 2, 4))
+    at = r.randrange(0, max(1, min(len(data), 148) - size), size)
+    number = r.choice(NUMBERS) if r.random() < 0.7 else r.getrandbits(32)
+    return data[:at] + (number % 256**size).to_bytes(size, "little") + data[at + size :]
+
+
+def other_word(r, data):
+    words = data.split(b" ")
+    at = r.randrange(len(words))
+    words[at] = r.choice(WORDS)
+    return b" ".join(words)
+
+
+def other_lines(r, data):
+    lines = data.split(b"\n")
+    one, other = r.randrange(len(lines)), r.randrange(len(lines))
+    lines[one], lines[other] = lines[other], lines[one]
+    if r.random() < 0.3:
+        lines.insert(one, lines[other])
+    return b"\n".join(lines)
+
+
+def damaged(r, name, data):
+    """A file with one to three damages."""
+    ways = [cut, without, doubled, flipped, other_byte]
+    ways += [other_field] * 6 if name.endswith(".elf") else [other_word, other_word, other_lines]
+    for _ in range(r.choice((1, 1, 1, 2, 3))):
+        data = r.choice(ways)(r, data)
+    return data
