@@ -10,7 +10,7 @@ use crate::hart::HartState;
 use crate::parts::Parts;
 use crate::slot::Slot;
 use numbers::Seq;
-use retire_squash::Active;
+use retire_squash::{Active, ActiveList};
 
 impl Parts {
     /// The hart in whose decode latch the instruction of number `seq` is.
@@ -69,7 +69,7 @@ impl Parts {
             → member_in (slice_index_or self.now.harts.items h d).active seq ≡ None) }
     {
         for (hart, state) in self.harts.iter().enumerate() {
-            if let Some(oldest) = oldest_active_with(state.active.items(), seq) {
+            if let Some(oldest) = oldest_active_with(&state.active, seq) {
                 return Some((hart as u8, oldest));
             }
         }
@@ -93,15 +93,15 @@ fn oldest_with(slots: &[Slot], seq: Seq) -> Option<Slot>
     Some(*oldest)
 }
 
-/// The first of these, where it is the instruction of number `seq`.
-fn oldest_active_with(active: &[Active], seq: Seq) -> Option<Active>
+/// The oldest of these, where it is the instruction of number `seq`.
+fn oldest_active_with(active: &ActiveList, seq: Seq) -> Option<Active>
     ensures { IfSome result (λ x. member_in active.now seq ≡ Some x) }
 {
-    let oldest = active.first()?;
+    let oldest = active.head()?;
     if oldest.seq != seq {
         return None;
     }
-    Some(*oldest)
+    Some(oldest)
 }
 
 /// The one of these that is the instruction of number `seq`.

@@ -15,6 +15,8 @@ pub struct Slot {
 #[derive(Clone, Copy, Drop)]
 pub struct OpenJob {
     pub hart: u8,
+    /// The place where its hart's active list has its instruction, or had it until a squash.
+    pub place: u8,
     pub seq: Seq,
     pub op: Op,
     pub pc: u32,

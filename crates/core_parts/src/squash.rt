@@ -48,18 +48,17 @@ impl HartState {
         self.decode_latch.clear();
         self.rename_latch.clear();
         squash_behind(&mut self.active, after, free);
-        self.icount = waiting(self.active.items());
+        self.icount = waiting(&self.active);
         self.maps.release_after(after);
         if restored {
             return;
         }
-        map_again(&mut self.maps, self.active.items());
+        map_again(&mut self.maps, &self.active);
     }
 }
 
 /// Makes the map what the committed one and the instructions in flight make it.
-fn map_again(maps: &mut HartMaps, active: &[Active])
-    requires { length active.now ≤ most_in_flight }
+fn map_again(maps: &mut HartMaps, active: &ActiveList)
     ensures speculative { (r : ℕ) → 0 < r → r < 32
         → lookup maps.new r ≡ mapped_by r active.now (committed_of maps.old r) }
     ensures committed { maps.new.committed ≡ maps.old.committed }
@@ -70,17 +69,32 @@ fn map_again(maps: &mut HartMaps, active: &[Active])
 }
 
 /// Which register each of these instructions has for its destination, the oldest first.
-fn renamings_of(active: &[Active]) -> ArrayVec<(Reg, Phys), MOST_IN_FLIGHT>
-    requires { length active.now ≤ most_in_flight }
+fn renamings_of(active: &ActiveList) -> ArrayVec<(Reg, Phys), MOST_IN_FLIGHT>
     ensures writable { All (λ x. IsWritable x.0) result.items }
     ensures renamed { (r before : ℕ) → 0 < r → r < 32
         → renamed_by result.items r before ≡ mapped_by r active.now before }
 {
+    let (older, newer) = active.as_slices();
     let mut renamings = ArrayVec::new();
-    for one in active {
-        add_renaming(&mut renamings, one);
-    }
+    add_renamings(&mut renamings, older);
+    add_renamings(&mut renamings, newer);
     renamings
+}
+
+/// Adds those of these instructions.
+fn add_renamings(renamings: &mut ArrayVec<(Reg, Phys), MOST_IN_FLIGHT>, active: &[Active])
+    requires room { length renamings.old.items + length active.now ≤ most_in_flight }
+    requires writable { All (λ x. IsWritable x.0) renamings.old.items }
+    ensures length { length renamings.new.items
+        ≤ length renamings.old.items + length active.now }
+    ensures writable { All (λ x. IsWritable x.0) renamings.new.items }
+    ensures renamed { (r before : ℕ) → 0 < r → r < 32
+        → renamed_by renamings.new.items r before
+        ≡ mapped_by r active.now (renamed_by renamings.old.items r before) }
+{
+    for one in active {
+        add_renaming(renamings, one);
+    }
 }
 
 /// Adds that of one instruction, where it has one.
@@ -112,12 +126,20 @@ fn squash_behind(active: &mut ActiveList, after: Seq, free: &mut FreeList)
 }
 
 /// How many wait in the issue queue.
-fn waiting(active: &[Active]) -> u32
-    requires { length active.now ≤ most_in_flight }
+fn waiting(active: &ActiveList) -> u32
     ensures { result ≡ count_by (λ a. is_waiting a.stage) active.now }
+{
+    let (older, newer) = active.as_slices();
+    (waiting_among(older) + waiting_among(newer)) as u32
+}
+
+/// How many of these wait there.
+fn waiting_among(active: &[Active]) -> usize
+    ensures value { result ≡ count_by (λ a. is_waiting a.stage) active.now }
+    ensures bound { result ≤ length active.now }
 {
     active
         .iter()
         .filter(|one| matches!(one.stage, Stage::Renamed))
-        .count() as u32
+        .count()
 }

@@ -3,6 +3,7 @@ pub mod Place
 pub mod Tests
 pub mod Sameness
 pub mod Decode
+pub mod Counts
 pub mod Rename
 pub mod Issue
 pub mod Fetch

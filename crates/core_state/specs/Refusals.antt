@@ -41,7 +41,3 @@ open_view x = record { seq = x.seq; op = x.op; pc = x.pc; first = x.first; secon
 abbrev pub outcome_at : Stage → Option Outcome
 outcome_at (stage.Completed outcome) = Some outcome
 outcome_at _ = None
-
--- Hart h has instruction s in flight.
-abbrev pub HasInFlight : Setup → List Event → ℕ → ℕ → Type 0
-HasInFlight setup past h s = (a : Active) × InActiveList setup past h s a

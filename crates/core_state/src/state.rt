@@ -290,11 +290,11 @@ impl State {
         ensures none { IfNone result (self.new ≡ self.old) }
     {
         let job = handed_back(&self.parts, actor, done)?;
-        let Some(active) = in_flight(&self.parts, job.hart, job.seq) else {
+        let Some(active) = in_flight(&self.parts, &job) else {
             return Some(self.drop_job(actor, job.seq));
         };
         let outcome = completion_of(&self.parts, &job, done.outcome());
-        Some(self.finish(actor, job.hart, &active, outcome))
+        Some(self.finish(actor, &job, &active, outcome))
     }
 
     /// Retires hart `hart`'s oldest instruction in flight. None where there is none, it isn't

@@ -57,6 +57,7 @@ job_of e =
 abbrev pub open_job_of : Entry → OpenJob
 open_job_of e = record {
   hart = e.hart;
+  place = e.place;
   seq = e.seq;
   op = e.op;
   pc = e.pc;

@@ -12,7 +12,8 @@ use Rattle.retire_squash.specs.declared.active.Stage.TheVariants as stage
 use Rattle.smt_model.specs.{Basics.first, Basics.how_many, Picture.Picture, Steps.IsRename}
 use Rattle.smt_model.specs.{Frames.SameMap, Steps.op_in, Steps.renamed_map, Steps.youngest}
 use Rattle.smt_model.specs.Kinds.{kind_of, is_loading, is_storing, destination}
-use Rattle.core_parts.specs.{Agree.source_of, declared.slot.Slot.Slot}
+use Rattle.load_store.specs.Queues.{Queues, queues_of}
+use Rattle.core_parts.specs.{Accesses.accesses_of, Agree.source_of, declared.slot.Slot.Slot}
 use Rattle.core_steps.specs.Checkpoints.{KeepsWhere, is_kept}
 use Rattle.core_parts.specs.{declared.hart.HartState.HartState}
 
@@ -53,12 +54,23 @@ pub record IsRenaming (p q : Picture) (size h : ℕ) (taken : Option ℕ) : Type
 
 -- ---- In the parts' words
 
--- As many loads of a hart are in flight as there may be and another comes, or as many stores.
+-- Of so many loads and so many stores of a hart: the loads are as many as there may be and another
+-- comes, or the stores are.
+abbrev pub has_no_room : Op → ℕ → ℕ → Bool
+has_no_room op loads stores =
+    (is_loading (kind_of op) && nat_le most_accesses loads)
+    || (is_storing (kind_of op) && nat_le most_accesses stores)
+
+-- As those of an active list are.
 abbrev pub has_full_memory_queue : Op → List Active → Bool
 has_full_memory_queue op xs =
-    (is_loading (kind_of op) && nat_le most_accesses (count_by (λ x. is_loading (kind_of x.op)) xs))
-    || (is_storing (kind_of op) && nat_le most_accesses
-    (count_by (λ x. is_storing (kind_of x.op)) xs))
+    has_no_room op (count_by (λ x. is_loading (kind_of x.op)) xs)
+    (count_by (λ x. is_storing (kind_of x.op)) xs)
+
+-- The loads and stores of hart h are those of this active list.
+pub record AreAccesses (all : List Queues) (h : ℕ) (active : List Active) : Type 0 where
+  pub touched : ℕ → Bool
+  pub queues : queues_of all h ≡ accesses_of touched active
 
 -- The hart's oldest decoded instruction, and the active list has room for it.
 pub record CanEnter (x : HartState) (slot : Slot) : Type 0 where

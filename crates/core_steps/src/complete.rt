@@ -58,9 +58,9 @@ fn has_operands(lent: &OpenJob, job: &Job) -> bool
     lent.first == job.first() && lent.second == job.second()
 }
 
-/// A hart's instruction of this number has its outcome, its map is no longer kept, and the hart is
-/// fetched from `goes_on`.
-fn enter_outcome(state: &mut HartState, op: Op, seq: Seq, outcome: Outcome, goes_on: u32)
+/// A hart's instruction of this number, which stands at this place, has its outcome, its map is no
+/// longer kept, and the hart is fetched from `goes_on`.
+fn enter_outcome(state: &mut HartState, op: Op, place: u8, seq: Seq, outcome: Outcome, goes_on: u32)
     ensures { state.new
         ≡ record state.old {
           active = with_stage seq (Stage.Completed outcome) state.old.active;
@@ -68,7 +68,7 @@ fn enter_outcome(state: &mut HartState, op: Op, seq: Seq, outcome: Outcome, goes
           fetch_pc = goes_on;
         } }
 {
-    state.active.complete(seq, outcome);
+    state.active.complete(place, seq, outcome);
     release_map(&mut state.maps, op, seq);
     state.fetch_pc = goes_on;
 }
@@ -88,15 +88,17 @@ pub fn handed_back(parts: &Parts, actor: u8, done: &Done) -> Option<OpenJob>
     Some(job)
 }
 
-/// The instruction of number `seq`, where hart `hart` has it in flight.
-pub fn in_flight(parts: &Parts, hart: u8, seq: Seq) -> Option<Active>
-    requires { hart < length parts.now.harts.items }
-    ensures some { IfSome result
-        (λ a. (p : Picture) → PartsAgree p parts.now → IsActive p hart a × (a.seq ≡ seq)) }
+/// The instruction of this job, where its hart has it in flight.
+pub fn in_flight(parts: &Parts, job: &OpenJob) -> Option<Active>
+    requires { job.now.hart < length parts.now.harts.items }
+    ensures some { IfSome result (λ a. (p : Picture) → PartsAgree p parts.now
+        → IsActive p job.now.hart a × (a.seq ≡ job.now.seq)) }
     ensures none { IfNone result ((p : Picture) → PartsAgree p parts.now
-        → list_any (λ s. s == seq) (p.flight hart) ≡ false) }
+        → list_any (λ s. s == job.now.seq) (p.flight job.now.hart) ≡ false) }
 {
-    parts.harts[usize::from(hart)].active.find(seq)
+    parts.harts[usize::from(job.hart)]
+        .active
+        .find_at(job.place, job.seq)
 }
 
 /// What the completion of a job says, from the outcome that its unit handed back: with the fault
@@ -119,24 +121,25 @@ pub fn completion_of(parts: &Parts, job: &OpenJob, outcome: Outcome) -> Outcome
     )
 }
 
-/// Hart `hart`'s instruction `active`, which is actor `actor`'s job, has its outcome. Where it
-/// goes elsewhere than was predicted, all younger ones of its hart are squashed, and the hart
-/// is fetched from there; its map is restored from the instruction's checkpoint, where one is
-/// kept.
+/// The instruction `active` of actor `actor`'s job has its outcome. Where it goes elsewhere than
+/// was predicted, all younger ones of its hart are squashed, and the hart is fetched from there;
+/// its map is restored from the instruction's checkpoint, where one is kept.
 #[inline(always)]
-pub fn finish(parts: &mut Parts, actor: u8, hart: u8, active: &Active, outcome: &Outcome)
-    requires step { From parts.old hart (λ p q. IsFinish p q hart actor active.now outcome.now) }
+pub fn finish(parts: &mut Parts, actor: u8, job: &OpenJob, active: &Active, outcome: &Outcome)
+    requires step { From parts.old job.now.hart
+        (λ p q. IsFinish p q job.now.hart actor active.now outcome.now) }
     ensures agrees { (p q : Picture) → PartsAgree p parts.old
-        → IsFinish p q hart actor active.now outcome.now → PartsAgree q parts.new }
+        → IsFinish p q job.now.hart actor active.now outcome.now → PartsAgree q parts.new }
     ensures sizes { KeepsSizes parts.old parts.new }
 {
+    let hart = job.hart;
     let Some(pc) = redirect_pc(outcome.next, active.predicted) else {
         let pc = parts.harts[usize::from(hart)].fetch_pc;
-        write_outcome(parts, actor, hart, active, outcome, pc);
+        write_outcome(parts, actor, job, active, outcome, pc);
         return;
     };
     let restored = restore_map(parts, hart, active.seq);
-    write_outcome(parts, actor, hart, active, outcome, pc);
+    write_outcome(parts, actor, job, active, outcome, pc);
     parts.squash(hart, active.seq, restored);
 }
 
@@ -146,25 +149,27 @@ pub fn finish(parts: &mut Parts, actor: u8, hart: u8, active: &Active, outcome: 
 fn write_outcome(
     parts: &mut Parts,
     actor: u8,
-    hart: u8,
+    job: &OpenJob,
     active: &Active,
     outcome: &Outcome,
     goes_on: u32,
 )
-    requires inside { hart < length parts.old.harts.items }
-    requires place { hart < most_harts }
+    requires inside { job.now.hart < length parts.old.harts.items }
+    requires place { job.now.hart < most_harts }
     ensures agrees { (p q : Picture) → PartsAgree p parts.old
-        → IsComplete p q hart active.now.seq actor outcome.now goes_on
+        → IsComplete p q job.now.hart active.now.seq actor outcome.now goes_on
         → active.now.phys ≡ p.phys active.now.seq → active.now.op ≡ op_in p active.now.seq
         → PartsAgree q parts.new }
     ensures sizes { KeepsSizes parts.old parts.new }
 {
+    let hart = job.hart;
     fill_register(parts, active.phys, outcome.value);
     set_job(&mut parts.jobs, usize::from(actor), None);
     resolve_access(&mut parts.accesses, hart, active.op, active.seq, *outcome);
     enter_outcome(
         &mut parts.harts[usize::from(hart)],
         active.op,
+        job.place,
         active.seq,
         *outcome,
         goes_on,

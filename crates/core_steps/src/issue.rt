@@ -46,6 +46,7 @@ pub fn issue_entry(parts: &mut Parts, actor: u8, entry: Entry) -> Job
     let [first, second] = entry.sources;
     let job = OpenJob {
         hart: entry.hart,
+        place: entry.place,
         seq: entry.seq,
         op: entry.op,
         pc: entry.pc,
@@ -53,20 +54,24 @@ pub fn issue_entry(parts: &mut Parts, actor: u8, entry: Entry) -> Job
         second: number(second),
     };
     parts.queue.remove(entry.seq);
-    leave_queue(&mut parts.harts[usize::from(entry.hart)], entry.seq);
+    leave_queue(
+        &mut parts.harts[usize::from(entry.hart)],
+        entry.place,
+        entry.seq,
+    );
     parts.jobs[usize::from(actor)] = Some(job);
     Job::new(job.seq, job.op, job.pc, job.first, job.second)
 }
 
-/// A hart's instruction has left the queue for a unit.
-fn leave_queue(state: &mut HartState, seq: Seq)
+/// A hart's instruction of this number, which stands at this place, has left the queue for a unit.
+fn leave_queue(state: &mut HartState, place: u8, seq: Seq)
     requires { 0 < state.old.icount }
     ensures active { state.new.active ≡ with_stage seq stage.Issued state.old.active }
     ensures icount { state.new.icount + 1 ≡ state.old.icount }
     ensures rest { state.new
         ≡ record state.old { active = state.new.active; icount = state.new.icount } }
 {
-    state.active.issue(seq);
+    state.active.issue(place, seq);
     state.icount -= 1;
 }
 

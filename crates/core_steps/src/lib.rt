@@ -25,5 +25,5 @@ pub use decode::{decode_oldest, next_to_decode};
 pub use fetch::{choose, fetch_slot};
 pub use issue::{issue_entry, next_to_issue, unit_of};
 pub use point::FetchPoint;
-pub use rename::{loads, next_to_rename, rename_oldest, stores};
+pub use rename::{next_to_rename, rename_oldest};
 pub use retire::{next_to_retire, retire_oldest};

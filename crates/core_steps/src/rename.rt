@@ -1,4 +1,4 @@
-ghost use Rattle.std.specs.Prelude.{◌≡◌, ℕ, ◌<◌, ◌&&◌, Option, None, not, count_by, length};
+ghost use Rattle.std.specs.Prelude.{◌≡◌, ℕ, ◌<◌, ◌&&◌, Option, None, not, length};
 ghost use Rattle.std.specs.Prelude.{IfSome, IfNone};
 ghost use Rattle.numbers.specs.Sizes.{most_in_flight, most_registers};
 ghost use Rattle.free_list.specs.Flags.{holds};
@@ -7,12 +7,13 @@ ghost use Rattle.rename_map.specs.Maps.{lookup, kept_under, IsWritable};
 ghost use Rattle.retire_squash.specs.Active.{Above};
 ghost use Rattle.rv_instr.specs.Table.{OpInRange};
 ghost use Rattle.smt_model.specs.Basics.{first, or_zero};
-ghost use Rattle.smt_model.specs.Kinds.{destination, kind_of, is_loading, is_storing};
+ghost use Rattle.smt_model.specs.Kinds.{destination};
 ghost use Rattle.smt_model.specs.Picture.{Picture};
 ghost use Rattle.smt_model.specs.Steps.{renamed_map, is_register_taken};
+ghost use Rattle.load_store.specs.Queues.{queues_of};
 ghost use Rattle.core_parts.specs.Agree.{PartsAgree, KeepsSizes, From};
 ghost use Rattle.core_steps.specs.Renaming.{CanRename, IsLeastIn, IsRenaming, CanEnter, HasRenamed};
-ghost use Rattle.core_steps.specs.Renaming.{has_full_memory_queue, source_in, emptied};
+ghost use Rattle.core_steps.specs.Renaming.{AreAccesses, has_no_room, source_in, emptied};
 
 use crate::accesses::add_access;
 use crate::checkpoints::keep_map;
@@ -20,7 +21,7 @@ use crate::latch::drop_oldest;
 use core_parts::{HartState, Parts, RegisterFile, Slot};
 use free_list::FreeList;
 use issue_queue::{Entry, Source};
-use numbers::sizes::MOST_ACCESSES;
+use load_store::LoadStore;
 use numbers::{Phys, Reg, Seq};
 use rename_map::HartMaps;
 use retire_squash::{Active, Stage};
@@ -39,7 +40,7 @@ pub fn next_to_rename(parts: &Parts, hart: u8) -> Option<(Seq, Option<Phys>)>
         ((p : Picture) → PartsAgree p parts.now → hart < length parts.now.harts.items
         → (n : ℕ) (taken : Option ℕ) → CanRename p parts.now.queue.size hart n taken → ⊥) }
 {
-    let slot = next_to_enter(parts.harts.get(usize::from(hart))?)?;
+    let slot = next_to_enter(&parts.accesses, hart, parts.harts.get(usize::from(hart))?)?;
     if parts.queue.is_full() {
         return None;
     }
@@ -69,6 +70,7 @@ pub fn rename_oldest(parts: &mut Parts, hart: u8, phys: Option<Phys>)
     parts.queue.insert(Entry {
         seq: slot.seq,
         hart,
+        place: state.active.next_place(),
         op: slot.op,
         pc: slot.pc,
         sources,
@@ -111,13 +113,16 @@ fn take(free: &mut FreeList, values: &mut RegisterFile, register: Option<Phys>)
 }
 
 /// A hart's oldest decoded instruction, where the active list has room for it, and for another load
-/// or store where it is one.
-fn next_to_enter(state: &HartState) -> Option<Slot>
-    ensures some { IfSome result (CanEnter state.now) }
-    ensures none { IfNone result ((slot : Slot) → CanEnter state.now slot → ⊥) }
+/// or store where it is one: the hart's queues are as long as its loads and stores in flight are
+/// many.
+fn next_to_enter(accesses: &LoadStore, hart: u8, state: &HartState) -> Option<Slot>
+    ensures some { IfSome result (λ slot. AreAccesses accesses.now hart state.now.active
+        → CanEnter state.now slot) }
+    ensures none { IfNone result (AreAccesses accesses.now hart state.now.active
+        → (slot : Slot) → CanEnter state.now slot → ⊥) }
 {
     let slot = *state.rename_latch.first()?;
-    if state.active.is_full() || has_full_memory_queue(state.active.items(), slot.op) {
+    if state.active.is_full() || has_full_memory_queue(accesses, hart, slot.op) {
         return None;
     }
     Some(slot)
@@ -164,29 +169,10 @@ fn enter(maps: &mut HartMaps, rd: Reg, phys: Option<Phys>)
 }
 
 /// Whether as many loads are in flight as may be and another comes, or as many stores.
-fn has_full_memory_queue(active: &[Active], op: Op) -> bool
-    ensures { result ≡ has_full_memory_queue op active.now }
+fn has_full_memory_queue(accesses: &LoadStore, hart: u8, op: Op) -> bool
+    ensures { result ≡ has_no_room op (length (queues_of accesses.now hart).loads)
+        (length (queues_of accesses.now hart).stores) }
 {
-    (op.kind().is_loading() && loads(active) >= MOST_ACCESSES)
-        || (op.kind().is_storing() && stores(active) >= MOST_ACCESSES)
-}
-
-/// How many of these are loads.
-pub fn loads(active: &[Active]) -> usize
-    ensures { result ≡ count_by (λ x. is_loading (kind_of x.op)) active.now }
-{
-    active
-        .iter()
-        .filter(|one| one.op.kind().is_loading())
-        .count()
-}
-
-/// How many of these are stores.
-pub fn stores(active: &[Active]) -> usize
-    ensures { result ≡ count_by (λ x. is_storing (kind_of x.op)) active.now }
-{
-    active
-        .iter()
-        .filter(|one| one.op.kind().is_storing())
-        .count()
+    (op.kind().is_loading() && accesses.loads_full(hart))
+        || (op.kind().is_storing() && accesses.stores_full(hart))
 }

@@ -38,6 +38,8 @@ impl Source {
 pub struct Entry {
     pub seq: Seq,
     pub hart: u8,
+    /// The place where its hart's active list has it.
+    pub place: u8,
     pub op: Op,
     pub pc: u32,
     /// What `rs1` and `rs2` read.
@@ -83,11 +85,19 @@ impl Default for Entry {
 
     fn default() -> Self
         ensures { result
-            ≡ record { seq = 0; hart = 0; op = NoWord; pc = 0; sources = Value 0 ∷ Value 0 ∷ [] } }
+            ≡ record {
+              seq = 0;
+              hart = 0;
+              place = 0;
+              op = NoWord;
+              pc = 0;
+              sources = Value 0 ∷ Value 0 ∷ [];
+            } }
     {
         Entry {
             seq: 0,
             hart: 0,
+            place: 0,
             op: Op::NoWord,
             pc: 0,
             sources: [Source::Value(0); 2],

@@ -4,5 +4,6 @@ pub mod Turning
 pub mod Checking
 pub mod Completing
 pub mod Retiring
+pub mod Youngest
 pub mod Forwarding
 pub mod Saying

@@ -1,4 +1,4 @@
-ghost use Rattle.std.specs.Prelude.{◌≡◌, ◌<◌, ◌==◌, List, length, map, IfSome};
+ghost use Rattle.std.specs.Prelude.{◌≡◌, ◌<◌, ◌≤◌, ◌==◌, List, length, map, IfSome};
 ghost use Rattle.numbers.specs.Sizes.{most_accesses};
 ghost use Rattle.rv_execute.specs.Access.{IsSize};
 ghost use Rattle.load_store.specs.Queues.{empty, Above, load_numbers, numbers, oldest_write};
@@ -49,14 +49,16 @@ impl HartQueues {
 
     /// Whether there is no room for another load.
     pub fn loads_full(&self) -> bool
-        ensures { result ≡ (length self.now.loads == most_accesses) }
+        ensures full { result ≡ (length self.now.loads == most_accesses) }
+        ensures within { length self.now.loads ≤ most_accesses }
     {
         self.loads.is_full()
     }
 
     /// Whether there is no room for another store.
     pub fn stores_full(&self) -> bool
-        ensures { result ≡ (length self.now.stores == most_accesses) }
+        ensures full { result ≡ (length self.now.stores == most_accesses) }
+        ensures within { length self.now.stores ≤ most_accesses }
     {
         self.stores.is_full()
     }

@@ -1,4 +1,4 @@
-ghost use Rattle.std.specs.Prelude.{◌≡◌, ℕ, ◌<◌, ◌==◌, None, Some, IfOk, length};
+ghost use Rattle.std.specs.Prelude.{◌≡◌, ℕ, ◌<◌, ◌≤◌, ◌==◌, None, Some, IfOk, length};
 ghost use Rattle.std.specs.Option.{IsSomeAnd};
 ghost use Rattle.numbers.specs.Sizes.{most_accesses, most_harts};
 ghost use Rattle.smt_model.specs.Bytes.{number_at, write_of};
@@ -54,20 +54,28 @@ impl LoadStore {
         Ok(LoadStore { harts })
     }
 
-    /// Whether the hart has `MOST_ACCESSES` loads in flight.
+    /// Whether the hart has `MOST_ACCESSES` loads in flight, as many as it may have. One that there isn't
+    /// has none.
     pub fn loads_full(&self, hart: u8) -> bool
-        requires { hart < most_harts }
-        ensures { result ≡ (length (queues_of self.now hart).loads == most_accesses) }
+        ensures full { result ≡ (length (queues_of self.now hart).loads == most_accesses) }
+        ensures within { length (queues_of self.now hart).loads ≤ most_accesses }
     {
-        self.harts[usize::from(hart)].loads_full()
+        match self.harts.get(usize::from(hart)) {
+            Some(queues) => queues.loads_full(),
+            None => false,
+        }
     }
 
-    /// Whether the hart has `MOST_ACCESSES` stores in flight.
+    /// Whether the hart has `MOST_ACCESSES` stores in flight, as many as it may have. One that there isn't
+    /// has none.
     pub fn stores_full(&self, hart: u8) -> bool
-        requires { hart < most_harts }
-        ensures { result ≡ (length (queues_of self.now hart).stores == most_accesses) }
+        ensures full { result ≡ (length (queues_of self.now hart).stores == most_accesses) }
+        ensures within { length (queues_of self.now hart).stores ≤ most_accesses }
     {
-        self.harts[usize::from(hart)].stores_full()
+        match self.harts.get(usize::from(hart)) {
+            Some(queues) => queues.stores_full(),
+            None => false,
+        }
     }
 
     /// Adds a load, younger than those of its hart that are there. It has had no look yet.

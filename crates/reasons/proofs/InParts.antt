@@ -5,6 +5,7 @@ use Rattle.std.specs.Prelude.{List, [], ◌∷◌, count_by, filter, find, lengt
 use Rattle.std.specs.List.{AllByRecursion, list_all, list_any}
 use Rattle.std.proofs.Common.{◌∙◌, refl, sym, ap, subst, inl, inr, arith}
 use Rattle.std.proofs.{lemmas.Bool.cases_Bool, lemmas.Bool.Decides.nat_tests, lemmas.List.Sums.length-filter}
+use Rattle.numbers.specs.Sizes.{most_accesses}
 use Rattle.rv_instr.specs.{Registers.op_unit, declared.op.Op.Op, declared.op.UnitKind.UnitKind}
 use Rattle.events.specs.declared.event.Event.{Event}
 use Rattle.issue_queue.specs.{Entry.has_values, Entry.is_value, Entry.can_issue, declared.entry.Entry.Entry}
@@ -16,6 +17,7 @@ use Rattle.smt_model.specs.Fates.{fate, op_at, op_of_fetched}
 use Rattle.smt_model.specs.{Flights.flight, Flights.queue, Picture.Picture, Picture.picture, Picture.is_free}
 use Rattle.smt_model.specs.Registers.{claims, is_ready, is_unclaimed, reads}
 use Rattle.smt_model.proofs.Lists.{member, filter-none}
+use Rattle.core_state.proofs.Following.Tests.{not_full}
 use Rattle.smt_model.proofs.Registers.Claims.{below-member, member-below}
 use Rattle.core_parts.specs.{Agree.HartAgrees, Agree.IsActive, Agree.IsEntry, Agree.QueueAgrees, Agree.IsStage}
 use Rattle.core_parts.specs.{declared.hart.HartState.HartState, Agree.source_at}
@@ -29,37 +31,17 @@ use Rattle.reasons.proofs.Waiting.{is_valued}
 
 -- ---- How many of a kind are in flight
 
-first_counts : {A : Type 0} (test : A → Bool) (x : A) (xs : List A) (b : Bool) → test x ≡ b
-    → how_many test (x ∷ xs) ≡ (if b then how_many test xs + 1 else how_many test xs)
-first_counts test x xs true is = rw is (omega arith)
-first_counts test x xs false is = rw is refl
+double : (b : Bool) → b ≡ not (not b)
+double true = refl
+double false = refl
 
-op_is : (setup : Setup) (past : List Event) (h : ℕ) (x : Active) → IsActive (picture setup past) h x
-    → op_at past x.seq ≡ x.op
-op_is setup past h x is = ap op_of_fetched is.fetched ∙ sym is.op
-
-counted_all : (setup : Setup) (past : List Event) (h : ℕ) (test : Op → Bool) (xs : List Active)
-    → AllByRecursion (IsActive (picture setup past) h) xs
-    → how_many (λ s. test (op_at past s)) (map (λ a. a.seq) xs) ≡ how_many (λ (a : Active). test a.op) xs
-counted_all setup past h test [] all = refl
-counted_all setup past h test (x ∷ xs) all =
-    first_counts (λ s. test (op_at past s)) x.seq (map (λ a. a.seq) xs) (test x.op)
-    (ap test (op_is setup past h x all.0))
-    ∙ (ap (λ n. if test x.op then n + 1 else n) (counted_all setup past h test xs all.1)
-    ∙ sym (first_counts (λ (a : Active). test a.op) x xs (test x.op) refl))
-
-not_below : (m n : ℕ) → m ≡ n → nat_le 16 m ≡ not (nat_lt n 16)
-not_below m n same = grind (arith, nat_tests)
-
-pub crowded_is : (setup : Setup) (past : List Event) (h : ℕ) (test : Op → Bool) (x : HartState)
-    → HartAgrees (picture setup past) h x → (xs : List Active) → xs ≡ x.active → (n : ℕ)
-    → n ≡ count_by (λ a. test a.op) xs → nat_le 16 n ≡ is_crowded test past h
-crowded_is setup past h test x agrees xs same n is =
-    not_below n (how_many (λ s. test (op_at past s)) (flight past h))
-    (is ∙ (sym (length-filter (λ (a : Active). test a.op) xs)
-    ∙ (ap (how_many (λ (a : Active). test a.op)) same
-    ∙ (sym (counted_all setup past h test x.active agrees.actives)
-    ∙ ap (how_many (λ s. test (op_at past s))) agrees.active))))
+-- A queue of those of a kind that are in flight is full.
+pub crowded_is : (past : List Event) (h : ℕ) (test : Op → Bool) (n : ℕ)
+    → n ≡ how_many (λ s. test (op_at past s)) (flight past h) → n ≤ most_accesses
+    → (n == most_accesses) ≡ is_crowded test past h
+crowded_is past h test n many within =
+    double (n == most_accesses) ∙ ap not (not_full n most_accesses within)
+    ∙ ap (λ m. not (nat_lt m most_accesses)) many
 
 -- ---- Free registers
 

@@ -1,9 +1,9 @@
 //! Why a step of one hart can't be made.
 
-ghost use Rattle.std.specs.Prelude.{◌≡◌, ◌<◌, [], ◌∷◌, ◌&&◌, Some, count_by, IfNone};
+ghost use Rattle.std.specs.Prelude.{◌≡◌, ◌<◌, [], ◌∷◌, ◌&&◌, Some, IfNone};
 ghost use Rattle.core_parts.specs.Agree.{IsActive, IsStage};
 ghost use Rattle.smt_model.specs.Fates.{fate};
-ghost use Rattle.smt_model.specs.Kinds.{is_loading, is_storing, kind_of, writes_register};
+ghost use Rattle.smt_model.specs.Kinds.{writes_register};
 ghost use Rattle.smt_model.specs.Picture.{picture};
 ghost use Rattle.reasons.specs.Reasons.{decode_reasons, rename_reasons, retire_reasons, of_hart};
 ghost use Rattle.reasons.specs.Reasons.{first_named, is_crowded, is_load, is_store, named, no_register};
@@ -13,7 +13,6 @@ ghost use Rattle.reasons.specs.declared.reason.Reason.TheVariants as reason;
 use crate::looks::{hart_of, no_actor};
 use crate::reason::{Progress, Reason};
 use numbers::Seq;
-use numbers::sizes::MOST_ACCESSES;
 use retire_squash::{Active, Stage};
 use rv_instr::Op;
 use smt_core::Core;
@@ -90,7 +89,7 @@ fn are_loads_full(core: &Core, hart: u8) -> bool
     requires { hart < core.now.setup.harts }
     ensures { result ≡ is_crowded is_load core.now.past hart }
 {
-    loads(hart_of(core, hart).active.items()) >= MOST_ACCESSES
+    core.parts().0.accesses.loads_full(hart)
 }
 
 /// Whether it is a store, and as many stores of its hart are in flight as may be.
@@ -105,7 +104,7 @@ fn are_stores_full(core: &Core, hart: u8) -> bool
     requires { hart < core.now.setup.harts }
     ensures { result ≡ is_crowded is_store core.now.past hart }
 {
-    stores(hart_of(core, hart).active.items()) >= MOST_ACCESSES
+    core.parts().0.accesses.stores_full(hart)
 }
 
 /// Whether it writes a register, and none is free.
@@ -119,26 +118,6 @@ fn no_register(core: &Core) -> bool
     ensures { result ≡ no_register core.now.setup core.now.past }
 {
     core.free_registers().is_empty()
-}
-
-/// How many of these are loads.
-fn loads(active: &[Active]) -> usize
-    ensures { result ≡ count_by (λ x. is_loading (kind_of x.op)) active.now }
-{
-    active
-        .iter()
-        .filter(|one| one.op.kind().is_loading())
-        .count()
-}
-
-/// How many of these are stores.
-fn stores(active: &[Active]) -> usize
-    ensures { result ≡ count_by (λ x. is_storing (kind_of x.op)) active.now }
-{
-    active
-        .iter()
-        .filter(|one| one.op.kind().is_storing())
-        .count()
 }
 
 /// Why its oldest instruction in flight can't retire.

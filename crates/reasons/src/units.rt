@@ -17,7 +17,7 @@ use crate::looks::{hart_of, job_of, no_actor, no_unit, unit_of};
 use crate::reason::Reason;
 use issue_queue::{Entry, Source};
 use numbers::{Phys, Reg};
-use retire_squash::Active;
+use retire_squash::{Active, ActiveList};
 use rv_instr::{Op, UnitKind};
 use smt_core::Core;
 
@@ -96,7 +96,7 @@ fn writer_for(core: &Core, entry: &Entry) -> Active
 {
     // The history is legal: that is a clause of this call.
     let _events = core.history().len();
-    let active = hart_of(core, entry.hart).active.items();
+    let active = &hart_of(core, entry.hart).active;
     match holder_of(active, first_waiting(entry)) {
         Some(writer) => writer,
         None => unreachable!(),
@@ -148,8 +148,19 @@ fn phys_waited(source: Source) -> Phys
     }
 }
 
+/// The oldest of these that was given a physical register.
+fn holder_of(active: &ActiveList, phys: Phys) -> Option<Active>
+    ensures { result ≡ find (λ a. same_number a.phys (Some phys)) active.now }
+{
+    let (older, newer) = active.as_slices();
+    match holder_among(older, phys) {
+        Some(holder) => Some(holder),
+        None => holder_among(newer, phys),
+    }
+}
+
 /// The first of these that was given a physical register.
-fn holder_of(active: &[Active], phys: Phys) -> Option<Active>
+fn holder_among(active: &[Active], phys: Phys) -> Option<Active>
     ensures { result ≡ find (λ a. same_number a.phys (Some phys)) active.now }
 {
     for one in active {

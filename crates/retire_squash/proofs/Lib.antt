@@ -1,3 +1,3 @@
-pub mod Gone
 pub mod Rising
 pub mod Stages
+pub mod Turning

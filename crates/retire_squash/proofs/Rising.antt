@@ -1,6 +1,6 @@
 -- A list whose numbers rise, after it grows, shrinks or has a stage set.
-use Rattle.std.proofs.Common.{◌≡◌, ℕ, ◌-◌, ◌<◌, ◌≤◌, ◌==◌, true, false, cond, List, [], ◌∷◌, ◌++◌, length, get_or, refl}
-use Rattle.std.proofs.Common.{sym, subst, arith, sub-one}
+use Rattle.std.proofs.Common.{◌≡◌, ℕ, ◌<◌, ◌≤◌, ◌==◌, true, false, cond, List, [], ◌∷◌, ◌++◌, drop, refl}
+use Rattle.std.proofs.Common.{sym, subst, arith}
 use Rattle.std.specs.List.{AllByRecursion}
 use Rattle.retire_squash.specs.{declared.active.Active.Active, declared.active.Stage.Stage}
 use Rattle.retire_squash.specs.Active.{Above, Within, AreActivesRising, staged, with_stage}
@@ -27,14 +27,31 @@ IsRising-front [] ys rising = tt
 IsRising-front (x ∷ xs) ys rising =
     (AllByRecursion-front (λ z. x.seq < z.seq) xs ys rising.0, IsRising-front xs ys rising.1)
 
--- where the youngest isn't above a number, none is
-pub Within-last : (xs : List Active) (d : Active) (after : ℕ) → AreActivesRising xs
-    → (get_or xs (length xs - 1) d).seq ≤ after → Within after xs
-Within-last [] d after rising last = tt
-Within-last (x ∷ []) d after rising last = (last, tt)
-Within-last (x ∷ y ∷ ys) d after rising last =
-    let later = Within-last (y ∷ ys) d after rising.1 (rw sub-one (rw sub-one at last)) in
-    (omega arith, later)
+All-last : (P : Active → Type 0) (xs : List Active) (y : Active) → AllByRecursion P (xs ++ y ∷ []) → P y
+All-last P [] y all = all.0
+All-last P (x ∷ xs) y all = All-last P xs y all.1
+
+-- what is behind the oldest
+pub IsRising-behind : (xs : List Active) → AreActivesRising xs → AreActivesRising (drop 1 xs)
+IsRising-behind [] rising = tt
+IsRising-behind (x ∷ xs) rising = rising.1
+
+-- the youngest tells of all
+pub Within-more : (xs : List Active) (n m : ℕ) → Within n xs → n ≤ m → Within m xs
+Within-more [] n m within more = tt
+Within-more (x ∷ xs) n m within more = (omega (arith, within.0, more), Within-more xs n m within.1 more)
+
+pub Within-last : (xs : List Active) (y : Active) → AreActivesRising (xs ++ y ∷ []) → Within y.seq (xs ++ y ∷ [])
+Within-last [] y rising = (omega arith, tt)
+Within-last (x ∷ xs) y rising =
+    (omega (arith, All-last (λ z. x.seq < z.seq) xs y rising.0), Within-last xs y rising.1)
+
+pub Above-from : (xs : List Active) (n seq : ℕ) → Within n xs → n < seq → Above seq xs
+Above-from [] n seq within less = tt
+Above-from (x ∷ xs) n seq within less = (omega (arith, within.0, less), Above-from xs n seq within.1 less)
+
+pub Above-last : (xs : List Active) (y : Active) (seq : ℕ) → Above seq (xs ++ y ∷ []) → y.seq < seq
+Above-last xs y seq above = All-last (λ z. z.seq < seq) xs y above
 
 -- a stage leaves the number of its instruction
 seq-staged : (seq : ℕ) (stage : Stage) (x : Active) → (staged seq stage x).seq ≡ x.seq

@@ -1,9 +1,10 @@
-ghost use Rattle.std.specs.Prelude.{◌≡◌, ◌↔◌, ◌<◌, ◌≤◌, ◌==◌, [], ◌∷◌, ◌++◌, length, drop, find, take};
-ghost use Rattle.std.specs.Prelude.{IsTrue, IfSome, IfNone, IfOk, vec_capacity};
+ghost use Rattle.std.specs.Prelude.{◌≡◌, ◌↔◌, ◌-◌, ◌<◌, ◌≤◌, ◌==◌, [], ◌∷◌, ◌++◌, length, drop, find, take};
+ghost use Rattle.std.specs.Prelude.{IsTrue, IfSome, IfNone, IfOk};
 ghost use Rattle.numbers.specs.Sizes.{most_in_flight};
-ghost use Rattle.retire_squash.specs.Active.{Above, Within, AreActivesRising, with_stage};
+ghost use Rattle.retire_squash.specs.Active.{Above, Within, with_stage};
 
 use crate::active::{Active, Stage};
+use crate::ring::{place_from, place_of, search, set_stage};
 use events::Outcome;
 use numbers::Seq;
 use numbers::sizes::MOST_IN_FLIGHT;
@@ -13,30 +14,33 @@ use std::marker::Model;
 /// The instructions of a hart in flight, at most `MOST_IN_FLIGHT`, oldest first. A clause sees it as
 /// their list.
 ///
-/// One that leaves at the front stays where it is until its room is needed, so a retirement moves no
-/// other.
+/// An instruction keeps its place from its rename until it retires or is squashed, so whoever has
+/// been told the place finds it at once. The number stays its name: a place that another has
+/// meanwhile is only a slower way to the same answer.
 #[derive(Drop)]
 pub struct ActiveList {
-    /// Those that have left, and then those in flight: on the heap, where all their room is made with
-    /// the list.
-    items: Vec<Active>,
-    /// How many at the front have left.
-    gone: usize,
+    /// `MOST_IN_FLIGHT` places, on the heap. What stands in one that isn't in use says nothing.
+    places: Vec<Active>,
+    /// The place of the oldest.
+    first: usize,
+    /// How many are in flight: their places follow from `first` on, and round the end.
+    count: usize,
 }
 
 impl Model for ActiveList {
-    ghost use Rattle.std.specs.Prelude.{List, ◌≤◌, length, drop, vec_capacity};
+    ghost use Rattle.std.specs.Prelude.{List, ◌≡◌, ◌<◌, ◌≤◌, length};
     ghost use Rattle.numbers.specs.Sizes.{most_in_flight};
     ghost use Rattle.retire_squash.specs.declared.active.Active.{Active};
     ghost use Rattle.retire_squash.specs.Active.{AreActivesRising};
+    ghost use Rattle.retire_squash.specs.Ring.{in_ring};
 
     ghost Value = { List Active };
 
-    ghost view = { λ a. drop a.gone a.items.items };
+    ghost view = { λ a. in_ring a.first a.count a.places.items };
 
-    ghost invariant = { λ a. (a.gone ≤ length a.items.items)
-        × AreActivesRising (drop a.gone a.items.items)
-        × (length a.items.items ≤ most_in_flight) × (most_in_flight ≤ vec_capacity a.items) };
+    ghost invariant = { λ a. (length a.places.items ≡ most_in_flight)
+        × (a.first < most_in_flight) × (a.count ≤ most_in_flight)
+        × AreActivesRising (in_ring a.first a.count a.places.items) };
 }
 
 impl ActiveList {
@@ -45,8 +49,9 @@ impl ActiveList {
         ensures { IfOk result (λ list. list ≡ []) }
     {
         Ok(ActiveList {
-            items: Vec::with_capacity(alloc, MOST_IN_FLIGHT)?,
-            gone: 0,
+            places: vec![in alloc; Active::default(); MOST_IN_FLIGHT]?,
+            first: 0,
+            count: 0,
         })
     }
 
@@ -55,7 +60,7 @@ impl ActiveList {
         ensures value { result ≡ length self.now }
         ensures bound { result ≤ most_in_flight }
     {
-        self.items.len() - self.gone
+        self.count
     }
 
     /// Whether none is in flight.
@@ -73,13 +78,18 @@ impl ActiveList {
         self.len() == MOST_IN_FLIGHT
     }
 
-    /// The instructions, oldest first.
-    pub fn items(&self) -> &[Active]
-        ensures items { result.now ≡ self.now }
-        ensures bound { length result.now ≤ most_in_flight }
-        ensures rising { AreActivesRising result.now }
+    /// The instructions, oldest first: those up to the end of the ring, and then those from its
+    /// beginning on.
+    pub fn as_slices(&self) -> (&[Active], &[Active])
+        ensures items { result.0.now ++ result.1.now ≡ self.now }
+        ensures bound { length self.now ≤ most_in_flight }
     {
-        &self.items.as_slice()[self.gone..]
+        let (round, straight) = self.places.as_slice().split_at(self.first);
+        let straight_count = self.count.min(straight.len());
+        (
+            &straight[..straight_count],
+            &round[..self.count - straight_count],
+        )
     }
 
     /// The oldest instruction in flight.
@@ -87,14 +97,39 @@ impl ActiveList {
         ensures some { IfSome result (λ oldest. self.now ≡ oldest ∷ drop 1 self.now) }
         ensures none { IfNone result (self.now ≡ []) }
     {
-        self.items().first().copied()
+        if self.count == 0 {
+            return None;
+        }
+        Some(self.places[self.first])
+    }
+
+    /// The youngest instruction in flight.
+    fn youngest(&self) -> Option<Active>
+        ensures some { IfSome result
+            (λ youngest. self.now ≡ take (length self.now - 1) self.now ++ youngest ∷ []) }
+        ensures above { IfSome result (λ youngest. Within youngest.seq self.now) }
+        ensures none { IfNone result (self.now ≡ []) }
+    {
+        if self.count == 0 {
+            return None;
+        }
+        Some(self.places[place_from(self.first, self.count - 1)])
     }
 
     /// The instruction of this number.
     pub fn find(&self, seq: Seq) -> Option<Active>
         ensures { result ≡ find (λ x. x.seq == seq) self.now }
     {
-        with_number(self.items(), seq)
+        let place = search(self.places.as_slice(), self.first, self.count, seq)?;
+        Some(self.places[place])
+    }
+
+    /// The instruction of this number, which was told to stand at this place: it is looked at first.
+    pub fn find_at(&self, place: u8, seq: Seq) -> Option<Active>
+        ensures { result ≡ find (λ x. x.seq == seq) self.now }
+    {
+        let place = place_of(self.places.as_slice(), self.first, self.count, place, seq)?;
+        Some(self.places[place])
     }
 
     /// Whether an instruction of this number may be added: there is room, and all in flight are
@@ -102,7 +137,24 @@ impl ActiveList {
     pub fn may_append(&self, seq: Seq) -> bool
         ensures { IsTrue result ↔ (length self.now < most_in_flight) × Above seq self.now }
     {
-        self.len() < MOST_IN_FLIGHT && are_older(self.items(), seq)
+        self.len() < MOST_IN_FLIGHT && self.are_older(seq)
+    }
+
+    /// Whether every number is below this one. They rise, so the youngest tells.
+    fn are_older(&self, seq: Seq) -> bool
+        ensures { IsTrue result ↔ Above seq self.now }
+    {
+        match self.youngest() {
+            Some(youngest) => youngest.seq < seq,
+            None => true,
+        }
+    }
+
+    /// The place where the next instruction that is added will stand, below `MOST_IN_FLIGHT`.
+    pub fn next_place(&self) -> u8
+        ensures { result < most_in_flight }
+    {
+        place_from(self.first, self.count) as u8
     }
 
     /// Adds an instruction, which is younger than all that are in flight.
@@ -111,11 +163,9 @@ impl ActiveList {
         requires above { Above active.seq self.old }
         ensures { self.new ≡ self.old ++ active ∷ [] }
     {
-        if self.items.len() == MOST_IN_FLIGHT {
-            forget(&mut self.items, self.gone);
-            self.gone = 0;
-        }
-        self.items.push_reserved(active);
+        let place = place_from(self.first, self.count);
+        self.places[place] = active;
+        self.count += 1;
     }
 
     /// Takes the oldest instruction out, which there must be.
@@ -124,24 +174,33 @@ impl ActiveList {
         ensures value { self.old ≡ result ∷ self.new }
         ensures rest { self.new ≡ drop 1 self.old }
     {
-        let oldest = self.items[self.gone];
-        self.gone += 1;
+        let oldest = self.places[self.first];
+        self.first = place_from(self.first, 1);
+        self.count -= 1;
         oldest
     }
 
-    /// A unit has taken up the instruction of this number, if it is in flight.
-    pub fn issue(&mut self, seq: Seq)
+    /// A unit has taken up the instruction of this number, if it is in flight: it is looked for at
+    /// this place first.
+    pub fn issue(&mut self, place: u8, seq: Seq)
         ensures { self.new ≡ with_stage seq Stage.Issued self.old }
     {
-        set_stage_behind(self.items.as_mut_slice(), self.gone, seq, Stage::Issued);
+        self.set_stage(place, seq, Stage::Issued);
     }
 
-    /// The instruction of this number has its outcome, if it is in flight.
-    pub fn complete(&mut self, seq: Seq, outcome: Outcome)
+    /// The instruction of this number has its outcome, if it is in flight: it is looked for at this
+    /// place first.
+    pub fn complete(&mut self, place: u8, seq: Seq, outcome: Outcome)
         ensures { self.new ≡ with_stage seq (Stage.Completed outcome) self.old }
     {
-        let stage = Stage::Completed(outcome);
-        set_stage_behind(self.items.as_mut_slice(), self.gone, seq, stage);
+        self.set_stage(place, seq, Stage::Completed(outcome));
+    }
+
+    fn set_stage(&mut self, place: u8, seq: Seq, stage: Stage)
+        ensures { self.new ≡ with_stage seq stage self.old }
+    {
+        let (first, count) = (self.first, self.count);
+        set_stage(self.places.as_mut_slice(), first, count, place, seq, stage);
     }
 
     /// Takes the youngest instruction out, if its number is above `after`.
@@ -153,61 +212,11 @@ impl ActiveList {
             (λ cut. (self.old ≡ self.new ++ cut ∷ []) × (after < cut.seq)) }
         ensures none { IfNone result ((self.new ≡ self.old) × Within after self.old) }
     {
-        let youngest = self.items().last()?;
+        let youngest = self.youngest()?;
         if youngest.seq <= after {
             return None;
         }
-        self.items.pop()
+        self.count -= 1;
+        Some(youngest)
     }
-}
-
-// The one of these that is the instruction of this number.
-fn with_number(items: &[Active], seq: Seq) -> Option<Active>
-    ensures { result ≡ find (λ x. x.seq == seq) items.now }
-{
-    for one in items {
-        if one.seq == seq {
-            return Some(*one);
-        }
-    }
-    None
-}
-
-// Whether every number is below this one.
-fn are_older(items: &[Active], seq: Seq) -> bool
-    ensures { IsTrue result ↔ Above seq items.now }
-{
-    items.iter().all(|active| active.seq < seq)
-}
-
-// The instruction of this number is at this stage. The numbers rise, so there is one at most.
-fn set_stage(items: &mut [Active], seq: Seq, stage: Stage)
-    requires { AreActivesRising items.old }
-    ensures { items.new ≡ with_stage seq stage items.old }
-{
-    for active in items.iter_mut() {
-        if active.seq == seq {
-            active.stage = stage;
-            return;
-        }
-    }
-}
-
-// `set_stage` of those behind the first `gone`.
-fn set_stage_behind(items: &mut [Active], gone: usize, seq: Seq, stage: Stage)
-    requires within { gone ≤ length items.old }
-    requires rising { AreActivesRising (drop gone items.old) }
-    ensures { items.new ≡ take gone items.old ++ with_stage seq stage (drop gone items.old) }
-{
-    set_stage(&mut items[gone..], seq, stage);
-}
-
-// Gives up the room of the first `gone`, and moves the others there.
-fn forget(items: &mut Vec<Active>, gone: usize)
-    requires { gone ≤ length items.old.items }
-    ensures items { items.new.items ≡ drop gone items.old.items }
-    ensures capacity { vec_capacity items.new ≡ vec_capacity items.old }
-{
-    items.as_mut_slice().rotate_left(gone);
-    items.truncate(items.len() - gone);
 }

@@ -7,10 +7,14 @@ use Rattle.retire_squash.specs.declared.active.Active.{Active}
 use Rattle.smt_model.specs.Steps.{renamed_map}
 use Rattle.core_parts.specs.Squash.{mapped_by}
 
+pub mapped_by-concat : (r : ℕ) (xs ys : List Active) (before : ℕ)
+    → mapped_by r (xs ++ ys) before ≡ mapped_by r ys (mapped_by r xs before)
+mapped_by-concat r [] ys before = refl
+mapped_by-concat r (x ∷ xs) ys before = mapped_by-concat r xs ys (renamed_map x.rd x.phys r before)
+
 mapped_by-append : (r : ℕ) (xs : List Active) (a : Active) (before : ℕ)
     → mapped_by r (xs ++ a ∷ []) before ≡ renamed_map a.rd a.phys r (mapped_by r xs before)
-mapped_by-append r [] a before = refl
-mapped_by-append r (x ∷ xs) a before = mapped_by-append r xs a (renamed_map x.rd x.phys r before)
+mapped_by-append r xs a before = mapped_by-concat r xs (a ∷ []) before
 
 pub mapped_by_more : (r : ℕ) (xs : List Active) (i : ℕ) (d : Active) (before : ℕ) → i < length xs
     → mapped_by r (take (i + 1) xs) before ≡ renamed_map (get_or xs i d).rd (get_or xs i d).phys r

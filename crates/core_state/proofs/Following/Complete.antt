@@ -14,9 +14,9 @@ use Rattle.smt_model.specs.{Exec.Computed, Faults.checked, Outcomes.outcome_of, 
 use Rattle.smt_model.specs.{Jobs.is_actor, Jobs.job, Setup.Setup}
 use Rattle.smt_model.specs.Fates.{Fate, fate, fetching, is, is_in_flight, is_of, Squashed}
 use Rattle.smt_model.specs.Rules.{first_failing, refused, of_fetched, outcome_now}
-use Rattle.core_parts.specs.Agree.{IsActive, PartsAgree}
+use Rattle.core_parts.specs.{Agree.IsActive, Agree.PartsAgree, Place.InActiveList}
 use Rattle.core_steps.specs.{Complete.IsSameJob}
-use Rattle.core_state.specs.{Refusals.HasInFlight, Refusals.IsJobWith, Refusals.open_view}
+use Rattle.core_state.specs.{Refusals.IsJobWith, Refusals.open_view}
 use Rattle.core_state.specs.{State.IsCore, State.view_of, View.CoreView}
 use Rattle.core_parts.specs.{declared.slot.OpenJob.OpenJob}
 use Rattle.core_state.specs.{declared.state.State.TheInside.Inside}
@@ -94,10 +94,6 @@ pub none_some : {A : Type 0} → (r : Option A) → is_some r ≡ false → is_n
 none_some None none = refl
 none_some (Some a) none = absurd (false≢true (sym none))
 
-pub is_none_by : {A : Type 0} → (r : Option A) (b t : Bool) → is_some r ≡ not b → b ≡ t → is_none r ≡ t
-is_none_by r true t some same = ap not some ∙ same
-is_none_by r false t some same = ap not some ∙ same
-
 spared_if_flying : (f : Fate) → is_in_flight f ≡ true → is f Squashed ≡ false
 spared_if_flying f flies = grind (arith, nat_tests)
 
@@ -115,45 +111,44 @@ module _ (i : Inside) (core : IsCore i) (v : CoreView) (at : view_of i ≡ v) (a
       let under = job_hart_there v.setup v.past (is_legal_view i core v at) actor x with_it.opened in
       subst (λ n. x.hart < n) (sym core.harts) (subst (λ u. x.hart < u.setup.harts) (sym at) under)
 
-  pub gone_if : ((p : Picture) → PartsAgree p i.parts → list_any (λ n. n == s) (p.flight x.hart) ≡ false)
+  pub gone_if : ((p : Picture) → PartsAgree p i.parts → list_any (λ n. n == x.seq) (p.flight x.hart) ≡ false)
       → is (fate v.past s) Squashed ≡ true
   gone_if gone =
       let here = gone (picture v.setup v.past) (parts_agree i core v at) in
       subst (λ n. is (fate v.past n) Squashed ≡ true) with_it.number
-      (job_squashed v.setup v.past (is_legal_view i core v at) actor x with_it.opened
-      (subst (λ n. list_any (λ m. m == n) ((picture v.setup v.past).flight x.hart) ≡ false) (sym with_it.number) here))
+      (job_squashed v.setup v.past (is_legal_view i core v at) actor x with_it.opened here)
 
   pub gone_by : (r : Option Active) → is_none r ≡ true
-      → IfNone r ((p : Picture) → PartsAgree p i.parts → list_any (λ n. n == s) (p.flight x.hart) ≡ false)
+      → IfNone r ((p : Picture) → PartsAgree p i.parts → list_any (λ n. n == x.seq) (p.flight x.hart) ≡ false)
       → is (fate v.past s) Squashed ≡ true
   gone_by (Some a) none gone = absurd (false≢true none)
   gone_by None none gone = gone_if gone
 
-  pub flies_by : (r : Option Active) → is_none r ≡ false
-      → IfSome r (λ a. (p : Picture) → PartsAgree p i.parts → IsActive p x.hart a × (a.seq ≡ s))
+  pub flies_if : (a : Active) → ((p : Picture) → PartsAgree p i.parts → IsActive p x.hart a × (a.seq ≡ x.seq))
       → is (fate v.past s) Squashed ≡ false
-  flies_by None some found = absurd (false≢true (sym some))
-  flies_by (Some a) some found =
+  flies_if a found =
       let is_it = found (picture v.setup v.past) (parts_agree i core v at) in
       spared_if_flying (fate v.past s)
-      (subst (λ n. is_in_flight (fate v.past n) ≡ true) is_it.1
+      (subst (λ n. is_in_flight (fate v.past n) ≡ true) (is_it.1 ∙ with_it.number)
       (stage_flies (picture v.setup v.past) a.seq a.stage is_it.0.stage))
 
-  pub has_by : (r : Option Active) → is_none r ≡ false
-      → IfSome r (λ a. (p : Picture) → PartsAgree p i.parts → IsActive p x.hart a × (a.seq ≡ s))
-      → HasInFlight v.setup v.past x.hart s
-  has_by None some found = absurd (false≢true (sym some))
-  has_by (Some a) some found =
-      let is_it = found (picture v.setup v.past) (parts_agree i core v at) in (
-        a,
-        record {
-          inside = job_hart_there v.setup v.past (is_legal_view i core v at) actor x with_it.opened;
-          of_hart = subst (λ n. is_of v.past x.hart n ≡ true) with_it.number
-              (job_hart v.setup v.past actor x with_it.opened);
-          active = is_it.0;
-          number = is_it.1;
-        },
-      )
+  pub flies_by : (r : Option Active) → is_none r ≡ false
+      → IfSome r (λ a. (p : Picture) → PartsAgree p i.parts → IsActive p x.hart a × (a.seq ≡ x.seq))
+      → is (fate v.past s) Squashed ≡ false
+  flies_by None some found = absurd (false≢true (sym some))
+  flies_by (Some a) some found = flies_if a found
+
+  pub there_by : (a : Active) → ((p : Picture) → PartsAgree p i.parts → IsActive p x.hart a × (a.seq ≡ x.seq))
+      → InActiveList v.setup v.past x.hart s a
+  there_by a found =
+      let is_it = found (picture v.setup v.past) (parts_agree i core v at) in
+      record {
+        inside = job_hart_there v.setup v.past (is_legal_view i core v at) actor x with_it.opened;
+        of_hart = subst (λ n. is_of v.past x.hart n ≡ true) with_it.number
+            (job_hart v.setup v.past actor x with_it.opened);
+        active = is_it.0;
+        number = is_it.1 ∙ with_it.number;
+      }
 
   -- What the parts make of it is what it has to say.
   pub says_by : (w o outcome : Outcome) (b : Bool) → w ≡ outcome_of_job (open_view x)

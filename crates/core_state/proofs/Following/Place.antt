@@ -111,7 +111,7 @@ module _ (setup : Setup) (past : List Event) (legal : is_legal setup past) (h s 
 
 -- ---- The core's harts
 
-first_hart : (harts : List HartState) (h : ℕ) → h < length harts → HartState
+pub first_hart : (harts : List HartState) (h : ℕ) → h < length harts → HartState
 first_hart [] h inside = absurd (omega arith)
 first_hart (x ∷ xs) h inside = x
 
@@ -263,13 +263,3 @@ module _ (i : Inside) (core : IsCore i) (v : CoreView) (at : view_of i ≡ v) wh
 
   pub is_legal_view : is_legal v.setup v.past
   is_legal_view = subst (λ u. is_legal u.setup u.past) at core.legal
-
-  -- An instruction in flight is in its hart's list.
-  pub listed : (h s : ℕ) (a : Active) → InActiveList v.setup v.past h s a
-      → ((p : Picture) → PartsAgree p i.parts → list_any (λ n. n == s) (p.flight h) ≡ false) → ⊥
-  listed h s a placed gone =
-      let flies = subst (λ n. is_in_flight (fate v.past n) ≡ true) placed.number
-      (stage_flies (picture v.setup v.past) a.seq a.stage placed.active.stage) in
-      let there = filter-member (λ n. is_in_flight (fate v.past n)) s (numbers v.past h)
-      (numbers-member v.setup v.past is_legal_view h s placed.of_hart) flies in
-      false≢true (sym (gone (picture v.setup v.past) parts_agree) ∙ (sym (member_any s (flight v.past h)) ∙ there))

@@ -1,6 +1,6 @@
 -- Which rule a rename breaks.
 use Rattle.std.specs.Prelude.{◌≡◌, ℕ, ◌||◌, Bool, true, false, not, nat_lt, List, [], ◌∷◌, length, map}
-use Rattle.std.specs.Prelude.{count_by, Option, Some, is_some}
+use Rattle.std.specs.Prelude.{◌<◌, Option, Some, is_some}
 use Rattle.std.proofs.Common.{◌∙◌, refl, sym, ap}
 use Rattle.std.proofs.{lemmas.List.length-map}
 use Rattle.numbers.specs.Sizes.{most_accesses}
@@ -11,13 +11,14 @@ use Rattle.smt_model.specs.Fates.{fate, is, is_of, op_at, op_of_fetched, InRenam
 use Rattle.smt_model.specs.Flights.{in_rename, flight, queue}
 use Rattle.smt_model.specs.Rules.{first_failing, refused, has_room, is_first, of_fetched}
 use Rattle.smt_model.proofs.Fates.Numbers.{at_hart}
+use Rattle.load_store.specs.Queues.{queues_of}
 use Rattle.core_parts.specs.{Agree.HartAgrees, Agree.PartsAgree, declared.hart.HartState.HartState}
 use Rattle.core_parts.specs.Place.{InRenameLatch}
 use Rattle.core_state.specs.Refusals.{is_free_or_none}
 use Rattle.core_parts.specs.declared.parts.Parts.{Parts}
 use Rattle.core_parts.specs.declared.slot.Slot.{Slot}
 use Rattle.core_state.proofs.Following.Tests.{refused-is, holds, fails}
-use Rattle.core_steps.proofs.Steps.Rename.Next.{counted}
+use Rattle.core_state.proofs.Following.Counts.{loads_in_flight, stores_in_flight}
 
 module _ (setup : Setup) (past : List Event) (actor s : ℕ) (taken : Option ℕ) where
   abbrev oldest : Bool
@@ -55,43 +56,39 @@ module _ (setup : Setup) (past : List Event) (actor s : ℕ) (taken : Option ℕ
   )
 
   -- The room for one more of a kind.
-  room_is : (test : Kind → Bool) (h : ℕ) (x : HartState) (slot : Slot) (b : Bool)
-      → HartAgrees (picture setup past) h x → is_of past h s ≡ true → op_at past s ≡ slot.op
-      → b ≡ (not (test (kind_of slot.op)) || nat_lt (count_by (λ a. test (kind_of a.op)) x.active) most_accesses)
+  room_is : (test : Kind → Bool) (h n : ℕ) (slot : Slot) (b : Bool) → is_of past h s ≡ true → op_at past s ≡ slot.op
+      → n ≡ how_many (λ t. test (kind_of (op_at past t))) (flight past h)
+      → b ≡ (not (test (kind_of slot.op)) || nat_lt n most_accesses)
       → has_room test past s ≡ b
-  room_is test h x slot b agrees of_h op b_is =
-      let many = counted (picture setup past) h (λ o. test (kind_of o)) x.active agrees.actives in
+  room_is test h n slot b of_h op many b_is =
       let here : of_fetched past s
       (λ f. nat_lt (how_many (λ t. test (kind_of (op_at past t))) (flight past f.hart)) most_accesses)
-      ≡ nat_lt (count_by (λ a. test (kind_of a.op)) x.active) most_accesses =
+      ≡ nat_lt n most_accesses =
       at_hart past (λ g. nat_lt (how_many (λ t. test (kind_of (op_at past t))) (flight past g)) most_accesses) h s of_h
-      ∙ (ap (λ ns. nat_lt (how_many (λ t. test (kind_of (op_at past t))) ns) most_accesses) (sym agrees.active)
-      ∙ ap (λ n. nat_lt n most_accesses) many) in
+      ∙ ap (λ m. nat_lt m most_accesses) (sym many) in
       ap (λ o. not (test (kind_of o)) || of_fetched past s
       (λ f. nat_lt (how_many (λ t. test (kind_of (op_at past t))) (flight past f.hart)) most_accesses)) op
       ∙ (ap (λ r. not (test (kind_of slot.op)) || r) here ∙ sym b_is)
 
   -- The tests of the parts.
-  pub record Tests (x : HartState) (parts : Parts) (slot : Slot) (a b c d e f g : Bool) : Type 0 where
+  pub record Tests (h : ℕ) (x : HartState) (parts : Parts) (slot : Slot) (a b c d e f g : Bool) : Type 0 where
     pub oldest : a ≡ is_first s (map (λ z. z.seq) x.rename_latch.items)
     pub queue_room : b ≡ nat_lt (length parts.queue.entries) parts.queue.size
     pub flight_room : c ≡ nat_lt (length x.active) 64
     pub load_room : d
-        ≡ (not (is_loading (kind_of slot.op)) || nat_lt (count_by (λ z. is_loading (kind_of z.op)) x.active)
-        most_accesses)
+        ≡ (not (is_loading (kind_of slot.op)) || nat_lt (length (queues_of parts.accesses h).loads) most_accesses)
     pub store_room : e
-        ≡ (not (is_storing (kind_of slot.op)) || nat_lt (count_by (λ z. is_storing (kind_of z.op)) x.active)
-        most_accesses)
+        ≡ (not (is_storing (kind_of slot.op)) || nat_lt (length (queues_of parts.accesses h).stores) most_accesses)
     pub named : f ≡ same_truth (is_some taken) (writes_register slot.op)
     pub free : g ≡ is_free_or_none setup past taken
 
   pub there : (h : ℕ) (slot : Slot) (x : HartState) (parts : Parts) (a b c d e f g : Bool)
       → is_actor setup actor ≡ true → InRenameLatch setup past h s slot
       → HartAgrees (picture setup past) h x → PartsAgree (picture setup past) parts → parts.queue.size ≡ setup.queue
-      → Tests x parts slot a b c d e f g
+      → h < length parts.harts.items → Tests h x parts slot a b c d e f g
       → refused setup past (Rename actor s taken)
       ≡ first_failing ((3, a) ∷ (4, b) ∷ (5, c) ∷ (6, d) ∷ (7, e) ∷ (8, f) ∷ (9, g) ∷ [])
-  there h slot x parts a b c d e f g one placed agrees all size tests =
+  there h slot x parts a b c d e f g one placed agrees all size inside tests =
       let of_h = placed.of_hart in
       let is_here = fate_here h slot placed in
       let a_is : oldest ≡ a =
@@ -105,8 +102,12 @@ module _ (setup : Setup) (past : List Event) (actor s : ℕ) (taken : Option ℕ
       at_hart past (λ k. nat_lt (length (flight past k)) 64) h s of_h
       ∙ (ap (λ ns. nat_lt (length ns) 64) (sym agrees.active)
       ∙ (ap (λ n. nat_lt n 64) (length-map x.active (λ z. z.seq)) ∙ sym tests.flight_room)) in
-      let d_is = room_is is_loading h x slot d agrees of_h is_here.1 tests.load_room in
-      let e_is = room_is is_storing h x slot e agrees of_h is_here.1 tests.store_room in
+      let loads = loads_in_flight (picture setup past) parts h all inside in
+      let stores = stores_in_flight (picture setup past) parts h all inside in
+      let d_is = room_is is_loading h (length (queues_of parts.accesses h).loads) slot d of_h is_here.1 loads
+      tests.load_room in
+      let e_is = room_is is_storing h (length (queues_of parts.accesses h).stores) slot e of_h is_here.1 stores
+      tests.store_room in
       let f_is : same_truth (is_some taken) (writes_register (op_at past s)) ≡ f =
       ap (λ o. same_truth (is_some taken) (writes_register o)) is_here.1 ∙ sym tests.named in
       let g_is = sym tests.free in

@@ -6,17 +6,13 @@ ghost use Rattle.std.specs.Prelude.{◌≡◌, ◌<◌, length, None, Some, is_s
 ghost use Rattle.std.specs.Result.{result_err};
 ghost use Rattle.events.specs.declared.event.Event.TheVariants.{Fetch, Decode, Rename, Issue};
 ghost use Rattle.events.specs.declared.event.Event.TheVariants.{Complete, Retire};
-ghost use Rattle.smt_model.specs.Picture.{picture};
 ghost use Rattle.smt_model.specs.Rules.{refused};
-ghost use Rattle.core_parts.specs.Agree.{IsActive};
-ghost use Rattle.core_state.specs.Refusals.{HasInFlight};
 ghost use Rattle.core_state.specs.View.{CoreView, grown};
 
 use super::State;
-use core_steps::{FetchPoint, in_flight};
+use core_steps::FetchPoint;
 use events::{Effect, Event, Outcome};
 use numbers::{Phys, Seq};
-use retire_squash::Active;
 
 impl State {
     /// Takes an event as the next, where it may come next; else the number of the first rule that
@@ -141,9 +137,8 @@ impl State {
         ensures made { IfOk result (λ _. self.new ≡ grown (Complete actor seq outcome) self.old) }
         ensures same { IfErr result (λ _. self.new ≡ self.old) }
     {
-        let hart = self.judge_completion(actor, seq, outcome)?;
-        let active = self.flying(hart, seq);
-        self.finish(actor, hart, &active, outcome);
+        let (job, active) = self.judge_completion(actor, seq, outcome)?;
+        self.finish(actor, &job, &active, outcome);
         Ok(())
     }
 
@@ -168,21 +163,8 @@ impl State {
         ensures made { IfOk result (λ _. self.new ≡ grown (Retire actor seq effect) self.old) }
         ensures same { IfErr result (λ _. self.new ≡ self.old) }
     {
-        let hart = self.judge_retirement(actor, seq, effect)?;
-        let active = self.flying(hart, seq);
+        let (hart, active) = self.judge_retirement(actor, seq, effect)?;
         self.write_retire(actor, hart, &active, effect);
         Ok(())
-    }
-
-    /// Hart `hart`'s instruction `seq`, which it has in flight.
-    fn flying(&self, hart: u8, seq: Seq) -> Active
-        requires { HasInFlight self.now.setup self.now.past hart seq }
-        ensures number { result.seq ≡ seq }
-        ensures active { IsActive (picture self.now.setup self.now.past) hart result }
-    {
-        let Some(active) = in_flight(&self.parts, hart, seq) else {
-            unreachable!();
-        };
-        active
     }
 }

@@ -13,6 +13,7 @@ ghost use Rattle.core_state.specs.View.{CoreView, grown};
 
 use super::State;
 use crate::log::{append, put_out};
+use core_parts::OpenJob;
 use core_steps::{decode_oldest, drop_job, finish, issue_entry, rename_oldest, retire_oldest};
 use events::{Effect, Event, Outcome, Record};
 use exec_units::Job;
@@ -80,15 +81,21 @@ impl State {
 
     /// Writes the completion of an instruction in flight, which may come next with this outcome.
     #[inline(always)]
-    pub(super) fn finish(&mut self, actor: u8, hart: u8, active: &Active, outcome: Outcome) -> Event
+    pub(super) fn finish(
+        &mut self,
+        actor: u8,
+        job: &OpenJob,
+        active: &Active,
+        outcome: Outcome,
+    ) -> Event
         requires room { length self.old.past < self.old.limit }
         requires allowed { refused self.old.setup self.old.past
             (Complete actor active.now.seq outcome) ≡ None }
-        requires active { IsActive (picture self.old.setup self.old.past) hart active.now }
+        requires active { IsActive (picture self.old.setup self.old.past) job.now.hart active.now }
         ensures event { result ≡ Complete actor active.now.seq outcome }
         ensures made { self.new ≡ grown result self.old }
     {
-        finish(&mut self.parts, actor, hart, active, &outcome);
+        finish(&mut self.parts, actor, job, active, &outcome);
         let event = Event::Complete {
             actor,
             seq: active.seq,

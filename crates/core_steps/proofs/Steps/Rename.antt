@@ -6,4 +6,5 @@ pub mod Registers
 pub mod Ready
 pub mod Parts
 pub mod Accesses
+pub mod Counts
 pub mod Next

@@ -7,7 +7,8 @@ ghost use Rattle.smt_model.specs.Jobs.{is_actor, job};
 ghost use Rattle.smt_model.specs.Picture.{picture};
 ghost use Rattle.smt_model.specs.Rules.{refused};
 ghost use Rattle.core_parts.specs.Agree.{HasOpenJob};
-ghost use Rattle.core_state.specs.Refusals.{IsJobWith, HasInFlight, open_view};
+ghost use Rattle.core_parts.specs.Place.{InActiveList};
+ghost use Rattle.core_state.specs.Refusals.{IsJobWith, open_view};
 ghost use Rattle.exec_units.specs.Job.{outcome_of_job};
 
 use super::same::is_same_outcome;
@@ -17,19 +18,21 @@ use core_steps::{completion_of, in_flight};
 use events::{Event, Outcome};
 use exec_units::{Job, work};
 use numbers::Seq;
+use retire_squash::Active;
 
 impl State {
-    /// The hart whose instruction `seq` actor `actor` may complete with this outcome, or the first
-    /// rule that the completion breaks.
+    /// The job of actor `actor` whose instruction `seq` it may complete with this outcome, and how
+    /// that stands, or the first rule that the completion breaks.
     pub(in crate::state) fn judge_completion(
         &self,
         actor: u8,
         seq: Seq,
         outcome: Outcome,
-    ) -> Result<u8, u8>
+    ) -> Result<(OpenJob, Active), u8>
         ensures rule { result_err result
             ≡ refused self.now.setup self.now.past (Complete actor seq outcome) }
-        ensures there { IfOk result (λ h. HasInFlight self.now.setup self.now.past h seq) }
+        ensures there { IfOk result
+            (λ r. InActiveList self.now.setup self.now.past r.0.hart seq r.1) }
     {
         if !self.has_actor(actor) {
             return Err(1);
@@ -37,14 +40,14 @@ impl State {
         let Some(job) = self.job_with(actor, seq) else {
             return Err(2);
         };
-        if in_flight(&self.parts, job.hart, seq).is_none() {
+        let Some(active) = in_flight(&self.parts, &job) else {
             return Err(3);
-        }
+        };
         let now = completion_of(&self.parts, &job, worked(&job));
         if !is_same_outcome(outcome, now) {
             return Err(4);
         }
-        Ok(job.hart)
+        Ok((job, active))
     }
 
     /// The first rule that a drop of instruction `seq` by actor `actor` breaks.
@@ -57,7 +60,7 @@ impl State {
         let Some(job) = self.job_with(actor, seq) else {
             return Some(2);
         };
-        if in_flight(&self.parts, job.hart, seq).is_some() {
+        if in_flight(&self.parts, &job).is_some() {
             return Some(3);
         }
         None

@@ -1,7 +1,8 @@
-ghost use Rattle.std.specs.Prelude.{◌≡◌, ◌||◌, not, count_by, nat_lt, is_some, true, IfOk};
+ghost use Rattle.std.specs.Prelude.{◌≡◌, ◌||◌, not, length, nat_lt, is_some, true, IfOk};
 ghost use Rattle.std.specs.Result.{result_err};
 ghost use Rattle.events.specs.declared.event.Event.TheVariants.{Rename};
 ghost use Rattle.numbers.specs.Sizes.{most_accesses};
+ghost use Rattle.load_store.specs.Queues.{queues_of};
 ghost use Rattle.smt_model.specs.Fates.{is_of};
 ghost use Rattle.smt_model.specs.Kinds.{kind_of, is_loading, is_storing, writes_register};
 ghost use Rattle.smt_model.specs.Basics.{same_truth};
@@ -11,10 +12,8 @@ ghost use Rattle.core_state.specs.Refusals.{is_free_or_none};
 use super::decode::is_oldest;
 use super::first_failing;
 use crate::state::State;
-use core_steps::{loads, stores};
-use numbers::sizes::MOST_ACCESSES;
+use load_store::LoadStore;
 use numbers::{Phys, Seq};
-use retire_squash::Active;
 use rv_instr::Op;
 
 impl State {
@@ -41,8 +40,8 @@ impl State {
             (3, is_oldest(&state.rename_latch, seq)),
             (4, !self.parts.queue.is_full()),
             (5, !state.active.is_full()),
-            (6, has_load_room(state.active.items(), slot.op)),
-            (7, has_store_room(state.active.items(), slot.op)),
+            (6, has_load_room(&self.parts.accesses, hart, slot.op)),
+            (7, has_store_room(&self.parts.accesses, hart, slot.op)),
             (8, is_fitting(phys, slot.op)),
             (9, self.may_take(phys)),
         ]);
@@ -75,17 +74,17 @@ fn is_fitting(phys: Option<Phys>, op: Op) -> bool
 }
 
 /// Whether the instruction is no load, or there is room for another.
-fn has_load_room(active: &[Active], op: Op) -> bool
+fn has_load_room(accesses: &LoadStore, hart: u8, op: Op) -> bool
     ensures { result ≡ (not (is_loading (kind_of op))
-        || nat_lt (count_by (λ x. is_loading (kind_of x.op)) active.now) most_accesses) }
+        || nat_lt (length (queues_of accesses.now hart).loads) most_accesses) }
 {
-    !op.kind().is_loading() || loads(active) < MOST_ACCESSES
+    !op.kind().is_loading() || !accesses.loads_full(hart)
 }
 
 /// Whether the instruction is no store, or there is room for another.
-fn has_store_room(active: &[Active], op: Op) -> bool
+fn has_store_room(accesses: &LoadStore, hart: u8, op: Op) -> bool
     ensures { result ≡ (not (is_storing (kind_of op))
-        || nat_lt (count_by (λ x. is_storing (kind_of x.op)) active.now) most_accesses) }
+        || nat_lt (length (queues_of accesses.now hart).stores) most_accesses) }
 {
-    !op.kind().is_storing() || stores(active) < MOST_ACCESSES
+    !op.kind().is_storing() || !accesses.stores_full(hart)
 }

@@ -2,27 +2,29 @@ ghost use Rattle.std.specs.Prelude.{◌≡◌, map, IfOk};
 ghost use Rattle.std.specs.Result.{result_err};
 ghost use Rattle.events.specs.declared.event.Event.TheVariants.{Retire};
 ghost use Rattle.smt_model.specs.Rules.{refused, is_first};
-ghost use Rattle.core_state.specs.Refusals.{outcome_at, HasInFlight};
+ghost use Rattle.core_parts.specs.Place.{InActiveList};
+ghost use Rattle.core_state.specs.Refusals.{outcome_at};
 
 use super::same::is_same_effect;
 use crate::state::State;
 use events::{Effect, Outcome};
 use load_store::effect;
 use numbers::Seq;
-use retire_squash::{Active, Stage};
+use retire_squash::{Active, ActiveList, Stage};
 
 impl State {
-    /// The hart whose instruction `seq` actor `actor` may retire with this effect, or the first rule
-    /// that the retirement breaks.
+    /// The hart whose instruction `seq` actor `actor` may retire with this effect, and how that
+    /// stands, or the first rule that the retirement breaks.
     pub(in crate::state) fn judge_retirement(
         &self,
         actor: u8,
         seq: Seq,
         said: Effect,
-    ) -> Result<u8, u8>
+    ) -> Result<(u8, Active), u8>
         ensures rule { result_err result
             ≡ refused self.now.setup self.now.past (Retire actor seq said) }
-        ensures there { IfOk result (λ h. HasInFlight self.now.setup self.now.past h seq) }
+        ensures there { IfOk result
+            (λ r. InActiveList self.now.setup self.now.past r.0 seq r.1) }
     {
         if !self.has_actor(actor) {
             return Err(1);
@@ -33,7 +35,7 @@ impl State {
         let Some(outcome) = outcome_at(active.stage) else {
             return Err(2);
         };
-        if !is_oldest_active(self.hart(hart).active.items(), seq) {
+        if !is_oldest_active(&self.hart(hart).active, seq) {
             return Err(3);
         }
         let now = effect(
@@ -47,7 +49,7 @@ impl State {
         if !is_same_effect(said, now) {
             return Err(4);
         }
-        Ok(hart)
+        Ok((hart, active))
     }
 }
 
@@ -61,12 +63,12 @@ fn outcome_at(stage: Stage) -> Option<Outcome>
     }
 }
 
-/// Whether the first of these is the instruction of number `seq`.
-fn is_oldest_active(active: &[Active], seq: Seq) -> bool
+/// Whether the oldest of these is the instruction of number `seq`.
+fn is_oldest_active(active: &ActiveList, seq: Seq) -> bool
     ensures { result ≡ is_first seq (map (λ x. x.seq) active.now) }
 {
-    match active.first() {
-        Some(first) => first.seq == seq,
+    match active.head() {
+        Some(oldest) => oldest.seq == seq,
         None => false,
     }
 }

@@ -40,9 +40,10 @@ same_hart xs i x y inside one two = one ∙ (get_or_default xs i x y inside ∙ 
 pub record HasMade (x : Parts) (h : ℕ) (taken : Option ℕ) (slot : Slot) (state new : HartState) (queue : Queue)
     (free : List Bool) (values : List (Option ℕ)) (accesses : List Queues) : Type 0 where
   pub own : HasRenamed slot taken state new
+  pub place : ℕ
   pub queued : queue ≡ record x.queue {
     entries = entries.inserted_entry
-        (entry_of h slot (source_in x.values state.maps (or_zero (op_rs1 slot.op)))
+        (entry_of h place slot (source_in x.values state.maps (or_zero (op_rs1 slot.op)))
         (source_in x.values state.maps (or_zero (op_rs2 slot.op))))
         x.queue.entries;
   }
@@ -68,10 +69,10 @@ parts_renamed p q x size h taken d state new queue free values accesses renaming
     (hart.rename_latch ∙ step.in_rename) hart.rename_slots in
     let first = first_found p q x size h taken state slot renaming agrees hart next.number next.is in
     let second = second_found p q x size h taken state slot renaming agrees hart next.number next.is in
-    let entry = entry_of h slot (source_in x.values state.maps (or_zero (op_rs1 slot.op)))
+    let entry = entry_of h made.place slot (source_in x.values state.maps (or_zero (op_rs1 slot.op)))
     (source_in x.values state.maps (or_zero (op_rs2 slot.op))) in
     let is_entry : IsEntry q entry =
-    entry_in p q h n taken slot (source_in x.values state.maps (or_zero (op_rs1 slot.op)))
+    entry_in p q h made.place n taken slot (source_in x.values state.maps (or_zero (op_rs1 slot.op)))
     (source_in x.values state.maps (or_zero (op_rs2 slot.op)))
     step next.number next.is first second in
     let queued : QueueAgrees q (record x.queue { entries = entries.inserted_entry entry x.queue.entries }) = record {

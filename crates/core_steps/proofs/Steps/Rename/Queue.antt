@@ -97,15 +97,16 @@ entries_kept p q h n taken (x ∷ xs) step all =
     let reads = step.readings x.seq waits in
     (entry_kept p q x step.stays.shared.kept same.fate reads.0 reads.1 all.0, entries_kept p q h n taken xs step all.1)
 
--- The entry of a slot, with the sources that its instruction has.
-abbrev pub entry_of : ℕ → Slot → Source → Source → Entry
-entry_of h slot one two = record { seq = slot.seq; hart = h; op = slot.op; pc = slot.pc; sources = one ∷ two ∷ [] }
+-- The entry of a slot, with a place and the sources that its instruction has.
+abbrev pub entry_of : ℕ → ℕ → Slot → Source → Source → Entry
+entry_of h place slot one two =
+    record { seq = slot.seq; hart = h; place = place; op = slot.op; pc = slot.pc; sources = one ∷ two ∷ [] }
 
-pub entry_in : (p q : Picture) (h n : ℕ) (taken : Option ℕ) (slot : Slot) (one two : Source) → IsRename p q h n taken
+pub entry_in : (p q : Picture) (h place n : ℕ) (taken : Option ℕ) (slot : Slot) (one two : Source) → IsRename p q h n taken
     → slot.seq ≡ n
     → IsSlot p h slot → one ≡ source_at q first_source n → two ≡ source_at q second_source n
-    → IsEntry q (entry_of h slot one two)
-entry_in p q h n taken slot one two step number is first second = record {
+    → IsEntry q (entry_of h place slot one two)
+entry_in p q h place n taken slot one two step number is first second = record {
   instruction = record { hart = h; pc = slot.pc; word = slot.word; predicted = slot.predicted };
   fetched = step.stays.shared.fetches.fetched slot.seq ∙ is.fetched;
   hart = refl;
@@ -161,14 +162,14 @@ second_found p q x size h taken state slot renaming agrees hart number is =
     ≡ (if second_source o == 0 then Some 0 else p.value (p.mapped h (second_source o)))) op step.second.reads)
 
 -- The entry that the code makes is the one of the slot, with its sources.
-pub same_entry : (h : ℕ) (xs ys : List Slot) (d : Slot) (values : List (Option ℕ)) (maps : Maps) (one two : Source)
+pub same_entry : (h place : ℕ) (xs ys : List Slot) (d : Slot) (values : List (Option ℕ)) (maps : Maps) (one two : Source)
     (r1 r2 : Option ℕ) → xs ≡ ys
     → r1 ≡ op_rs1 (slice_index_or xs 0 d).op → r2 ≡ op_rs2 (slice_index_or xs 0 d).op
     → one ≡ source_in values maps (or_zero r1)
-    → two ≡ source_in values maps (or_zero r2) → entry_of h (slice_index_or xs 0 d) one two
-    ≡ entry_of h (slice_index_or ys 0 d) (source_in values maps (or_zero (op_rs1 (slice_index_or ys 0 d).op)))
+    → two ≡ source_in values maps (or_zero r2) → entry_of h place (slice_index_or xs 0 d) one two
+    ≡ entry_of h place (slice_index_or ys 0 d) (source_in values maps (or_zero (op_rs1 (slice_index_or ys 0 d).op)))
     (source_in values maps (or_zero (op_rs2 (slice_index_or ys 0 d).op)))
-same_entry h xs ys d values maps one two r1 r2 same names_one names_two reads_one reads_two =
+same_entry h place xs ys d values maps one two r1 r2 same names_one names_two reads_one reads_two =
     let slot = slice_index_or xs 0 d in
     let first : one ≡ source_in values maps (or_zero (op_rs1 slot.op)) =
     reads_one ∙ ap (λ r. source_in values maps (or_zero r)) names_one in
@@ -176,9 +177,9 @@ same_entry h xs ys d values maps one two r1 r2 same names_one names_two reads_on
     reads_two ∙ ap (λ r. source_in values maps (or_zero r)) names_two in
     subst
     (λ zs.
-    entry_of h slot one two
-    ≡ entry_of h (slice_index_or zs 0 d) (source_in values maps (or_zero (op_rs1 (slice_index_or zs 0 d).op)))
+    entry_of h place slot one two
+    ≡ entry_of h place (slice_index_or zs 0 d) (source_in values maps (or_zero (op_rs1 (slice_index_or zs 0 d).op)))
     (source_in values maps (or_zero (op_rs2 (slice_index_or zs 0 d).op))))
     same
-    (ap (λ s. entry_of h slot s two) first
-    ∙ ap (λ s. entry_of h slot (source_in values maps (or_zero (op_rs1 slot.op))) s) second)
+    (ap (λ s. entry_of h place slot s two) first
+    ∙ ap (λ s. entry_of h place slot (source_in values maps (or_zero (op_rs1 slot.op))) s) second)

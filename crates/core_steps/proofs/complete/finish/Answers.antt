@@ -11,21 +11,21 @@ use Rattle.core_steps.proofs.complete.finish.Goals as goal
 pub write_outcome-requires-clause-place : goal.write_outcome-requires-clause-place
 write_outcome-requires-clause-place c =
     let from = c.requires.step in
-    has_place c.args.parts.now.harts.items c.args.parts.now.accesses c.args.hart from.agrees.accesses from.inside
+    has_place c.args.parts.now.harts.items c.args.parts.now.accesses c.args.job.now.hart from.agrees.accesses from.inside
 
 pub write_outcome-requires-2 : goal.write_outcome-requires-2
 write_outcome-requires-2 c =
     let from = c.requires.step in
     record {
-      inside = subst (λ n. c.args.hart < n) (sym c.restore_map-restored.ensures.sizes.harts) from.inside;
-      place = has_place c.args.parts.now.harts.items c.args.parts.now.accesses c.args.hart from.agrees.accesses
+      inside = subst (λ n. c.args.job.now.hart < n) (sym c.restore_map-restored.ensures.sizes.harts) from.inside;
+      place = has_place c.args.parts.now.harts.items c.args.parts.now.accesses c.args.job.now.hart from.agrees.accesses
           from.inside;
     }
 
 pub squash-requires : goal.squash-requires
 squash-requires c =
     let from = c.requires.step in
-    let h = c.args.hart in
+    let h = c.args.job.now.hart in
     let n = c.args.active.now.seq in
     let b = c.restore_map-restored.result in
     let mispredicted = from.step.mispredicts c.in-Some.pc (sym c.redirect_pc.ensures ∙ c.in-Some.is) in
@@ -51,7 +51,7 @@ squash-requires c =
 
 pub returns-in_default-clause-agrees : goal.returns-in_default-clause-agrees
 returns-in_default-clause-agrees c = λ p q agrees step.
-    let h = c.args.hart in
+    let h = c.args.job.now.hart in
     let old = c.args.parts.now in
     let x = c.index.result.now in
     let at : x ≡ slice_index_or old.harts.items h x =
@@ -64,7 +64,7 @@ returns-in_default-clause-agrees c = λ p q agrees step.
 
 pub returns-clause-agrees : goal.returns-clause-agrees
 returns-clause-agrees c = λ p q agrees step.
-    let h = c.args.hart in
+    let h = c.args.job.now.hart in
     let n = c.args.active.now.seq in
     let b = c.restore_map-restored.result in
     let mispredicted = step.mispredicts c.in-Some.pc (sym c.redirect_pc.ensures ∙ c.in-Some.is) in

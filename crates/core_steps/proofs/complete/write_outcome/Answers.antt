@@ -6,18 +6,18 @@ pub returns-clause-agrees : goal.returns-clause-agrees
 returns-clause-agrees c = λ p q agrees step phys op.
     let old = c.args.parts.now in
     let x = c.index_mut.result.now in
-    let at : x ≡ get_or c.fill_register.new.parts.harts.items c.args.hart x =
+    let at : x ≡ get_or c.fill_register.new.parts.harts.items c.args.job.now.hart x =
     subst (λ i. x ≡ get_or c.fill_register.new.parts.harts.items i x) c.from-2.ensures c.index_mut.ensures.value in
-    parts_completed p q c.args.hart c.args.active.now.seq c.args.actor c.args.active.now.op c.args.outcome.now
+    parts_completed p q c.args.job.now.hart c.args.active.now.seq c.args.actor c.args.active.now.op c.args.outcome.now
     c.args.goes_on c.args.active.now.phys old c.fill_register.new.parts _
     c.requires.inside agrees step phys op (record {
       was = x;
-      at = subst (λ v. x ≡ get_or v.items c.args.hart x) c.fill_register.ensures.harts at;
+      at = subst (λ v. x ≡ get_or v.items c.args.job.now.hart x) c.fill_register.ensures.harts at;
       filled = c.fill_register.ensures;
       harts =
           ap (λ i. slice_set c.fill_register.new.parts.harts.items i c.enter_outcome.new.state) c.from-2.ensures
-          ∙ ap (λ v. slice_set v.items c.args.hart c.enter_outcome.new.state) c.fill_register.ensures.harts
-          ∙ ap (slice_set old.harts.items c.args.hart) c.enter_outcome.ensures;
+          ∙ ap (λ v. slice_set v.items c.args.job.now.hart c.enter_outcome.new.state) c.fill_register.ensures.harts
+          ∙ ap (slice_set old.harts.items c.args.job.now.hart) c.enter_outcome.ensures;
       queue = refl;
       free = refl;
       values = refl;

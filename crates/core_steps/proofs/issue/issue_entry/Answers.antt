@@ -18,6 +18,7 @@ returns-clause-agrees c = λ p q agrees issuing.
     let job : OpenJob =
     record {
       hart = e.hart;
+      place = e.place;
       seq = e.seq;
       op = e.op;
       pc = e.pc;

@@ -110,9 +110,10 @@ returns-clause-agrees c = λ p q agrees renaming.
           c.enter_flight.new.state) (sym same)
           (subst (λ xs. HasRenamed (slice_index_or xs 0 d) c.args.phys c.index_mut.result.now c.enter_flight.new.state)
           c.deref.ensures.0 c.enter_flight.ensures);
+      place = c.next_place.result;
       queued = c.insert.ensures
           ∙ ap (λ e. record c.args.parts.now.queue { entries = entries.inserted_entry e c.args.parts.now.queue.entries })
-          (same_entry c.args.hart c.deref.result.now c.index-state.result.now.rename_latch.items d
+          (same_entry c.args.hart c.next_place.result c.deref.result.now c.index-state.result.now.rename_latch.items d
           c.args.parts.now.values c.index-state.result.now.maps
           c.source.result c.source-2.result c.rs1.result c.rs2.result c.deref.ensures.0 c.rs1.ensures.value
           c.rs2.ensures.value c.source.ensures c.source-2.ensures);

@@ -10,19 +10,19 @@ pub unreachable-requires : goal.unreachable-requires
 unreachable-requires c =
     one_found c.args.core.now.setup c.args.core.now.past c.args.entry.now c.holder_of.result
     (awaited_in c.args.core.now.setup c.args.core.now.past c.history.ensures.legal c.args.entry.now c.requires.entry
-    c.requires.waits c.hart_of.result.now c.hart_of.ensures _ c.items-active.ensures.items _ c.first_waiting.ensures
+    c.requires.waits c.hart_of.result.now c.hart_of.ensures _ refl _ c.first_waiting.ensures
     c.holder_of.result c.holder_of.ensures) c.in-None.is
 
 pub returns-clause-stage : goal.returns-clause-stage
 returns-clause-stage c =
     stage_of c.args.core.now.setup c.args.core.now.past c.args.entry.now c.holder_of.result
     (awaited_in c.args.core.now.setup c.args.core.now.past c.history.ensures.legal c.args.entry.now c.requires.entry
-    c.requires.waits c.hart_of.result.now c.hart_of.ensures _ c.items-active.ensures.items _ c.first_waiting.ensures
+    c.requires.waits c.hart_of.result.now c.hart_of.ensures _ refl _ c.first_waiting.ensures
     c.holder_of.result c.holder_of.ensures) c.in-Some.writer c.in-Some.is
 
 pub returns-clause-writer : goal.returns-clause-writer
 returns-clause-writer c =
     number_of c.args.core.now.setup c.args.core.now.past c.args.entry.now c.holder_of.result
     (awaited_in c.args.core.now.setup c.args.core.now.past c.history.ensures.legal c.args.entry.now c.requires.entry
-    c.requires.waits c.hart_of.result.now c.hart_of.ensures _ c.items-active.ensures.items _ c.first_waiting.ensures
+    c.requires.waits c.hart_of.result.now c.hart_of.ensures _ refl _ c.first_waiting.ensures
     c.holder_of.result c.holder_of.ensures) c.in-Some.writer c.in-Some.is

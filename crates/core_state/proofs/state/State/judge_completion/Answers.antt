@@ -1,8 +1,8 @@
 -- The tests of the parts are the rules of a completion.
 use Rattle.std.proofs.Common.{◌∙◌, true, false, sym}
 use Rattle.core_parts.proofs.Agreement.Queues.{has_place}
-use Rattle.core_state.proofs.Following.Complete.{no_actor, no_job, squashed, tells, lent_it, hart_inside, gone_by}
-use Rattle.core_state.proofs.Following.Complete.{flies_by, says_by, is_none_by, has_by}
+use Rattle.core_state.proofs.Following.Complete.{no_actor, no_job, squashed, tells, lent_it, hart_inside, gone_if}
+use Rattle.core_state.proofs.Following.Complete.{flies_if, says_by, there_by}
 use Rattle.core_state.proofs.state.State.judge_completion.Goals as goal
 
 pub returns-then-not-has_actor-clause-rule : goal.returns-then-not-has_actor-clause-rule
@@ -23,14 +23,13 @@ in_flight-requires c =
     hart_inside c.self.inside c.self.invariant c.args.self.now c.self.view_is c.args.actor c.args.seq c.in-Some.job
     c.in-Some.ensures.some
 
-pub returns-then-is_none-clause-rule : goal.returns-then-is_none-clause-rule
-returns-then-is_none-clause-rule c =
+pub returns-in_default-in_flight-clause-rule : goal.returns-in_default-in_flight-clause-rule
+returns-in_default-in_flight-clause-rule c =
     sym (squashed c.args.self.now.setup c.args.self.now.past c.args.actor c.args.seq c.args.outcome
     (sym c.has_actor.ensures ∙ c.if-not-has_actor.false) (lent_it c.self.inside c.self.invariant c.args.self.now c.self.view_is c.args.actor c.args.seq c.in-Some.job
     c.in-Some.ensures.some)
-    (gone_by c.self.inside c.self.invariant c.args.self.now c.self.view_is c.args.actor c.args.seq c.in-Some.job
-    c.in-Some.ensures.some
-    c.in_flight.result (is_none_by c.in_flight.result c.is_none.result true c.is_none.ensures c.if-is_none.true) c.in_flight.ensures.none))
+    (gone_if c.self.inside c.self.invariant c.args.self.now c.self.view_is c.args.actor c.args.seq c.in-Some.job
+    c.in-Some.ensures.some c.in_default-in_flight.ensures.none))
 
 pub completion_of-now-requires : goal.completion_of-now-requires
 completion_of-now-requires c =
@@ -43,9 +42,8 @@ returns-then-not-is_same_outcome-clause-rule c =
     sym (tells c.args.self.now.setup c.args.self.now.past c.args.actor c.args.seq c.args.outcome false
     (sym c.has_actor.ensures ∙ c.if-not-has_actor.false) (lent_it c.self.inside c.self.invariant c.args.self.now c.self.view_is c.args.actor c.args.seq c.in-Some.job
     c.in-Some.ensures.some)
-    (flies_by c.self.inside c.self.invariant c.args.self.now c.self.view_is c.args.actor c.args.seq c.in-Some.job
-    c.in-Some.ensures.some
-    c.in_flight.result (is_none_by c.in_flight.result c.is_none.result false c.is_none.ensures c.if-is_none.false) c.in_flight.ensures.some)
+    (flies_if c.self.inside c.self.invariant c.args.self.now c.self.view_is c.args.actor c.args.seq c.in-Some.job
+    c.in-Some.ensures.some c.in-Some-in_flight.active c.in-Some-in_flight.ensures.some)
     (says_by c.self.inside c.self.invariant c.args.self.now c.self.view_is c.args.actor c.args.seq c.in-Some.job
     c.in-Some.ensures.some
     c.worked.result c.completion_of-now.result c.args.outcome false c.worked.ensures
@@ -56,9 +54,8 @@ returns-clause-rule c =
     sym (tells c.args.self.now.setup c.args.self.now.past c.args.actor c.args.seq c.args.outcome true
     (sym c.has_actor.ensures ∙ c.if-not-has_actor.false) (lent_it c.self.inside c.self.invariant c.args.self.now c.self.view_is c.args.actor c.args.seq c.in-Some.job
     c.in-Some.ensures.some)
-    (flies_by c.self.inside c.self.invariant c.args.self.now c.self.view_is c.args.actor c.args.seq c.in-Some.job
-    c.in-Some.ensures.some
-    c.in_flight.result (is_none_by c.in_flight.result c.is_none.result false c.is_none.ensures c.if-is_none.false) c.in_flight.ensures.some)
+    (flies_if c.self.inside c.self.invariant c.args.self.now c.self.view_is c.args.actor c.args.seq c.in-Some.job
+    c.in-Some.ensures.some c.in-Some-in_flight.active c.in-Some-in_flight.ensures.some)
     (says_by c.self.inside c.self.invariant c.args.self.now c.self.view_is c.args.actor c.args.seq c.in-Some.job
     c.in-Some.ensures.some
     c.worked.result c.completion_of-now.result c.args.outcome true c.worked.ensures
@@ -66,6 +63,5 @@ returns-clause-rule c =
 
 pub returns-clause-there : goal.returns-clause-there
 returns-clause-there c =
-    has_by c.self.inside c.self.invariant c.args.self.now c.self.view_is c.args.actor c.args.seq c.in-Some.job
-    c.in-Some.ensures.some
-    c.in_flight.result (is_none_by c.in_flight.result c.is_none.result false c.is_none.ensures c.if-is_none.false) c.in_flight.ensures.some
+    there_by c.self.inside c.self.invariant c.args.self.now c.self.view_is c.args.actor c.args.seq c.in-Some.job
+    c.in-Some.ensures.some c.in-Some-in_flight.active c.in-Some-in_flight.ensures.some

@@ -1,10 +1,8 @@
 -- The tests of the parts are the rules of a rename.
-use Rattle.std.proofs.Common.{◌≡◌, ◌∙◌, ◌||◌, count_by, sym, ap, map, nat_lt, not}
-use Rattle.numbers.specs.Sizes.{most_accesses}
-use Rattle.retire_squash.specs.declared.active.Active.{Active}
-use Rattle.smt_model.specs.{Rules.is_first, Rules.refused, Kinds.kind_of, Kinds.is_loading, Kinds.is_storing}
+use Rattle.std.proofs.Common.{◌≡◌, ◌∙◌, sym, ap, map, not}
+use Rattle.smt_model.specs.{Rules.is_first, Rules.refused}
 use Rattle.core_parts.specs.declared.slot.Slot.{Slot}
-use Rattle.core_state.proofs.{Following.Place.parts_agree, Following.Place.queue_size, Following.Tests.not_full}
+use Rattle.core_state.proofs.{Following.Place.parts_agree, Following.Place.queue_size, Following.Place.hart_inside, Following.Tests.not_full}
 use Rattle.events.specs.declared.event.Event.TheVariants.{Rename}
 use Rattle.core_state.proofs.Following.Rename.{no_actor, not_there, there}
 use Rattle.core_state.proofs.state.State.judge_rename.Goals as goal
@@ -33,16 +31,13 @@ told c =
     c.is_fitting.result c.may_take.result
     (sym c.has_actor.ensures ∙ c.if-not-has_actor.false) c.in-Some.ensures.there c.hart-state.ensures
     (parts_agree i c.self.invariant v c.self.view_is) (queue_size i c.self.invariant v c.self.view_is)
+    (hart_inside i c.self.invariant v c.self.view_is c.in-Some.hart c.in-Some.ensures.there.inside)
     (record {
       oldest = c.is_oldest.ensures ∙ ap (λ xs. is_first c.args.seq (map (λ (z : Slot). z.seq) xs)) c.deref.ensures.0;
       queue_room = ap not c.is_full.ensures.value ∙ not_full _ _ c.is_full.ensures.bound;
       flight_room = ap not c.is_full-2.ensures.value ∙ not_full _ _ c.is_full-2.ensures.bound;
-      load_room = c.has_load_room.ensures
-          ∙ ap (λ xs. not (is_loading (kind_of slot.op))
-          || nat_lt (count_by (λ (z : Active). is_loading (kind_of z.op)) xs) most_accesses) c.items.ensures.items;
-      store_room = c.has_store_room.ensures
-          ∙ ap (λ xs. not (is_storing (kind_of slot.op))
-          || nat_lt (count_by (λ (z : Active). is_storing (kind_of z.op)) xs) most_accesses) c.items-2.ensures.items;
+      load_room = c.has_load_room.ensures;
+      store_room = c.has_store_room.ensures;
       named = c.is_fitting.ensures;
       free = c.may_take.ensures;
     }))

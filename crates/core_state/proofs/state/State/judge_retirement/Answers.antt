@@ -1,7 +1,5 @@
 -- The tests of the parts are the rules of a retirement.
-use Rattle.std.proofs.Common.{◌∙◌, true, false, sym, ap, map}
-use Rattle.retire_squash.specs.declared.active.Active.{Active}
-use Rattle.smt_model.specs.Rules.{is_first}
+use Rattle.std.proofs.Common.{◌∙◌, true, false, sym}
 use Rattle.core_state.proofs.Following.Retire.{no_actor, gone, waits, not_oldest, can_retire, tells}
 use Rattle.core_state.proofs.Following.Retire.{effect_view}
 use Rattle.core_parts.proofs.Agreement.Queues.{has_place}
@@ -31,7 +29,7 @@ returns-then-not-is_oldest_active-clause-rule c =
     c.in-Some-outcome_at.outcome
     (sym c.outcome_at.ensures ∙ c.in-Some-outcome_at.is) c.hart.result.now
     c.is_oldest_active.result c.hart.ensures
-    (c.is_oldest_active.ensures ∙ ap (λ xs. is_first c.args.seq (map (λ (z : Active). z.seq) xs)) c.items.ensures.items)
+    c.is_oldest_active.ensures
     c.if-not-is_oldest_active.true)
 
 pub effect-now-requires : goal.effect-now-requires
@@ -48,14 +46,14 @@ returns-then-not-is_same_effect-clause-rule c =
     c.in-Some-outcome_at.outcome
     (sym c.outcome_at.ensures ∙ c.in-Some-outcome_at.is) c.hart.result.now
     c.is_oldest_active.result c.hart.ensures
-    (c.is_oldest_active.ensures ∙ ap (λ xs. is_first c.args.seq (map (λ (z : Active). z.seq) xs)) c.items.ensures.items)
+    c.is_oldest_active.ensures
     (c.if-not-is_oldest_active.false) in
     sym (tells c.args.self.now.setup c.args.self.now.past c.args.actor c.args.seq c.args.said
     c.in-Some.hart c.in-Some.active c.in-Some.ensures.there (sym c.has_actor.ensures ∙ c.if-not-has_actor.false)
     c.in-Some-outcome_at.outcome
     (sym c.outcome_at.ensures ∙ c.in-Some-outcome_at.is) c.hart.result.now
     c.is_oldest_active.result c.hart.ensures
-    (c.is_oldest_active.ensures ∙ ap (λ xs. is_first c.args.seq (map (λ (z : Active). z.seq) xs)) c.items.ensures.items)
+    c.is_oldest_active.ensures
     (c.if-not-is_oldest_active.false) c.effect-now.result false
     (effect_view c.self.inside c.self.invariant c.args.self.now c.self.view_is c.in-Some.hart c.in-Some.active
     c.in-Some-outcome_at.outcome c.args.seq c.effect-now.result
@@ -72,14 +70,14 @@ returns-clause-rule c =
     c.in-Some-outcome_at.outcome
     (sym c.outcome_at.ensures ∙ c.in-Some-outcome_at.is) c.hart.result.now
     c.is_oldest_active.result c.hart.ensures
-    (c.is_oldest_active.ensures ∙ ap (λ xs. is_first c.args.seq (map (λ (z : Active). z.seq) xs)) c.items.ensures.items)
+    c.is_oldest_active.ensures
     (c.if-not-is_oldest_active.false) in
     sym (tells c.args.self.now.setup c.args.self.now.past c.args.actor c.args.seq c.args.said
     c.in-Some.hart c.in-Some.active c.in-Some.ensures.there (sym c.has_actor.ensures ∙ c.if-not-has_actor.false)
     c.in-Some-outcome_at.outcome
     (sym c.outcome_at.ensures ∙ c.in-Some-outcome_at.is) c.hart.result.now
     c.is_oldest_active.result c.hart.ensures
-    (c.is_oldest_active.ensures ∙ ap (λ xs. is_first c.args.seq (map (λ (z : Active). z.seq) xs)) c.items.ensures.items)
+    c.is_oldest_active.ensures
     (c.if-not-is_oldest_active.false) c.effect-now.result true
     (effect_view c.self.inside c.self.invariant c.args.self.now c.self.view_is c.in-Some.hart c.in-Some.active
     c.in-Some-outcome_at.outcome c.args.seq c.effect-now.result
@@ -90,4 +88,4 @@ returns-clause-rule c =
     (sym (sym c.is_same_effect.ensures ∙ c.if-not-is_same_effect.false)))
 
 pub returns-clause-there : goal.returns-clause-there
-returns-clause-there c = (c.in-Some.active, c.in-Some.ensures.there)
+returns-clause-there c = c.in-Some.ensures.there

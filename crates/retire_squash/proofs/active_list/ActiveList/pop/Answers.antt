@@ -1,23 +1,36 @@
-use Rattle.std.proofs.Common.{sym, subst, ◌∙◌, arith}
-use Rattle.std.proofs.lemmas.List.{drop_more}
-use Rattle.retire_squash.specs.Active.{AreActivesRising}
-use Rattle.retire_squash.proofs.Gone.{inside, one_more, IsRising-one_more}
+use Rattle.std.proofs.Common.{◌∙◌, ◌<◌, ◌∷◌, sym, ap, arith, drop}
+use Rattle.retire_squash.proofs.Rising.{IsRising-behind}
+use Rattle.retire_squash.proofs.Turning.{popped, oldest_is, count_is, place_inside}
 use Rattle.retire_squash.proofs.active_list.ActiveList.pop.Goals as goal
-
-pub returns-clause-value : goal.returns-clause-value
-returns-clause-value c =
-    let some = inside c.self.inside.items.items c.args.self.now c.self.inside.gone c.self.view_is c.requires in
-    rw c.index-oldest.ensures (sym c.self.view_is ∙ drop_more c.self.inside.items.items c.self.inside.gone _ some)
-
-pub returns-clause-rest : goal.returns-clause-rest
-returns-clause-rest c = one_more c.self.inside.items.items c.args.self.now c.self.inside.gone c.self.view_is
 
 pub invariant_of-self : goal.invariant_of-self
 invariant_of-self c =
-    let some = inside c.self.inside.items.items c.args.self.now c.self.inside.gone c.self.view_is c.requires in (
-      omega (arith, some),
-      IsRising-one_more c.self.inside.items.items c.args.self.now c.self.inside.gone c.self.view_is
-          (subst AreActivesRising c.self.view_is c.self.invariant.1),
-      c.self.invariant.2,
-      c.self.invariant.3,
+    let s = c.self.inside in
+    let ring = c.self.invariant in
+    let some : 0 < s.count =
+    omega (arith, c.requires, count_is s.first s.count s.places.items c.args.self.now ring c.self.view_is) in
+    rw c.place_from-self-inside.ensures (
+      ring.0,
+      place_inside s.first 1,
+      omega (arith, ring.2),
+      rw (popped s.first s.places.items ring.0 ring.1 s.count some ring.2) (IsRising-behind _ ring.3),
     )
+
+pub returns-clause-rest : goal.returns-clause-rest
+returns-clause-rest c =
+    let s = c.self.inside in
+    let ring = c.self.invariant in
+    let some : 0 < s.count =
+    omega (arith, c.requires, count_is s.first s.count s.places.items c.args.self.now ring c.self.view_is) in
+    rw c.place_from-self-inside.ensures
+    (popped s.first s.places.items ring.0 ring.1 s.count some ring.2 ∙ ap (drop 1) c.self.view_is)
+
+pub returns-clause-value : goal.returns-clause-value
+returns-clause-value c =
+    let s = c.self.inside in
+    let ring = c.self.invariant in
+    let some : 0 < s.count =
+    omega (arith, c.requires, count_is s.first s.count s.places.items c.args.self.now ring c.self.view_is) in
+    let old = c.index-oldest.result.now in
+    oldest_is s.first s.count s.places.items c.args.self.now ring c.self.view_is some old
+    ∙ ap (λ a. a ∷ drop 1 c.args.self.now) (sym c.index-oldest.ensures) ∙ ap (λ l. old ∷ l) (sym (returns-clause-rest c))

@@ -1,5 +1,0 @@
-use Rattle.std.proofs.Common.{rules}
-use Rattle.retire_squash.proofs.active_list.ActiveList.is_empty.Goals as goal
-
-pub returns : goal.returns
-returns c = search rules
