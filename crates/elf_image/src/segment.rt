@@ -29,7 +29,8 @@ impl Clone for Segment {
     fn clone(&self) -> Result<Segment, AllocError> {
         Ok(Segment {
             address: self.address,
-            bytes: self.bytes.clone()?,
+            // At once: a list's own clone goes byte by byte.
+            bytes: Vec::from_slice(*self.bytes.allocator(), self.bytes.as_slice())?,
             flags: self.flags,
         })
     }

@@ -19,6 +19,9 @@ use events::Record;
 impl Plain {
     /// One whole instruction of a hart. Refused, in this order: there is no such hart, it isn't
     /// going, or its instruction puts a byte out and the output is full. Nothing changes then.
+    ///
+    /// It stands in its two callers, or the record would go to them through memory.
+    #[inline(always)]
     pub fn step(&mut self, hart: u8) -> Result<Record, Stopped>
         ensures done { IfOk result (λ said. InEachRun self.old
             (λ setup before. IsStep setup self.old.room before hart said self.new)) }

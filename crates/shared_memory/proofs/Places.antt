@@ -30,6 +30,10 @@ pub written_there : (addr place n datum a k before : ℕ) → ram_start + place 
     → written_byte (write_of place n datum) k before ≡ written_byte (write_of addr n datum) a before
 written_there addr place n datum a k before at there = grind arith
 
+-- A write of no bytes changes nothing.
+pub nothing_written : (place datum k before : ℕ) → before ≡ written_byte (write_of place 0 datum) k before
+nothing_written place datum k before = grind (arith, nat_tests)
+
 -- Where a read or a write has no fault, its first byte is in RAM.
 pub read_within : (image : ProgramImage) (addr n : ℕ) → read_fault image addr n ≡ None → ram_start ≤ addr
 read_within image addr n none = grind (arith, nat_tests)

@@ -1,7 +1,7 @@
 ghost use Rattle.std.specs.Prelude.{◌≡◌, ℕ, ◌+◌, ◌-◌, ◌<◌, ◌≤◌, ◌==◌, if◌then◌else◌, Some, None};
-ghost use Rattle.std.specs.Prelude.{IfOk, length, slice_index};
+ghost use Rattle.std.specs.Prelude.{IfOk};
 ghost use Rattle.numbers.specs.Sizes.{most_harts};
-ghost use Rattle.elf_image.specs.Image.{IsWellFormed, ram_start, byte_in, in_ram, touches_code};
+ghost use Rattle.elf_image.specs.Image.{ram_start, in_ram, touches_code};
 ghost use Rattle.smt_model.specs.Bytes.{number_at, write_of};
 ghost use Rattle.smt_model.specs.Faults.{read_fault, write_fault};
 ghost use Rattle.smt_model.specs.Reservations.{holds_word};
@@ -10,7 +10,8 @@ ghost use Rattle.shared_memory.specs.Contents.{IsStart, IsWritten, byte_of, rese
 ghost use Rattle.shared_memory.specs.Contents.{access_fault};
 
 use crate::access::AccessKind;
-use crate::bytes::{number_in, put_number};
+use crate::bytes::put_number;
+use crate::laid::{first_bytes, laid_byte, laid_number, lay_up_to};
 use crate::reservations::{Reservations, end_on_word, held_by, is_on_word};
 use elf_image::{Image, RAM_START};
 use events::Cause;
@@ -23,20 +24,21 @@ use std::marker::Model;
 #[derive(Drop)]
 pub struct Memory {
     image: Image,
-    /// The bytes of RAM, by rising address.
+    /// The bytes of RAM that are laid, by rising address; there is room for all.
     bytes: Vec<u8>,
     reserved: Reservations,
 }
 
 impl Model for Memory {
-    ghost use Rattle.std.specs.Prelude.{◌≡◌, length};
     ghost use Rattle.shared_memory.specs.Contents.{Contents};
 
     ghost Value = { Contents };
 
-    ghost view = { λ a. record { image = a.image; bytes = a.bytes.items; reserved = a.reserved } };
+    ghost use Rattle.shared_memory.specs.MemoryInside.{contents_of, IsSound};
 
-    ghost invariant = { λ a. length a.bytes.items ≡ a.image.ram };
+    ghost view = { contents_of };
+
+    ghost invariant = { IsSound };
 }
 
 impl Memory {
@@ -77,7 +79,7 @@ impl Memory {
         requires no_fault { read_fault self.now.image addr n ≡ None }
         ensures { result ≡ number_at (byte_of self.now) addr n }
     {
-        number_in(&self.bytes, place_of(addr), n)
+        laid_number(&self.bytes, place_of(addr), n)
     }
 
     /// The byte at an address, where a load has no fault.
@@ -85,7 +87,7 @@ impl Memory {
         requires { read_fault self.now.image addr 1 ≡ None }
         ensures { result ≡ byte_of self.now addr }
     {
-        self.bytes[place_of(addr)]
+        laid_byte(&self.bytes, place_of(addr))
     }
 
     /// Writes the lowest 1, 2 or 4 bytes of a number, where a store has no fault, and ends every
@@ -95,7 +97,9 @@ impl Memory {
         requires no_fault { write_fault self.old.image addr n ≡ None }
         ensures { IsWritten (write_of addr n datum) self.old self.new }
     {
-        put_number(self.bytes.as_mut_slice(), place_of(addr), n, datum);
+        let place = place_of(addr);
+        lay_up_to(&mut self.bytes, place);
+        put_number(self.bytes.as_mut_slice(), place, n, datum);
         end_on_word(&mut self.reserved, addr);
     }
 
@@ -187,24 +191,9 @@ impl Memory {
 }
 
 /// The place in RAM of an address there.
-fn place_of(addr: u32) -> usize
+pub(crate) fn place_of(addr: u32) -> usize
     requires { ram_start ≤ addr }
     ensures { result ≡ addr - ram_start }
 {
     (addr - RAM_START) as usize
-}
-
-/// The bytes of RAM as an image has them.
-fn first_bytes(image: &Image, alloc: Global) -> Result<Vec<u8>, AllocError>
-    ensures length { IfOk result (λ bytes. length bytes.items ≡ image.now.ram) }
-    ensures bytes { IfOk result (λ bytes. (k : ℕ) → k < image.now.ram
-        → slice_index bytes.items k ≡ byte_in image.now (ram_start + k)) }
-    ensures well_formed { IsWellFormed image.now }
-{
-    let size = image.ram().bytes();
-    let mut bytes = Vec::with_capacity(alloc, size as usize)?;
-    for addr in RAM_START..RAM_START + size {
-        bytes.push(image.byte(addr).unwrap_or(0))?;
-    }
-    Ok(bytes)
 }

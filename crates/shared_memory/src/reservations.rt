@@ -1,6 +1,6 @@
 //! One reservation a hart: the address of an aligned word.
 
-ghost use Rattle.std.specs.Prelude.{◌≡◌, ℕ, ◌<◌, slice_index_or, Some, None};
+ghost use Rattle.std.specs.Prelude.{◌≡◌, ℕ, ◌<◌, ◌==◌, if◌then◌else◌, length, slice_index_or, Some, None};
 ghost use Rattle.numbers.specs.Sizes.{most_harts};
 ghost use Rattle.smt_model.specs.Reservations.{reservation_after_write, holds_word};
 ghost use Rattle.events.specs.declared.effect.Written.{Written};
@@ -18,14 +18,15 @@ pub fn held_by(reserved: &Reservations, hart: u8) -> Option<u32>
     reserved[usize::from(hart)]
 }
 
-/// What is left of a reservation after a write at an address: a write ends every reservation on
-/// the word that it touches.
-pub fn left_after_write(held: Option<u32>, addr: u32) -> Option<u32>
-    ensures { (w : Written) → w.addr ≡ addr → result ≡ reservation_after_write (Some w) held }
+/// Whether a write at an address ends a reservation: it does on the word that it touches.
+#[inline]
+fn ends(held: Option<u32>, addr: u32) -> bool
+    ensures { (w : Written) → w.addr ≡ addr
+        → reservation_after_write (Some w) held ≡ (if result then None else held) }
 {
     match held {
-        Some(word) if word - word % 4 != addr - addr % 4 => Some(word),
-        _ => None,
+        Some(word) => word - word % 4 == addr - addr % 4,
+        None => false,
     }
 }
 
@@ -35,7 +36,22 @@ pub fn end_on_word(reserved: &mut Reservations, addr: u32)
         ≡ reservation_after_write (Some w) (slice_index_or reserved.old h None) }
 {
     for hart in 0..HART_ROOM {
-        reserved[hart] = left_after_write(reserved[hart], addr);
+        end_of_hart(reserved, hart, addr);
+    }
+}
+
+/// Ends the reservation of one hart, where a write at an address does. Most harts have none, and then
+/// nothing is stored.
+#[inline(always)]
+fn end_of_hart(reserved: &mut Reservations, hart: usize, addr: u32)
+    requires { hart < most_harts }
+    ensures length { length reserved.new ≡ length reserved.old }
+    ensures held { (w : Written) (h : ℕ) → w.addr ≡ addr → slice_index_or reserved.new h None
+        ≡ (if h == hart then reservation_after_write (Some w) (slice_index_or reserved.old h None)
+        else slice_index_or reserved.old h None) }
+{
+    if ends(reserved[hart], addr) {
+        reserved[hart] = None;
     }
 }
 

@@ -9,4 +9,4 @@ returns c =
     let within = read_within m.image c.args.addr c.args.n c.requires.no_fault in
     let there = number_there m c.args.addr c.place_of.result c.args.n (omega (arith, c.place_of.ensures, within)) in
     let same = c.deref.ensures.value ∙ ap (λ m. m.bytes) c.self.view_is in
-    c.number_in.ensures ∙ ap (λ xs. number_at (slice_index xs) c.place_of.result c.args.n) same ∙ sym there
+    c.laid_number.ensures ∙ ap (λ xs. number_at (slice_index xs) c.place_of.result c.args.n) same ∙ sym there

@@ -1,4 +1,4 @@
-use Rattle.std.proofs.Common.{Some, length, slice_index, refl, sym, ap, ◌∙◌, arith}
+use Rattle.std.proofs.Common.{ℕ, Some, length, slice_index, refl, sym, ap, ◌∙◌, arith}
 use Rattle.std.proofs.lemmas.List.{with_items_is}
 use Rattle.smt_model.specs.Bytes.{write_of, written_byte}
 use Rattle.smt_model.specs.Reservations.{reservation_after_write}
@@ -10,13 +10,15 @@ pub returns : goal.returns
 returns c =
     let m = c.args.self.now in
     let within = write_within m.image c.args.addr c.args.n c.requires.no_fault in
-    let long = c.put_number.ensures.length ∙ ap length c.as_mut_slice.ensures.value ∙ sym c.self.inside.bytes.ok.0 in
-    let before = c.as_mut_slice.ensures.value ∙ ap (λ (m : Contents). m.bytes) c.self.view_is in
+    let laid = c.lay_up_to.new.bytes in
+    let long = c.put_number.ensures.length ∙ ap length c.as_mut_slice.ensures.value ∙ sym laid.ok.0 in
+    let before = λ (k : ℕ). ap (λ xs. slice_index xs k) c.as_mut_slice.ensures.value ∙ c.lay_up_to.ensures.bytes k
+    ∙ ap (λ (m : Contents). slice_index m.bytes k) c.self.view_is in
     let w = write_of c.args.addr c.args.n c.args.datum in
-    is_written m _ c.args.addr c.place_of.result c.args.n c.args.datum (omega (arith, c.place_of.ensures, within))
-    (λ k. ap (λ xs. slice_index xs k) (with_items_is c.self.inside.bytes c.put_number.new.bytes long)
+    is_written m _ c.args.addr c.place_of-place.result c.args.n c.args.datum (omega (arith, c.place_of-place.ensures, within))
+    (λ k. ap (λ xs. slice_index xs k) (with_items_is laid c.put_number.new.bytes long)
     ∙ c.put_number.ensures.bytes k
-    ∙ ap (λ xs. written_byte (write_of c.place_of.result c.args.n c.args.datum) k (slice_index xs k)) before)
+    ∙ ap (written_byte (write_of c.place_of-place.result c.args.n c.args.datum) k) (before k))
     (ap (λ (m : Contents). m.image) c.self.view_is)
     (λ h. c.end_on_word.ensures w h refl
     ∙ ap (λ (m : Contents). reservation_after_write (Some w) (reserved_of m h)) c.self.view_is)
