@@ -9,7 +9,6 @@ use crate::turns::{decode_and_rename, execute, make};
 use core_lock::{Ask, BoardView, LockedCore, Origin, Pass, Reason};
 use smt_core::{Predict, Role};
 use std::sync::Wait;
-use std::thread;
 
 /// What all actors of a run share.
 #[derive(Drop)]
@@ -78,7 +77,7 @@ fn goes_on<N: Naming, G: Gate, P: Predict, R: Wait>(
     match outcome {
         TurnOutcome::Advanced => true,
         TurnOutcome::Idle => {
-            thread::yield_now();
+            shared.desk.await_others(placed, &seen);
             true
         }
         TurnOutcome::Over(reason) => {

@@ -7,6 +7,13 @@ use core_lock::{BOARD_WORDS, Board, BoardView, Origin, Pass, Reason, Seat};
 use numbers::sizes::MOST_ACTORS;
 use std::alloc::{AllocError, Global};
 use std::marker::{Brand, PhantomData};
+use std::thread::yield_now;
+
+/// How many events of others an idle actor waits for before it asks again: as many as fill two latches.
+const AHEAD: u64 = 16;
+
+/// How often it looks at the board for them, which takes no lock.
+const LOOKS: u32 = 100;
 
 /// Which core the actors of a run ask, and at which board their seats are.
 pub(crate) trait Naming: Origin {
@@ -80,6 +87,22 @@ impl<N: Naming> Desk<N> {
         self.board.read(&mut placed.seat)
     }
 
+    /// Gives the processor away until the others have made `AHEAD` events since the board was seen so,
+    /// somebody has asked to stop, or the board was looked at `LOOKS` times.
+    pub(crate) fn await_others(&self, placed: &mut Placed<N>, seen: &BoardView)
+        ensures place { placed.new.seat.place ≡ placed.old.seat.place }
+        ensures posted { placed.new.seat.posted ≡ placed.old.seat.posted }
+    {
+        let wanted = events_on(seen).saturating_add(AHEAD);
+        for _look in 0..LOOKS {
+            yield_now();
+            let now = self.read(placed);
+            if now.stop != 0 || events_on(&now) >= wanted {
+                return;
+            }
+        }
+    }
+
     /// Posts what the pass has counted.
     pub(crate) fn post(&self, placed: &mut Placed<N>, pass: &Pass<N>)
         requires place { pass.now.actor ≡ placed.old.seat.place }
@@ -112,4 +135,13 @@ pub(crate) fn place_all<N: Naming>(
         all.push(Placed::new(seat))?;
     }
     Ok(all)
+}
+
+/// How many events all actors have posted.
+fn events_on(view: &BoardView) -> u64 {
+    let mut events: u64 = 0;
+    for count in view.counts.iter() {
+        events = events.saturating_add(*count);
+    }
+    events
 }

@@ -15,8 +15,21 @@ use crate::reader::CoreReader;
 use elf_image::Image;
 use numbers::sizes::MOST_ACTORS;
 use smt_core::{Config, Core, Finished, Predict};
+use std::hint::spin_loop;
 use std::sync::ledger::Blank;
-use std::sync::{Mutex, Wait};
+use std::sync::{Mutex, MutexGuard, Wait};
+use std::thread::yield_now;
+
+/// How often a thread tries the lock before it waits for it. A step takes a tenth of what it takes to
+/// put a thread to sleep and to wake it.
+const TRIES: u32 = 20;
+
+/// After so many tries it also gives its processor away between two of them.
+const PATIENT_TRIES: u32 = 4;
+
+/// For so many turns of a loop it stays away from the lock between two tries, so that whoever has it
+/// makes several steps in a row.
+const SPINS: u32 = 100;
 
 /// A core that many threads may ask, one at a time.
 #[derive(Drop)]
@@ -62,7 +75,7 @@ impl<L: Origin> LockedCore<L> {
             × (old.setup ≡ L.setup) × (old.limit ≡ L.limit)
             × Replied pass.old.actor ask old result.said new × (result.going ≡ going_in new) }
     {
-        self.lock.lock(rt).step(pass, ask, predict)
+        self.take(rt).step(pass, ask, predict)
     }
 
     /// Waits for the lock, and shows the core to a reader, once, with whether the history holds of
@@ -74,6 +87,20 @@ impl<L: Origin> LockedCore<L> {
             × C.reads reader.old core told reader.new }
     {
         self.lock.lock(rt).look(pass, reader);
+    }
+
+    /// Takes the lock: tries it for a while, and then waits for it.
+    fn take<R: Wait>(&self, rt: &R) -> MutexGuard<'_, Held<L>> {
+        for tried in 0..TRIES {
+            if let Some(guard) = self.lock.try_lock() {
+                return guard;
+            }
+            stay_away();
+            if tried >= PATIENT_TRIES {
+                yield_now();
+            }
+        }
+        self.lock.lock(rt)
     }
 
     /// Gives up the lock, with all passes. `counts` are the passes' own and add up to the
@@ -94,5 +121,12 @@ impl<L: Origin> LockedCore<L> {
     {
         let LockedCore { lock } = self;
         lock.into_inner().finish(passes, image, config)
+    }
+}
+
+/// Lets a moment pass.
+fn stay_away() {
+    for _turn in 0..SPINS {
+        spin_loop();
     }
 }
