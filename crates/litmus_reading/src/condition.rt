@@ -25,20 +25,27 @@ pub(crate) struct Asked {
     pub alloc: Global,
 }
 
-/// Reads conditions with `\/` between. What its terms look at goes behind `terms`; `room` says how many levels may
-/// be nested in it.
+/// What has been read of a condition that stands alone: how many terms and `true`, and what the terms look at.
+#[derive(Drop)]
+pub(crate) struct Leaves {
+    pub count: usize,
+    pub observed: Vec<Observed>,
+}
+
+/// Reads conditions with `\/` between, whose leaves go behind `leaves`; `room` says how many levels may be nested in
+/// it.
 #[cycle(condition)]
 pub(crate) fn read_condition<'a>(
     asked: &Asked,
     words: &'a [Word],
     room: u8,
-    terms: &mut Vec<Observed>,
+    leaves: &mut Leaves,
 ) -> Result<(Condition, &'a [Word]), Stop>
     ensures { IfOk result (λ p. ConditionTaken 2 words.now p.0 p.1.now) }
 {
-    let (mut condition, mut rest) = read_both(asked, words, room, terms)?;
+    let (mut condition, mut rest) = read_both(asked, words, room, leaves)?;
     while let Some(behind) = behind_mark(rest, Mark::Or) {
-        let (right, behind) = read_both(asked, behind, room, terms)?;
+        let (right, behind) = read_both(asked, behind, room, leaves)?;
         condition = either(condition, right, asked.alloc)?;
         rest = behind;
     }
@@ -51,13 +58,13 @@ fn read_both<'a>(
     asked: &Asked,
     words: &'a [Word],
     room: u8,
-    terms: &mut Vec<Observed>,
+    leaves: &mut Leaves,
 ) -> Result<(Condition, &'a [Word]), Stop>
     ensures { IfOk result (λ p. ConditionTaken 1 words.now p.0 p.1.now) }
 {
-    let (mut condition, mut rest) = read_alone(asked, words, room, terms)?;
+    let (mut condition, mut rest) = read_alone(asked, words, room, leaves)?;
     while let Some(behind) = behind_mark(rest, Mark::And) {
-        let (right, behind) = read_alone(asked, behind, room, terms)?;
+        let (right, behind) = read_alone(asked, behind, room, leaves)?;
         condition = both(condition, right, asked.alloc)?;
         rest = behind;
     }
@@ -70,22 +77,22 @@ fn read_alone<'a>(
     asked: &Asked,
     words: &'a [Word],
     room: u8,
-    terms: &mut Vec<Observed>,
+    leaves: &mut Leaves,
 ) -> Result<(Condition, &'a [Word]), Stop>
     ensures { IfOk result (λ p. ConditionTaken 0 words.now p.0 p.1.now) }
 {
     if let Some(behind) = behind_mark(words, Mark::Not) {
         let room = deeper(asked, words, room)?;
-        let (inner, rest) = read_alone(asked, behind, room, terms)?;
+        let (inner, rest) = read_alone(asked, behind, room, leaves)?;
         return Ok((negation(inner, asked.alloc)?, rest));
     }
     if let Some(behind) = behind_mark(words, Mark::LeftParenthesis) {
         let room = deeper(asked, words, room)?;
-        let (inner, rest) = read_condition(asked, behind, room, terms)?;
+        let (inner, rest) = read_condition(asked, behind, room, leaves)?;
         let rest = mark(rest, Mark::RightParenthesis, asked.end)?;
         return Ok((inner, rest));
     }
-    read_leaf(asked, words, terms)
+    read_leaf(asked, words, leaves)
 }
 
 /// How many levels may be nested in what is nested here.
@@ -102,21 +109,29 @@ fn deeper(asked: &Asked, words: &[Word], room: u8) -> Result<u8, Stop>
 fn read_leaf<'a>(
     asked: &Asked,
     words: &'a [Word],
-    terms: &mut Vec<Observed>,
+    leaves: &mut Leaves,
 ) -> Result<(Condition, &'a [Word]), Stop>
     ensures { IfOk result (λ p. ConditionTaken 0 words.now p.0 p.1.now) }
 {
     if let Some(behind) = behind_mark(words, Mark::True) {
+        count_leaf(asked, words, leaves)?;
         return Ok((Condition::Always, behind));
     }
     let (observed, rest) = read_observed(asked, words)?;
     let rest = mark(rest, Mark::Equals, asked.end)?;
     let (value, rest) = value(rest, asked.end)?;
-    if terms.len() >= MOST_TERMS {
+    count_leaf(asked, words, leaves)?;
+    leaves.observed.push(observed)?;
+    Ok((Condition::Holds(Term { observed, value }), rest))
+}
+
+/// Counts one more, `true` too: what follows a condition by recursion goes as deep as there are.
+fn count_leaf(asked: &Asked, words: &[Word], leaves: &mut Leaves) -> Result<(), Stop> {
+    if leaves.count >= MOST_TERMS {
         return Err(Stop::at(start_of(words, asked.end), Fault::TooManyTerms));
     }
-    terms.push(observed)?;
-    Ok((Condition::Holds(Term { observed, value }), rest))
+    leaves.count += 1;
+    Ok(())
 }
 
 /// Reads what is looked at: `0:x7`, `x` or `[x]`.

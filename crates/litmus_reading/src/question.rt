@@ -1,6 +1,6 @@
 //! What stands behind the rows: what is looked at, and the condition.
 
-use crate::condition::{Asked, read_condition, read_observed};
+use crate::condition::{Asked, Leaves, read_condition, read_observed};
 use crate::refused::{Fault, Stop};
 use crate::take::{begins_with, behind_mark, mark, next, nothing};
 use crate::word::{Mark, Token, Word};
@@ -21,14 +21,17 @@ pub(crate) fn read_question(asked: &Asked, words: &[Word]) -> Result<Question, S
     let mut listed = Vec::new(asked.alloc);
     let rest = read_locations(asked, words, &mut listed)?;
     let (quantifier, rest) = read_quantifier(rest, asked.end)?;
-    let mut terms = Vec::new(asked.alloc);
-    let (condition, rest) = read_condition(asked, rest, MOST_NESTED as u8, &mut terms)?;
+    let mut leaves = Leaves {
+        count: 0,
+        observed: Vec::new(asked.alloc),
+    };
+    let (condition, rest) = read_condition(asked, rest, MOST_NESTED as u8, &mut leaves)?;
     nothing(rest, Fault::BehindCondition)?;
     Ok(Question {
         quantifier,
         condition,
         listed,
-        terms,
+        terms: leaves.observed,
     })
 }
 

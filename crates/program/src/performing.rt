@@ -10,7 +10,7 @@ ghost use Rattle.program.specs.Performed.{typed_step};
 ghost use Rattle.program.specs.Words.{words_refused, IsWordsStatus};
 
 use crate::files::read_file;
-use crate::trace_file::{Places, TraceFile};
+use crate::trace_file::{Places, TraceFile, file_to_write};
 use crate::words::{refuse_words, take_words, texts};
 use actors::Gate;
 use commands::{Inputs, Refused, Unread, perform, perform_typed, refuse};
@@ -147,7 +147,7 @@ impl<S: Files + Input + Threads + Wait + Sync, G: Gate + Sync, P: Predict + Copy
         let files = line.files();
         let read = ReadInputs::of(self.system, &files, self.alloc);
         let places = Places {
-            file: files.trace,
+            file: file_to_write(&files),
             folder: folder_of(line),
         };
         let mut trace = TraceFile::new(self.system, places, self.alloc);
@@ -181,7 +181,7 @@ impl<S: Files + Input + Threads + Wait + Sync, G: Gate + Sync, P: Predict + Copy
         files.second = None;
         let read = ReadInputs::of(self.system, &files, self.alloc);
         let places = Places {
-            file: files.trace,
+            file: file_to_write(&files),
             folder: None,
         };
         let mut trace = TraceFile::new(self.system, places, self.alloc);

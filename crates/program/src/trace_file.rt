@@ -1,6 +1,7 @@
 ghost use Rattle.std.specs.Prelude.{◌≡◌, None, false, true};
 
 use event_text::{Broken, Over, Sink};
+use sim_inputs::Files as NamedFiles;
 use std::alloc::Global;
 use std::fs;
 use std::rt::Files;
@@ -13,6 +14,18 @@ pub struct Places<'a> {
     pub file: Option<&'a str>,
     /// The folder for the files of ends.
     pub folder: Option<&'a str>,
+}
+
+/// The file that a line writes; none where it is one that the line reads, by the same name, which is
+/// spared.
+pub fn file_to_write<'a>(files: &NamedFiles<'a>) -> Option<&'a str> {
+    let written = files.trace?;
+    for read in [files.config, files.image, files.second] {
+        if read == Some(written) {
+            return None;
+        }
+    }
+    Some(written)
 }
 
 /// The files that a line has written, as a sink. Each is made as the first of its bytes are put, or

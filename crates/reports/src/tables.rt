@@ -9,7 +9,7 @@ use issue_queue::Entry;
 use numbers::Phys;
 use numbers::sizes::MOST_REGISTERS;
 use rename_map::HartMaps;
-use retire_squash::{Active, Stage};
+use retire_squash::{Active, ActiveList, Stage};
 use smt_core::Core;
 use smt_model::Status;
 use std::io;
@@ -51,7 +51,7 @@ fn write_hart<W: Write>(
     write_standing(hart, state, reserved, out)?;
     write_latch("fetched", state.decode_latch.as_slice(), out)?;
     write_latch("decoded", state.rename_latch.as_slice(), out)?;
-    write_flight(state.active.items(), out)?;
+    write_flight(&state.active, out)?;
     write_map(&state.maps, out)?;
     write_committed(&state.maps, out)
 }
@@ -88,12 +88,19 @@ fn write_latch<W: Write>(name: &str, latch: &[Slot], out: &mut W) -> io::Result<
     end_list(latch.is_empty(), out)
 }
 
-fn write_flight<W: Write>(flight: &[Active], out: &mut W) -> io::Result<()> {
+fn write_flight<W: Write>(flight: &ActiveList, out: &mut W) -> io::Result<()> {
     out.write_all(b"flight")?;
-    for active in flight {
+    let (older, newer) = flight.as_slices();
+    write_actives(older, out)?;
+    write_actives(newer, out)?;
+    end_list(flight.is_empty(), out)
+}
+
+fn write_actives<W: Write>(actives: &[Active], out: &mut W) -> io::Result<()> {
+    for active in actives {
         write_active(active, out)?;
     }
-    end_list(flight.is_empty(), out)
+    Ok(())
 }
 
 /// An instruction in flight: its number, its stage's letter and its register.
