@@ -9,7 +9,7 @@ typed() {
     shift
     rm -f ready
     { await ready && by_pieces <typed; } |
-        script -qec "stty -echo $* && : >ready && exec '$smtsim' $words" /dev/null >terminal
+        bounded_script -qec "stty -echo $* && : >ready && exec '$smtsim' $words" /dev/null >terminal
     status=$?
     tr -d '\r' <terminal
     return "$status"
@@ -19,6 +19,31 @@ typed() {
 await() {
     turns=1000
     until [ -e "$1" ] || [ "$turns" -eq 0 ]; do
+        sleep 0.02
+        turns=$((turns - 1))
+    done
+}
+
+# script of util-linux, which would stop for good where the system kills what it runs.
+bounded_script() { timeout -k 5 90 script "$@"; }
+
+# shown_by WORDS END: runs the program on words as a shell reads them, at a terminal of its own, and
+# ends it as soon as a line of progress that ends so was shown there, or after 20 seconds. What stands
+# on the terminal is then in the file `shown`, each line a line. (By no Ctrl-C: where the suite runs in
+# the background, that is passed over.)
+shown_by() {
+    rm -f terminal seen
+    { await_shown "$2" && : >seen; } &
+    bounded_script -qefc "'$smtsim' $1 & shown=\$!; . '$here/typed.sh'; await seen; kill \$shown; wait" \
+        /dev/null </dev/null >terminal
+    wait
+    tr '\r' '\n' <terminal >shown
+}
+
+# Waits until such a line stands in the file `terminal`, for 20 seconds at the most.
+await_shown() {
+    turns=1000
+    until grep -qs "$1.\[K" terminal || [ "$turns" -eq 0 ]; do
         sleep 0.02
         turns=$((turns - 1))
     done

@@ -93,6 +93,12 @@ PROGRAMS = {
     # beq x0,x0 to pc + 6; bne x0,x0 to pc + 6, which isn't taken; ebreak
     "branch_by_six": [0x00000363],
     "branch_by_six_not_taken": [0x00001363, 0x00100073],
+    # lui x6,0x80001; slli x7,x10,2; add x6,x6,x7; lr.w x5,(x6): each hart reserves its own word;
+    # then addi x10,x10,3; addi x17,x0,93; addi x5,x5,1; mul x8,x5,x17; ecall; addi x9,x9,1 and more
+    "reserve_own_word": [
+        0x80001337, 0x00251393, 0x00730333, 0x100322AF, 0x00350513, 0x05D00893, 0x00128293,
+        0x03128433, 0x00000073, 0x00148493, 0x00148493, 0x00148493, 0x00148493,
+    ],
     # 16 times addi x5,x5,1; all in a chain
     "chain": [0x00128293] * 16,
     # twenty loads of x5 from 0(x0); twenty stores

@@ -15,6 +15,8 @@ import image
 import inputs
 import judge
 import judge_inputs
+import litmus
+import litmus_tests
 import outcomes_compare
 import program
 import random_runs
@@ -22,8 +24,9 @@ import schedule
 import traces
 from trace_changes import changed
 
-# How many seconds a model has for one case.
+# How many seconds a model has for one case, and how many states that of a litmus test looks at.
 PATIENCE = 10
+MOST_LITMUS_STATES = 10000
 
 
 class TooLong(Exception):
@@ -119,6 +122,17 @@ def by_every_order(line):
     return "".join(f"{text}\n" for text in lines), "", 0
 
 
+def by_litmus(line):
+    """What is said of a litmus test, in the words that a program's output is read in."""
+    with open(line[1], "rb") as file:
+        data = file.read()
+    most = int(line[3]) if len(line) > 2 else litmus.MOST_STATES
+    try:
+        return litmus.said(data, most, MOST_LITMUS_STATES)
+    except litmus.TooMany:
+        raise TooLong from None
+
+
 # ---- How a case is made
 
 
@@ -187,6 +201,15 @@ def some_outcomes(r):
     return files, line + (["--exists", exists] if exists is not None else [])
 
 
+def some_litmus(r):
+    """A litmus test; where a branch goes back there may be more states than the program should look for."""
+    test, loops = litmus_tests.some_test(r)
+    line = ["litmus", "test.litmus"]
+    if loops or r.random() < 0.15:
+        line += ["--states", str(20000 if loops else r.choice((1, 4, 10, 30, 1000, 2**32 - 1)))]
+    return {"test.litmus": test}, line
+
+
 KINDS = {
     kind.name: kind
     for kind in (
@@ -196,6 +219,7 @@ KINDS = {
         Kind("script", some_history, by_history_script),
         Kind("chart", some_chart, by_chart),
         Kind("outcomes", some_outcomes, by_every_order, "states "),
+        Kind("litmus", some_litmus, by_litmus),
     )
 }
 

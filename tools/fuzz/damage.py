@@ -1,8 +1,18 @@
 """Damage to a file: of its bytes, or, as its name says, of a header's fields or of the words of a text."""
 
+import re
+
 BYTES = (0, 1, 9, 10, 13, 32, 34, 42, 45, 46, 48, 57, 61, 65, 127, 128, 255)
-NUMBERS = (0, 1, 2, 3, 4, 5, 7, 8, 32, 51, 52, 53, 84, 256, 4095, 4096, 65535, 65536, 2**31 - 1, 2**31, 2**31 + 256, 2**32 - 1)
-WORDS = (b"", b"-", b"0", b"00", b"-1", b"16", b"256", b"4294967296", b"F0*100001", b"Z", b"\xff", b"\xc3\xa9", b"[", b"= 1")
+NUMBERS = (0, 1, 2, 3, 4, 5, 7, 8, 32, 51, 52, 53, 84, 256, 4095, 4096, 65535, 65536)
+NUMBERS += (2**31 - 1, 2**31, 2**31 + 256, 2**32 - 1)
+WORDS = (b"", b"-", b"0", b"00", b"-1", b"16", b"256", b"4294967296", b"F0*100001")
+WORDS += (b"Z", b"\xff", b"\xc3\xa9", b"[", b"= 1")
+LITMUS_WORDS = rb"""
+; | = : , ( ) [ ] { } ~ /\ \/ - (* *) " %
+not true exists forall locations filter int P0 P1 P9 L0 L9 x w x0 x5 x32 a0 a.b
+0 1 01 7 0x 0xA 0xffffffff 4294967296 2048
+nop lw sw li lr.w.aqrl sc.w amoadd amomaxu.w.rl slli beq bnez fence fence.i fadd.s
+""".split()
 
 
 def cut(r, data):
@@ -47,6 +57,20 @@ def other_word(r, data):
     return b" ".join(words)
 
 
+def other_litmus_words(r, data):
+    """Another word in a litmus test, also one that stands elsewhere in it, one more, one less, or two in each other's
+    place."""
+    parts = re.findall(rb"\s+|[\w.]+|[^\w\s]", data) or [b""]
+    at, word = r.randrange(len(parts)), r.choice(LITMUS_WORDS if r.random() < 0.6 else parts)
+    way = r.randrange(4)
+    if way == 3:
+        other = r.randrange(len(parts))
+        parts[at], parts[other] = parts[other], parts[at]
+    else:
+        parts[at : at + (way > 0)] = [] if way == 2 else [word]
+    return b"".join(parts)
+
+
 def other_lines(r, data):
     lines = data.split(b"\n")
     one, other = r.randrange(len(lines)), r.randrange(len(lines))
@@ -60,6 +84,7 @@ def damaged(r, name, data):
     """A file with one to three damages."""
     ways = [cut, without, doubled, flipped, other_byte]
     ways += [other_field] * 6 if name.endswith(".elf") else [other_word, other_word, other_lines]
+    ways += [other_litmus_words] * 12 if name.endswith(".litmus") else []
     for _ in range(r.choice((1, 1, 1, 2, 3))):
         data = r.choice(ways)(r, data)
     return data

@@ -1,5 +1,7 @@
 """A case that differs, made smaller while it still does."""
 
+import re
+
 
 def pieces(name, data):
     """A file's parts, of which some may be left out: its words, its lines, or its bytes."""
@@ -7,6 +9,8 @@ def pieces(name, data):
         return [word + b" " for word in data.replace(b"\n", b" ").split(b" ") if word]
     if name.endswith(".elf"):
         return [data]
+    if name.endswith(".litmus"):
+        return re.findall(rb"\s+|[\w.]+|[^\w\s]", data)
     return data.splitlines(keepends=True)
 
 

@@ -9,7 +9,7 @@ use crate::first_program::{End, FIRST_END, end_of, ended_core, first_core, first
 use crate::rows::{holds, holds_at};
 use elf_image::Image;
 use events::{Event, Next, Outcome};
-use smt_core::{Answer, CompleteAnswer, Core, CoreRefused, IssueAnswer};
+use smt_core::{Answer, CompleteAnswer, Core, CoreRefused, Done, IssueAnswer};
 use std::alloc::Global;
 use std::process::Abort;
 use test_cores::{Always, Behind};
@@ -242,6 +242,80 @@ fn another_actors_job_is_a_strangers(rt: HostRuntime) {
     assert!(rt; exchanged.lent_after_stranger == 2);
     assert!(rt; exchanged.own == done);
     assert!(rt; exchanged.lent_after_own == 1);
+}
+
+/// A core of the first program whose first two instructions wait in the queue.
+fn with_two(alloc: Global) -> Option<Core> {
+    let mut core = first_core(config(1, 64, 16, 1), 100, alloc)?;
+    for _ in 0..2 {
+        core.fetch(0, &mut Behind);
+        core.decode(0, 0);
+        core.rename(0, 0);
+    }
+    Some(core)
+}
+
+/// What is done of the second job of such a core.
+fn second_done(core: &mut Core) -> Option<Done> {
+    let first = issue(core, 0)?;
+    core.complete(0, first);
+    issue(core, 0)
+}
+
+/// What a core answers to what was done of some job.
+fn answer_to(core: &mut Core, done: Option<Done>) -> Option<CompleteAnswer> {
+    match done {
+        Some(done) => Some(core.complete(0, done)),
+        None => None,
+    }
+}
+
+/// What a core whose first job is out answers to what was done of a second job of another core, and
+/// of the first one of a third, which is the same in all; then to what was done of its own; and how
+/// many jobs are out at the end.
+#[derive(Clone, Copy, Drop)]
+struct Strangers {
+    second: CompleteAnswer,
+    same: CompleteAnswer,
+    own: CompleteAnswer,
+    lent: u32,
+}
+
+fn of_other_cores(alloc: Global) -> Option<Strangers> {
+    let mut core = with_two(alloc)?;
+    let mut other = with_two(alloc)?;
+    let mut third = with_two(alloc)?;
+    let own = issue(&mut core, 0);
+    let second = answer_to(&mut core, second_done(&mut other));
+    let same = answer_to(&mut core, issue(&mut third, 0));
+    let own = answer_to(&mut core, own);
+    Some(Strangers {
+        second: second?,
+        same: same?,
+        own: own?,
+        lent: core.account().lent,
+    })
+}
+
+#[test]
+fn another_cores_job_is_a_strangers_unless_it_is_the_same(rt: HostRuntime) {
+    let outcome = Outcome {
+        value: Some(5),
+        next: Next::Pc(0x8000_0004),
+        addr: None,
+        datum: None,
+        out: None,
+    };
+    let done = CompleteAnswer::Done(Event::Complete {
+        actor: 0,
+        seq: 0,
+        outcome,
+    });
+    let answers = of_other_cores(rt.alloc()).expect(&rt, "jobs");
+    assert!(rt; answers.second == CompleteAnswer::Stranger);
+    assert!(rt; answers.same == done);
+    assert!(rt; answers.own == CompleteAnswer::Stranger);
+    assert!(rt; answers.lent == 0);
 }
 
 /// What a core answers to fetches by the actors 1 and 9, a decode, a rename for hart 1 and

@@ -3,7 +3,7 @@
 
 mod refusing;
 
-use crate::placing::image_of_segments;
+use crate::placing::{Placed, image_of_segments};
 use crate::rows::holds_at;
 use elf_image::Image;
 use std::process::Abort;
@@ -73,5 +73,46 @@ fn segments_lie_where_their_headers_say_and_end_in_zeros(rt: HostRuntime) -> Res
     let image = image_of_segments(0x8000_0204, &segments, 4096, rt.alloc()).ok_or("refused")?;
     assert!(rt; (image.entry(), image.code()) == (0x8000_0204, (0x8000_0200, 12)));
     has(&rt, &image, &PLACED_WORDS, &PLACED_BYTES);
+    Ok(())
+}
+
+/// Where the k-th segment of data lies, at this place behind a multiple of eight: its offset in the
+/// file, its address, three bytes of the file, and five in memory.
+fn shifted(k: u32, shift: u32) -> Placed {
+    let behind = shift.wrapping_add(k) % 8;
+    let offset = shift.wrapping_add(k.wrapping_mul(3)) % 8;
+    let address = 0x8000_0100u32
+        .wrapping_add(k.wrapping_mul(16))
+        .wrapping_add(behind);
+    (308 + offset, address, 3, 5, 6)
+}
+
+/// Whether a segment of data has its three bytes, of the bytes 1 to 16 from 308 on in the file, and
+/// zeros before and behind them.
+fn lies_there(image: &Image, segment: Placed) -> bool {
+    let (offset, address, _, _, _) = segment;
+    let first = u8::try_from(offset.wrapping_sub(307)).unwrap_or(0);
+    let bytes = [0, first, first.wrapping_add(1), first.wrapping_add(2), 0, 0];
+    let mut is = true;
+    for (place, byte) in (0..6u32).zip(&bytes) {
+        let at = address.wrapping_add(place).wrapping_sub(1);
+        is &= image.byte(at) == Some(*byte);
+    }
+    is
+}
+
+#[test]
+fn eight_segments_lie_at_every_alignment(rt: HostRuntime) -> Result<(), Fail> {
+    for shift in 0..8 {
+        let mut segments = [(316, 0x8000_0000, 4, 4, 5); 8];
+        for (k, segment) in (1..8).zip(segments[1..].iter_mut()) {
+            *segment = shifted(k, shift);
+        }
+        let image = image_of_segments(0x8000_0000, &segments, 4096, rt.alloc()).ok_or("refused")?;
+        let are = segments[1..]
+            .iter()
+            .all(|segment| lies_there(&image, *segment));
+        holds_at(&rt, shift, are);
+    }
     Ok(())
 }

@@ -23,6 +23,7 @@ fn put(rt: &impl Abort, queue: &mut SlabQueue, seq: u32, hart: u8, op: Op, sourc
     let entry = Entry {
         seq,
         hart,
+        place: 0,
         op,
         pc: 0x8000_0000,
         sources,
@@ -113,6 +114,7 @@ fn an_instruction_is_ready_once_both_operands_are_known(rt: HostRuntime) {
     let product = |sources| Entry {
         seq: 6,
         hart: 0,
+        place: 0,
         op: MUL,
         pc: 0x8000_0000,
         sources,

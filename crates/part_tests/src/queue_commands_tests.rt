@@ -71,6 +71,7 @@ impl Numbers {
         Entry {
             seq: self.next() % 40,
             hart: (self.next() % 3) as u8,
+            place: (self.next() % 64) as u8,
             op,
             pc: 0x8000_0000,
             sources: [self.source(), self.source()],

@@ -59,7 +59,7 @@ fn instructions_leave_from_the_old_end_and_are_cut_from_the_young_end(rt: HostRu
     assert!(rt; active.may_append(10) && !active.may_append(9));
     assert!(rt; !active.is_full() && active.len() == 4);
     assert!(rt; cut_behind_3(&mut active) == [Some(renamed(9)), Some(renamed(5)), None]);
-    assert!(rt; active.items() == [renamed(2), renamed(3)].as_slice());
+    assert!(rt; [active.find(2), active.find(3)] == [Some(renamed(2)), Some(renamed(3))]);
     for seq in [2, 3] {
         let oldest = pop_oldest(&mut active).expect(&rt, "an oldest one");
         assert!(rt; oldest.head == renamed(seq));
@@ -92,12 +92,25 @@ fn a_stage_is_set_at_one_number_alone(rt: HostRuntime) {
     active.append(renamed(2));
     active.append(renamed(3));
     active.append(renamed(5));
-    active.issue(2);
-    active.issue(3);
-    active.complete(3, outcome);
-    active.issue(4);
+    active.issue(0, 2);
+    active.issue(1, 3);
+    active.complete(1, 3, outcome);
+    active.issue(2, 4);
     let (issued, completed) = (Some(Stage::Issued), Some(Stage::Completed(outcome)));
     assert!(rt; stages(&active) == [issued, completed, None, Some(Stage::Renamed)]);
+}
+
+#[test]
+fn an_instruction_is_found_whatever_place_is_told(rt: HostRuntime) {
+    let mut active = ActiveList::new(rt.alloc()).expect(&rt, "a list");
+    active.append(renamed(2));
+    active.append(renamed(3));
+    active.append(renamed(5));
+    assert!(rt; active.next_place() < 64);
+    for place in [0, 1, 2, 63, 64, 255] {
+        assert!(rt; active.find_at(place, 3) == Some(renamed(3)));
+        assert!(rt; active.find_at(place, 4).is_none());
+    }
 }
 
 /// Adds the instruction of this number, where it may be added.
@@ -114,7 +127,7 @@ fn two_hundred_leave_in_order_through_room_for_sixty_four(rt: HostRuntime) {
     let mut active = ActiveList::new(rt.alloc()).expect(&rt, "a list");
     for seq in 0..200u32 {
         assert!(rt; add(&mut active, seq));
-        active.issue(seq);
+        active.issue((seq % 64) as u8, seq);
         if seq >= 40 {
             let oldest = pop_oldest(&mut active).expect(&rt, "an oldest one");
             assert!(rt; oldest.head == oldest.popped && oldest.popped.seq == seq - 40);

@@ -10,7 +10,10 @@ use std::io::Write;
 use std::sync::atomic::{AtomicU64, AtomicUsize, Ordering};
 use std::time::{Clock, Duration};
 
-/// A clock that goes on by as many milliseconds with each reading, from 0 on.
+/// What the clock shows first, in milliseconds: a machine's has gone on long before a run begins.
+const FIRST: u64 = 3_600_000;
+
+/// A clock that goes on by as many milliseconds with each reading.
 #[derive(Drop)]
 struct Ticking {
     step: u64,
@@ -29,7 +32,8 @@ impl Ticking {
 impl Clock for Ticking {
     fn monotonic(&self) -> io::Result<Duration> {
         let readings = self.readings.fetch_add(1, Ordering::SeqCst);
-        Ok(Duration::from_millis(readings.saturating_mul(self.step)))
+        let passed = readings.saturating_mul(self.step);
+        Ok(Duration::from_millis(FIRST.saturating_add(passed)))
     }
 
     fn since_1970(&self) -> io::Result<Duration> {
@@ -190,6 +194,32 @@ fn a_search_shows_its_states_and_those_to_look_at(rt: HostRuntime) {
     assert!(rt; shows_search(true, 1500, 2, shown, rt.alloc()) == Some(true));
     assert!(rt; shows_search(true, 999, 1, "", rt.alloc()) == Some(true));
     assert!(rt; shows_search(false, 1500, 2, "", rt.alloc()) == Some(true));
+}
+
+/// Whether this is what stands on a terminal when three runs are over, of which the first and the
+/// last have a turn and the second has 1024.
+fn shows_runs(text: &str, alloc: Global) -> Option<bool> {
+    let clock = Ticking::new(1500);
+    let screen = Screen::new(alloc).ok()?;
+    let progress = Progress::new(&clock, &screen, true);
+    let seen = thirty_events();
+    progress.begin_all(3);
+    for turns in [1, 1024, 1] {
+        progress.begin(100);
+        for _ in 0..turns {
+            let _ = progress.at(0, Point::Turn, &seen);
+        }
+        progress.end();
+    }
+    progress.end_all();
+    Some(screen.has(text))
+}
+
+#[test]
+fn many_runs_show_which_it_is_and_are_cleared_at_the_last(rt: HostRuntime) {
+    let shown = "\rsmtsim: run 1 of 3, 30 of 100 events, 1 s\x1b[K\
+        \rsmtsim: run 2 of 3, 30 of 100 events, 3 s\x1b[K\r\x1b[K";
+    assert!(rt; shows_runs(shown, rt.alloc()) == Some(true));
 }
 
 #[test]

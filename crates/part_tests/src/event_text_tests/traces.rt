@@ -177,6 +177,69 @@ fn printing_ends_where_the_sink_fails(rt: HostRuntime) -> Result<(), Fail> {
     Ok(())
 }
 
+/// A writer that takes a byte a call and fails at one of its calls, which count from 1: it answers
+/// an error, or that it took nothing.
+#[derive(Drop)]
+struct ByteByByte {
+    taken: Vec<u8>,
+    calls: usize,
+    fails_at: usize,
+    says_so: bool,
+}
+
+impl Write for ByteByByte {
+    fn write(&mut self, bytes: &[u8]) -> io::Result<usize> {
+        self.calls = self.calls.wrapping_add(1);
+        if self.calls >= self.fails_at {
+            return if self.says_so {
+                Err(io::Error::from(ErrorKind::Other))
+            } else {
+                Ok(0)
+            };
+        }
+        let count = bytes.len().min(1);
+        self.taken.extend_from_slice(&bytes[..count])?;
+        Ok(count)
+    }
+
+    fn flush(&mut self) -> io::Result<()> {
+        Ok(())
+    }
+}
+
+/// Whether a writer that fails at this call takes the bytes of the text before it, and is not
+/// called again.
+fn ends_at(history: &History, text: &[u8], fails_at: usize, says_so: bool, alloc: Global) -> bool {
+    let mut sink = Over::new(ByteByByte {
+        taken: Vec::new(alloc),
+        calls: 0,
+        fails_at,
+        says_so,
+    });
+    let failed = print_trace(history, &mut sink).is_err();
+    let writer = sink.into_inner();
+    failed
+        && writer.calls == fails_at
+        && text.get(..fails_at.wrapping_sub(1)) == Some(writer.taken.as_slice())
+}
+
+#[test]
+fn what_went_out_is_what_was_taken_before_the_call_that_failed(
+    rt: HostRuntime,
+) -> Result<(), Fail> {
+    let text = trace_text(1, rt.alloc())?;
+    let history = repeated(1, rt.alloc())?;
+    assert!(rt; text.len() < 600);
+    for call in 1..600u32 {
+        let at = call as usize;
+        let is = at > text.len()
+            || ends_at(&history, text.as_slice(), at, true, rt.alloc())
+                && ends_at(&history, text.as_slice(), at, false, rt.alloc());
+        holds_at(&rt, call, is);
+    }
+    Ok(())
+}
+
 /// The 18 events, so many times.
 fn repeated(times: u32, alloc: Global) -> Result<History, AllocError> {
     let mut events = Vec::new(alloc);

@@ -60,6 +60,102 @@ fn a_load_sees_the_older_resolved_stores_of_its_hart(rt: HostRuntime) -> Result<
     Ok(())
 }
 
+/// What load 6 of hart 0 sees of an access over its stores 3 and 5, which will write these, or none
+/// where the access faults.
+fn seen_over(
+    queues: &mut LoadStore,
+    memory: &Memory,
+    third: Written,
+    fifth: Written,
+    access: (u32, u8),
+) -> Option<u32>
+    requires third { IsSize third.n }
+    requires fifth { IsSize fifth.n }
+    requires size { IsSize access.1 }
+{
+    queues.resolve_store(0, 3, third.addr, third.n, third.datum);
+    queues.resolve_store(0, 5, fifth.addr, fifth.n, fifth.datum);
+    let (addr, n) = access;
+    match memory.fault(addr, n, AccessKind::Load) {
+        Some(_) => None,
+        None => Some(queues.first_look(memory, 0, 6, addr, n)),
+    }
+}
+
+fn word(addr: u32, datum: u32) -> Written
+    ensures { IsSize result.n }
+{
+    Written { addr, n: 4, datum }
+}
+
+fn half(addr: u32, datum: u32) -> Written
+    ensures { IsSize result.n }
+{
+    Written { addr, n: 2, datum }
+}
+
+fn byte(addr: u32, datum: u32) -> Written
+    ensures { IsSize result.n }
+{
+    Written { addr, n: 1, datum }
+}
+
+#[test]
+fn the_youngest_store_that_shares_a_byte_answers(rt: HostRuntime) -> Result<(), Fail> {
+    let mut memory = first_memory(rt.alloc()).ok_or("refused")?;
+    let begun = put(&mut memory, 0x8000_0100, 4, 0x1122_3344);
+    let mut queues = LoadStore::new(rt.alloc()).expect(&rt, "queues");
+    queues.add_store(0, 3);
+    queues.add_store(0, 5);
+    let old = word(0x8000_0100, 0x0102_0304);
+    let new = word(0x8000_0100, 0xaabb_ccdd);
+    // Both cover the access: a word, its upper half, its second byte.
+    let covered = [
+        seen_over(&mut queues, &memory, old, new, (0x8000_0100, 4)),
+        seen_over(&mut queues, &memory, old, new, (0x8000_0102, 2)),
+        seen_over(&mut queues, &memory, old, new, (0x8000_0101, 1)),
+        seen_over(&mut queues, &memory, new, old, (0x8000_0103, 1)),
+    ];
+    // The youngest covers it in part, or it is the elder that does.
+    let upper = half(0x8000_0102, 0xbeef);
+    let last = byte(0x8000_0103, 0x99);
+    let in_part = [
+        seen_over(&mut queues, &memory, old, upper, (0x8000_0100, 4)),
+        seen_over(&mut queues, &memory, upper, last, (0x8000_0100, 4)),
+        seen_over(&mut queues, &memory, last, upper, (0x8000_0102, 2)),
+        seen_over(&mut queues, &memory, upper, last, (0x8000_0102, 2)),
+    ];
+    // None shares a byte with it, or only the elder does.
+    let beside = word(0x8000_0104, 0xffff_ffff);
+    let apart = [
+        seen_over(&mut queues, &memory, beside, beside, (0x8000_0100, 4)),
+        seen_over(&mut queues, &memory, last, upper, (0x8000_0100, 2)),
+        seen_over(&mut queues, &memory, old, beside, (0x8000_0100, 4)),
+        seen_over(&mut queues, &memory, old, upper, (0x8000_0100, 2)),
+    ];
+    assert!(rt; begun.is_ok());
+    assert!(rt; covered == [Some(0xaabb_ccdd), Some(0xaabb), Some(0xcc), Some(0x01)]);
+    assert!(rt;
+        in_part
+            == [
+                Some(0xbeef_0304),
+                Some(0x99ef_3344),
+                Some(0xbeef),
+                Some(0x99ef)
+            ]
+    );
+    assert!(rt;
+        apart
+            == [
+                Some(0x1122_3344),
+                Some(0x3344),
+                Some(0x0102_0304),
+                Some(0x0304)
+            ]
+    );
+    Ok(())
+}
+
 #[test]
 fn the_oldest_store_writes_as_it_retires(rt: HostRuntime) -> Result<(), Fail> {
     let mut memory = first_memory(rt.alloc()).ok_or("refused")?;

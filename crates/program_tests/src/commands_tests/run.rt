@@ -1,15 +1,19 @@
 //! Runs with a thread for each actor, as the program makes them: how they end, and which inputs
 //! they refuse.
 
+ghost use Rattle.std.specs.Prelude.{◌≡◌};
+
 use super::{ENDING, SINGLE, is_like};
 use crate::lines::run_line;
-use crate::performing::{Performed, perform_whole, read_inputs_of};
+use crate::performing::{Ending, Performed, perform_line, perform_whole, read_inputs_of};
 use crate::rows::{ends, shows, text_of};
 use commands::{Inputs, Unread};
+use smt_core::Predict;
 use std::alloc::Global;
 use std::process::Abort;
 use std::sync::Wait;
 use std::thread::Threads;
+use test_cores::Always;
 use test_files::file_of;
 
 /// A program's words that are run; what is printed, in which a star stands for any text, what is
@@ -135,6 +139,50 @@ fn threads_run_to_the_ends_of_their_programs(rt: HostRuntime) {
     for row in &ROWS {
         runs(&rt, row, rt.alloc());
     }
+}
+
+/// Expects each instruction so many bytes behind the one before.
+#[derive(Clone, Copy, Drop)]
+struct Ahead(u32);
+
+impl Predict for Ahead {
+    ghost predicts = { λ before hart pc word guess after. after ≡ before };
+
+    fn predict(&mut self, _hart: u8, pc: u32, _word: u32) -> u32 {
+        pc.wrapping_add(self.0)
+    }
+}
+
+/// `addi x5,x0,10`, `add x10,x10,x5`, `addi x5,x5,-1`, `bne x5,x0` back to the sum, `beq x0,x0` over
+/// the `ebreak`, `addi x17,x0,93`, `ecall`: hart h ends with h + 55.
+const SUM: &[u32] = &[
+    0x00A00293, 0x00550533, 0xFFF28293, 0xFE029CE3, 0x00000463, 0x00100073, 0x05D00893, 0x00000073,
+];
+
+/// Asserts that the sums come out whatever is expected of the branches.
+fn sums<P: Predict + Copy + Send, R: Threads + Wait + Abort + Sync>(
+    rt: &R,
+    predict: P,
+    row: &str,
+    alloc: Global,
+) {
+    let Ok(file) = file_of(SUM, 0, alloc) else {
+        return shows(rt, row, "no memory", false);
+    };
+    let inputs = read_inputs_of(b"harts = 2\n", &file, b"");
+    let line = run_line(false, None);
+    let mut out = Vec::new(alloc);
+    let Ending { status, err } = perform_line(rt, &line, &inputs, predict, &mut out, alloc);
+    let end = "lent 0\nhart 0 ended 55\nhart 1 ended 56\noutput -\n";
+    let is = status == 1 && text_of(&out).ends_with(end) && err.is_empty();
+    ends(rt, row, status, text_of(&out), is);
+}
+
+#[test]
+fn no_prediction_changes_an_end(rt: HostRuntime) {
+    sums(&rt, Ahead(0), "its own pc", rt.alloc());
+    sums(&rt, Ahead(2), "the middle of a word", rt.alloc());
+    sums(&rt, Always(0xFFFF_FFFF), "the last byte", rt.alloc());
 }
 
 #[test]

@@ -1,0 +1,129 @@
+"""What `smtsim litmus` prints: every final state of a litmus test.
+
+    python3 tools/expected/litmus.py TEST [--states N]
+        what the program prints on standard output and standard error, and its exit status
+
+A second reader of the tests, and a second machine: each hart makes one whole instruction at a time, in all orders.
+The program looks at fewer states for the same answer. This knows bounds of their number; where N lies between these it
+says so on standard error, with status 4. Written from docs/FORMATS.md.
+"""
+
+import sys
+
+import litmus_reading
+from instructions import signed
+from litmus_machine import AT_ITS_END, TooMany, address_of, bounds, final_states, number_of
+from litmus_words import Refused, place
+
+MOST_STATES = 1000000
+HEADS = {"exists": "Allowed", "~exists": "Forbidden", "forall": "Required"}
+
+
+def number_text(test, number):
+    for name in test.locations:
+        if address_of(test, name) == number:
+            return name
+    return str(signed(number))
+
+
+def observed_text(what):
+    return f"{what[0]}:x{what[1]}" if isinstance(what, tuple) else f"[{what}]"
+
+
+def state_line(test, state):
+    causes, numbers = state
+    parts = zip(test.question.observed, numbers)
+    line = " ".join(f"{observed_text(what)}={number_text(test, number)};" for what, number in parts)
+    stops = [f" P{k} stopped {cause};" for k, cause in enumerate(causes) if cause != AT_ITS_END]
+    return line + "".join(stops)
+
+
+def condition_text(condition):
+    kind, *parts = condition
+    if kind == "true":
+        return "true"
+    if kind == "term":
+        what, value = parts
+        return f"{observed_text(what)}={value if isinstance(value, str) else signed(value)}"
+    if kind == "not":
+        return "not " + wrapped(parts[0], ("and", "or"))
+    if kind == "and":
+        return " /\\ ".join(wrapped(part, ("or",)) for part in parts)
+    return " \\/ ".join(condition_text(part) for part in parts)
+
+
+def wrapped(condition, kinds):
+    text = condition_text(condition)
+    return f"({text})" if condition[0] in kinds else text
+
+
+def holds(test, condition, numbers):
+    kind, *parts = condition
+    if kind == "true":
+        return True
+    if kind == "term":
+        what, value = parts
+        return numbers[test.question.observed.index(what)] == number_of(test, value)
+    if kind == "not":
+        return not holds(test, parts[0], numbers)
+    return (all if kind == "and" else any)(holds(test, part, numbers) for part in parts)
+
+
+def lines(test, states):
+    quantifier, condition, _ = test.question
+    held = sum(holds(test, condition, numbers) for _, numbers in states)
+    others = len(states) - held
+    is_as_asked = {"exists": held > 0, "~exists": held == 0, "forall": others == 0}[quantifier]
+    how = "Never" if held == 0 else "Always" if others == 0 else "Sometimes"
+    positive, negative = (others, held) if quantifier == "~exists" else (held, others)
+    yield f"Test {test.name} {HEADS[quantifier]}"
+    yield f"States {len(states)}"
+    yield from (state_line(test, state) for state in states)
+    yield "Ok" if is_as_asked else "No"
+    yield "Witnesses"
+    yield f"Positive: {positive} Negative: {negative}"
+    yield f"Condition {quantifier} ({condition_text(condition)})"
+    yield f"Observation {test.name} {how} {held} {others}"
+
+
+def said(data, most=MOST_STATES, patience=MOST_STATES):
+    """What is said of a test's bytes: standard output, standard error, the exit status. Of more than `patience` states
+    that are looked at here it says nothing: TooMany."""
+    text = data.decode("latin-1")
+    try:
+        test = litmus_reading.read(text)
+    except Refused as refused:
+        line, column = place(text, refused.at)
+        return "", f"smtsim: litmus refused {line}:{column}: {refused.what}\n", 2
+    states, looked_at = final_states(test, patience)
+    least, greatest = (0, looked_at) if looked_at <= most else bounds(test)
+    if least > most:
+        return f"not complete: more than {most} states\n", "", 3
+    if greatest > most:
+        raise TooMany
+    return "".join(f"{line}\n" for line in lines(test, states)), "", 0
+
+
+def test_file(name):
+    if name == "-":
+        return sys.stdin.buffer.read()
+    with open(name, "rb") as file:
+        return file.read()
+
+
+def main(words):
+    options = dict(zip(words[1::2], words[2::2]))
+    most = int(options.get("--states", MOST_STATES))
+    try:
+        out, err, status = said(test_file(words[0]), most)
+    except OSError:
+        out, err, status = "", "smtsim: file\n", 5
+    except TooMany:
+        out, err, status = "", "litmus.py: too many states, or a word of code is read\n", 4
+    sys.stdout.buffer.write(out.encode("latin-1"))
+    sys.stderr.write(err)
+    return status
+
+
+if __name__ == "__main__":
+    sys.exit(main(sys.argv[1:]))

@@ -1,0 +1,149 @@
+"""Reads the cells of a hart of a litmus test into its instructions. A part of litmus.py.
+
+An instruction is a tuple: ("lw", register, offset, base), ("sw", ..) alike, ("lr.w", register, base),
+("sc.w", register, source, base) and each AMO alike, ("li", register, number), ("addi", register, source, number) and
+its like, ("add", register, first, second) and its like, ("beq", first, second, place), ("bne", ..), or ("fence",).
+The place of a branch is that of the instruction to which it goes, the number of instructions where it is the end.
+"""
+
+import re
+from typing import NamedTuple
+
+from litmus_words import ATOMICS, BRANCHES, IMMEDIATES, ORDERED, SUBSET, THREE_REGISTERS, TOO_LARGE, Refused
+
+MOST_STEPS = 500
+
+
+class Looked(NamedTuple):
+    """A number that is looked at behind what follows it, and where it stands."""
+
+    at: int
+    number: int
+
+
+def read(cells):
+    """The instructions of a hart."""
+    code, labels = [], {}
+    for cell in cells:
+        read_label(cell, labels, len(code))
+        if cell.peek() is not None:
+            at = cell.at()
+            instruction = read_instruction(cell)
+            if len(code) == MOST_STEPS:
+                raise Refused(at, "more than 500 steps of a hart")
+            code.append(instruction)
+    return [resolved(instruction, labels) for instruction in code]
+
+
+def read_label(cell, labels, place):
+    if len(cell.words) < 2 or cell.words[1].kind != "mark" or cell.words[1].text != ":":
+        return
+    word = cell.take_kind("name")
+    cell.take_mark(":")
+    if word.text in labels:
+        raise Refused(word.at, "a label that is there twice")
+    labels[word.text] = place
+
+
+def resolved(instruction, labels):
+    if instruction[0] not in ("beq", "bne"):
+        return instruction
+    label = instruction[3]
+    if label.text not in labels:
+        raise Refused(label.at, "a label that isn't there")
+    return (*instruction[:3], labels[label.text])
+
+
+def read_instruction(cell):
+    """An instruction, with nothing behind it. An offset that has to be 0, and an amount, are looked at last."""
+    instruction = read_operands(cell)
+    cell.nothing_more()
+    name, last = instruction[0], instruction[-1]
+    if name == "slli" and not 0 <= last.number <= 31:
+        raise Refused(last.at, TOO_LARGE)
+    if name in ("lr.w", "sc.w", *ATOMICS):
+        *instruction, offset = instruction
+        if offset.number != 0:
+            raise Refused(offset.at, SUBSET)
+    elif name == "slli":
+        instruction = (*instruction[:-1], last.number)
+    return tuple(instruction)
+
+
+def read_operands(cell):
+    name = cell.take_kind("instruction").text
+    if name in ("lw", "sw"):
+        return read_access(cell, name)
+    if name in ORDERED:
+        return read_ordered(cell, re.match(r"[a-z]+\.w", name).group())
+    if name in BRANCHES:
+        return read_branch(cell, name)
+    if name == "fence":
+        read_fence(cell)
+    if name in ("fence", "fence.tso"):
+        return ("fence",)
+    if name == "nop":
+        return ("addi", 0, 0, 0)
+    register = cell.take_register()
+    cell.take_mark(",")
+    if name == "li":
+        return (name, register, cell.take_number())
+    source = cell.take_register()
+    if name == "mv":
+        return ("addi", register, source, 0)
+    cell.take_mark(",")
+    if name in IMMEDIATES:
+        if name == "slli":
+            return (name, register, source, Looked(cell.at(), cell.take_number()))
+        return (name, register, source, cell.take_number(-2048, 2047))
+    assert name in THREE_REGISTERS
+    return (name, register, source, cell.take_register())
+
+
+def read_access(cell, name):
+    register = cell.take_register()
+    cell.take_mark(",")
+    offset = 0 if cell.is_mark("(") else cell.take_number(-2048, 2047)
+    return (name, register, offset, read_base(cell))
+
+
+def read_base(cell):
+    cell.take_mark("(")
+    base = cell.take_register()
+    cell.take_mark(")")
+    return base
+
+
+def read_ordered(cell, name):
+    """An LR, an SC or an AMO."""
+    registers = [cell.take_register()]
+    cell.take_mark(",")
+    if name in ("sc.w", *ATOMICS):
+        registers.append(cell.take_register())
+        cell.take_mark(",")
+    offset = Looked(cell.at(), 0 if cell.is_mark("(") else cell.take_number(-2048, 2047))
+    return (name, *registers, read_base(cell), offset)
+
+
+def read_branch(cell, name):
+    first = cell.take_register()
+    cell.take_mark(",")
+    second = 0
+    if not name.endswith("z"):
+        second = cell.take_register()
+        cell.take_mark(",")
+    return (name[:3], first, second, cell.take_kind("name"))
+
+
+def read_fence(cell):
+    if cell.peek() is None:
+        return
+    read_set(cell)
+    cell.take_mark(",")
+    read_set(cell)
+
+
+def read_set(cell):
+    word = cell.take()
+    if word.kind not in ("name", "instruction") or not re.fullmatch("[iorw]+", word.text):
+        raise Refused(word.at, SUBSET)

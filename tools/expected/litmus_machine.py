@@ -1,0 +1,196 @@
+"""All final states of a litmus test: each order of whole instructions of its harts, on one memory. A part of litmus.py.
+
+A state is a tuple of harts and the words that were written. A hart is a tuple: why it stopped or None, the place of
+its next instruction, its registers, and the address that it has reserved or None.
+"""
+
+from instructions import ATOMIC_RESULTS, MASK, RESULTS
+
+RAM, RAM_BYTES, CODE = 0x80000000, 65536, 0x80000100
+FORMS = {"addi": "add", "ori": "or", "andi": "and", "xori": "xor", "slli": "sll"}
+ACCESSES = ("lw", "sw", "lr.w", "sc.w", *ATOMIC_RESULTS)
+# How many steps that no other hart can see are followed.
+MOST_UNSEEN = 500
+# The cause of the EBREAK behind a hart's instructions.
+AT_ITS_END = 3
+
+
+class TooMany(Exception):
+    """There are more states than may be looked at, or one reads an instruction's word, which isn't known here."""
+
+
+def address_of(test, name):
+    return RAM + 4 * test.locations.index(name)
+
+
+def number_of(test, value):
+    """The word that a value is."""
+    return address_of(test, value) if isinstance(value, str) else value & MASK
+
+
+def code_end(test):
+    """The byte behind the test's code in its image."""
+    words = 3 * (len(test.code) - 1) + 1
+    for hart, code in enumerate(test.code):
+        starts = sum(what[0] == hart for what in test.starts if isinstance(what, tuple))
+        words += 2 + 2 * starts + len(code) + sum(instruction[0] == "li" for instruction in code)
+    return CODE + 4 * words
+
+
+class Machine:
+    def __init__(self, test):
+        self.test, self.code_end = test, code_end(test)
+        self.at_start = {address_of(test, name): number_of(test, test.starts.get(name, 0)) for name in test.locations}
+
+    def first(self):
+        harts = []
+        for hart in range(len(self.test.code)):
+            registers = [number_of(self.test, self.test.starts.get((hart, k), 0)) for k in range(32)]
+            harts.append((None, 0, tuple(registers), None))
+        return tuple(harts), ()
+
+    def read(self, memory, address):
+        return dict(memory).get(address, self.at_start.get(address, 0))
+
+    def without_registers(self, state):
+        harts, memory = state
+        changed = tuple((a, number) for a, number in memory if number != self.at_start.get(a, 0))
+        return tuple((stopped, place, reserved) for stopped, place, _, reserved in harts), changed
+
+    def fault(self, address, writes):
+        """The cause with which an access of a word stops its hart; None where it doesn't."""
+        if address % 4:
+            return 6 if writes else 4
+        if not RAM <= address <= RAM + RAM_BYTES - 4:
+            return 7 if writes else 5
+        if CODE <= address < self.code_end:
+            if not writes:
+                raise TooMany
+            return 7
+        return None
+
+    def after(self, state, number):
+        """The state behind the next instruction of a hart that hasn't stopped."""
+        harts, memory = state
+        _, place, registers, reserved = harts[number]
+        code = self.test.code[number]
+        if place == len(code):
+            return with_hart(harts, number, (AT_ITS_END, place, registers, reserved)), memory
+        instruction = code[place]
+        name, operands = instruction[0], instruction[1:]
+        if name in ACCESSES:
+            return self.access(state, number, name, operands)
+        if name in ("beq", "bne"):
+            first, second, target = operands
+            is_taken = (registers[first] == registers[second]) == (name == "beq")
+            place = target - 1 if is_taken else place
+        elif name != "fence":
+            registers = with_register(registers, operands[0], result(name, registers, operands[1:]))
+        return with_hart(harts, number, (None, place + 1, registers, reserved)), memory
+
+    def access(self, state, number, name, operands):
+        harts, memory = state
+        _, place, registers, reserved = harts[number]
+        offset = operands[1] if name in ("lw", "sw") else 0
+        address = registers[operands[-1]] + offset & MASK
+        cause = self.fault(address, name not in ("lw", "lr.w"))
+        if cause is not None:
+            return with_hart(harts, number, (cause, place, registers, reserved)), memory
+        found, written = self.read(memory, address), None
+        if name == "sw":
+            written = registers[operands[0]]
+        elif name == "lr.w":
+            reserved = address
+        elif name == "sc.w":
+            written = registers[operands[1]] if reserved == address else None
+            found, reserved = int(written is None), None
+        elif name != "lw":
+            written = ATOMIC_RESULTS[name](found, registers[operands[1]])
+        if name != "sw":
+            registers = with_register(registers, operands[0], found)
+        harts = with_hart(harts, number, (None, place + 1, registers, reserved))
+        if written is not None:
+            harts = tuple((*hart[:3], None if hart[3] == address else hart[3]) for hart in harts)
+            memory = tuple(sorted({**dict(memory), address: written}.items()))
+        return harts, memory
+
+
+def with_hart(harts, number, hart):
+    return (*harts[:number], hart, *harts[number + 1 :])
+
+
+def with_register(registers, register, number):
+    return registers if register == 0 else (*registers[:register], number, *registers[register + 1 :])
+
+
+def result(name, registers, operands):
+    if name == "li":
+        return operands[0] & MASK
+    if name in FORMS:
+        return RESULTS[FORMS[name]](registers[operands[0]], operands[1] & MASK)
+    return RESULTS[name](registers[operands[0]], registers[operands[1]])
+
+
+def final_states(test, most):
+    """All final states, sorted: why each hart stopped, and the numbers of what is looked at; and how many states
+    there were on the way."""
+    machine = Machine(test)
+    waiting = [machine.first()]
+    seen, found = set(waiting), set()
+    while waiting:
+        state = waiting.pop()
+        going = [number for number, hart in enumerate(state[0]) if hart[0] is None]
+        if not going:
+            found.add(observed(machine, state))
+        for number in going:
+            there = machine.after(state, number)
+            if there not in seen:
+                seen.add(there)
+                waiting.append(there)
+        if len(seen) > most:
+            raise TooMany
+    return sorted(found), len(seen)
+
+
+def settled(machine, state, number):
+    """The state behind the steps of a hart that no other hart can see: all but an access of memory without a fault."""
+    code = machine.test.code[number]
+    for _ in range(MOST_UNSEEN):
+        stopped, place = state[0][number][:2]
+        if stopped is not None:
+            return state
+        there = machine.after(state, number)
+        if place < len(code) and code[place][0] in ACCESSES and there[0][number][0] is None:
+            return state
+        state = there
+    raise TooMany
+
+
+def bounds(test):
+    """At least and at the most how many states there are where steps that no other hart can see are made at once: told
+    apart by all but the registers, and by all."""
+    machine = Machine(test)
+    state = machine.first()
+    for number in range(len(test.code)):
+        state = settled(machine, state, number)
+    waiting, seen = [state], {state}
+    while waiting:
+        state = waiting.pop()
+        for number, hart in enumerate(state[0]):
+            if hart[0] is None:
+                there = settled(machine, machine.after(state, number), number)
+                if there not in seen:
+                    seen.add(there)
+                    waiting.append(there)
+    return len({machine.without_registers(state) for state in seen}), len(seen)
+
+
+def observed(machine, state):
+    harts, memory = state
+    numbers = []
+    for what in machine.test.question.observed:
+        if isinstance(what, tuple):
+            numbers.append(harts[what[0]][2][what[1]])
+        else:
+            numbers.append(machine.read(memory, address_of(machine.test, what)))
+    return tuple(hart[0] for hart in harts), tuple(numbers)

@@ -1,0 +1,127 @@
+"""Reads what stands behind the rows of a litmus test: what is looked at, and the condition. A part of litmus.py.
+
+A condition is a tuple: ("true",), ("term", what, value), ("not", C), ("and", C, D, ..) or ("or", C, D, ..). What is
+looked at is a hart and a register, or the name of a location.
+"""
+
+from typing import NamedTuple
+
+from litmus_words import SUBSET, Refused
+
+MOST_TERMS, MOST_LEVELS, MOST_OBSERVED = 128, 16, 64
+
+
+class Question(NamedTuple):
+    quantifier: str  # "exists", "~exists" or "forall"
+    condition: tuple
+    observed: list  # the registers by hart and number, then the locations in their order
+
+
+def check_hart(word, harts):
+    if word.text >= harts:
+        raise Refused(word.at, "a hart that isn't there")
+
+
+def read(reader, locations, harts):
+    asked = Asked(reader, locations, harts)
+    at = reader.at()
+    if reader.take_if("locations"):
+        asked.read_list()
+    quantifier = read_quantifier(reader)
+    condition = asked.read_either(0)
+    reader.nothing_more("something behind the condition")
+    registers = sorted(one for one in asked.named if isinstance(one, tuple))
+    observed = registers + [name for name in locations if name in asked.named]
+    if len(observed) > MOST_OBSERVED:
+        raise Refused(at, "more than 64 registers and locations looked at")
+    return Question(quantifier, condition, observed)
+
+
+def read_quantifier(reader):
+    if reader.is_mark("filter"):
+        raise Refused(reader.at(), SUBSET)
+    if reader.take_if("~", "not"):
+        reader.take_mark("exists")
+        return "~exists"
+    if reader.is_mark("exists", "forall"):
+        return reader.take().text
+    raise Refused(reader.at(), "no exists, ~exists or forall")
+
+
+class Asked:
+    """What is asked, as far as it is read: how many terms there were, and what they and the list name."""
+
+    def __init__(self, reader, locations, harts):
+        self.reader, self.locations, self.harts = reader, locations, harts
+        self.terms, self.named = 0, set()
+
+    def read_list(self):
+        self.reader.take_mark("[")
+        while not self.reader.take_if("]"):
+            self.read_observed()
+            if not self.reader.is_mark("]"):
+                self.reader.take_mark(";")
+
+    def read_observed(self):
+        """A register of a hart, or a location."""
+        word = self.reader.peek()
+        if word is not None and word.kind == "number":
+            check_hart(self.reader.take(), self.harts)
+            self.reader.take_mark(":")
+            what = word.text, self.reader.take_changing_register()
+        elif self.reader.take_if("["):
+            what = self.take_location()
+            self.reader.take_mark("]")
+        else:
+            what = self.take_location()
+        self.named.add(what)
+        return what
+
+    def take_location(self):
+        word = self.reader.take_kind("name")
+        if word.text not in self.locations:
+            raise Refused(word.at, "a location that is never declared")
+        return word.text
+
+    def read_either(self, level):
+        parts = [self.read_both(level)]
+        while self.reader.take_if("\\/"):
+            parts.append(self.read_both(level))
+        return ("or", *parts) if len(parts) > 1 else parts[0]
+
+    def read_both(self, level):
+        parts = [self.read_one(level)]
+        while self.reader.take_if("/\\"):
+            parts.append(self.read_one(level))
+        return ("and", *parts) if len(parts) > 1 else parts[0]
+
+    def read_one(self, level):
+        at = self.reader.at()
+        if self.reader.is_mark("~", "not", "(") and level == MOST_LEVELS:
+            raise Refused(at, "more than 16 levels of not and parentheses")
+        if self.reader.take_if("true"):
+            self.count(at)
+            return ("true",)
+        if self.reader.take_if("~", "not"):
+            return ("not", self.read_one(level + 1))
+        if self.reader.take_if("("):
+            condition = self.read_either(level + 1)
+            self.reader.take_mark(")")
+            return condition
+        term = self.read_term()
+        self.count(at)
+        return term
+
+    def count(self, at):
+        """Counts a term or `true` that stands here."""
+        if self.terms == MOST_TERMS:
+            raise Refused(at, "more than 128 terms")
+        self.terms += 1
+
+    def read_term(self):
+        what = self.read_observed()
+        self.reader.take_mark("=")
+        word = self.reader.peek()
+        if word is not None and word.kind == "name":
+            return ("term", what, self.take_location())
+        return ("term", what, self.reader.take_number())

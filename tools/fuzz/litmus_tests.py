@@ -1,0 +1,223 @@
+"""Random litmus tests of the subset that docs/FORMATS.md names, small enough to look at all their states."""
+
+# How many rows there are, by the number of harts.
+ROWS = {1: (0, 1, 3, 5, 8), 2: (0, 2, 3, 3, 4, 4, 4, 5, 5, 6), 3: (1, 2, 2, 3, 3, 4), 4: (1, 2, 2, 2, 3)}
+NAMES = ("x", "y", "z", "_a1", "rw", "X0", "LOCK_2")
+ABI_NAMES = {1: "ra", 2: "sp", 5: "t0", 6: "t1", 7: "t2", 8: "fp", 9: "s1", 10: "a0", 11: "a1", 28: "t3", 31: "t6"}
+# The registers for numbers, and for addresses.
+REGISTERS, BASES = (5, 5, 7, 7, 10, 31), (6, 8, 9, 30)
+NUMBERS = (0, 0, 1, 1, 1, 2, 3, -1, 4, 255, 2**31 - 1, -(2**31))
+ATOMICS = [f"amo{name}.w" for name in ("swap", "add", "and", "or", "xor", "min", "max", "minu", "maxu")]
+IMMEDIATES, THREE_REGISTERS = ("addi", "ori", "xori", "andi", "slli"), ("xor", "or", "and", "add", "sub")
+ORDERS = ("", "", "", ".aq", ".rl", ".aqrl", ".aq.rl")
+BLANKS = (" ", " ", " ", "  ", "\t", "\n", " \n ", "\r\n", "\f", "(* c *)", " (* a (* b; *) | \n*) ", "(**)")
+HEADS = ("", "", '"PodWR Fre"\n', '"a\n(* b" ', "Cycle=Fre PodWR\nOrig=\n", "(* (* *) *)\n", "\r\n \f")
+HEADS += ('Key_2=" { \n"s"\n',)
+
+
+def is_word(letter):
+    return letter.isalnum() or letter in "_."
+
+
+def spaced(r, words):
+    """Words with blanks, line ends and comments between them."""
+    wild, text = r.random() < 0.3, ""
+    for word in words:
+        has_to = text and is_word(text[-1]) and is_word(word[0])
+        if has_to or r.random() < 0.3:
+            text += r.choice(BLANKS) if wild else " "
+        text += word
+        text += "\n" if word == ";" and r.random() < 0.8 else ""
+    return text
+
+
+def register(r, number):
+    return ABI_NAMES[number] if number in ABI_NAMES and r.random() < 0.2 else f"x{number}"
+
+
+def number(r, chosen):
+    """The words of a number."""
+    sign, size = ["-"] if chosen < 0 else [], abs(chosen)
+    return [*sign, f"0x{size:x}" if r.random() < 0.15 else str(size)]
+
+
+class Maker:
+    """A test while it is made."""
+
+    def __init__(self, r):
+        self.r = r
+        self.harts = r.choice((1, 2, 2, 2, 2, 3, 3, 4))
+        self.names = r.sample(NAMES, r.choice((1, 2, 2, 2, 3)))
+        # The registers that hold an address, by hart, those that hold another number, and those that are written.
+        self.bases = [[] for _ in range(self.harts)]
+        self.holding = [[] for _ in range(self.harts)]
+        self.written = [[] for _ in range(self.harts)]
+        self.loops = False
+
+    def value(self):
+        if self.r.random() < 0.2:
+            return [self.r.choice(self.names)]
+        return number(self.r, self.r.choice(NUMBERS))
+
+    def location(self):
+        name = self.r.choice(self.names)
+        return ["[", name, "]"] if self.r.random() < 0.4 else [name]
+
+    def entries(self):
+        """The entries of the braces."""
+        r, entries = self.r, []
+        for name in self.names:
+            entry = r.choice(([name], ["[", name, "]"], ["int", name], ["uint32_t", name]))
+            entries.append(entry + (["=", *self.value()] if r.random() < 0.6 else []))
+        for hart in range(self.harts):
+            self.bases[hart] = r.sample(BASES, r.choice((1, 2, 2)))
+            for base in self.bases[hart]:
+                entries.append([str(hart), ":", register(r, base), "=", r.choice(self.names)])
+            self.holding[hart] = r.sample((5, 7, 10, 31), r.choice((0, 1, 2, 2)))
+            for other in self.holding[hart]:
+                entries.append([str(hart), ":", register(r, other), "=", *self.value()])
+        r.shuffle(entries)
+        return entries
+
+    def start(self):
+        words = ["{"]
+        for entry in self.entries():
+            words += [*entry, ";"]
+        return words[: -1 if self.r.random() < 0.3 else None] + ["}"]
+
+    def base(self, hart):
+        r = self.r
+        return register(r, r.choice(REGISTERS if r.random() < 0.03 else self.bases[hart]))
+
+    def any_register(self):
+        r = self.r
+        return "x0" if r.random() < 0.05 else register(r, r.choice(REGISTERS if r.random() < 0.95 else BASES))
+
+    def source(self, hart):
+        """A register whose number goes to memory, which is often another one than 0."""
+        holding = self.holding[hart] + self.written[hart]
+        if not holding or self.r.random() < 0.1:
+            return self.any_register()
+        return register(self.r, self.r.choice(holding))
+
+    def target(self, hart):
+        """A register that an instruction writes."""
+        r, number_of_register = self.r, self.r.choice(REGISTERS if self.r.random() < 0.97 else BASES)
+        self.written[hart].append(number_of_register)
+        return "x0" if r.random() < 0.02 else register(r, number_of_register)
+
+    def instruction(self, hart, labels):
+        """The words of an instruction, which may go to one of these labels."""
+        r = self.r
+        makes = [self.access] * 6 + [self.ordered] * 4 + [self.arithmetic] * 2 + [self.fence]
+        make = r.choice(makes + [self.branch] * (2 if labels else 0))
+        return make(hart, labels)
+
+    def access(self, hart, _labels):
+        r = self.r
+        offset = r.choice(([], [], ["0"], ["0"], ["0"], ["0"], ["0"], ["4"], ["0x0"], [],
+                           number(r, r.choice((1, 2, 4, 8, -4, 256, 2047)))))
+        name = r.choice(("lw", "sw"))
+        first = self.target(hart) if name == "lw" else self.source(hart)
+        return [name, first, ",", *offset, "(", self.base(hart), ")"]
+
+    def ordered(self, hart, _labels):
+        r = self.r
+        name = r.choice(("lr.w", "sc.w", "lr.w", "sc.w", *ATOMICS[:5], r.choice(ATOMICS)))
+        second = [] if name == "lr.w" else [self.source(hart), ","]
+        offset = ["0"] if r.random() < 0.2 else []
+        return [name + r.choice(ORDERS), self.target(hart), ",", *second, *offset, "(", self.base(hart), ")"]
+
+    def arithmetic(self, hart, _labels):
+        r, first = self.r, self.target(hart)
+        name = r.choice(("li", "li", "mv", "nop", *IMMEDIATES, *THREE_REGISTERS))
+        if name == "nop":
+            return [name]
+        if name == "li":
+            return [name, first, ",", *number(r, r.choice(NUMBERS))]
+        words = [name, first, ",", self.any_register()]
+        if name == "slli":
+            return [*words, ",", *number(r, r.choice((0, 1, 31)))]
+        if name.endswith("i"):
+            return [*words, ",", *number(r, r.choice((0, 1, 2, 4, -1, 2047, -2048)))]
+        return words if name == "mv" else [*words, ",", self.any_register()]
+
+    def branch(self, _hart, labels):
+        r, name = self.r, self.r.choice(("beq", "bne", "beqz", "bnez"))
+        second = [] if name.endswith("z") else [self.any_register(), ","]
+        return [name, self.any_register(), ",", *second, r.choice(labels)]
+
+    def fence(self, _hart, _labels):
+        sets = ("rw", "w", "r", "iorw", "o", "i", "or", "wr", "rr")
+        tail = [self.r.choice(sets), ",", self.r.choice(sets)]
+        return self.r.choice((["fence"], ["fence.tso"], ["fence", *tail]))
+
+    def column(self, hart, rows):
+        """The cells of a hart."""
+        r = self.r
+        labels = [f"L{k}" for k in range(rows)]
+        placed, cells = [], []
+        for row in range(rows):
+            words = []
+            if r.random() < 0.85:
+                # A branch goes forward, most of the time.
+                back = placed if r.random() < 0.15 else []
+                words = self.instruction(hart, back or labels[row + 1 :])
+                self.loops |= bool(back)
+            if any(labels[row] in cell for cell in cells) or r.random() < 0.15:
+                words = [labels[row], ":", *words]
+                placed.append(labels[row])
+            cells.append(words)
+        return cells
+
+    def rows(self):
+        count = self.r.choice(ROWS[self.harts])
+        columns = [self.column(hart, count) for hart in range(self.harts)]
+        words = []
+        for row in zip(*columns):
+            for hart, cell in enumerate(row):
+                words += (["|"] if hart else []) + cell
+            words.append(";")
+        return words
+
+    def observed(self):
+        r = self.r
+        if r.random() < 0.3:
+            return self.location()
+        hart = r.randrange(self.harts)
+        return [str(hart), ":", register(r, r.choice(self.written[hart] or REGISTERS))]
+
+    def condition(self, depth):
+        r = self.r
+        kind = r.random()
+        if depth == 0 or kind < 0.25:
+            return ["true"] if r.random() < 0.05 else [*self.observed(), "=", *self.value()]
+        if kind < 0.4:
+            return [r.choice(("~", "not")), *self.condition(0 if r.random() < 0.5 else depth - 1)]
+        if kind < 0.55:
+            return ["(", *self.condition(depth - 1), ")"]
+        return [*self.condition(depth - 1), r.choice(("/\\", "/\\", "\\/")), *self.condition(depth - 1)]
+
+    def question(self):
+        r, words = self.r, []
+        if r.random() < 0.7:
+            words = ["locations", "["]
+            for _ in range(r.choice((0, 2, 4, 6))):
+                words += [*self.observed(), ";"]
+            words += ["]"]
+        words += r.choice((["exists"], ["exists"], ["~", "exists"], ["forall"], ["not", "exists"]))
+        condition = self.condition(r.choice((0, 1, 2, 3)))
+        return words + (["(", *condition, ")"] if r.random() < 0.6 else condition)
+
+
+def some_test(r):
+    """A test, and whether a branch of it goes back."""
+    maker = Maker(r)
+    words = maker.start()
+    for hart in range(maker.harts):
+        words += ["|"] * (hart > 0) + [f"P{hart}"]
+    words += [";", *maker.rows(), *maker.question()]
+    name = r.choice(("SB", "MP+fence.rw.rw", "a b", "t\t", "(* n *)", "\xe9")) + r.choice(("\n", "\n", " \n", "\r\n"))
+    head = r.choice(("", "", "", "(* RISCV *)", "\n ")) + "RISCV" + r.choice((" ", " ", "\t")) + name
+    text = head + r.choice(HEADS) + spaced(r, words) + r.choice(("", "\n", "\n", " (* end *)"))
+    return text.encode("latin-1"), maker.loops
