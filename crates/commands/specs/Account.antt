@@ -6,12 +6,12 @@ use Rattle.events.specs.declared.effect.Record.{Record}
 use Rattle.smt_model.specs.{declared.config.Status.Status, Basics.below, Account.records}
 use Rattle.smt_model.specs.{Account.open_job_count, Memory.status, Memory.output}
 use Rattle.core_state.specs.{View.CoreView}
-use Rattle.event_text.specs.{Sinking.HasPut, Trace.trace_text}
+use Rattle.event_text.specs.{Sinking.HasPut}
 use Rattle.text_fields.specs.{Printing.Prints}
 use Rattle.smt_model.specs.Touched.{looks, loads}
 use Rattle.history_counts.specs.{declared.counts.Counts.Counts, Numbers.counts_of}
 use Rattle.reports.specs.Report.{looks_line, records_text, report_text, status_number}
-use Rattle.reports.specs.{CountLines.count_lines, Counts.idle_lines, Json.json_text}
+use Rattle.reports.specs.{CountLines.count_lines, Counts.idle_lines, Json.json_text, Traces.trace_of}
 use Rattle.commands.specs.declared.wanted.Wanted.{Wanted}
 
 -- How the harts of a core stand; what has retired in it, the oldest first.
@@ -83,5 +83,5 @@ pub record IsReported (core : CoreView) (idle : List ℕ) (wanted : Wanted) (old
 abbrev pub IsTraceWritten : {S : Type 0} → (S → Option (List ℕ)) → (S → Bool) → S → S → Bool
     → CoreView → Type 0
 IsTraceWritten written has_failed old new true core =
-    HasPut written has_failed old new (trace_text (reverse core.past))
+    HasPut written has_failed old new (trace_of core)
 IsTraceWritten written has_failed old new false core = new ≡ old

@@ -36,8 +36,8 @@ IsDrawingRefusal harts chart _ = ⊥
 -- When each refusal comes: what `check` refuses comes first.
 abbrev pub IsChartRefusal : Settings → ProgramImage → List ℕ → ChartCommand → Refused → Type 0
 IsChartRefusal settings image trace chart (refused.NoHart one) =
-    OfEvents settings image trace AreHistory × (chart.hart ≡ Some one)
-    × (settings.config.harts ≤ one)
+    OfEvents settings image trace (λ setup events. AreHistory setup events × (setup.harts ≤ one))
+    × (chart.hart ≡ Some one)
 IsChartRefusal settings image trace chart (refused.Picture last) =
     OfEvents settings image trace AreHistory × (is_some chart.svg ≡ true)
 IsChartRefusal settings image trace chart reason = IsCheckRefusal settings image trace reason
@@ -46,6 +46,6 @@ IsChartRefusal settings image trace chart reason = IsCheckRefusal settings image
 -- be drawn; and the exit status is 0.
 pub record ChartComesTo (settings : Settings) (image : ProgramImage) (trace : List ℕ)
     (chart : ChartCommand) (exit_status : ℕ) : Type 0 where
-  pub history : OfEvents settings image trace AreHistory
-  pub there : hart_fits settings.config.harts chart.hart ≡ true
+  pub history : OfEvents settings image trace
+      (λ setup events. AreHistory setup events × (hart_fits setup.harts chart.hart ≡ true))
   pub zero : exit_status ≡ 0

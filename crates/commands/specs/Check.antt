@@ -1,8 +1,10 @@
 -- The command `check`: whether a trace is a history of the core. (This project's own choice.)
 use Rattle.std.specs.Prelude.{◌≡◌, ℕ, Bool, true, false, List, [], Option, length, reverse, All}
 use Rattle.elf_image.specs.Image.{ProgramImage}
-use Rattle.events.specs.{declared.event.Event.Event, Range.IsEventInRange}
-use Rattle.event_text.specs.Trace.{trace_text, IsRefusedAt}
+use Rattle.events.specs.{declared.event.Event.Event}
+use Rattle.event_text.specs.{declared.head.TraceHead.TraceHead, Contents.TraceContent}
+use Rattle.event_text.specs.declared.head.TraceHead.TheVariants.{First, Second}
+use Rattle.event_text.specs.Trace.{trace_text, AreWithin, IsHead, IsRefusedAt}
 use Rattle.smt_model.specs.{Rules.is_legal, Setup.Setup, Setup.is_accepted}
 use Rattle.core_state.specs.{Setup.setup_of, View.CoreView}
 use Rattle.smt_core.specs.Shown.{Shown}
@@ -15,16 +17,28 @@ use Rattle.commands.specs.declared.refused.Refused.TheVariants as refused
 use Rattle.commands.specs.declared.wanted.Wanted.{Wanted}
 use Rattle.commands.specs.Account.{IsAccount, statuses_of}
 
--- The text is the trace of these events, each of them in range.
-pub record IsTraceOf (trace : List ℕ) (events : List Event) : Type 0 where
-  pub text : trace ≡ trace_text events
-  pub in_range : All IsEventInRange events
+-- The text is this trace, with each of its events in range.
+pub record IsTraceOf (text : List ℕ) (trace : TraceContent) : Type 0 where
+  pub is_head : IsHead trace.head
+  pub is_text : text ≡ trace_text trace.head trace.events
+  pub in_range : AreWithin trace.head trace.events
 
--- The trace is that of some events, and this holds of them in a core of this image and these
--- settings.
+-- The core that a trace is of. A trace of version 2 says its sizes itself, and the settings only how much
+-- memory there is; one of version 1 doesn't, and they are the settings'.
+abbrev pub setup_by : Settings → ProgramImage → TraceHead → Setup
+setup_by settings image First = setup_of image settings.config
+setup_by settings image (Second sizes) = record {
+  image = image;
+  harts = sizes.harts;
+  extra = sizes.extra;
+  queue = sizes.queue;
+  roles = sizes.roles;
+}
+
+-- The text is some trace, and this holds of its events in the core that it is of.
 abbrev pub OfEvents : Settings → ProgramImage → List ℕ → (Setup → List Event → Type 0) → Type 0
-OfEvents settings image trace P =
-    (events : List Event) × IsTraceOf trace events × P (setup_of image settings.config) events
+OfEvents settings image text P =
+    (trace : TraceContent) × IsTraceOf text trace × P (setup_by settings image trace.head) trace.events
 
 -- No core of this setup may have so many events.
 abbrev pub AreTooMany : Setup → List Event → Type 0
@@ -58,18 +72,18 @@ IsHistoryRefusal setup events (refused.Event index rule) = IsFirstBroken setup e
 IsHistoryRefusal setup events refused.Memory = Unit {0}
 IsHistoryRefusal setup events _ = ⊥
 
--- What the command comes to. The trace's events, the last of them first, are the history of a core
--- of this image and these settings, with room for just so many: one of those that may be shown, so
+-- What the command comes to. The trace's events, the last of them first, are the history of the core
+-- that it is of, with room for just so many: one of those that may be shown, so
 -- its history is legal. What was printed is what is printed of this core, which nobody has asked; the
 -- exit status is that of its harts.
 pub record CheckComesTo (settings : Settings) (image : ProgramImage) (trace : List ℕ)
     (wanted : Wanted) (old new : Option (List ℕ)) (exit_status : ℕ) : Type 0 where
-  pub events : List Event
-  pub is_trace : IsTraceOf trace events
+  pub read : TraceContent
+  pub is_trace : IsTraceOf trace read
   pub core : CoreView
-  pub setup : core.setup ≡ setup_of image settings.config
-  pub limit : core.limit ≡ length events
-  pub past : core.past ≡ reverse events
+  pub setup : core.setup ≡ setup_by settings image read.head
+  pub limit : core.limit ≡ length read.events
+  pub past : core.past ≡ reverse read.events
   pub accepted : is_accepted core.setup core.limit ≡ true
   pub shown : Shown core
   pub printed : Prints old new (IsAccount core [] wanted)

@@ -31,6 +31,16 @@ abbrev pub litmus_of : Command → Option LitmusCommand
 litmus_of (commands.Litmus litmus) = Some litmus
 litmus_of _ = None
 
+-- The command is of a trace alone, which has no image either.
+abbrev pub migrates : Command → Bool
+migrates (commands.Migrate migrate) = true
+migrates _ = false
+
+-- What is owed on a migration, and on any other command.
+abbrev pub ForMigration : Bool → Type 0 → Type 0 → Type 0
+ForMigration true OfMigration OfOther = OfMigration
+ForMigration false OfMigration OfOther = OfOther
+
 -- What is owed on a litmus test, and on any other command.
 abbrev pub ForTest : Option LitmusCommand → (LitmusCommand → Type 0) → Type 0 → Type 0
 ForTest None OfTest OfOther = OfOther
@@ -56,6 +66,7 @@ IsCommandRefusal (commands.Explain explain) settings image second reason = IsLis
 IsCommandRefusal (commands.Outcomes outcomes) settings image second reason =
     IsOutcomesRefusal settings image outcomes reason
 IsCommandRefusal (commands.Litmus litmus) settings image second reason = ⊥
+IsCommandRefusal (commands.Migrate migrate) settings image second reason = ⊥
 IsCommandRefusal (commands.Chart chart) settings image second reason =
     BehindFile second (λ trace. IsChartRefusal settings image trace chart) reason
 
@@ -93,6 +104,7 @@ CommandComesTo (commands.Explain explain) settings image second Traced old new s
 CommandComesTo (commands.Outcomes outcomes) settings image second Traced old new status =
     OutcomesComeTo settings image outcomes old new status
 CommandComesTo (commands.Litmus litmus) settings image second Traced old new status = ⊥
+CommandComesTo (commands.Migrate migrate) settings image second Traced old new status = ⊥
 CommandComesTo (commands.Chart chart) settings image second Traced old new status =
     OfFile second (λ trace. ChartComesTo settings image trace chart status)
 
@@ -111,8 +123,8 @@ AreUnfit _ settings image second = ⊥
 
 -- What a command prints that doesn't come to its report since its file couldn't be written: a
 -- core's answers to the asks, or what explains them, where it makes steps; nothing, where it runs
--- threads, or where the file is that of a chart, of an order or of a litmus test. No other command writes
--- a file.
+-- threads, or where the file is that of a chart, of an order, of a litmus test or of a migration. No other
+-- command writes a file.
 abbrev pub IsUnreported : Command → Read → Option (List ℕ) → Option (List ℕ) → Type 0
 IsUnreported (commands.Step step) second old new =
     (core : CoreView) × (idle : List ℕ)
@@ -121,16 +133,18 @@ IsUnreported (commands.Run run) second old new = new ≡ old
 IsUnreported (commands.Chart chart) second old new = new ≡ old
 IsUnreported (commands.Outcomes outcomes) second old new = new ≡ old
 IsUnreported (commands.Litmus litmus) second old new = new ≡ old
+IsUnreported (commands.Migrate migrate) second old new = new ≡ old
 IsUnreported _ second old new = ⊥
 
--- The command names a file for the trace of its core, for its chart, for an order or for what is made of a
--- litmus test, or a folder for ends.
+-- The command names a file for the trace of its core, for its chart, for an order, for what is made of a
+-- litmus test or for a migrated trace, or a folder for ends.
 abbrev pub wants_trace : Command → Bool
 wants_trace (commands.Step step) = is_some step.trace
 wants_trace (commands.Run run) = if is_some run.times then is_some run.keep else is_some run.trace
 wants_trace (commands.Chart chart) = has_file chart
 wants_trace (commands.Outcomes outcomes) = wants_order outcomes
 wants_trace (commands.Litmus litmus) = writes_file litmus
+wants_trace (commands.Migrate migrate) = true
 wants_trace _ = false
 
 -- The command explains its files: it answers before they are refused.

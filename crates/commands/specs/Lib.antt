@@ -14,6 +14,7 @@ pub mod Script
 pub mod List
 pub mod Outcomes
 pub mod Litmus
+pub mod Migrate
 pub mod Explain
 pub mod Commands
 pub mod Perform

@@ -10,9 +10,10 @@ use Rattle.commands.specs.declared.refused.Unread.TheVariants as unread
 use Rattle.commands.specs.Refused.{IsFirstFailed, AreAccepted}
 use Rattle.commands.specs.Inputs.{Read, OfFile, OfSettings, OfProgram, IsNoConfiguration}
 use Rattle.stress_runs.specs.declared.keeping.Part.{Part}
-use Rattle.commands.specs.Written.{ToWrite, IsWritten}
+use Rattle.commands.specs.Written.{ToWrite, TextOf, IsWritten}
+use Rattle.commands.specs.Migrate.{IsMigrateRefusal, MigrateComesTo}
 use Rattle.commands.specs.Commands.{IsCommandRefusal, CommandComesTo, AreUnfit, IsUnreported}
-use Rattle.commands.specs.Commands.{wants_trace, explains, litmus_of, ForTest}
+use Rattle.commands.specs.Commands.{wants_trace, explains, litmus_of, migrates, ForTest, ForMigration}
 use Rattle.sim_inputs.specs.declared.line.LitmusCommand.{LitmusCommand}
 use Rattle.commands.specs.Litmus.{IsLitmusRefusal, LitmusComesTo}
 
@@ -59,17 +60,40 @@ abbrev pub LitmusLineComesTo : LitmusCommand → Read → Read → Option (List 
 LitmusLineComesTo litmus config test old new status =
     OfSettings config (λ settings. OfFile test (λ text. LitmusComesTo litmus old new status))
 
+-- When each refusal comes of a migration: the configuration is looked at first, then the trace. A file that
+-- can't be read is refused where it is looked at.
+abbrev pub IsMigrateLineRefusal : Read → Read → Refused → Type 0
+IsMigrateLineRefusal config trace Config = OfFile config IsNoConfiguration
+IsMigrateLineRefusal config trace File =
+    (config ≡ Err unread.File) ⊎ OfSettings config (λ settings. trace ≡ Err unread.File)
+IsMigrateLineRefusal config trace Memory = Unit {0}
+IsMigrateLineRefusal config trace reason =
+    OfSettings config (λ settings. OfFile trace (λ text. IsMigrateRefusal settings text reason))
+
+-- What it comes to: the configuration's settings are a core's, of which the trace in the file is then.
+abbrev pub MigrationComesTo : Read → Read → (List ℕ → Type 0) → ℕ → Type 0
+MigrationComesTo config trace Put status =
+    OfSettings config (λ settings. OfFile trace (λ text. MigrateComesTo settings text Put status))
+
+-- So does its line, which prints nothing.
+abbrev pub MigrateLineComesTo : Read → Read → (ToWrite → Type 0) → Option (List ℕ) → Option (List ℕ) → ℕ
+    → Type 0
+MigrateLineComesTo config trace Traced old new status =
+    (new ≡ old) × MigrationComesTo config trace (λ text. Traced (TextOf text)) status
+
 -- When each refusal of a line comes, and what it comes to.
 abbrev pub IsRefusal : Command → Read → Read → Read → Refused → Type 0
 IsRefusal command config image second reason = ForTest (litmus_of command)
     (λ litmus. IsLitmusLineRefusal litmus config image reason)
-    (IsProgramRefusal command config image second reason)
+    (ForMigration (migrates command) (IsMigrateLineRefusal config second reason)
+    (IsProgramRefusal command config image second reason))
 
 abbrev pub LineComesTo : Command → Read → Read → Read → (ToWrite → Type 0)
     → Option (List ℕ) → Option (List ℕ) → ℕ → Type 0
 LineComesTo command config image second Traced old new status = ForTest (litmus_of command)
     (λ litmus. LitmusLineComesTo litmus config image old new status)
-    (ProgramComesTo command config image second Traced old new status)
+    (ForMigration (migrates command) (MigrateLineComesTo config second Traced old new status)
+    (ProgramComesTo command config image second Traced old new status))
 
 -- What a command has answered, of its settings, its program image and its second file, before the
 -- output is flushed: a refusal that may come of it, or an exit status behind what is owed on it.

@@ -9,7 +9,7 @@ use Rattle.smt_model.specs.Setup.{is_accepted}
 use Rattle.sim_inputs.specs.{declared.settings.Settings.Settings}
 use Rattle.commands.specs.{declared.refused.Refused.Refused, declared.refused.Unread.Unread}
 use Rattle.commands.specs.declared.refused.Refused.TheVariants.{Image, Config, Script, Order}
-use Rattle.commands.specs.declared.refused.Refused.TheVariants.{Step, Trace, Event, Prediction}
+use Rattle.commands.specs.declared.refused.Refused.TheVariants.{Step, Trace, Version, Event, Prediction}
 use Rattle.commands.specs.declared.refused.Refused.TheVariants.{Register, NoUnit, Limit, NoHart}
 use Rattle.commands.specs.declared.refused.Refused.TheVariants.{Picture, Memory, Thread, File, Output}
 use Rattle.commands.specs.declared.refused.Refused.TheVariants.{Watch, Condition, ManyWatched, NoWord}
@@ -25,6 +25,7 @@ exit_status_of (Script number) = 2
 exit_status_of (Order index) = 2
 exit_status_of (Step index why) = 2
 exit_status_of (Trace line rule) = 4
+exit_status_of Version = 4
 exit_status_of (Event index rule) = 4
 exit_status_of (Prediction index) = 4
 exit_status_of (Register index) = 4

@@ -4,27 +4,26 @@ use Rattle.std.specs.Prelude.{◌≡◌, ℕ, List, Option, length, reverse}
 use Rattle.elf_image.specs.Image.{ProgramImage}
 use Rattle.events.specs.{declared.event.Event.Event as AnyEvent}
 use Rattle.smt_model.specs.Setup.{Setup}
-use Rattle.core_state.specs.Setup.{setup_of}
 use Rattle.actors.specs.declared.static_predictor.StaticPredictor.{StaticPredictor}
 use Rattle.history_scripts.specs.declared.refused.ScriptRefused.{ScriptRefused}
 use Rattle.history_scripts.specs.declared.refused.ScriptRefused.TheVariants as why
 use Rattle.history_scripts.specs.{Again.IsScriptOf, Refusals.IsScriptRefusedFor}
-use Rattle.event_text.specs.Trace.{IsRefusedAt}
+use Rattle.event_text.specs.{Contents.TraceContent, Trace.IsRefusedAt}
 use Rattle.text_fields.specs.{Printing.Prints}
 use Rattle.sim_inputs.specs.{declared.settings.Settings.Settings}
 use Rattle.commands.specs.{declared.refused.Refused.Refused, Retiring.guesses_statically}
-use Rattle.commands.specs.{Check.IsTraceOf, Check.OfEvents}
+use Rattle.commands.specs.{Check.IsTraceOf, Check.OfEvents, Check.setup_by}
 use Rattle.commands.specs.declared.refused.Refused.TheVariants as reason
 
--- The text is a script by which a core of this image and these settings has the trace's history
+-- The text is a script by which the core that the trace is of has its history
 -- again, by the program's own predictor: a legal history, of which each prediction is this
 -- predictor's, and each register that was taken the least free one.
 pub record HasScript (settings : Settings) (image : ProgramImage) (trace : List ℕ)
     (text : List ℕ) : Type 0 where
-  pub events : List AnyEvent
-  pub is_trace : IsTraceOf trace events
+  pub read : TraceContent
+  pub is_trace : IsTraceOf trace read
   pub script : IsScriptOf {P = StaticPredictor} guesses_statically
-      (setup_of image settings.config) (reverse events) text
+      (setup_by settings image read.head) (reverse read.events) text
 
 -- The events have no script, for this reason.
 abbrev pub HasNoScript : Setup → List AnyEvent → ScriptRefused → Type 0

@@ -1,3 +1,6 @@
+pub mod Contents
+pub mod Core
+pub mod Heads
 pub mod Line
 pub mod Ranges
 pub mod Reading

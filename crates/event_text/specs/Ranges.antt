@@ -1,14 +1,44 @@
--- The greatest number of an actor, of a hart, of an instruction and of a register in a trace, by the sizes of a core.
+-- The greatest number of an actor, of a hart, of an instruction and of a register in each version of a trace, and the
+-- events whose numbers are within them. (This project's own choice.)
 
-use Rattle.std.specs.Prelude.{◌+◌, ◌-◌}
+use Rattle.std.specs.Prelude.{ℕ, ◌+◌, ◌-◌, ◌≤◌, IfSome}
 use Rattle.numbers.specs.{Layout.first_extra, Sizes.most_actors, Sizes.most_events, Sizes.most_extra}
 use Rattle.numbers.specs.{Sizes.most_harts}
-use Rattle.event_text.specs.{declared.ranges.Ranges.Ranges}
+use Rattle.events.specs.{declared.event.Event.Event, Range.IsEffect, Range.IsOutcome, Range.IsWord}
+use Rattle.events.specs.declared.event.Event.TheVariants.{Fetch, Decode, Rename, Issue, Complete}
+use Rattle.events.specs.declared.event.Event.TheVariants.{Drop, Retire}
+use Rattle.event_text.specs.{declared.ranges.Ranges.Ranges, declared.head.TraceHead.TraceHead}
+use Rattle.event_text.specs.declared.head.TraceHead.TheVariants.{First, Second}
 
-abbrev pub trace_ranges : Ranges
-trace_ranges = record {
+-- of version 1, for ever: 16 actors, 8 harts, 16,777,216 instructions and 504 registers
+abbrev pub first_ranges : Ranges
+first_ranges = record { actor = 15; hart = 7; seq = 16777215; phys = 503 }
+
+-- of version 2: what a core of the greatest size has
+abbrev pub second_ranges : Ranges
+second_ranges = record {
   actor = most_actors - 1;
   hart = most_harts - 1;
   seq = most_events - 1;
   phys = first_extra most_harts + most_extra - 1;
 }
+
+abbrev pub ranges_of : TraceHead → Ranges
+ranges_of First = first_ranges
+ranges_of (Second header) = second_ranges
+
+-- an actor, and an instruction's number
+abbrev pub HasActorAndNumber : Ranges → ℕ → ℕ → Type 0
+HasActorAndNumber ranges actor seq = (actor ≤ ranges.actor) × (seq ≤ ranges.seq)
+
+-- the fields of an event are within these ranges
+abbrev pub IsEventWithin : Ranges → Event → Type 0
+IsEventWithin ranges (Fetch actor hart seq pc word predicted) =
+    HasActorAndNumber ranges actor seq × (hart ≤ ranges.hart) × IsWord pc × IfSome word IsWord × IsWord predicted
+IsEventWithin ranges (Decode actor seq) = HasActorAndNumber ranges actor seq
+IsEventWithin ranges (Rename actor seq phys) =
+    HasActorAndNumber ranges actor seq × IfSome phys (λ p. p ≤ ranges.phys)
+IsEventWithin ranges (Issue actor seq) = HasActorAndNumber ranges actor seq
+IsEventWithin ranges (Complete actor seq outcome) = HasActorAndNumber ranges actor seq × IsOutcome outcome
+IsEventWithin ranges (Drop actor seq) = HasActorAndNumber ranges actor seq
+IsEventWithin ranges (Retire actor seq effect) = HasActorAndNumber ranges actor seq × IsEffect effect

@@ -14,8 +14,8 @@ use Rattle.events.specs.{declared.effect.Next.TheVariants.Ended}
 use Rattle.events.specs.{declared.effect.Next.TheVariants.Stopped, declared.effect.Outcome.Outcome}
 use Rattle.events.specs.{declared.effect.Written.Written, declared.event.Event.Event}
 use Rattle.events.specs.{Kind.fields_after, Kind.kind_of_letter, declared.kind.EventKind.EventKind}
-use Rattle.event_text.specs.{declared.ranges.Ranges.Ranges, Ranges.trace_ranges}
-use Rattle.event_text.specs.{declared.read.Rule.Rule, declared.read.Rule.TheVariants.UnknownLetter}
+use Rattle.event_text.specs.{declared.ranges.Ranges.Ranges}
+use Rattle.event_text.specs.{declared.read.Rule.Rule, declared.read.Rule.TheVariants.FirstField}
 use Rattle.event_text.specs.{declared.read.Rule.TheVariants.FieldCount}
 use Rattle.event_text.specs.{declared.read.Rule.TheVariants.Field}
 use Rattle.events.specs.declared.event.Event.TheVariants.{Fetch, Decode, Rename, Issue, Complete}
@@ -24,7 +24,7 @@ use Rattle.events.specs.declared.kind.EventKind.TheVariants as kind
 
 -- the number of a rule that a line breaks
 abbrev pub rule_number : Rule → ℕ
-rule_number UnknownLetter = 3
+rule_number FirstField = 3
 rule_number FieldCount = 4
 rule_number (Field Misspelled) = 5
 rule_number (Field OutOfRange) = 6
@@ -176,7 +176,7 @@ of_fields (Err error) = Err (Field error)
 
 -- the event of a kind, where there are as many fields as it has
 abbrev pub event_as : Ranges → Option EventKind → List ℕ → Result Event Rule
-event_as ranges None fields = Err UnknownLetter
+event_as ranges None fields = Err FirstField
 event_as ranges (Some kind) fields =
     if field_count 32 fields == fields_after kind then of_fields (event_fields ranges kind fields)
     else Err FieldCount
@@ -184,7 +184,3 @@ event_as ranges (Some kind) fields =
 -- the event of a line without its newline, of a version of the format that has these ranges
 unfoldable pub event_within : Ranges → List ℕ → Result Event Rule
 event_within ranges line = event_as ranges (kind_named (first_field line)) (others line)
-
--- the same of this version
-abbrev pub event_of : List ℕ → Result Event Rule
-event_of line = event_within trace_ranges line

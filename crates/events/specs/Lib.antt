@@ -4,4 +4,5 @@ pub mod HistoryInside
 pub mod Kind
 pub mod Packed
 pub mod Range
+pub mod Roles
 pub mod Width

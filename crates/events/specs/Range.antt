@@ -1,16 +1,11 @@
--- Which numbers the fields of an event may have. (This project's own choice.)
+-- Which numbers the fields of what an event says may have. (This project's own choice.)
 
-use Rattle.std.specs.Prelude.{ℕ, ◌+◌, ◌*◌, ◌^◌, ◌<◌, ◌≤◌, IfSome}
-use Rattle.numbers.specs.{Layout.first_extra, Sizes.most_actors, Sizes.most_events, Sizes.most_extra}
-use Rattle.numbers.specs.{Sizes.most_harts}
+use Rattle.std.specs.Prelude.{ℕ, ◌*◌, ◌^◌, ◌<◌, ◌≤◌, IfSome}
 use Rattle.events.specs.{declared.effect.Effect.Effect, declared.effect.Next.Next}
 use Rattle.events.specs.{declared.effect.Next.TheVariants.Pc}
 use Rattle.events.specs.{declared.effect.Next.TheVariants.Ended}
 use Rattle.events.specs.{declared.effect.Next.TheVariants.Stopped, declared.effect.Outcome.Outcome}
 use Rattle.events.specs.{declared.effect.Written.Written, Width.HasWidth}
-use Rattle.events.specs.{declared.event.Event.Event}
-use Rattle.events.specs.declared.event.Event.TheVariants.{Fetch, Decode, Rename, Issue, Complete}
-use Rattle.events.specs.declared.event.Event.TheVariants.{Drop, Retire}
 
 -- a number of 32 bits
 abbrev pub IsWord : ℕ → Type 0
@@ -40,19 +35,3 @@ pub record IsEffect (e : Effect) : Type 0 where
   pub next : IsNext e.next
   pub write : IfSome e.write IsWritten
   pub out : IfSome e.out (λ byte. byte < 256)
-
--- an actor, and an instruction's number
-abbrev pub HasActorAndNumber : ℕ → ℕ → Type 0
-HasActorAndNumber actor seq = (actor < most_actors) × (seq < most_events)
-
--- the fields of an event are within the ranges that a trace allows them
-abbrev pub IsEventInRange : Event → Type 0
-IsEventInRange (Fetch actor hart seq pc word predicted) =
-    HasActorAndNumber actor seq × (hart < most_harts) × IsWord pc × IfSome word IsWord × IsWord predicted
-IsEventInRange (Decode actor seq) = HasActorAndNumber actor seq
-IsEventInRange (Rename actor seq phys) =
-    HasActorAndNumber actor seq × IfSome phys (λ p. p < first_extra most_harts + most_extra)
-IsEventInRange (Issue actor seq) = HasActorAndNumber actor seq
-IsEventInRange (Complete actor seq outcome) = HasActorAndNumber actor seq × IsOutcome outcome
-IsEventInRange (Drop actor seq) = HasActorAndNumber actor seq
-IsEventInRange (Retire actor seq effect) = HasActorAndNumber actor seq × IsEffect effect

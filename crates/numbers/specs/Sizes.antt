@@ -1,12 +1,12 @@
 -- How many of each part a core may have.
-use Rattle.std.specs.Prelude.{ℕ, ◌+◌, ◌*◌, ◌/◌}
+use Rattle.std.specs.Prelude.{ℕ, ◌+◌, ◌*◌, ◌/◌, Bool, ◌&&◌, nat_le}
 
 -- harts, and the physical registers beyond those that the harts begin with
 abbrev pub most_harts : ℕ
-most_harts = 8
+most_harts = 16
 
 abbrev pub most_extra : ℕ
-most_extra = 256
+most_extra = 528
 
 -- the entries that the issue queue has room for
 abbrev pub fewest_queued : ℕ
@@ -16,7 +16,7 @@ abbrev pub most_queued : ℕ
 most_queued = 64
 
 abbrev pub most_actors : ℕ
-most_actors = 16
+most_actors = 32
 
 -- the registers that a hart begins with: x1 to x31, each with a physical register of its own
 abbrev pub renamed_registers : ℕ
@@ -41,3 +41,11 @@ most_accesses = 16
 -- the events of a history
 abbrev pub most_events : ℕ
 most_events = 16777216
+
+-- The sizes of a core: at least one hart, one extra register and one actor, and no more of each
+-- than there may be.
+abbrev pub are_core_sizes : ℕ → ℕ → ℕ → ℕ → Bool
+are_core_sizes harts extra queue actors =
+    (nat_le 1 harts && nat_le harts most_harts) && ((nat_le 1 extra && nat_le extra most_extra)
+    && ((nat_le fewest_queued queue && nat_le queue most_queued)
+    && (nat_le 1 actors && nat_le actors most_actors)))

@@ -6,3 +6,4 @@ pub mod CountLines
 pub mod Json
 pub mod Ends
 pub mod Listing
+pub mod Traces

@@ -136,6 +136,7 @@ computed_of (instr.Shift op rd rs1 amount) pc a b = gives pc (shift_value op a a
 computed_of (instr.Register op rd rs1 rs2) pc a b = gives pc (register_value op a b)
 computed_of (instr.MulDiv op rd rs1 rs2) pc a b = gives pc (muldiv_value op a b)
 computed_of instr.Fence pc a b = just_next (Pc (next_pc pc))
+computed_of instr.InstructionFence pc a b = just_next (Pc (next_pc pc))
 computed_of instr.Ecall pc a b = call pc a b
 computed_of instr.Ebreak pc a b = just_next (Stopped 3)
 computed_of (instr.LoadReserved rd rs1 ordering) pc a b = touches pc a 0

@@ -1,14 +1,14 @@
 -- What a core is made from, and the numbers that everything starts with.
 use Rattle.std.specs.Prelude.{ℕ, ◌+◌, Bool, ◌==◌, ◌&&◌, nat_le, if◌then◌else◌, List, length}
 use Rattle.std.specs.Prelude.{Option, Some, None}
-use Rattle.numbers.specs.Sizes.{most_harts, most_extra, fewest_queued, most_queued, most_actors}
-use Rattle.numbers.specs.Sizes.{most_events}
+use Rattle.numbers.specs.Sizes.{are_core_sizes, most_events}
 use Rattle.numbers.specs.Layout.{first_extra}
 use Rattle.elf_image.specs.Image.{ProgramImage}
 use Rattle.rv_instr.specs.declared.op.UnitKind.{UnitKind}
 use Rattle.rv_instr.specs.declared.op.UnitKind.TheVariants as unit
-use Rattle.smt_model.specs.{Words.ProgramImage, Words.UnitKind, declared.config.Role.Role}
-use Rattle.smt_model.specs.declared.config.Role.TheVariants as role
+use Rattle.events.specs.declared.role.Role.{Role}
+use Rattle.smt_model.specs.{Words.ProgramImage, Words.UnitKind}
+use Rattle.events.specs.declared.role.Role.TheVariants as role
 
 -- A program image and the sizes of a core: its harts, the physical registers beyond 31 a hart, the
 -- entries of the issue queue, and the role of each actor.
@@ -22,14 +22,6 @@ pub record Setup : Type 0 where
 -- How many physical registers there are.
 abbrev pub registers_of : Setup → ℕ
 registers_of setup = first_extra setup.harts + setup.extra
-
--- The sizes of a core: at least one hart, one extra register and one actor, and no more of each
--- than there may be.
-abbrev pub are_core_sizes : ℕ → ℕ → ℕ → ℕ → Bool
-are_core_sizes harts extra queue actors =
-    (nat_le 1 harts && nat_le harts most_harts) && ((nat_le 1 extra && nat_le extra most_extra)
-    && ((nat_le fewest_queued queue && nat_le queue most_queued)
-    && (nat_le 1 actors && nat_le actors most_actors)))
 
 -- A core is made of these sizes and this limit on its history.
 abbrev pub is_accepted : Setup → ℕ → Bool

@@ -2,21 +2,8 @@ ghost use Rattle.std.specs.Prelude.{◌≡◌, ◌≤◌, length};
 ghost use Rattle.numbers.specs.Sizes.{most_actors};
 
 use arrayvec::ArrayVec;
-use events::Cause;
+use events::{Cause, Role};
 use numbers::sizes::MOST_ACTORS;
-
-/// What an actor does in its turns. Only `Alu`, `Mul` and `Mem` issue instructions, each for its
-/// own kind of unit; every other step may be made by any actor.
-#[derive(Clone, Copy, PartialEq, Eq, Default, Drop)]
-pub enum Role {
-    #[default]
-    Fetch,
-    Front,
-    Retire,
-    Alu,
-    Mul,
-    Mem,
-}
 
 /// The sizes of a core: its harts, the physical registers beside those that the harts begin with,
 /// the entries in the issue queue, and the roles of its actors. There is at least one of each, and

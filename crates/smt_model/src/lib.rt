@@ -10,4 +10,5 @@
 
 pub mod config;
 
-pub use config::{Config, Role, Status};
+pub use config::{Config, Status};
+pub use events::Role;

@@ -4,7 +4,8 @@
 use Rattle.std.specs.Prelude.{◌≡◌, ℕ, ◌+◌, Bool, true, false, List, [], ◌∷◌, ◌++◌, Option}
 use Rattle.std.specs.Prelude.{flat_map, length, map, reverse}
 use Rattle.std.specs.Fmt.{decimal}
-use Rattle.event_text.specs.{Sinking.HasPut, Trace.trace_text}
+use Rattle.event_text.specs.{Sinking.HasPut}
+use Rattle.reports.specs.{Traces.trace_of}
 use Rattle.smt_model.specs.Account.{order}
 use Rattle.core_state.specs.View.{CoreView}
 use Rattle.stress_runs.specs.declared.keeping.Part.{Part}
@@ -30,7 +31,7 @@ pub record IsKept {S : Type 0} (begins : S → ℕ → Part → S → Type 0) (w
   pub for_trace : S
   pub begun_trace : begins old number Trace for_trace
   pub traced : S
-  pub trace : HasPut written has_failed for_trace traced (trace_text (reverse core.past))
+  pub trace : HasPut written has_failed for_trace traced (trace_of core)
   pub for_order : S
   pub begun_order : begins traced number Order for_order
   pub ordered : HasPut written has_failed for_order new (order_text (order_of core))
