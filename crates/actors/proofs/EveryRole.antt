@@ -4,9 +4,9 @@ use Rattle.std.specs.Prelude.{Contains}
 use Rattle.std.specs.List.{Any, list_all}
 use Rattle.std.proofs.lemmas.Bool.{and_parts, and_from}
 use Rattle.std.proofs.lemmas.List.Folds.{Any-from_list_any, list_any_at}
-use Rattle.smt_model.specs.{declared.config.Role.Role, contracts.config.RolePartialEq.TheImpl.eq-value}
-use Rattle.smt_model.specs.{contracts.config.Role.the_type}
-use Rattle.smt_model.specs.declared.config.Role.TheVariants.{Fetch, Front, Retire, Alu, Mul, Mem}
+use Rattle.events.specs.{declared.role.Role.Role, contracts.role.RolePartialEq.TheImpl.eq-value}
+use Rattle.events.specs.contracts.role.Role.{the_type}
+use Rattle.events.specs.declared.role.Role.TheVariants.{Fetch, Front, Retire, Alu, Mul, Mem}
 use Rattle.actors.specs.Roles.{HaveEveryRole, has_role}
 use denote.Enum.Bare.{same_true}
 

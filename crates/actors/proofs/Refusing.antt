@@ -3,7 +3,8 @@ use Rattle.std.proofs.Common.{◌≡◌, ◌∙◌, ℕ, Bool, true, false, List
 use Rattle.std.proofs.lemmas.Bool.{false≢true}
 use Rattle.std.specs.Prelude.{◌↔◌, Result, Ok, Err, IfErr}
 use Rattle.elf_image.specs.Image.{ProgramImage}
-use Rattle.smt_model.specs.{Setup.Setup, declared.config.Role.Role}
+use Rattle.events.specs.declared.role.Role.{Role}
+use Rattle.smt_model.specs.{Setup.Setup}
 use Rattle.smt_model.specs.declared.config.Config.{Config as CoreConfig}
 use Rattle.core_state.specs.{Setup.setup_of, declared.refused.CoreRefused.CoreRefused}
 use Rattle.core_state.specs.declared.refused.CoreRefused.TheVariants as refused

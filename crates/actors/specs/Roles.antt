@@ -1,8 +1,8 @@
 -- Which roles the actors of a run have.
 use Rattle.std.specs.Prelude.{Bool, List, Contains}
 use Rattle.std.specs.List.{list_any}
-use Rattle.smt_model.specs.declared.config.Role.{Role}
-use Rattle.smt_model.specs.contracts.config.RolePartialEq.TheImpl.{eq-value}
+use Rattle.events.specs.declared.role.Role.{Role}
+use Rattle.events.specs.contracts.role.RolePartialEq.TheImpl.{eq-value}
 
 -- There is an actor of each role.
 abbrev pub HaveEveryRole : List Role → Type 0

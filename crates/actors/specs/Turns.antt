@@ -2,8 +2,9 @@
 use Rattle.std.specs.Prelude.{◌≡◌, ℕ, ◌==◌, if◌then◌else◌, Bool, Option, Some, None}
 use Rattle.events.specs.declared.event.Event.{Event}
 use Rattle.exec_units.specs.Job.{JobView, DoneView}
-use Rattle.smt_model.specs.{Setup.Setup, declared.config.Role.Role}
-use Rattle.smt_model.specs.declared.config.Role.TheVariants as role
+use Rattle.events.specs.declared.role.Role.{Role}
+use Rattle.smt_model.specs.{Setup.Setup}
+use Rattle.events.specs.declared.role.Role.TheVariants as role
 use Rattle.core_state.specs.View.{CoreView}
 use Rattle.core_lock.specs.{declared.ask.Ask.Ask, declared.ask.Said.Said}
 use Rattle.core_lock.specs.declared.ask.Ask.TheVariants as ask

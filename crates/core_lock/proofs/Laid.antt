@@ -1,5 +1,5 @@
 -- What lies in a row, one by one and four by four.
-use Rattle.std.proofs.Common.{◌≡◌, ℕ, ◌+◌, ◌<◌, ◌≤◌, List, [], ◌∷◌, ◌++◌, length, map, take, get_or, slice_set, sym, ap}
+use Rattle.std.proofs.Common.{◌≡◌, ℕ, zero, suc, ◌+◌, ◌<◌, ◌≤◌, List, [], ◌∷◌, ◌++◌, length, map, take, get_or, slice_set, sym, ap}
 use Rattle.std.proofs.Common.{◌∙◌, arith, inl, inr, subst}
 use Rattle.std.specs.Prelude.{Some, slice_get}
 use Rattle.std.proofs.{lemmas.Bool.cases_lt, lemmas.Option.get_or_from_slice_get}
@@ -31,6 +31,31 @@ places_more Q xs i d now before k under p at =
           let found : get_or xs i d ≡ p = get_or_from_slice_get xs i p d (ap (slice_get xs) same ∙ at) in
           subst (λ j. Q j p) same (subst (λ q. Q i q) found now)
     ]
+
+-- What a function gives of each of a row is the same, at every place.
+pub record AreAlike {X Y : Type 0} (f : X → Y) (y : Y) (xs : List X) : Type 0 where
+  pub at : (k : ℕ) (d : X) → k < length xs → f (get_or xs k d) ≡ y
+
+more_alike : {X Y : Type 0} (f : X → Y) (y : Y) (x : X) (xs : List X) → f x ≡ y → AreAlike f y xs
+    → (k : ℕ) (d : X) → k < length (x ∷ xs) → f (get_or (x ∷ xs) k d) ≡ y
+more_alike f y x xs is rest zero d inside = is
+more_alike f y x xs is rest (suc k) d inside = rest.at k d (omega (arith, inside))
+
+none_alike : {X Y : Type 0} (f : X → Y) (y : Y) → AreAlike f y []
+none_alike f y = record { at = λ k d inside. absurd (omega (arith, inside)) }
+
+pub last_alike : {X Y : Type 0} (f : X → Y) {y : Y} {x : X} → f x ≡ y → AreAlike f y (x ∷ [])
+last_alike f {y} {x} is = record { at = more_alike f y x [] is (none_alike f y) }
+
+pub four_alike : {X Y : Type 0} (f : X → Y) {y : Y} {a b c d : X} {xs : List X} → f a ≡ y → f b ≡ y → f c ≡ y → f d ≡ y
+    → AreAlike f y xs → AreAlike f y (a ∷ b ∷ c ∷ d ∷ xs)
+four_alike f {y} {a} {b} {c} {d} {xs} at_a at_b at_c at_d rest = record {
+  at = more_alike f y a (b ∷ c ∷ d ∷ xs) at_a (record {
+    at = more_alike f y b (c ∷ d ∷ xs) at_b (record {
+      at = more_alike f y c (d ∷ xs) at_c (record { at = more_alike f y d xs at_d rest });
+    });
+  });
+}
 
 -- Two lists are the same where their first four are, one by one, and so are the others.
 pub four_more : {X : Type 0} {a b c d i j k l : X} {xs ys : List X} → a ≡ i → b ≡ j → c ≡ k → d ≡ l → xs ≡ ys

@@ -1,5 +1,5 @@
 -- What the history holds of each actor, event by event.
-use Rattle.std.proofs.Common.{◌≡◌, ◌≢◌, ◌∙◌, ◌==◌, ℕ, suc, ◌+◌, ◌<◌, List, [], ◌∷◌, ◌++◌, ◌≤◌, ◌⊎◌, length, get_or, reverse, take, Option, Some, None, Bool, true, false, refl, ap, sym, subst, arith, inl, inr}
+use Rattle.std.proofs.Common.{◌≡◌, ◌≢◌, ◌∙◌, ◌==◌, ℕ, zero, suc, replicate, ◌+◌, ◌<◌, List, [], ◌∷◌, ◌++◌, ◌≤◌, ◌⊎◌, length, get_or, reverse, take, Option, Some, None, Bool, true, false, refl, ap, sym, subst, arith, inl, inr}
 use Rattle.std.proofs.Common.{append_assoc, append-nil, length-append}
 use Rattle.std.proofs.lemmas.{List.length-reverse, List.length-take-le, List.reverse-append, List.reverse-reverse}
 use Rattle.std.proofs.lemmas.{Bool.Decides.nat_tests, List.get_or-set_other, List.get_or-set_same, List.length-set}
@@ -167,3 +167,20 @@ counted_so past k a c l t told lies = (
   lies.1.counts ∙ ap (λ j. event_count j past) lies.0 ∙ sym told.counts,
   lies.1.ends ∙ ap (λ j. last_event_of j past) lies.0 ∙ sym told.ends,
 )
+
+-- ---- Before the first event
+
+-- No event is any actor's, and none is its last.
+abbrev pub nothing_made : Made
+nothing_made = record { count = 0; last = None }
+
+blank_at : (n k : ℕ) → get_or (replicate n nothing_made) k nothing_made ≡ nothing_made
+blank_at zero k = refl
+blank_at (suc n) zero = refl
+blank_at (suc n) (suc k) = blank_at n k
+
+pub none_made : (items : List Event) (n : ℕ) → AreMade [] items (replicate n nothing_made)
+none_made items n k m at =
+    let blank : nothing_made ≡ m =
+    sym (blank_at n k) ∙ get_or_from_slice_get (replicate n nothing_made) k m nothing_made at in
+    subst (λ (x : Made). IsTold [] k x.count (event_at items x.last)) blank (record { counts = refl; ends = refl })

@@ -81,11 +81,18 @@ impl<L: Origin> Held<L> {
         let (mut book, mut rest) = blank.open::<L>();
         book.add(&mut rest, core.history().len() as u64);
         let made = made_of(&core);
-        let (a, b, c, d) = deal_four(&core, &made, &mut rest, 0);
-        let (e, f, g, h) = deal_four(&core, &made, &mut rest, 4);
-        let (i, j, k, l) = deal_four(&core, &made, &mut rest, 8);
-        let (m, n, o, p) = deal_four(&core, &made, &mut rest, 12);
-        let passes = [a, b, c, d, e, f, g, h, i, j, k, l, m, n, o, p];
+        let (p0, p1, p2, p3) = deal_four(&core, &made, &mut rest, 0);
+        let (p4, p5, p6, p7) = deal_four(&core, &made, &mut rest, 4);
+        let (p8, p9, p10, p11) = deal_four(&core, &made, &mut rest, 8);
+        let (p12, p13, p14, p15) = deal_four(&core, &made, &mut rest, 12);
+        let (p16, p17, p18, p19) = deal_four(&core, &made, &mut rest, 16);
+        let (p20, p21, p22, p23) = deal_four(&core, &made, &mut rest, 20);
+        let (p24, p25, p26, p27) = deal_four(&core, &made, &mut rest, 24);
+        let (p28, p29, p30, p31) = deal_four(&core, &made, &mut rest, 28);
+        let passes = [
+            p0, p1, p2, p3, p4, p5, p6, p7, p8, p9, p10, p11, p12, p13, p14, p15, p16, p17, p18,
+            p19, p20, p21, p22, p23, p24, p25, p26, p27, p28, p29, p30, p31,
+        ];
         book.audit(&mut rest);
         (Held { core, book, rest }, passes)
     }

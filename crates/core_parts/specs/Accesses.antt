@@ -62,7 +62,8 @@ accesses_of touched xs =
 -- Each hart's queues are the loads and stores of its active list; there is a place for each hart.
 pub record AccessesAgree (touched : ℕ → Bool) (harts : List HartState) (accesses : List Queues)
     : Type 0 where
-  pub places : length harts ≤ most_harts
+  pub few : length harts ≤ most_harts
+  pub places : length accesses ≡ length harts
   pub each : (h : ℕ) (d : HartState) → h < length harts
       → queues_of accesses h ≡ accesses_of touched (slice_index_or harts h d).active
 

@@ -64,7 +64,7 @@ impl Parts {
             free: FreeList::new(harts, extra),
             values: first_registers(harts, alloc)?,
             jobs: [None; MOST_ACTORS],
-            accesses: LoadStore::new(alloc)?,
+            accesses: LoadStore::new(harts, alloc)?,
             memory: Memory::new(image, alloc)?,
         })
     }

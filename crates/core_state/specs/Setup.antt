@@ -3,7 +3,7 @@ use Rattle.std.specs.Prelude.{ℕ, Bool, ◌&&◌, nat_le, length}
 use Rattle.numbers.specs.Sizes.{most_events}
 use Rattle.elf_image.specs.Image.{ProgramImage}
 use Rattle.smt_model.specs.{declared.config.Config.Config, Setup.Setup}
-use Rattle.smt_model.specs.{Setup.are_core_sizes}
+use Rattle.numbers.specs.Sizes.{are_core_sizes}
 
 abbrev pub setup_of : ProgramImage → Config → Setup
 setup_of image config =

@@ -1,10 +1,10 @@
-ghost use Rattle.std.specs.Prelude.{◌≡◌, ◌≤◌, ◌&&◌, nat_le, IsTrue, ◌↔◌};
+ghost use Rattle.std.specs.Prelude.{◌≡◌, ◌≤◌, IsTrue, ◌↔◌};
 ghost use Rattle.numbers.specs.Sizes.{most_harts, most_extra, most_queued, most_events};
 ghost use Rattle.core_state.specs.Setup.{accepts};
 
-use events::History;
-use numbers::sizes::{FEWEST_QUEUED, MOST_ACTORS, MOST_EXTRA, MOST_HARTS, MOST_QUEUED};
-use smt_model::{Config, Role};
+use events::{History, Role};
+use numbers::sizes::are_core_sizes;
+use smt_model::Config;
 
 /// Whether a core may have these sizes and this limit on its history, by `numbers::sizes`. It has
 /// at least one hart, one extra register and one actor.
@@ -15,24 +15,8 @@ pub fn is_core(config: &Config, limit: u32) -> bool
     ensures queue { IsTrue result → config.now.queue ≤ most_queued }
     ensures limit { IsTrue result → limit ≤ most_events }
 {
-    is_within(1, u64::from(config.harts), u64::from(MOST_HARTS))
-        && is_within(1, u64::from(config.extra), u64::from(MOST_EXTRA))
-        && is_within(
-            u64::from(FEWEST_QUEUED),
-            u64::from(config.queue),
-            MOST_QUEUED as u64,
-        )
-        && is_within(1, config.roles.len() as u64, MOST_ACTORS as u64)
+    are_core_sizes(config.harts, config.extra, config.queue, config.roles.len())
         && limit <= History::MAX_LIMIT
-}
-
-/// Whether a number is neither below the one nor above the other.
-///
-/// With its ranges written into it, the condition of `is_core` takes eight times as long to prove.
-fn is_within(least: u64, number: u64, most: u64) -> bool
-    ensures { result ≡ (nat_le least number && nat_le number most) }
-{
-    least <= number && number <= most
 }
 
 /// Whether two configurations are the same.

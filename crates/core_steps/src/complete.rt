@@ -1,7 +1,6 @@
 ghost use Rattle.std.specs.Prelude.{◌≡◌, ℕ, ◌<◌, ◌==◌, ◌↔◌, IsTrue, IfSome, IfNone, Some, None};
 ghost use Rattle.std.specs.Prelude.{Option, false, length, slice_index_or, slice_set};
 ghost use Rattle.std.specs.List.{list_any};
-ghost use Rattle.numbers.specs.Sizes.{most_harts};
 ghost use Rattle.load_store.specs.Looks.{seen};
 ghost use Rattle.load_store.specs.Queues.{queues_of};
 ghost use Rattle.retire_squash.specs.Active.{with_stage};
@@ -105,7 +104,7 @@ pub fn in_flight(parts: &Parts, job: &OpenJob) -> Option<Active>
 /// of its access, or with the first look of a load.
 #[inline(always)]
 pub fn completion_of(parts: &Parts, job: &OpenJob, outcome: Outcome) -> Outcome
-    requires { job.now.hart < most_harts }
+    requires { job.now.hart < length parts.now.accesses }
     ensures { (c : Computed) → outcome ≡ outcome_of job.now.op c None
         → result ≡ outcome_of job.now.op (checked parts.now.memory.image job.now.op c)
         (Some (read job.now.op (seen job.now.seq
@@ -155,7 +154,7 @@ fn write_outcome(
     goes_on: u32,
 )
     requires inside { job.now.hart < length parts.old.harts.items }
-    requires place { job.now.hart < most_harts }
+    requires place { job.now.hart < length parts.old.accesses }
     ensures agrees { (p q : Picture) → PartsAgree p parts.old
         → IsComplete p q job.now.hart active.now.seq actor outcome.now goes_on
         → active.now.phys ≡ p.phys active.now.seq → active.now.op ≡ op_in p active.now.seq

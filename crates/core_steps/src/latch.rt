@@ -4,8 +4,8 @@ use arrayvec::ArrayVec;
 use core_parts::Slot;
 use numbers::sizes::LATCH_ROOM;
 
-/// Takes the oldest instruction out of a latch. The others move up one by one: there are seven at
-/// most, and mostly one, for which `ArrayVec::remove` does three times as much.
+/// Takes the oldest instruction out of a latch. The others move up one by one: there are fewer than
+/// `LATCH_ROOM`, and mostly one, for which `ArrayVec::remove` does three times as much.
 pub(crate) fn drop_oldest(latch: &mut ArrayVec<Slot, LATCH_ROOM>)
     requires { 0 < length latch.old.items }
     ensures { latch.new.items ≡ remove latch.old.items 0 }

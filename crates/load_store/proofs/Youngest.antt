@@ -1,6 +1,6 @@
 -- The youngest store that shares a byte with an access says its bytes where it covers them all; where none shares one,
 -- memory does.
-use Rattle.std.specs.Prelude.{◌≡◌, ℕ, zero, suc, ◌+◌, ◌-◌, ◌*◌, ◌/◌, ◌%◌, ◌^◌, ◌<◌, ◌≤◌, nat_lt, Bool, true, false}
+use Rattle.std.specs.Prelude.{◌≡◌, ℕ, zero, suc, ◌+◌, ◌-◌, ◌*◌, ◌/◌, ◌%◌, ◌^◌, ◌<◌, ◌≤◌, nat_lt, true, false}
 use Rattle.std.specs.Prelude.{List, [], ◌∷◌, fold, Option, Some, None, IfSome}
 use Rattle.std.specs.Option.{option_or}
 use Rattle.std.specs.List.{AllByRecursion}
@@ -14,7 +14,7 @@ use Rattle.rv_execute.specs.Access.{IsSize}
 use Rattle.smt_model.specs.{Bytes.number_at, Bytes.written_byte, Bytes.byte_after, Touched.shares_byte}
 use Rattle.shared_memory.specs.Contents.{Contents, byte_of}
 use Rattle.load_store.specs.{Queues.IsSized, declared.store.Store.Store}
-use Rattle.load_store.specs.{declared.look.Forwarded.Forwarded, declared.look.Forwarded.TheVariants.Whole}
+use Rattle.load_store.specs.{declared.look.Forwarded.TheVariants.Whole}
 use Rattle.load_store.specs.declared.look.Forwarded.TheVariants.{InPart, Nothing}
 use Rattle.load_store.specs.Looks.{forwarded, overlaid_by, seen, sharing, write_into, youngest_write, covers, forwarding}
 

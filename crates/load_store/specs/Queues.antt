@@ -1,6 +1,6 @@
 -- The loads and stores of each hart that are in flight, in program order.
 use Rattle.std.specs.Prelude.{◌≡◌, ℕ, ◌<◌, nat_le, Bool, false, ◌==◌, ◌||◌, List, [], ◌∷◌, ◌++◌}
-use Rattle.std.specs.Prelude.{map, filter, drop, slice_index_or, if◌then◌else◌, Option, Some}
+use Rattle.std.specs.Prelude.{map, filter, drop, length, slice_index_or, if◌then◌else◌, Option, Some}
 use Rattle.std.specs.Prelude.{None, IfSome, option_map}
 use Rattle.std.specs.List.{AllByRecursion}
 use Rattle.events.specs.declared.effect.Written.{Written}
@@ -21,11 +21,12 @@ empty = record { loads = []; stores = [] }
 abbrev pub queues_of : List Queues → ℕ → Queues
 queues_of all h = slice_index_or all h empty
 
--- Hart `hart`'s queues are changed so, and those of every other hart are as they were.
+-- Hart `hart`'s queues are changed so, and those of every other hart are as they were; there are as many.
 abbrev pub Changes : (Queues → Queues) → ℕ → List Queues → List Queues → Type 0
 Changes change hart before after =
-    (h : ℕ) → queues_of after h
-    ≡ (if h == hart then change (queues_of before h) else queues_of before h)
+    (length after ≡ length before)
+    × ((h : ℕ) → queues_of after h
+    ≡ (if h == hart then change (queues_of before h) else queues_of before h))
 
 -- The number is above all of these.
 abbrev pub Above : ℕ → List ℕ → Type 0

@@ -1,7 +1,6 @@
 //! What the core says of a completion.
 
-ghost use Rattle.std.specs.Prelude.{◌≡◌, ◌<◌, ◌&&◌, None, Some};
-ghost use Rattle.numbers.specs.Sizes.{most_harts};
+ghost use Rattle.std.specs.Prelude.{◌≡◌, ◌<◌, ◌&&◌, None, Some, length};
 ghost use Rattle.smt_model.specs.Bytes.{read};
 ghost use Rattle.smt_model.specs.Exec.{Computed};
 ghost use Rattle.smt_model.specs.Faults.{fault, checked};
@@ -28,7 +27,7 @@ pub fn completion(
     op: Op,
     outcome: Outcome,
 ) -> Outcome
-    requires { hart < most_harts }
+    requires { hart < length accesses.now }
     ensures { (c : Computed) → outcome ≡ outcome_of op c None
         → result ≡ outcome_of op (checked memory.now.image op c)
         (Some (read op (seen seq (queues_of accesses.now hart).stores memory.now) c.addr)) }
@@ -55,7 +54,7 @@ fn first_look(
     op: Op,
     addr: u32,
 ) -> Option<u32>
-    requires hart { hart < most_harts }
+    requires hart { hart < length accesses.now }
     requires no_fault { fault memory.now.image op addr ≡ None }
     ensures { result ≡ given (is_loading (kind_of op) && writes_register op)
         (read op (seen seq (queues_of accesses.now hart).stores memory.now) addr) }

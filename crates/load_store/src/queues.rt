@@ -14,21 +14,20 @@ ghost use Rattle.load_store.specs.Looks.{seen};
 use crate::hart_queues::HartQueues;
 use crate::look::look;
 use events::{Seq, Written};
-use numbers::sizes::HART_ROOM;
 use shared_memory::Memory;
 use std::alloc::{AllocError, Global};
 use std::marker::Model;
 
-/// The loads and the stores in flight of up to `MOST_HARTS` harts, each hart's in program order: at
-/// most `MOST_ACCESSES` loads and as many stores a hart. A clause sees each hart's queues.
+/// The loads and the stores in flight of each hart of a core, in program order: at most
+/// `MOST_ACCESSES` loads and as many stores a hart. A clause sees each hart's queues.
 #[derive(Drop)]
 pub struct LoadStore {
-    /// `MOST_HARTS` of them, on the heap, so that a core is small on the stack.
+    /// They stand on the heap, so that a core is small on the stack.
     harts: Vec<HartQueues>,
 }
 
 impl Model for LoadStore {
-    ghost use Rattle.std.specs.Prelude.{◌≡◌, List, length};
+    ghost use Rattle.std.specs.Prelude.{◌≤◌, List, length};
     ghost use Rattle.numbers.specs.Sizes.{most_harts};
     ghost use Rattle.load_store.specs.Queues.{Queues};
 
@@ -36,22 +35,24 @@ impl Model for LoadStore {
 
     ghost view = { λ a. a.harts.items };
 
-    ghost invariant = { λ a. length a.harts.items ≡ most_harts };
+    ghost invariant = { λ a. length a.harts.items ≤ most_harts };
 }
 
 impl LoadStore {
-    /// No loads and no stores. All memory is taken here.
+    /// No loads and no stores of so many harts. All memory is taken here.
     ///
     /// It stands in no caller, or its frame would be a part of that one's.
     #[inline(never)]
-    pub fn new(alloc: Global) -> Result<Self, AllocError>
-        ensures { IfOk result (λ queues. (h : ℕ) → queues_of queues h ≡ empty) }
+    pub fn new(harts: u8, alloc: Global) -> Result<Self, AllocError>
+        requires { harts ≤ most_harts }
+        ensures count { IfOk result (λ queues. length queues ≡ harts) }
+        ensures none { IfOk result (λ queues. (h : ℕ) → queues_of queues h ≡ empty) }
     {
-        let mut harts = Vec::with_capacity(alloc, HART_ROOM)?;
-        for _hart in 0..HART_ROOM {
-            harts.push(HartQueues::new())?;
+        let mut each = Vec::with_capacity(alloc, usize::from(harts))?;
+        for _hart in 0..harts {
+            each.push(HartQueues::new())?;
         }
-        Ok(LoadStore { harts })
+        Ok(LoadStore { harts: each })
     }
 
     /// Whether the hart has `MOST_ACCESSES` loads in flight, as many as it may have. One that there isn't
@@ -80,7 +81,7 @@ impl LoadStore {
 
     /// Adds a load, younger than those of its hart that are there. It has had no look yet.
     pub fn add_load(&mut self, hart: u8, seq: Seq)
-        requires hart { hart < most_harts }
+        requires hart { hart < length self.old }
         requires room { length (queues_of self.old hart).loads < most_accesses }
         requires above { Above seq (load_numbers (queues_of self.old hart).loads) }
         ensures { Changes (with_load seq) hart self.old self.new }
@@ -90,7 +91,7 @@ impl LoadStore {
 
     /// Adds a store, younger than those of its hart that are there. It isn't resolved yet.
     pub fn add_store(&mut self, hart: u8, seq: Seq)
-        requires hart { hart < most_harts }
+        requires hart { hart < length self.old }
         requires room { length (queues_of self.old hart).stores < most_accesses }
         requires above { Above seq (numbers (queues_of self.old hart).stores) }
         ensures { Changes (with_store seq) hart self.old self.new }
@@ -101,7 +102,7 @@ impl LoadStore {
     /// The hart's store of this number will write the lowest 1, 2 or 4 bytes of a number at an
     /// address, if it is there.
     pub fn resolve_store(&mut self, hart: u8, seq: Seq, addr: u32, n: u8, datum: u32)
-        requires hart { hart < most_harts }
+        requires hart { hart < length self.old }
         requires size { IsSize n }
         ensures { Changes (with_resolved seq (write_of addr n datum)) hart self.old self.new }
     {
@@ -111,7 +112,7 @@ impl LoadStore {
     /// What load `seq` of the hart reads as it completes: memory as it is now, overlaid byte by
     /// byte in order with the older stores of the hart that are resolved.
     pub fn first_look(&self, memory: &Memory, hart: u8, seq: Seq, addr: u32, n: u8) -> u32
-        requires hart { hart < most_harts }
+        requires hart { hart < length self.now }
         requires size { IsSize n }
         requires no_fault { read_fault memory.now.image addr n ≡ None }
         ensures { result ≡ number_at (seen seq (queues_of self.now hart).stores memory.now) addr n }
@@ -122,7 +123,7 @@ impl LoadStore {
     /// The hart's load of this number, if it is there, has had its first look, at the `n` bytes from
     /// an address; nothing has touched these since.
     pub fn looked(&mut self, hart: u8, seq: Seq, addr: u32, n: u8)
-        requires { hart < most_harts }
+        requires { hart < length self.old }
         ensures { Changes (with_look seq addr n) hart self.old self.new }
     {
         self.harts[usize::from(hart)].looked(seq, addr, n);
@@ -131,9 +132,11 @@ impl LoadStore {
     /// A retirement has written this: of every hart it touches the loads whose first look shares a
     /// byte with it.
     pub fn touch(&mut self, write: &Written)
-        ensures { (h : ℕ) → queues_of self.new h ≡ with_touch write.now (queues_of self.old h) }
+        ensures count { length self.new ≡ length self.old }
+        ensures touched { (h : ℕ) → queues_of self.new h ≡ with_touch write.now (queues_of self.old h) }
     {
-        for hart in 0..HART_ROOM {
+        let count = self.harts.len();
+        for hart in 0..count {
             self.harts[hart].touch(*write);
         }
     }
@@ -141,7 +144,7 @@ impl LoadStore {
     /// Whether the hart's load of this number has to look again as it retires: some write has
     /// touched it since its first look.
     pub fn needs_look(&self, hart: u8, seq: Seq) -> bool
-        requires { hart < most_harts }
+        requires { hart < length self.now }
         ensures { result ≡ needs_look seq (queues_of self.now hart).loads }
     {
         self.harts[usize::from(hart)].needs_look(seq)
@@ -158,7 +161,7 @@ impl LoadStore {
 
     /// The hart's oldest load retires.
     pub fn retire_load(&mut self, hart: u8)
-        requires hart { hart < most_harts }
+        requires hart { hart < length self.old }
         requires some { 0 < length (queues_of self.old hart).loads }
         ensures { Changes without_load hart self.old self.new }
     {
@@ -168,7 +171,7 @@ impl LoadStore {
     /// The hart's oldest store, which is resolved, writes memory and retires. Answers what it
     /// wrote.
     pub fn retire_store(&mut self, memory: &mut Memory, hart: u8) -> Written
-        requires hart { hart < most_harts }
+        requires hart { hart < length self.old }
         requires resolved { IsSomeAnd (oldest_write (queues_of self.old hart).stores)
             (λ w. write_fault memory.old.image w.addr w.n ≡ None) }
         ensures value { oldest_write (queues_of self.old hart).stores ≡ Some result }
@@ -184,7 +187,7 @@ impl LoadStore {
 
     /// The hart's oldest store goes without writing.
     pub fn drop_store(&mut self, hart: u8)
-        requires hart { hart < most_harts }
+        requires hart { hart < length self.old }
         requires some { 0 < length (queues_of self.old hart).stores }
         ensures { Changes without_store hart self.old self.new }
     {
@@ -193,7 +196,7 @@ impl LoadStore {
 
     /// Removes the hart's loads and stores that are younger than this number.
     pub fn squash(&mut self, hart: u8, after: Seq)
-        requires { hart < most_harts }
+        requires { hart < length self.old }
         ensures { Changes (squashed after) hart self.old self.new }
     {
         self.harts[usize::from(hart)].squash(after);

@@ -1,6 +1,6 @@
 //! What the core says of a retirement. Memory is read only for what has to look at it.
 
-ghost use Rattle.std.specs.Prelude.{◌≡◌, ℕ, ◌+◌, ◌<◌, ◌^◌, Option, true, false};
+ghost use Rattle.std.specs.Prelude.{◌≡◌, ℕ, ◌+◌, ◌<◌, ◌^◌, Option, true, false, length};
 ghost use Rattle.numbers.specs.Sizes.{most_harts};
 ghost use Rattle.smt_model.specs.Bytes.{read};
 ghost use Rattle.smt_model.specs.Effects.{effect_of, last_effect};
@@ -32,7 +32,8 @@ pub fn effect(
     op: Op,
     outcome: Outcome,
 ) -> Effect
-    requires { hart < most_harts }
+    requires place { hart < length accesses.now }
+    requires range { hart < most_harts }
     ensures first { keeps_first op seq (queues_of accesses.now hart).loads ≡ true
         → result ≡ record (last_effect outcome.next) { value = outcome.value } }
     ensures now { keeps_first op seq (queues_of accesses.now hart).loads ≡ false
@@ -52,7 +53,7 @@ pub fn effect(
 
 /// Whether the instruction is a load that doesn't have to look again.
 fn keeps_first(accesses: &LoadStore, hart: u8, seq: Seq, op: Op) -> bool
-    requires { hart < most_harts }
+    requires { hart < length accesses.now }
     ensures { result ≡ keeps_first op seq (queues_of accesses.now hart).loads }
 {
     op.kind().is_loading() && !accesses.needs_look(hart, seq)
@@ -108,7 +109,7 @@ pub fn looks_after(
     effect: &Effect,
     before: u32,
 ) -> u32
-    requires hart { hart < most_harts }
+    requires hart { hart < length accesses.now }
     requires few { before + 1 < 2 ^ 32 }
     ensures { result ≡ looks_after op (needs_look seq (queues_of accesses.now hart).loads)
         effect.now before }

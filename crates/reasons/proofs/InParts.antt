@@ -5,7 +5,7 @@ use Rattle.std.specs.Prelude.{List, [], ◌∷◌, count_by, filter, find, lengt
 use Rattle.std.specs.List.{AllByRecursion, list_all, list_any}
 use Rattle.std.proofs.Common.{◌∙◌, refl, sym, ap, subst, inl, inr, arith}
 use Rattle.std.proofs.{lemmas.Bool.cases_Bool, lemmas.Bool.Decides.nat_tests, lemmas.List.Sums.length-filter}
-use Rattle.numbers.specs.Sizes.{most_accesses}
+use Rattle.numbers.specs.Sizes.{most_accesses, most_registers}
 use Rattle.rv_instr.specs.{Registers.op_unit, declared.op.Op.Op, declared.op.UnitKind.UnitKind}
 use Rattle.events.specs.declared.event.Event.{Event}
 use Rattle.issue_queue.specs.{Entry.has_values, Entry.is_value, Entry.can_issue, declared.entry.Entry.Entry}
@@ -62,7 +62,7 @@ free_below setup past p free = grind (arith, nat_tests)
 none_listed : (setup : Setup) (past : List Event) → no_register setup past ≡ true → listed (is_free setup past) ≡ []
 unfolding listed
 none_listed setup past none =
-    filter-none (is_free setup past) (below 512) (λ p m. elim (cases_Bool (is_free setup past p)) [
+    filter-none (is_free setup past) (below most_registers) (λ p m. elim (cases_Bool (is_free setup past p)) [
       | inl free ↦
           let inside = below-member (registers_of setup) p (free_below setup past p free) in
           let some = one_fails (λ x. not (is_free setup past x)) (below (registers_of setup)) p inside

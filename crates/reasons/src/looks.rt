@@ -75,7 +75,7 @@ fn open_job(core: &Core, actor: u8) -> Option<OpenJob>
     requires { is_actor core.now.setup actor ≡ true }
     ensures { HasOpenJob (picture core.now.setup core.now.past) actor result }
 {
-    // A core has 16 actors at the most: that is a clause of this call.
+    // A core has no more than `MOST_ACTORS` actors: that is a clause of this call.
     let _events = core.history().len();
     core.parts().0.jobs[usize::from(actor)]
 }

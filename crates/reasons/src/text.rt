@@ -1,6 +1,7 @@
 //! The words of a reason.
 
 use crate::reason::{Progress, Reason};
+use numbers::sizes::{MOST_ACCESSES, MOST_IN_FLIGHT};
 use numbers::{Reg, Seq};
 use rv_instr::{UnitKind, unit_name};
 use std::fmt;
@@ -15,9 +16,6 @@ impl Reason {
             Reason::DecodeLatchesFull => Some("decode latch full of each hart that is going"),
             Reason::RenameLatchFull { .. } => Some("rename latch full"),
             Reason::QueueFull => Some("queue full"),
-            Reason::FlightFull { .. } => Some("64 instructions in flight"),
-            Reason::LoadsFull { .. } => Some("16 loads in flight"),
-            Reason::StoresFull { .. } => Some("16 stores in flight"),
             Reason::NoFreeRegister => Some("no free register"),
             _ => None,
         }
@@ -40,6 +38,9 @@ impl fmt::Display for Reason {
             Reason::NotCompleted { seq, progress } => write_not_completed(f, seq, progress),
             Reason::HasJob { actor, seq } => write_job(f, actor, seq),
             Reason::NothingQueued { kind } => write_kind(f, kind),
+            Reason::FlightFull { .. } => write!(f, "{MOST_IN_FLIGHT} instructions in flight"),
+            Reason::LoadsFull { .. } => write!(f, "{MOST_ACCESSES} loads in flight"),
+            Reason::StoresFull { .. } => write!(f, "{MOST_ACCESSES} stores in flight"),
             reason => write_named(f, reason),
         }
     }

@@ -44,7 +44,7 @@ impl Place {
     }
 }
 
-/// The kept maps of one hart, at most 8. A clause sees them as a list, in no order.
+/// The kept maps of one hart, at most `MOST_CHECKPOINTS`. A clause sees them as a list, in no order.
 #[derive(Drop)]
 pub(crate) struct Checkpoints {
     places: [Place; MOST_CHECKPOINTS],
@@ -78,7 +78,7 @@ impl Checkpoints {
         }
     }
 
-    /// Keeps a map under this number, where fewer than 8 are kept. Answers whether it did.
+    /// Keeps a map under this number, where fewer than `MOST_CHECKPOINTS` are kept. Answers whether it did.
     pub(crate) fn keep(&mut self, seq: Seq, map: &Map) -> bool
         ensures room { result ≡ nat_lt (length self.old) most_checkpoints }
         ensures kept { IsTrue result

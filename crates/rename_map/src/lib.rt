@@ -19,9 +19,9 @@ use checkpoints::{Checkpoints, Map};
 use numbers::{Phys, Reg, Seq, first_register};
 use std::marker::Model;
 
-/// Where a hart's registers x1 to x31 are: the speculative map and the committed one; and at most 8
-/// checkpoints, speculative maps that are kept under a number each. A clause sees them all. x0 isn't
-/// renamed.
+/// Where a hart's registers x1 to x31 are: the speculative map and the committed one; and at most
+/// `MOST_CHECKPOINTS` checkpoints, speculative maps that are kept under a number each. A clause sees
+/// them all. x0 isn't renamed.
 #[derive(Drop)]
 pub struct HartMaps {
     speculative: Map,
@@ -129,8 +129,8 @@ impl HartMaps {
         }
     }
 
-    /// Keeps the speculative map as it is now, under this number, where fewer than 8 maps are kept.
-    /// Answers whether it did; nothing changes where it didn't.
+    /// Keeps the speculative map as it is now, under this number, where fewer than
+    /// `MOST_CHECKPOINTS` maps are kept. Answers whether it did; nothing changes where it didn't.
     pub fn checkpoint(&mut self, seq: Seq) -> bool
         requires { kept_under seq self.old.kept ≡ None }
         ensures room { result ≡ nat_lt (length self.old.kept) most_checkpoints }

@@ -5,9 +5,8 @@ use Rattle.std.proofs.lemmas.Bool.{cases_lt}
 use Rattle.std.proofs.lemmas.Bool.Decides.{nat_tests}
 use Rattle.elf_image.specs.Image.{ProgramImage, ram_start}
 use Rattle.smt_model.specs.Bytes.{number_at, written_byte, byte_after, write_of}
-use Rattle.smt_model.specs.Reservations.{reservation_after_write}
 use Rattle.smt_model.specs.Faults.{read_fault, write_fault}
-use Rattle.shared_memory.specs.Contents.{Contents, byte_of, reserved_of, IsWritten}
+use Rattle.shared_memory.specs.Contents.{Contents, byte_of}
 
 pub byte_there : (m : Contents) (addr : ℕ) → ram_start ≤ addr → byte_of m addr ≡ slice_index m.bytes (addr - ram_start)
 unfolding byte_of
@@ -52,7 +51,7 @@ written_below addr n datum a within below = grind (arith, nat_tests)
 module _ (before after : Contents) (addr place n datum : ℕ) (at : ram_start + place ≡ addr)
     (written : (k : ℕ) → slice_index after.bytes k
     ≡ written_byte (write_of place n datum) k (slice_index before.bytes k)) where
-  byte_written : (a : ℕ) → byte_of after a ≡ byte_after (Some (write_of addr n datum)) a (byte_of before a)
+  pub byte_written : (a : ℕ) → byte_of after a ≡ byte_after (Some (write_of addr n datum)) a (byte_of before a)
   byte_written a =
       let from : ram_start ≤ addr = omega (arith, at) in
       elim (cases_lt a ram_start) [
@@ -63,8 +62,3 @@ module _ (before after : Contents) (addr place n datum : ℕ) (at : ram_start + 
             ∙ written_there addr place n datum a (a - ram_start) _ at there
             ∙ ap (written_byte (write_of addr n datum) a) (sym (byte_there before a within))
       ]
-
-  pub is_written : after.image ≡ before.image
-      → ((h : ℕ) → reserved_of after h ≡ reservation_after_write (Some (write_of addr n datum)) (reserved_of before h))
-      → IsWritten (write_of addr n datum) before after
-  is_written same reserved = record { same = same; bytes = byte_written; reserved = reserved }

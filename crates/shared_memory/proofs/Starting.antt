@@ -1,9 +1,10 @@
 -- A memory with the bytes of an image is its start: behind the last segment, and below RAM, no segment has a byte.
 use Rattle.std.proofs.Common.{◌≡◌, ℕ, ◌+◌, ◌-◌, ◌<◌, ◌≤◌, Option, length, get_or, slice_index, None, sym, ap, ◌∙◌}
-use Rattle.std.proofs.Common.{arith, inl, inr, refl, ◌∷◌, zero, suc, [], List, ◌++◌, replicate, subst, take}
+use Rattle.std.proofs.Common.{arith, inl, inr, refl, zero, suc, [], List, ◌++◌, replicate, subst, take}
 use Rattle.std.proofs.lemmas.Bool.{cases_lt}
 use Rattle.std.proofs.lemmas.List.{get_or_past, get_or_default, get_or_append_left, get_or-append_right}
 use Rattle.std.proofs.lemmas.List.{get_or-replicate, length-replicate, length-append, take_all}
+use Rattle.numbers.specs.Sizes.{most_harts}
 use Rattle.elf_image.specs.Image.{ProgramSegment, ProgramImage, IsWellFormed, ram_start, byte_in}
 use Rattle.elf_image.proofs.Covering.{byte_zero, byte_covered, covers_from, covers_low, covers_high}
 use Rattle.shared_memory.specs.Contents.{Contents, byte_of, reserved_of, IsStart}
@@ -199,7 +200,6 @@ all_none zero h = refl
 all_none (suc n) zero = refl
 all_none (suc n) (suc h) = all_none n h
 
--- None of eight harts has a reservation.
-pub none_reserved : (h : ℕ)
-    → get_or {A = Option ℕ} (None ∷ None ∷ None ∷ None ∷ None ∷ None ∷ None ∷ None ∷ []) h None ≡ None
-none_reserved h = all_none 8 h
+-- No hart has a reservation.
+pub none_reserved : (h : ℕ) → get_or {A = Option ℕ} (replicate most_harts None) h None ≡ None
+none_reserved h = all_none most_harts h

@@ -2,7 +2,7 @@ ghost use Rattle.std.specs.Prelude.{◌≡◌, ℕ, ◌+◌, ◌-◌, ◌<◌, �
 ghost use Rattle.std.specs.Prelude.{IfOk};
 ghost use Rattle.numbers.specs.Sizes.{most_harts};
 ghost use Rattle.elf_image.specs.Image.{ram_start, in_ram, touches_code};
-ghost use Rattle.smt_model.specs.Bytes.{number_at, write_of};
+ghost use Rattle.smt_model.specs.Bytes.{number_at, write_of, byte_after};
 ghost use Rattle.smt_model.specs.Faults.{read_fault, write_fault};
 ghost use Rattle.smt_model.specs.Reservations.{holds_word};
 ghost use Rattle.rv_execute.specs.Access.{IsSize};
@@ -12,7 +12,7 @@ ghost use Rattle.shared_memory.specs.Contents.{access_fault};
 use crate::access::AccessKind;
 use crate::bytes::put_number;
 use crate::laid::{first_bytes, laid_byte, laid_number, lay_up_to};
-use crate::reservations::{Reservations, end_on_word, held_by, is_on_word};
+use crate::reservations::{Reservations, end_below, held_by, is_on_word};
 use elf_image::{Image, RAM_START};
 use events::Cause;
 use numbers::sizes::HART_ROOM;
@@ -27,6 +27,9 @@ pub struct Memory {
     /// The bytes of RAM that are laid, by rising address; there is room for all.
     bytes: Vec<u8>,
     reserved: Reservations,
+    /// Of no hart from this one on was a word ever reserved: a write looks at those below it alone, so
+    /// that what it costs isn't up to how many harts there may be.
+    reach: u8,
 }
 
 impl Model for Memory {
@@ -51,6 +54,7 @@ impl Memory {
             image: image.try_clone()?,
             bytes: first_bytes(image, alloc)?,
             reserved: [None; HART_ROOM],
+            reach: 0,
         })
     }
 
@@ -97,10 +101,23 @@ impl Memory {
         requires no_fault { write_fault self.old.image addr n ≡ None }
         ensures { IsWritten (write_of addr n datum) self.old self.new }
     {
+        self.write_bytes(addr, n, datum);
+        end_below(&mut self.reserved, self.reach, addr);
+    }
+
+    /// Writes the bytes alone.
+    #[inline(always)]
+    fn write_bytes(&mut self, addr: u32, n: u8, datum: u32)
+        requires size { IsSize n }
+        requires no_fault { write_fault self.old.image addr n ≡ None }
+        ensures image { self.new.image ≡ self.old.image }
+        ensures bytes { (a : ℕ) → byte_of self.new a
+            ≡ byte_after (Some (write_of addr n datum)) a (byte_of self.old a) }
+        ensures reserved { self.new.reserved ≡ self.old.reserved }
+    {
         let place = place_of(addr);
         lay_up_to(&mut self.bytes, place);
         put_number(self.bytes.as_mut_slice(), place, n, datum);
-        end_on_word(&mut self.reserved, addr);
     }
 
     /// The word that a hart has reserved.
@@ -128,6 +145,7 @@ impl Memory {
         ensures bytes { self.new.bytes ≡ self.old.bytes }
     {
         self.reserved[usize::from(hart)] = Some(addr);
+        self.reach = self.reach.max(hart + 1);
     }
 
     /// Ends a hart's reservation, and tells whether it was on the word at an address.

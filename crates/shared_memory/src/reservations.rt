@@ -1,11 +1,12 @@
 //! One reservation a hart: the address of an aligned word.
 
-ghost use Rattle.std.specs.Prelude.{◌≡◌, ℕ, ◌<◌, ◌==◌, if◌then◌else◌, length, slice_index_or, Some, None};
+ghost use Rattle.std.specs.Prelude.{◌≡◌, ℕ, ◌<◌, ◌≤◌, ◌==◌, nat_lt, if◌then◌else◌, length};
+ghost use Rattle.std.specs.Prelude.{slice_index_or, Some, None};
 ghost use Rattle.numbers.specs.Sizes.{most_harts};
 ghost use Rattle.smt_model.specs.Reservations.{reservation_after_write, holds_word};
 ghost use Rattle.events.specs.declared.effect.Written.{Written};
 
-use numbers::sizes::HART_ROOM;
+use numbers::sizes::{HART_ROOM, MOST_HARTS};
 
 /// The reservation that each hart has, where it has one.
 pub type Reservations = [Option<u32>; HART_ROOM];
@@ -35,7 +36,19 @@ pub fn end_on_word(reserved: &mut Reservations, addr: u32)
     ensures { (w : Written) (h : ℕ) → w.addr ≡ addr → slice_index_or reserved.new h None
         ≡ reservation_after_write (Some w) (slice_index_or reserved.old h None) }
 {
-    for hart in 0..HART_ROOM {
+    end_below(reserved, MOST_HARTS, addr);
+}
+
+/// A write at an address ends the reservations on its word of the harts below `end`.
+#[inline]
+pub(crate) fn end_below(reserved: &mut Reservations, end: u8, addr: u32)
+    requires { end ≤ most_harts }
+    ensures length { length reserved.new ≡ length reserved.old }
+    ensures held { (w : Written) (h : ℕ) → w.addr ≡ addr → slice_index_or reserved.new h None
+        ≡ (if nat_lt h end then reservation_after_write (Some w) (slice_index_or reserved.old h None)
+        else slice_index_or reserved.old h None) }
+{
+    for hart in 0..usize::from(end) {
         end_of_hart(reserved, hart, addr);
     }
 }

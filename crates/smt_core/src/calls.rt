@@ -1,7 +1,7 @@
 ghost use Rattle.std.specs.Prelude.{◌≡◌, ◌∷◌, [], ◌<◌, ◌≤◌, ◌↔◌, ◌⊎◌, length, reverse, map, IsTrue};
 ghost use Rattle.std.specs.Prelude.{IfSome, IfOk, Err, None, Some, true, false, ℕ, ◌+◌, ◌==◌, ◌&&◌};
 ghost use Rattle.std.specs.Prelude.{nat_lt, if◌then◌else◌};
-ghost use Rattle.numbers.specs.Sizes.{most_actors, most_events, most_harts};
+ghost use Rattle.numbers.specs.Sizes.{are_core_sizes, most_actors, most_events, most_harts};
 ghost use Rattle.core_parts.specs.Agree.{PartsAgree};
 ghost use Rattle.core_state.specs.Setup.{setup_of};
 ghost use Rattle.core_state.specs.View.{CoreView};
@@ -328,7 +328,9 @@ impl Core {
 
     /// What the core was made from, beside its image.
     pub fn config(&self) -> &Config
-        ensures { self.now.setup ≡ setup_of self.now.setup.image result.now }
+        ensures value { self.now.setup ≡ setup_of self.now.setup.image result.now }
+        ensures sizes { are_core_sizes result.now.harts result.now.extra result.now.queue
+            (length result.now.roles.items) ≡ true }
     {
         self.state.config()
     }

@@ -44,6 +44,7 @@ touches_a_word (Known (instr.Shift _ _ _ _)) = omega arith
 touches_a_word (Known (instr.Register _ _ _ _)) = omega arith
 touches_a_word (Known (instr.MulDiv _ _ _ _)) = omega arith
 touches_a_word (Known instr.Fence) = omega arith
+touches_a_word (Known instr.InstructionFence) = omega arith
 touches_a_word (Known instr.Ecall) = omega arith
 touches_a_word (Known instr.Ebreak) = omega arith
 touches_a_word (Known (instr.LoadReserved _ _ _)) = omega arith

@@ -6,7 +6,8 @@ use Rattle.rv_instr.specs.{Registers.same_unit, declared.op.UnitKind.UnitKind}
 use Rattle.rv_instr.specs.declared.op.UnitKind.TheVariants.{Alu, Mul, Mem}
 use Rattle.events.specs.declared.event.Event.{Event}
 use Rattle.smt_model.specs.{Basics.holds_of, Basics.first, Basics.below, Setup.Setup}
-use Rattle.smt_model.specs.{Setup.unit_of_role, declared.config.Role.Role, Plain.Run, Plain.run}
+use Rattle.events.specs.declared.role.Role.{Role}
+use Rattle.smt_model.specs.{Setup.unit_of_role, Plain.Run, Plain.run}
 use Rattle.smt_model.specs.Rules.{refused, is_allowed}
 use Rattle.smt_model.specs.Asks.{Ask, AskFetch, AskDecode, AskRename, AskIssue, AskComplete}
 use Rattle.smt_model.specs.Asks.{AskRetire, answers}

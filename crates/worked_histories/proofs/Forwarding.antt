@@ -3,7 +3,7 @@
 use Rattle.std.specs.Prelude.{◌≡◌, ◌++◌, List, [], ◌∷◌, map, take, replicate, Some, None, refl}
 use Rattle.events.specs.{declared.effect.Next.TheVariants.Pc, declared.event.Event.Event}
 use Rattle.events.specs.declared.event.Event.TheVariants.{Fetch, Decode, Rename, Issue, Complete, Retire}
-use Rattle.smt_model.specs.declared.config.Role.TheVariants as role
+use Rattle.events.specs.declared.role.Role.TheVariants as role
 use Rattle.smt_model.specs.{Basics.below, Setup.Setup, Bytes.number_at, Memory.byte_at, Fetching.fetch_pc}
 use Rattle.smt_model.specs.{Touched.looks}
 use Rattle.smt_model.specs.Fates.{fate, Completed, Retired, Squashed}

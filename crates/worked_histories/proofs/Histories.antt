@@ -14,12 +14,13 @@ use Rattle.rv_instr.specs.Decode.{atomic_of, decoded, op_of_instr, op_of_word}
 use Rattle.rv_instr.specs.Registers.{rd_of, rs1_of, rs2_of, unit_of, op_rd, op_rs1, op_rs2, op_unit}
 use Rattle.events.specs.{declared.effect.Next.Next, declared.effect.Outcome.Outcome, declared.effect.Effect.Effect}
 use Rattle.events.specs.{declared.effect.Record.Record, declared.event.Event.Event}
-use Rattle.smt_model.specs.{declared.config.Role.Role, declared.config.Status.Status, Basics.below, Setup.Setup}
+use Rattle.events.specs.declared.role.Role.{Role}
+use Rattle.smt_model.specs.{declared.config.Status.Status, Basics.below, Setup.Setup}
 use Rattle.smt_model.specs.{Faults.fault, Faults.checked, Bytes.read_value, Bytes.number_at, Bytes.write_of, Plain.Run}
 use Rattle.smt_model.specs.{Plain.run, Plain.read_register, Fates.same_hart, Fates.mispredicts}
 use Rattle.smt_model.specs.{Fates.squashes_at_retirement, Registers.is_unclaimed, Looks.first_look, Fetching.choice}
 use Rattle.smt_model.specs.{Rules.refused, Account.records, Account.order, Account.committed_value}
-use Rattle.smt_model.specs.declared.config.Role.TheVariants as role
+use Rattle.events.specs.declared.role.Role.TheVariants as role
 use Rattle.smt_model.specs.Kinds.{kind_of, destination, first_source, second_source, access_size}
 use Rattle.smt_model.specs.Exec.{exec, computed_of}
 use Rattle.smt_model.specs.Memory.{byte_at, reserved, status, output}

@@ -5,11 +5,12 @@ use Rattle.std.specs.Prelude.{replicate, Some, None, refl}
 use Rattle.events.specs.{declared.effect.Next.TheVariants.Pc, declared.effect.Next.TheVariants.Ended}
 use Rattle.events.specs.{declared.effect.Record.Record, declared.event.Event.Event}
 use Rattle.events.specs.declared.event.Event.TheVariants.{Fetch, Decode, Rename, Issue, Complete, Retire}
-use Rattle.smt_model.specs.declared.config.Role.TheVariants as role
+use Rattle.events.specs.declared.role.Role.TheVariants as role
 use Rattle.smt_model.specs.declared.config.Status.TheVariants as status
 use Rattle.smt_model.specs.{Basics.below, Flights.icount, Fetching.fetch_pc, Registers.is_unclaimed}
 use Rattle.smt_model.specs.{Registers.committed, Registers.claims}
-use Rattle.smt_model.specs.Setup.{Setup, registers_of, are_core_sizes, is_accepted}
+use Rattle.numbers.specs.Sizes.{are_core_sizes}
+use Rattle.smt_model.specs.Setup.{Setup, registers_of, is_accepted}
 use Rattle.smt_model.specs.Account.{account, open_job_count, records, committed_value}
 use Rattle.worked_histories.proofs.Histories.{core, outcome, effect, retired, past_of, refusal, rules_of_events, standing}
 use Rattle.worked_histories.proofs.Histories.{standing_after, order_of}
@@ -146,7 +147,7 @@ last_fetch_pc = refl
 -- ---- The sizes of a core
 
 -- The least and the greatest harts, extra registers, entries in the queue and actors are taken.
-smallest_and_greatest : are_core_sizes 1 1 4 1 ∷ are_core_sizes 8 256 64 16 ∷ [] ≡ true ∷ true ∷ []
+smallest_and_greatest : are_core_sizes 1 1 4 1 ∷ are_core_sizes 16 528 64 32 ∷ [] ≡ true ∷ true ∷ []
 smallest_and_greatest = refl
 
 -- One less of each is refused.
@@ -157,8 +158,8 @@ too_small = refl
 
 -- One more of each is refused.
 too_great :
-    are_core_sizes 9 256 64 16 ∷ are_core_sizes 8 257 64 16 ∷ are_core_sizes 8 256 65 16
-    ∷ are_core_sizes 8 256 64 17 ∷ []
+    are_core_sizes 17 528 64 32 ∷ are_core_sizes 16 529 64 32 ∷ are_core_sizes 16 528 65 32
+    ∷ are_core_sizes 16 528 64 33 ∷ []
     ≡ replicate 4 false
 too_great = refl
 

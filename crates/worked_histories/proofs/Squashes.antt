@@ -4,7 +4,7 @@ use Rattle.std.specs.Prelude.{◌≡◌, true, false, List, [], ◌∷◌, map, 
 use Rattle.events.specs.{declared.effect.Next.TheVariants.Pc, declared.effect.Next.TheVariants.Ended}
 use Rattle.events.specs.{declared.effect.Next.TheVariants.Stopped, declared.event.Event.Event}
 use Rattle.events.specs.declared.event.Event.TheVariants.{Fetch, Decode, Rename, Issue, Complete, Drop, Retire}
-use Rattle.smt_model.specs.declared.config.Role.TheVariants as role
+use Rattle.events.specs.declared.role.Role.TheVariants as role
 use Rattle.smt_model.specs.declared.config.Status.TheVariants as status
 use Rattle.smt_model.specs.{Basics.below, Setup.Setup, Fates.fate, Fates.Issued, Fates.Squashed, Registers.is_unclaimed}
 use Rattle.smt_model.specs.{Registers.value, Fetching.fetch_pc, Jobs.job, Account.account, Account.open_job_count}

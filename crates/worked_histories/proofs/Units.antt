@@ -3,7 +3,7 @@
 use Rattle.std.specs.Prelude.{◌≡◌, ℕ, true, false, List, [], ◌∷◌, map, take, Option, Some, None, refl}
 use Rattle.events.specs.{declared.effect.Next.TheVariants.Pc, declared.event.Event.Event}
 use Rattle.events.specs.declared.event.Event.TheVariants.{Fetch, Decode, Rename, Issue, Complete}
-use Rattle.smt_model.specs.declared.config.Role.TheVariants as role
+use Rattle.events.specs.declared.role.Role.TheVariants as role
 use Rattle.smt_model.specs.{Setup.Setup, Registers.is_ready}
 use Rattle.worked_histories.proofs.Histories.{core, one_word, outcome, past_of, turned_at, Refusal, refusal, refusal_at}
 use Rattle.worked_histories.proofs.Histories.{rules_of_events}

@@ -19,8 +19,9 @@ type Token = atomic_table::Seat<u8, Knowledge>;
 /// Where the stop word stands. The words before it are the actors' counts.
 const STOP: usize = MOST_ACTORS;
 
-// `Board::new` writes out the seats of so many actors, and the reader's.
-const _: () = prove!(MOST_ACTORS == 16);
+// `Board::new` writes out the seats of so many actors, and the reader's: they have no default, so no loop
+// fills an array with them.
+const _: () = prove!(MOST_ACTORS == 32);
 
 impl Board {
     /// A board of zeros, and its seats: seat k is actor k's, and the last one a reader's.
@@ -35,12 +36,19 @@ impl Board {
     {
         let (table, mut rest) = Table::of_words(alloc, &[0; BOARD_WORDS], &())?;
         let board = Board { table };
-        let (a, b, c, d) = board.deal_four(&mut rest, 0);
-        let (e, f, g, h) = board.deal_four(&mut rest, 4);
-        let (i, j, k, l) = board.deal_four(&mut rest, 8);
-        let (m, n, o, p) = board.deal_four(&mut rest, 12);
+        let (s0, s1, s2, s3) = board.deal_four(&mut rest, 0);
+        let (s4, s5, s6, s7) = board.deal_four(&mut rest, 4);
+        let (s8, s9, s10, s11) = board.deal_four(&mut rest, 8);
+        let (s12, s13, s14, s15) = board.deal_four(&mut rest, 12);
+        let (s16, s17, s18, s19) = board.deal_four(&mut rest, 16);
+        let (s20, s21, s22, s23) = board.deal_four(&mut rest, 20);
+        let (s24, s25, s26, s27) = board.deal_four(&mut rest, 24);
+        let (s28, s29, s30, s31) = board.deal_four(&mut rest, 28);
         let reader = board.deal(&mut rest, STOP as u8);
-        let seats = [a, b, c, d, e, f, g, h, i, j, k, l, m, n, o, p, reader];
+        let seats = [
+            s0, s1, s2, s3, s4, s5, s6, s7, s8, s9, s10, s11, s12, s13, s14, s15, s16, s17, s18,
+            s19, s20, s21, s22, s23, s24, s25, s26, s27, s28, s29, s30, s31, reader,
+        ];
         Ok((board, seats))
     }
 

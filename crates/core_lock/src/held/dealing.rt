@@ -17,8 +17,9 @@ pub(super) fn made_of(core: &Core) -> [Made; MOST_ACTORS]
     made_in(core.history())
 }
 
-// `Held::new` writes out the passes of so many.
-const _: () = prove!(MOST_ACTORS == 16);
+// `Held::new` writes out the passes of so many: they have no default, so no loop
+// fills an array with them.
+const _: () = prove!(MOST_ACTORS == 32);
 
 /// The passes of four actors, from `first` on. Four by four, since the proof of a body grows with the
 /// square of its calls.

@@ -183,10 +183,11 @@ pub begins : (harts extra : ℕ) (image : ProgramImage) (x : Parts) → length x
     → length x.values ≡ most_registers
     → AreFirst harts harts x.values → length x.jobs ≡ most_actors
     → ((k : ℕ) (d : Option OpenJob) → k < most_actors → slice_index_or x.jobs k d ≡ None)
-    → harts ≤ most_harts → ((h : ℕ) → queues_of x.accesses h ≡ empty) → IsStart image x.memory
+    → harts ≤ most_harts → length x.accesses ≡ harts → ((h : ℕ) → queues_of x.accesses h ≡ empty)
+    → IsStart image x.memory
     → BeginsAs harts extra image x
-begins harts extra image x count new queue free registers values actors jobs few accesses memory setup same_harts
-    same_extra same_image =
+begins harts extra image x count new queue free registers values actors jobs few places accesses memory setup
+    same_harts same_extra same_image =
     let hart_new : (h : ℕ) (d : HartState) → h < length x.harts.items
     → IsNew h setup.image.entry (slice_index_or x.harts.items h d) =
     λ h d inside. subst (λ (i : ProgramImage). IsNew h i.entry (slice_index_or x.harts.items h d)) (sym same_image)
@@ -205,7 +206,8 @@ begins harts extra image x count new queue free registers values actors jobs few
       actors = actors;
       jobs = λ k d inside. rw (jobs k d inside) refl;
       accesses = record {
-        places = omega arith;
+        few = omega arith;
+        places = omega (arith, places, count);
         each = λ h d inside. accesses h ∙ sym (ap (accesses_of (picture setup []).touched) (new h d inside).active);
       };
       memory = record {

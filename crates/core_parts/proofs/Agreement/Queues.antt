@@ -23,20 +23,24 @@ use Rattle.core_parts.proofs.Agreement.Accesses.{accesses_same}
 
 changed_own : (change : Queues → Queues) (h : ℕ) (old new : List Queues) → Changes change h old new
     → queues_of new h ≡ change (queues_of old h)
-changed_own change h old new changes = let own : (h == h) ≡ true = grind (arith, nat_tests) in rw own at (changes h)
+changed_own change h old new changes = let own : (h == h) ≡ true = grind (arith, nat_tests) in rw own at (changes.1 h)
 
 changed_other : (change : Queues → Queues) (h g : ℕ) (old new : List Queues) → Changes change h old new → g ≢ h
     → queues_of new g ≡ queues_of old g
 changed_other change h g old new changes other =
-    let apart : (g == h) ≡ false = grind (arith, nat_tests) in rw apart at (changes g)
+    let apart : (g == h) ≡ false = grind (arith, nat_tests) in rw apart at (changes.1 g)
 
 pub changes_nothing : (h : ℕ) (all : List Queues) → Changes (λ q. q) h all all
-changes_nothing h all = λ g. elim (cases_Bool (g == h)) [ inl t ↦ rw t refl | inr f ↦ rw f refl ]
+changes_nothing h all = (refl, λ g. elim (cases_Bool (g == h)) [ inl t ↦ rw t refl | inr f ↦ rw f refl ])
 
--- A hart of these has a place.
+-- A hart of these has a place, and is one of those that a core may have.
 pub has_place : {t : ℕ → Bool} (harts : List HartState) (accesses : List Queues) (h : ℕ)
+    → AccessesAgree t harts accesses → h < length harts → h < length accesses
+has_place harts accesses h agrees inside = omega (arith, agrees.places, inside)
+
+pub in_range : {t : ℕ → Bool} (harts : List HartState) (accesses : List Queues) (h : ℕ)
     → AccessesAgree t harts accesses → h < length harts → h < most_harts
-has_place harts accesses h agrees inside = let most = agrees.places in omega arith
+in_range harts accesses h agrees inside = omega (arith, agrees.few, inside)
 
 -- What the queues of a hart are.
 pub queues_here : {t : ℕ → Bool} (harts : List HartState) (accesses : List Queues) (h : ℕ) (x : HartState)
@@ -49,6 +53,7 @@ queues_here {t} harts accesses h x agrees inside at =
 pub accesses_kept : (t u : ℕ → Bool) (harts : List HartState) (accesses : List Queues) → ((s : ℕ) → u s ≡ t s)
     → AccessesAgree t harts accesses → AccessesAgree u harts accesses
 accesses_kept t u harts accesses same agrees = record {
+  few = agrees.few;
   places = agrees.places;
   each = λ h d inside. agrees.each h d inside ∙ accesses_same t u same (slice_index_or harts h d).active;
 }
@@ -59,7 +64,8 @@ pub accesses_set : (t : ℕ → Bool) (change : Queues → Queues) (harts : List
     → accesses_of t y.active ≡ change (accesses_of t x.active) → AccessesAgree t harts old
     → AccessesAgree t (slice_set harts h y) new
 accesses_set t change harts h x y old new inside at changes is agrees = record {
-  places = let most = agrees.places in omega (arith, length-set harts h y);
+  few = omega (arith, agrees.few, length-set harts h y);
+  places = omega (arith, agrees.places, changes.0, length-set harts h y);
   each = λ g d under. elim (cases_eq g h) [
     | inl same ↦
         rw (same, get_or-set_same harts h y d inside)

@@ -1,8 +1,8 @@
 //! What callers read of a core's state.
 
 ghost use Rattle.std.specs.Prelude.{◌≡◌, ◌≤◌, ◌<◌, ◌+◌, ◌↔◌, ◌==◌, ◌&&◌, ℕ, length, IsTrue, Some, None};
-ghost use Rattle.std.specs.Prelude.{reverse, nat_lt, if◌then◌else◌};
-ghost use Rattle.numbers.specs.Sizes.{most_harts, most_actors, most_events};
+ghost use Rattle.std.specs.Prelude.{reverse, nat_lt, if◌then◌else◌, true};
+ghost use Rattle.numbers.specs.Sizes.{are_core_sizes, most_harts, most_actors, most_events};
 ghost use Rattle.shared_memory.specs.Contents.{byte_of, reserved_of};
 ghost use Rattle.smt_model.specs.Account.{records, open_job_count, committed_value};
 ghost use Rattle.smt_model.specs.Basics.{how_many};
@@ -123,7 +123,9 @@ impl State {
 
     /// What the core was made from, beside its image.
     pub fn config(&self) -> &Config
-        ensures { self.now.setup ≡ setup_of self.now.setup.image result.now }
+        ensures value { self.now.setup ≡ setup_of self.now.setup.image result.now }
+        ensures sizes { are_core_sizes result.now.harts result.now.extra result.now.queue
+            (length result.now.roles.items) ≡ true }
     {
         &self.config
     }

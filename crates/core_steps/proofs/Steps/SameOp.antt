@@ -33,6 +33,7 @@ instr_same (instr.Shift a b c d) (instr.Shift u v w x) e = search rules
 instr_same (instr.Register a b c d) (instr.Register u v w x) e = search rules
 instr_same (instr.MulDiv a b c d) (instr.MulDiv u v w x) e = search rules
 instr_same instr.Fence instr.Fence e = refl
+instr_same instr.InstructionFence instr.InstructionFence e = refl
 instr_same instr.Ecall instr.Ecall e = refl
 instr_same instr.Ebreak instr.Ebreak e = refl
 instr_same (instr.LoadReserved a b c) (instr.LoadReserved u v w) e = search rules

@@ -9,7 +9,8 @@ use Rattle.rv_instr.specs.declared.op.UnitKind.TheVariants.{Alu, Mul, Mem}
 use Rattle.events.specs.{declared.event.Event.Event}
 use Rattle.events.specs.declared.event.Event.TheVariants.{Issue, Complete, Drop}
 use Rattle.smt_model.specs.{Basics.holds_of, Basics.below, Setup.Setup, Setup.unit_of_role}
-use Rattle.smt_model.specs.{declared.config.Role.Role, Jobs.unit_of_actor, Jobs.job, Jobs.is_actor}
+use Rattle.events.specs.declared.role.Role.{Role}
+use Rattle.smt_model.specs.{Jobs.unit_of_actor, Jobs.job, Jobs.is_actor}
 use Rattle.smt_model.specs.Rules.{refused, is_for, outcome_now}
 use Rattle.smt_model.specs.Fates.{fate, op_at, stage}
 use Rattle.smt_model.specs.Asks.{Ask, AskIssue, AskComplete}

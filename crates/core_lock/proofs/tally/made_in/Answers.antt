@@ -1,8 +1,8 @@
 use Rattle.std.proofs.Common.{take, reverse, subst, arith}
 use Rattle.std.proofs.lemmas.List.{take_all}
-use Rattle.numbers.specs.Sizes.{most_events}
+use Rattle.numbers.specs.Sizes.{most_actors, most_events}
 use Rattle.core_lock.specs.Tallies.{AreMade}
-use Rattle.core_lock.proofs.Tallying.{few, entered, short_of}
+use Rattle.core_lock.proofs.Tallying.{few, entered, none_made, short_of}
 use Rattle.core_lock.proofs.tally.made_in.Goals as goal
 
 pub enter-requires : goal.enter-requires
@@ -25,3 +25,6 @@ returns c =
     subst (λ events. AreMade (reverse events) c.args.history.now.items c.loop-place.made)
     (take_all c.loop-place.place c.args.history.now.items
     (omega (arith, c.loop-place-test.false, c.len-place-end.ensures.count))) c.loop-place.invariant
+
+pub loop-place-init : goal.loop-place-init
+loop-place-init c = none_made c.args.history.now.items most_actors

@@ -4,14 +4,15 @@ use Rattle.std.specs.Prelude.{None, slice_index_or}
 use Rattle.std.specs.List.{list_any}
 use Rattle.std.proofs.Common.{◌∙◌, sym, ap, subst, arith}
 use Rattle.std.proofs.lemmas.Bool.Decides.{nat_tests}
-use Rattle.numbers.specs.Sizes.{most_actors, most_events, most_harts, most_registers}
+use Rattle.numbers.specs.Sizes.{most_actors, most_events, most_extra, most_harts, most_registers}
 use Rattle.events.specs.{History.EventList, declared.effect.Outcome.Outcome, declared.event.Event.TheVariants.Complete}
 use Rattle.events.specs.{declared.event.Event.TheVariants.Drop}
 use Rattle.exec_units.specs.Job.{JobView, outcome_of_job}
 use Rattle.load_store.specs.{Looks.seen, Queues.queues_of}
 use Rattle.retire_squash.specs.declared.active.Active.{Active}
 use Rattle.smt_model.specs.{Bytes.read, Exec.Computed, Faults.checked, Outcomes.outcome_of}
-use Rattle.smt_model.specs.{Basics.holds_of, Setup.registers_of, Setup.are_core_sizes, Fates.is_of, Picture.Picture}
+use Rattle.numbers.specs.Sizes.{are_core_sizes}
+use Rattle.smt_model.specs.{Basics.holds_of, Setup.registers_of, Fates.is_of, Picture.Picture}
 use Rattle.smt_model.specs.{Picture.picture, Rules.refused, Steps.IsDrop}
 use Rattle.smt_laws.proofs.{Fates.Choosing.hart_there, Steps.Drop.steps-Drop}
 use Rattle.core_parts.specs.Agree.{PartsAgree, KeepsSizes, From, IsActive, IsOpenJob}
@@ -38,7 +39,7 @@ pub few_registers : (harts extra queue actors limit : ℕ)
     → 31 * harts + extra ≤ most_registers
 few_registers harts extra queue actors limit ok =
     let h : harts ≤ most_harts = grind (arith, nat_tests) in
-    let e : extra ≤ 256 = grind (arith, nat_tests) in
+    let e : extra ≤ most_extra = grind (arith, nat_tests) in
     omega arith
 
 module _ (i : Inside) (core : IsCore i) where
@@ -61,7 +62,8 @@ module _ (i : Inside) (core : IsCore i) where
       let under = job_hart_there (setup_in i) (past_of i) core.legal k x (core_job k x at) in
       subst (λ n. x.hart < n) (sym core.harts) under
 
-  pub core_job_place : (k : ℕ) (x : OpenJob) → slice_index_or i.parts.jobs k None ≡ Some x → x.hart < most_harts
+  pub core_job_place : (k : ℕ) (x : OpenJob) → slice_index_or i.parts.jobs k None ≡ Some x
+      → x.hart < length i.parts.accesses
   core_job_place k x at =
       has_place i.parts.harts.items i.parts.accesses x.hart core.agrees.accesses (core_job_hart k x at)
 

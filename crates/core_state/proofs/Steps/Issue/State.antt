@@ -10,7 +10,8 @@ use Rattle.events.specs.{History.EventList, declared.event.Event.Event}
 use Rattle.events.specs.declared.event.Event.TheVariants.{Fetch, Decode, Rename, Issue, Complete, Drop, Retire}
 use Rattle.exec_units.specs.Job.{JobView}
 use Rattle.issue_queue.specs.{Entry.has_values, declared.entry.Entry.Entry}
-use Rattle.smt_model.specs.{declared.config.Role.Role, Asks.answers, Asks.AskIssue, Picture.Picture, Picture.picture}
+use Rattle.events.specs.declared.role.Role.{Role}
+use Rattle.smt_model.specs.{Asks.answers, Asks.AskIssue, Picture.Picture, Picture.picture}
 use Rattle.smt_model.specs.{Rules.refused, Jobs.is_actor, Jobs.unit_of_actor, Setup.Setup, Setup.unit_of_role}
 use Rattle.smt_laws.proofs.Fates.Choosing.{hart_there}
 use Rattle.core_parts.specs.Agree.{PartsAgree, IsEntry, IsOpenJob, KeepsSizes, From}

@@ -1,7 +1,7 @@
 -- A core's retirement: what its parts' step starts from, and that the state is a core's again after it.
 use Rattle.std.specs.Prelude.{◌≡◌, ℕ, ◌<◌, ◌≤◌, ◌+◌, ◌^◌, ◌==◌, Bool, true, false, List, [], ◌∷◌, ◌++◌, Option, Some, None, IfNone}
 use Rattle.std.specs.Prelude.{length, reverse, vec_capacity, IfSome}
-use Rattle.numbers.specs.Sizes.{most_harts, most_registers}
+use Rattle.numbers.specs.Sizes.{most_extra, most_harts, most_registers}
 use Rattle.elf_image.specs.Image.{ProgramImage}
 use Rattle.rv_instr.specs.declared.op.Op.{Op}
 use Rattle.std.proofs.Common.{◌∙◌, Vec, Global, refl, sym, ap, subst, inl, inr, arith}
@@ -43,7 +43,7 @@ use Rattle.core_state.proofs.Steps.Invariant.{core_retired}
 use Rattle.core_state.proofs.Steps.Retire.Look.{fetched_of, retires_now, effect-same}
 use Rattle.core_state.proofs.{Steps.Retire.Writes.can_write, Steps.Complete.Look.says_with_look}
 use Rattle.core_state.proofs.{Steps.Complete.Look.checked-address}
-use Rattle.core_parts.proofs.{Agreement.Queues.has_place}
+use Rattle.core_parts.proofs.{Agreement.Queues.has_place, Agreement.Queues.in_range}
 use Rattle.core_state.proofs.Steps.Retire.Touched.{keeps_now, looks_now}
 use Rattle.core_state.proofs.Steps.Retire.Rules.{retires_by, is_its_own, none_completed}
 
@@ -51,14 +51,17 @@ registers_fit : (i : Inside) → IsCore i → registers_of (setup_in i) ≤ most
 registers_fit i core =
     let sizes = core.sizes in
     let harts : i.config.harts ≤ most_harts = grind (arith, nat_tests) in
-    let extra : i.config.extra ≤ 256 = grind (arith, nat_tests) in
+    let extra : i.config.extra ≤ most_extra = grind (arith, nat_tests) in
     omega arith
 
 -- ---- The effect
 
--- Hart h has a place.
-pub place_in : (i : Inside) (h : ℕ) → IsCore i → h < length i.parts.harts.items → h < most_harts
+-- Hart h has a place among the queues, and is one of those that a core may have.
+pub place_in : (i : Inside) (h : ℕ) → IsCore i → h < length i.parts.harts.items → h < length i.parts.accesses
 place_in i h core inside = has_place i.parts.harts.items i.parts.accesses h core.agrees.accesses inside
+
+pub range_in : (i : Inside) (h : ℕ) → IsCore i → h < length i.parts.harts.items → h < most_harts
+range_in i h core inside = in_range i.parts.harts.items i.parts.accesses h core.agrees.accesses inside
 
 -- What the code makes of an outcome, by memory as it is, for every c of which it is the outcome.
 abbrev pub Effects : Contents → ProgramImage → ℕ → Op → Outcome → Effect → Type 0

@@ -1,9 +1,9 @@
 use Rattle.std.proofs.Common.{◌≡◌, rules, true, refl, subst}
 use Rattle.std.specs.Bool.{Decides}
 use Rattle.std.proofs.lemmas.Slice.Eq.{slice_eq-Decides}
-use Rattle.smt_model.specs.{declared.config.Role.Role, contracts.config.RolePartialEq.TheImpl.eq-value}
-use Rattle.smt_model.specs.{contracts.config.Role.the_type}
-use Rattle.smt_model.specs.declared.config.Role.TheVariants.{Fetch, Front, Retire, Alu, Mul, Mem}
+use Rattle.events.specs.{declared.role.Role.Role, contracts.role.RolePartialEq.TheImpl.eq-value}
+use Rattle.events.specs.contracts.role.Role.{the_type}
+use Rattle.events.specs.declared.role.Role.TheVariants.{Fetch, Front, Retire, Alu, Mul, Mem}
 use denote.Enum.Bare.{same_true}
 use Rattle.core_state.proofs.sizes.have_same_roles.Goals as goal
 

@@ -3,7 +3,7 @@ use Rattle.std.specs.Prelude.{◌≡◌, ℕ, ◌<◌, Bool, true, List, [], ◌
 use Rattle.std.specs.List.{AllByRecursion}
 use Rattle.std.proofs.Common.{◌∙◌, refl, sym, ap, subst, inl, inr}
 use Rattle.std.proofs.{lemmas.Bool.cases_Bool, lemmas.List.length-map}
-use Rattle.numbers.specs.Sizes.{most_accesses, most_harts}
+use Rattle.numbers.specs.Sizes.{most_accesses}
 use Rattle.rv_instr.specs.declared.op.Op.{Op}
 use Rattle.smt_model.specs.{Kinds.kind_of, Kinds.is_loading, Kinds.is_storing, Picture.Picture}
 use Rattle.smt_model.specs.Steps.{op_in}
@@ -82,5 +82,5 @@ room_at x h taken i state slots d from same at read =
 
 -- A hart that renames has a place among the queues.
 pub place_at : (x : Parts) (h : ℕ) (taken : Option ℕ) → From x h (λ p q. IsRenaming p q x.queue.size h taken)
-    → h < most_harts
+    → h < length x.accesses
 place_at x h taken from = has_place x.harts.items x.accesses h from.agrees.accesses from.inside

@@ -4,7 +4,6 @@ use Rattle.std.specs.Prelude.{if◌then◌else◌, slice_index_or}
 use Rattle.std.specs.List.{AllByRecursion}
 use Rattle.std.proofs.Common.{◌∙◌, refl, sym, ap, subst, inl, inr, arith}
 use Rattle.std.proofs.{lemmas.Bool.cases_eq, lemmas.Bool.Decides.nat_tests, lemmas.List.get_or_default}
-use Rattle.numbers.specs.Sizes.{most_harts}
 use Rattle.events.specs.{declared.effect.Effect.Effect, declared.effect.Written.Written}
 use Rattle.rv_instr.specs.declared.op.Op.{Op}
 use Rattle.retire_squash.specs.{declared.active.Active.Active, declared.active.Stage.Stage}
@@ -37,12 +36,12 @@ accesses_dropped p h n op (x ∷ xs) rest numbers all same =
 
 -- What the code must know before it removes a hart's oldest instruction from the hart's queues.
 pub record CanRemove (accesses : List Queues) (h : ℕ) (op : Op) : Type 0 where
-  pub hart : h < most_harts
+  pub hart : h < length accesses
   pub load : is_loading (kind_of op) ≡ true → 0 < length (queues_of accesses h).loads
   pub store : is_storing (kind_of op) ≡ true → 0 < length (queues_of accesses h).stores
 
 can_remove_first : (p : Picture) (h : ℕ) (x : Active) (rest : List ℕ) (accesses : List Queues) (xs : List Active)
-    → h < most_harts → queues_of accesses h ≡ accesses_of p.touched xs → map (λ a. a.seq) xs ≡ x.seq ∷ rest
+    → h < length accesses → queues_of accesses h ≡ accesses_of p.touched xs → map (λ a. a.seq) xs ≡ x.seq ∷ rest
     → AllByRecursion (IsActive p h) xs → IsActive p h x → CanRemove accesses h x.op
 can_remove_first p h x rest accesses [] place queues numbers all is = absurd cc
 can_remove_first p h x rest accesses (a ∷ xs) place queues numbers all is =

@@ -192,14 +192,15 @@ pub parts_committed : (p q : Picture) (h : ℕ) (x : Active) (effect : Effect) (
     (a y : HartState) (replaced : Option ℕ) (free : List Bool) (left accesses : List Queues) (memory : Contents)
     → h < length old.harts.items → a ≡ slice_index_or old.harts.items h a
     → HasCommitted a y x.rd x.phys pc replaced → Changes (without_access x.op) h old.accesses left
+    → length accesses ≡ length left
     → ((g : ℕ) → queues_of accesses g ≡ with_touched effect.write (queues_of left g))
     → IsCommitted h x effect.write old.memory memory
     → ((r : ℕ) → holds free r ≡ (holds old.free r || same_number replaced (Some r)))
     → IsFilled x.phys effect.value
     (record old { harts = with_item old.harts h y; free = free; accesses = accesses; memory = memory }) new
     → PartsAgree p old → Commits p q h x effect pc → PartsAgree q new
-parts_committed p q h x effect pc old new a y replaced free gone_from accesses memory inside at has gone touches made
-    gives filled agrees commits =
+parts_committed p q h x effect pc old new a y replaced free gone_from accesses memory inside at has gone count touches
+    made gives filled agrees commits =
     let step = commits.step in
     let oldest = commits.is_oldest in
     let here : HartAgrees p h a = subst (HartAgrees p h) (sym at) (agrees.harts h a inside) in
@@ -236,7 +237,7 @@ parts_committed p q h x effect pc old new a y replaced free gone_from accesses m
           (jobs_kept p q old.jobs step.stays.shared.kept step.stays.shared.job step.stays.shared.operands agrees.jobs);
       accesses =
           rw (filled.accesses, filled.harts)
-          (accesses_touched p q.touched effect.write (slice_set old.harts.items h y) gone_from accesses step.touched
+          (accesses_touched p q.touched effect.write (slice_set old.harts.items h y) gone_from accesses step.touched count
           (actives_left p h a y old.harts.items inside at has.active agrees.harts) touches
           (accesses_set p.touched (without_access x.op) old.harts.items h a y old.accesses gone_from inside at gone
           (ap (accesses_of p.touched) has.active

@@ -62,12 +62,13 @@ touched_of p u (Some w) h xs touches all = both _ _ _ _ (loads_touched p u w h x
 
 -- The queues agree with what is touched now.
 pub accesses_touched : (p : Picture) (u : ℕ → Bool) (w : Option Written) (harts : List HartState) (old new : List Queues)
-    → Touches p u w
+    → Touches p u w → length new ≡ length old
     → ((g : ℕ) (d : HartState) → g < length harts → AllByRecursion (IsActive p g) (slice_index_or harts g d).active)
     → ((g : ℕ) → queues_of new g ≡ with_touched w (queues_of old g))
     → AccessesAgree p.touched harts old → AccessesAgree u harts new
-accesses_touched p u w harts old new touches all says agrees = record {
-  places = agrees.places;
+accesses_touched p u w harts old new touches count all says agrees = record {
+  few = agrees.few;
+  places = count ∙ agrees.places;
   each = λ g d inside. says g ∙ (ap (with_touched w) (agrees.each g d inside)
       ∙ sym (touched_of p u w g (slice_index_or harts g d).active touches (all g d inside)));
 }

@@ -18,8 +18,9 @@ write_outcome-requires-2 c =
     let from = c.requires.step in
     record {
       inside = subst (λ n. c.args.job.now.hart < n) (sym c.restore_map-restored.ensures.sizes.harts) from.inside;
-      place = has_place c.args.parts.now.harts.items c.args.parts.now.accesses c.args.job.now.hart from.agrees.accesses
-          from.inside;
+      place = has_place c.restore_map-restored.new.parts.harts.items c.restore_map-restored.new.parts.accesses
+          c.args.job.now.hart (c.restore_map-restored.ensures.agrees from.before from.agrees).accesses
+          (subst (λ n. c.args.job.now.hart < n) (sym c.restore_map-restored.ensures.sizes.harts) from.inside);
     }
 
 pub squash-requires : goal.squash-requires

@@ -1,7 +1,7 @@
 use Rattle.std.specs.{Prelude.slice_index_or, Vec.with_item}
 use Rattle.std.proofs.Common.{◌∙◌, ap, subst}
 use Rattle.core_steps.specs.Filled.{IsFilled}
-use Rattle.core_parts.proofs.Agreement.Queues.{has_place}
+use Rattle.core_parts.proofs.Agreement.Queues.{in_range}
 use Rattle.core_steps.proofs.Steps.Retire.{Memory.IsCommitted, Memory.can_remove, Parts.parts_committed}
 use Rattle.core_steps.proofs.retire.commit.Goals as goal
 
@@ -15,7 +15,7 @@ remove_access-requires c =
 pub commit_access-requires-clause-hart : goal.commit_access-requires-clause-hart
 commit_access-requires-clause-hart c =
     let from = c.requires.step in
-    has_place c.args.parts.now.harts.items c.args.parts.now.accesses c.args.hart from.agrees.accesses from.inside
+    in_range c.args.parts.now.harts.items c.args.parts.now.accesses c.args.hart from.agrees.accesses from.inside
 
 pub returns-clause-agrees : goal.returns-clause-agrees
 returns-clause-agrees c p q agrees commits =
@@ -31,7 +31,7 @@ returns-clause-agrees c p q agrees commits =
     c.commit_oldest-replaced.result
     c.give_back.new.free c.remove_access.new.accesses c.touch_accesses.new.accesses c.commit_access.new.memory
     c.requires.step.inside (c.index_mut.ensures.value ∙ ap (λ i. slice_index_or old.harts.items i a) c.from.ensures)
-    c.commit_oldest-replaced.ensures c.remove_access.ensures c.touch_accesses.ensures made c.give_back.ensures
+    c.commit_oldest-replaced.ensures c.remove_access.ensures c.touch_accesses.ensures.count c.touch_accesses.ensures.touched made c.give_back.ensures
     (subst
     (λ i. IsFilled c.args.active.now.phys c.args.effect.value
     (record old {

@@ -14,4 +14,4 @@ returns-clause-begins c =
     (subst (λ e. AreNew e each.field-0.items) c.entry.ensures.value each.ensures.first)
     (ap (λ (q : Queue). q.entries) c.in_ok-new.ensures) c.new-2.ensures c.in_ok-first_registers.ensures.count
     c.in_ok-first_registers.ensures.first refl (λ k d inside. get_or-replicate most_actors k None d inside)
-    c.requires.harts_fit c.in_ok-new-2.ensures c.in_ok-new-3.ensures
+    c.requires.harts_fit c.in_ok-new-2.ensures.count c.in_ok-new-2.ensures.none c.in_ok-new-3.ensures

@@ -2,7 +2,7 @@
 use Rattle.std.proofs.Common.{◌∙◌, true, false, sym}
 use Rattle.core_state.proofs.Following.Retire.{no_actor, gone, waits, not_oldest, can_retire, tells}
 use Rattle.core_state.proofs.Following.Retire.{effect_view}
-use Rattle.core_parts.proofs.Agreement.Queues.{has_place}
+use Rattle.core_state.proofs.Steps.Retire.State.{place_in, range_in}
 use Rattle.core_state.proofs.Following.Place.{hart_inside}
 use Rattle.core_state.proofs.state.State.judge_retirement.Goals as goal
 
@@ -34,10 +34,12 @@ returns-then-not-is_oldest_active-clause-rule c =
 
 pub effect-now-requires : goal.effect-now-requires
 effect-now-requires c =
-    has_place c.self.inside.parts.harts.items c.self.inside.parts.accesses c.in-Some.hart
-    c.self.invariant.agrees.accesses
-    (hart_inside c.self.inside c.self.invariant c.args.self.now c.self.view_is c.in-Some.hart
-    c.in-Some.ensures.there.inside)
+    let inside = hart_inside c.self.inside c.self.invariant c.args.self.now c.self.view_is c.in-Some.hart
+    c.in-Some.ensures.there.inside in
+    record {
+      place = place_in c.self.inside c.in-Some.hart c.self.invariant inside;
+      range = range_in c.self.inside c.in-Some.hart c.self.invariant inside;
+    }
 
 pub returns-then-not-is_same_effect-clause-rule : goal.returns-then-not-is_same_effect-clause-rule
 returns-then-not-is_same_effect-clause-rule c =

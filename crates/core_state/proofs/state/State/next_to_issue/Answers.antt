@@ -1,7 +1,8 @@
 -- What the parts find is what the rules allow.
 use Rattle.std.specs.Prelude.{◌≤◌, length, List}
 use Rattle.std.proofs.Common.{◌∙◌, subst}
-use Rattle.smt_model.specs.{declared.config.Role.Role, Asks.AskIssue}
+use Rattle.events.specs.declared.role.Role.{Role}
+use Rattle.smt_model.specs.{Asks.AskIssue}
 use Rattle.core_state.specs.{Answers.AllowsNone, State.setup_in, View.CoreView}
 use Rattle.core_state.proofs.Steps.Issue.State.{no_role, unit_now, no_unit, next_allowed, next_entry, next_none}
 use Rattle.core_state.proofs.Following.{Issue.alone, Place.is_legal_view}

@@ -6,7 +6,7 @@ use Rattle.core_state.specs.{State.past_of, State.setup_in, View.CoreView}
 use Rattle.std.proofs.lemmas.Bool.Decides.{nat_tests}
 use Rattle.core_state.proofs.Steps.Retire.Rules.{no_actor_retires}
 use Rattle.core_state.proofs.Steps.Retire.State.{finds_in, allowed_in, its_own_in, none_in}
-use Rattle.core_state.proofs.Steps.Retire.State.{if_none, place_in, write_in_core}
+use Rattle.core_state.proofs.Steps.Retire.State.{if_none, place_in, range_in, write_in_core}
 use Rattle.core_state.proofs.state.State.retire.Goals as goal
 
 both_true : (actor : ℕ) (own : Bool) → own ≡ true → ((actor == actor) && own) ≡ true
@@ -24,7 +24,10 @@ returns-in_err-active-clause-idle c =
     c.in_err-active.ensures.none)
 
 pub effect-effect-requires : goal.effect-effect-requires
-effect-effect-requires c = place_in c.self.inside c.args.hart c.self.invariant c.in_ok-active.ensures.inside
+effect-effect-requires c = record {
+  place = place_in c.self.inside c.args.hart c.self.invariant c.in_ok-active.ensures.inside;
+  range = range_in c.self.inside c.args.hart c.self.invariant c.in_ok-active.ensures.inside;
+}
 
 pub write_retire-requires-clause-allowed : goal.write_retire-requires-clause-allowed
 write_retire-requires-clause-allowed c =

@@ -1,4 +1,5 @@
 use Rattle.std.proofs.Common.{◌+◌, slice_index, ◌∙◌, sym, ap}
+use Rattle.issue_queue.specs.Waiting.{nodes}
 use Rattle.issue_queue.proofs.Following.{first-there, first-absent}
 use Rattle.issue_queue.proofs.waiting.WaitingLists.first.Goals as goal
 
@@ -7,7 +8,7 @@ returns-then-first-lt-NODES c =
     λ waits linked.
     first-there (slice_index c.args.self.now.next) (slice_index c.args.self.now.before) waits c.args.register
     (linked c.args.register c.requires) c.from-first.result
-    (sym (c.from-first.ensures ∙ ap (λ r. slice_index c.args.self.now.next (128 + r)) c.from.ensures))
+    (sym (c.from-first.ensures ∙ ap (λ r. slice_index c.args.self.now.next (nodes + r)) c.from.ensures))
     c.if-first-lt-NODES.true
 
 pub returns-else-first-lt-NODES : goal.returns-else-first-lt-NODES
@@ -15,5 +16,5 @@ returns-else-first-lt-NODES c =
     λ waits linked.
     first-absent (slice_index c.args.self.now.next) (slice_index c.args.self.now.before) waits c.args.register
     (linked c.args.register c.requires) c.from-first.result
-    (sym (c.from-first.ensures ∙ ap (λ r. slice_index c.args.self.now.next (128 + r)) c.from.ensures))
+    (sym (c.from-first.ensures ∙ ap (λ r. slice_index c.args.self.now.next (nodes + r)) c.from.ensures))
     c.if-first-lt-NODES.false

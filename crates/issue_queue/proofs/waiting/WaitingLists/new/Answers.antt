@@ -1,5 +1,6 @@
 use Rattle.std.proofs.Common.{◌+◌, [], arith}
 use Rattle.std.proofs.lemmas.List.{get_or-replicate}
+use Rattle.issue_queue.specs.Waiting.{nodes, places}
 use Rattle.issue_queue.proofs.Following.{none_some}
 use Rattle.issue_queue.proofs.waiting.WaitingLists.new.Goals as goal
 
@@ -8,7 +9,7 @@ returns c =
     λ register inside.
     record {
       members = [];
-      follow = get_or-replicate 640 (128 + register) 640 0 (omega (arith, inside));
+      follow = get_or-replicate places (nodes + register) places 0 (omega (arith, inside));
       distinct = tt;
       only = tt;
       each = λ n lt is. none_some register is;

@@ -1,6 +1,6 @@
 use Rattle.std.proofs.Common.{◌≡◌, ◌≢◌, ◌+◌, ◌<◌, ◌≤◌, length, slice_index, slice_set, ◌∙◌, sym, ap, refl, arith}
 use Rattle.std.proofs.lemmas.List.{get_or-set_same, get_or-set_other, length-set}
-use Rattle.issue_queue.specs.Waiting.{nodes}
+use Rattle.issue_queue.specs.Waiting.{nodes, places}
 use Rattle.issue_queue.proofs.Following.{pushed, first-there, none_some}
 use Rattle.issue_queue.proofs.waiting.WaitingLists.push.Goals as goal
 
@@ -9,13 +9,13 @@ returns-then-from-lt-NODES c =
     λ waits linked free.
     let lists = c.args.self.now in
     let node = c.args.node in
-    let place = 128 + c.from-place.result in
+    let place = nodes + c.from-place.result in
     let first = slice_index lists.next place in
     let at = c.from-then-from-lt-NODES.result in
     let same : at ≡ first = c.from-then-from-lt-NODES.ensures in
-    let is_place : place ≡ 128 + c.args.register = ap (λ r. 128 + r) c.from-place.ensures in
-    let long : length lists.next ≡ 640 = omega arith in
-    let longer : length lists.before ≡ 128 = omega arith in
+    let is_place : place ≡ nodes + c.args.register = ap (λ r. nodes + r) c.from-place.ensures in
+    let long : length lists.next ≡ places = omega arith in
+    let longer : length lists.before ≡ nodes = omega arith in
     let low : first < nodes = omega (arith, c.if-from-lt-NODES.true, c.from.ensures) in
     let inside = c.requires.node in
     let known = c.requires.register in
@@ -50,11 +50,11 @@ returns-else-from-lt-NODES c =
     λ waits linked free.
     let lists = c.args.self.now in
     let node = c.args.node in
-    let place = 128 + c.from-place.result in
+    let place = nodes + c.from-place.result in
     let first = slice_index lists.next place in
-    let is_place : place ≡ 128 + c.args.register = ap (λ r. 128 + r) c.from-place.ensures in
-    let long : length lists.next ≡ 640 = omega arith in
-    let longer : length lists.before ≡ 128 = omega arith in
+    let is_place : place ≡ nodes + c.args.register = ap (λ r. nodes + r) c.from-place.ensures in
+    let long : length lists.next ≡ places = omega arith in
+    let longer : length lists.before ≡ nodes = omega arith in
     let high : nodes ≤ first = omega (arith, c.if-from-lt-NODES.false, c.from.ensures) in
     let inside = c.requires.node in
     let known = c.requires.register in

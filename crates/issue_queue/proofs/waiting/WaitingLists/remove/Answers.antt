@@ -1,6 +1,6 @@
 use Rattle.std.proofs.Common.{◌≡◌, ◌<◌, ◌≤◌, length, slice_index, slice_set, ◌∙◌, sym, ap, refl, arith}
 use Rattle.std.proofs.lemmas.List.{get_or-set_same, get_or-set_other}
-use Rattle.issue_queue.specs.Waiting.{nodes}
+use Rattle.issue_queue.specs.Waiting.{nodes, places}
 use Rattle.issue_queue.proofs.Following.{within, removed}
 use Rattle.issue_queue.proofs.waiting.WaitingLists.remove.Goals as goal
 
@@ -19,11 +19,11 @@ returns-then-from-lt-NODES c =
     let q = slice_index lists.next c.args.node in
     let at = c.from-then-from-lt-NODES.result in
     let same : at ≡ q = c.from-then-from-lt-NODES.ensures in
-    let bound : p < 640 =
+    let bound : p < places =
     within (slice_index lists.next) (slice_index lists.before) c.args.node p q c.requires.node (sym c.from.ensures) refl
     waits register linked known there in
-    let long : length lists.next ≡ 640 = omega arith in
-    let longer : length lists.before ≡ 128 = omega arith in
+    let long : length lists.next ≡ places = omega arith in
+    let longer : length lists.before ≡ nodes = omega arith in
     let low : q < nodes = omega (arith, c.if-from-lt-NODES.true, c.from-2.ensures) in
     let p_inside : p < length lists.next = omega (arith, bound, long) in
     let at_inside : at < length lists.before = omega (arith, low, longer, same) in
@@ -43,10 +43,10 @@ returns-else-from-lt-NODES c =
     let lists = c.args.self.now in
     let p = c.from.result in
     let q = slice_index lists.next c.args.node in
-    let bound : p < 640 =
+    let bound : p < places =
     within (slice_index lists.next) (slice_index lists.before) c.args.node p q c.requires.node (sym c.from.ensures) refl
     waits register linked known there in
-    let long : length lists.next ≡ 640 = omega arith in
+    let long : length lists.next ≡ places = omega arith in
     let high : nodes ≤ q = omega (arith, c.if-from-lt-NODES.false, c.from-2.ensures) in
     let p_inside : p < length lists.next = omega (arith, bound, long) in
     removed (slice_index lists.next) (slice_index lists.before) c.args.node p q c.requires.node (sym c.from.ensures) refl

@@ -4,4 +4,4 @@ use Rattle.load_store.proofs.queues.LoadStore.new.Given as goal
 
 -- as many harts are there as were counted, and none has a load or a store
 abbrev pub invariant-loop-hart : goal.invariant-loop-hart
-invariant-loop-hart l = (length l.harts.items ≡ l._hart) × ((h : ℕ) → queues_of l.harts.items h ≡ empty)
+invariant-loop-hart l = (length l.each.items ≡ l._hart) × ((h : ℕ) → queues_of l.each.items h ≡ empty)
