@@ -1,11 +1,17 @@
+pub mod ConfigLaws
 pub mod FieldLaws
 pub mod FirstNext
+pub mod HeadLines
 pub mod Joining
 pub mod Lengths
 pub mod LineEnds
 pub mod LineFields
 pub mod LineLaws
+pub mod Migrating
 pub mod Readings
+pub mod RefusalLaws
+pub mod RoleFields
 pub mod Sequences
 pub mod SinkLaws
+pub mod Small
 pub mod TraceLaws

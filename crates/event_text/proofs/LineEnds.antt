@@ -6,7 +6,7 @@ use Rattle.std.proofs.lemmas.{Bool.Decides.nat_tests, List.take-append-drop}
 use Rattle.memchr.specs.Find.{is_byte, IsFirstByte, Nowhere, Passes}
 use Rattle.text_fields.specs.Splitting.{field, field_count, Lacks, rest}
 use Rattle.text_fields.proofs.SplittingLaws.{count-alone, count-cut, field-cut, parts_of, rest-cut}
-use Rattle.event_text.specs.Trace.{ended}
+use Rattle.event_text.specs.Heads.{ended}
 
 pub behind_ended : (line text : List ℕ) → ended line ++ text ≡ line ++ 10 ∷ text
 behind_ended line text = append_assoc line (10 ∷ []) text

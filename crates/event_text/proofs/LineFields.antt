@@ -1,6 +1,6 @@
 -- The fields of an event's line: it is they, joined by spaces, and none has a space or a newline.
 
-use Rattle.std.proofs.Common.{◌≡◌, ℕ, ◌*◌, ◌^◌, ◌<◌, false, List, [], ◌∷◌, ◌++◌, Option, None, Some, refl, ◌∙◌, ap}
+use Rattle.std.proofs.Common.{◌≡◌, ℕ, ◌*◌, ◌^◌, ◌<◌, ◌≤◌, false, List, [], ◌∷◌, ◌++◌, Option, None, Some, refl, ◌∙◌, ap}
 use Rattle.std.proofs.Common.{arith, append_assoc, inl, inr}
 use Rattle.std.specs.{Char.is_ascii_digit, Fmt.decimal, Prelude.IfSome, Prelude.min}
 use Rattle.text_fields.specs.{Reading.is_hex_digit, Spelling.dash, Spelling.hex, Spelling.optional, Splitting.Lacks}
@@ -12,10 +12,12 @@ use Rattle.events.specs.declared.kind.EventKind.{EventKind}
 use Rattle.events.specs.declared.kind.EventKind.TheVariants as kind
 use Rattle.events.specs.{declared.effect.Effect.Effect, declared.effect.Outcome.Outcome}
 use Rattle.events.specs.{Width.IsWidth}
-use Rattle.events.specs.Range.{HasActorAndNumber, IsEffect, IsEventInRange, IsNext, IsOutcome}
+use Rattle.events.specs.Range.{IsEffect, IsNext, IsOutcome}
 use Rattle.events.specs.declared.event.Event.TheVariants.{Fetch, Decode, Rename, Issue, Complete, Drop, Retire}
+use Rattle.event_text.specs.{declared.ranges.Ranges.Ranges}
 use Rattle.event_text.specs.Line.{address_text, datum_text, line_of, next_text}
-use Rattle.event_text.proofs.Joining.{AllLack, joined, Lacks-joined}
+use Rattle.event_text.specs.Ranges.{HasActorAndNumber, IsEventWithin}
+use Rattle.event_text.proofs.{Joining.AllLack, Joining.joined, Joining.Lacks-joined, Small.AreSmall}
 
 -- a number of 1, 2 or 4 bytes is spelled with all of them
 pub at_most_four : (n : ℕ) → IsWidth n → min n 4 ≡ n
@@ -124,10 +126,6 @@ module _ (byte : ℕ) (apart : IsApart byte) where
   datum_lacks None = apart.dashes
   datum_lacks (Some w) = Lacks-hex byte (2 * min w.n 4) w.datum apart.hex_digits
 
-  phys_lacks : (phys : Option ℕ) → IfSome phys (λ p. p < 504) → Lacks byte (optional decimal phys)
-  phys_lacks None within = apart.dashes
-  phys_lacks (Some p) within = Lacks-decimal byte p apart.digits (omega arith)
-
   outcome_lacks : (o : Outcome) → IsOutcome o → AllLack byte (outcome_fields o)
   outcome_lacks o within = (
     optional_hex_lacks 8 o.value,
@@ -140,33 +138,44 @@ module _ (byte : ℕ) (apart : IsApart byte) where
     (next_lacks e.next within.next, (address_lacks e.write, (datum_lacks e.write, (optional_hex_lacks 2 e.out, tt)))),
   )
 
-  number_lacks : (n : ℕ) → n < 2 ^ 24 → Lacks byte (decimal n)
-  number_lacks n small = Lacks-decimal byte n apart.digits (omega arith)
+  number_lacks : (n most : ℕ) → n ≤ most → most < 2 ^ 32 → Lacks byte (decimal n)
+  number_lacks n most within small = Lacks-decimal byte n apart.digits (omega (arith, within, small))
 
-  -- the two numbers with which most lines begin, and what stands behind them
-  moved_lacks : (actor seq : ℕ) (fields : List (List ℕ)) → HasActorAndNumber actor seq → AllLack byte fields
-      → AllLack byte (decimal actor ∷ decimal seq ∷ fields)
-  moved_lacks actor seq fields within lack = (number_lacks actor (omega arith), (number_lacks seq (omega arith), lack))
+  module _ (ranges : Ranges) (small : AreSmall ranges) where
+    phys_lacks : (phys : Option ℕ) → IfSome phys (λ p. p ≤ ranges.phys) → Lacks byte (optional decimal phys)
+    phys_lacks None within = apart.dashes
+    phys_lacks (Some p) within = number_lacks p ranges.phys within small.phys
 
-  fields_lack : (e : Event) → IsEventInRange e → AllLack byte (fields_of e)
-  fields_lack (Fetch actor hart seq pc word predicted) within = (
-    number_lacks actor (omega arith),
-    (
-      number_lacks hart (omega arith),
+    actor_lacks : (actor : ℕ) → actor ≤ ranges.actor → Lacks byte (decimal actor)
+    actor_lacks actor within = number_lacks actor ranges.actor within small.actor
+
+    seq_lacks : (seq : ℕ) → seq ≤ ranges.seq → Lacks byte (decimal seq)
+    seq_lacks seq within = number_lacks seq ranges.seq within small.seq
+
+    -- the two numbers with which most lines begin, and what stands behind them
+    moved_lacks : (actor seq : ℕ) (fields : List (List ℕ)) → HasActorAndNumber ranges actor seq → AllLack byte fields
+        → AllLack byte (decimal actor ∷ decimal seq ∷ fields)
+    moved_lacks actor seq fields within lack = (actor_lacks actor within.0, (seq_lacks seq within.1, lack))
+
+    fields_lack : (e : Event) → IsEventWithin ranges e → AllLack byte (fields_of e)
+    fields_lack (Fetch actor hart seq pc word predicted) within = (
+      actor_lacks actor within.0.0,
       (
-        number_lacks seq (omega arith),
-        (Lacks-hex byte 8 pc apart.hex_digits, (optional_hex_lacks 8 word, (Lacks-hex byte 8 predicted apart.hex_digits, tt))),
+        number_lacks hart ranges.hart within.1 small.hart,
+        (
+          seq_lacks seq within.0.1,
+          (Lacks-hex byte 8 pc apart.hex_digits, (optional_hex_lacks 8 word, (Lacks-hex byte 8 predicted apart.hex_digits, tt))),
+        ),
       ),
-    ),
-  )
-  fields_lack (Decode actor seq) within = moved_lacks actor seq [] within tt
-  fields_lack (Rename actor seq phys) within =
-      moved_lacks actor seq (optional decimal phys ∷ []) within.0 (phys_lacks phys within.1, tt)
-  fields_lack (Issue actor seq) within = moved_lacks actor seq [] within tt
-  fields_lack (Complete actor seq o) within =
-      moved_lacks actor seq (outcome_fields o) within.0 (outcome_lacks o within.1)
-  fields_lack (Drop actor seq) within = moved_lacks actor seq [] within tt
-  fields_lack (Retire actor seq e) within = moved_lacks actor seq (effect_fields e) within.0 (effect_lacks e within.1)
+    )
+    fields_lack (Decode actor seq) within = moved_lacks actor seq [] within tt
+    fields_lack (Rename actor seq phys) within =
+        moved_lacks actor seq (optional decimal phys ∷ []) within.0 (phys_lacks phys within.1, tt)
+    fields_lack (Issue actor seq) within = moved_lacks actor seq [] within tt
+    fields_lack (Complete actor seq o) within =
+        moved_lacks actor seq (outcome_fields o) within.0 (outcome_lacks o within.1)
+    fields_lack (Drop actor seq) within = moved_lacks actor seq [] within tt
+    fields_lack (Retire actor seq e) within = moved_lacks actor seq (effect_fields e) within.0 (effect_lacks e within.1)
 
 letter_lacks : (k : EventKind) → Lacks 10 (letter_of k ∷ 32 ∷ [])
 letter_lacks kind.Fetch = refl
@@ -178,8 +187,8 @@ letter_lacks kind.Drop = refl
 letter_lacks kind.Retire = refl
 
 -- so a line has no newline
-pub line_lacks : (e : Event) → IsEventInRange e → Lacks 10 (line_of e)
-line_lacks e within =
+pub line_lacks : (ranges : Ranges) → AreSmall ranges → (e : Event) → IsEventWithin ranges e → Lacks 10 (line_of e)
+line_lacks ranges small e within =
     rw line_of-joined
     (Lacks-append 10 (letter_of (event_kind e) ∷ 32 ∷ []) (joined (fields_of e)) (letter_lacks (event_kind e))
-    (Lacks-joined 10 (fields_of e) refl (fields_lack 10 newline e within)))
+    (Lacks-joined 10 (fields_of e) refl (fields_lack 10 newline ranges small e within)))

@@ -1,22 +1,20 @@
 -- A line is read as the event whose line it is, and as no other; an event in range is read back from its line.
 
-use Rattle.std.proofs.Common.{◌≡◌, ℕ, suc, ◌^◌, ◌<◌, ◌≤◌, Bool, true, false, ◌==◌, cond, List, [], ◌∷◌, ◌++◌, length}
+use Rattle.std.proofs.Common.{◌≡◌, ℕ, suc, Bool, true, false, ◌==◌, cond, List, [], ◌∷◌, ◌++◌, length}
 use Rattle.std.proofs.Common.{Option}
-use Rattle.std.proofs.Common.{None, Some, Result, Ok, Err, refl, sym, ◌∙◌, ap, arith, lit<}
+use Rattle.std.proofs.Common.{None, Some, Result, Ok, Err, refl, sym, ◌∙◌, ap, arith}
 use Rattle.std.proofs.lemmas.Bool.Decides.{nat_tests}
-use Rattle.std.specs.{Prelude.IfSome}
 use Rattle.text_fields.specs.{declared.read.FieldError.FieldError, Splitting.field_count, Splitting.Lacks}
 use Rattle.text_fields.proofs.SplittingLaws.{field-cut, rest-cut}
-use Rattle.events.specs.{declared.event.Event.Event, declared.kind.EventKind.EventKind, Range.IsEventInRange}
+use Rattle.events.specs.{declared.event.Event.Event, declared.kind.EventKind.EventKind}
 use Rattle.events.specs.declared.event.Event.TheVariants.{Fetch, Decode, Rename, Issue, Complete, Drop, Retire}
 use Rattle.events.specs.declared.kind.EventKind.TheVariants as kind
 use Rattle.events.specs.Kind.{event_kind, fields_after, kind_of_letter, letter_of}
 use Rattle.event_text.specs.{declared.ranges.Ranges.Ranges, declared.read.Rule.TheVariants.FieldCount}
-use Rattle.event_text.specs.{Line.line_of, Ranges.trace_ranges}
-use Rattle.event_text.specs.Reading.{event_as, event_fields, event_of, event_within, first_field, kind_named, of_fields}
-use Rattle.event_text.specs.Reading.{others}
+use Rattle.event_text.specs.{Line.line_of, Ranges.IsEventWithin}
+use Rattle.event_text.specs.Reading.{event_as, event_fields, event_within, first_field, kind_named, of_fields, others}
 use Rattle.event_text.proofs.{LineFields.fields_of, LineFields.line_of-joined, Joining.joined, Sequences.cut}
-use Rattle.event_text.proofs.Readings.{AreSmall, event_reading, EventParts}
+use Rattle.event_text.proofs.{Readings.event_reading, Readings.EventParts, Small.AreSmall}
 
 -- the letter
 letter_only : (c : ℕ) (k : EventKind) → kind_of_letter c ≡ Some k → c ≡ letter_of k
@@ -78,44 +76,15 @@ line_read ranges k line e named read =
     let count : (field_count 32 (others line) == fields_after k) ≡ true = grind (arith, nat_tests, many) in
     rw (named, count, read) refl
 
--- the ranges of a trace are those of its events
-small : AreSmall trace_ranges
-small = record { actor = lit< tt; hart = lit< tt; seq = lit< tt; phys = lit< tt }
-
-actor_in : (n : ℕ) → n ≤ trace_ranges.actor → n < 16
-actor_in n is = let most : n ≤ 15 = is in omega (arith, most)
-
-hart_in : (n : ℕ) → n ≤ trace_ranges.hart → n < 8
-hart_in n is = let most : n ≤ 7 = is in omega (arith, most)
-
-seq_in : (n : ℕ) → n ≤ trace_ranges.seq → n < 2 ^ 24
-seq_in n is = let most : n ≤ 16777215 = is in omega (arith, most)
-
-phys_in : (o : Option ℕ) → IfSome o (λ n. n ≤ trace_ranges.phys) → IfSome o (λ p. p < 504)
-phys_in None is = tt
-phys_in (Some p) is = let most : p ≤ 503 = is in omega (arith, most)
-
-in_actor : (n : ℕ) → n < 16 → n ≤ trace_ranges.actor
-in_actor n is = let most : n ≤ 15 = omega (arith, is) in most
-
-in_hart : (n : ℕ) → n < 8 → n ≤ trace_ranges.hart
-in_hart n is = let most : n ≤ 7 = omega (arith, is) in most
-
-in_seq : (n : ℕ) → n < 2 ^ 24 → n ≤ trace_ranges.seq
-in_seq n is = let most : n ≤ 16777215 = omega (arith, is) in most
-
-in_phys : (o : Option ℕ) → IfSome o (λ p. p < 504) → IfSome o (λ n. n ≤ trace_ranges.phys)
-in_phys None is = tt
-in_phys (Some p) is = let most : p ≤ 503 = omega (arith, is) in most
-
 -- the fields are those of the event, which is in range and of the kind
-record Reads (k : EventKind) (e : Event) (fields : List ℕ) : Type 0 where
-  within : IsEventInRange e
+record Reads (ranges : Ranges) (k : EventKind) (e : Event) (fields : List ℕ) : Type 0 where
+  within : IsEventWithin ranges e
   whole : fields ≡ joined (fields_of e)
   its_kind : event_kind e ≡ k
 
-reads : (k : EventKind) (e : Event) (text : List ℕ) → EventParts trace_ranges k e text → Reads k e text
-reads kind.Fetch e text (
+reads : (ranges : Ranges) (k : EventKind) (e : Event) (text : List ℕ) → EventParts ranges k e text
+    → Reads ranges k e text
+reads ranges kind.Fetch e text (
   actor,
   a,
   t1,
@@ -148,55 +117,56 @@ reads kind.Fetch e text (
 ) =
     let same : Fetch actor hart seq pc word predicted ≡ e = cc makes in
     rw (← same) (record {
-      within = ((actor_in actor a, seq_in seq s), hart_in hart h, p, w, n);
+      within = ((a, s), h, p, w, n);
       whole = is1 ∙ rw (is2, is3, is4, is5, is6) refl;
       its_kind = refl;
     })
-reads kind.Decode e text (actor, a, t1, is1, (seq, (s, is2), makes)) =
+reads ranges kind.Decode e text (actor, a, t1, is1, (seq, (s, is2), makes)) =
     let same : Decode actor seq ≡ e = cc makes in
-    rw (← same) (record { within = (actor_in actor a, seq_in seq s); whole = is1 ∙ rw is2 refl; its_kind = refl })
-reads kind.Rename e text (actor, a, t1, is1, (seq, s, t2, is2, (phys, (p, is3), makes))) =
+    rw (← same) (record { within = (a, s); whole = is1 ∙ rw is2 refl; its_kind = refl })
+reads ranges kind.Rename e text (actor, a, t1, is1, (seq, s, t2, is2, (phys, (p, is3), makes))) =
     let same : Rename actor seq phys ≡ e = cc makes in
     rw (← same) (record {
-      within = ((actor_in actor a, seq_in seq s), phys_in phys p);
+      within = ((a, s), p);
       whole = is1 ∙ rw (is2, is3) refl;
       its_kind = refl;
     })
-reads kind.Issue e text (actor, a, t1, is1, (seq, (s, is2), makes)) =
+reads ranges kind.Issue e text (actor, a, t1, is1, (seq, (s, is2), makes)) =
     let same : Issue actor seq ≡ e = cc makes in
-    rw (← same) (record { within = (actor_in actor a, seq_in seq s); whole = is1 ∙ rw is2 refl; its_kind = refl })
-reads kind.Complete e text (actor, a, t1, is1, (seq, s, t2, is2, (outcome, (o, is3), makes))) =
+    rw (← same) (record { within = (a, s); whole = is1 ∙ rw is2 refl; its_kind = refl })
+reads ranges kind.Complete e text (actor, a, t1, is1, (seq, s, t2, is2, (outcome, (o, is3), makes))) =
     let same : Complete actor seq outcome ≡ e = cc makes in
     rw (← same) (record {
-      within = ((actor_in actor a, seq_in seq s), o);
+      within = ((a, s), o);
       whole = is1 ∙ rw (is2, is3) refl;
       its_kind = refl;
     })
-reads kind.Drop e text (actor, a, t1, is1, (seq, (s, is2), makes)) =
+reads ranges kind.Drop e text (actor, a, t1, is1, (seq, (s, is2), makes)) =
     let same : Drop actor seq ≡ e = cc makes in
-    rw (← same) (record { within = (actor_in actor a, seq_in seq s); whole = is1 ∙ rw is2 refl; its_kind = refl })
-reads kind.Retire e text (actor, a, t1, is1, (seq, s, t2, is2, (effect, (o, is3), makes))) =
+    rw (← same) (record { within = (a, s); whole = is1 ∙ rw is2 refl; its_kind = refl })
+reads ranges kind.Retire e text (actor, a, t1, is1, (seq, s, t2, is2, (effect, (o, is3), makes))) =
     let same : Retire actor seq effect ≡ e = cc makes in
     rw (← same) (record {
-      within = ((actor_in actor a, seq_in seq s), o);
+      within = ((a, s), o);
       whole = is1 ∙ rw (is2, is3) refl;
       its_kind = refl;
     })
 
-spells : (e : Event) → IsEventInRange e → EventParts trace_ranges (event_kind e) e (joined (fields_of e))
-spells (Fetch actor hart seq pc word predicted) within = (
+spells : (ranges : Ranges) (e : Event) → IsEventWithin ranges e
+    → EventParts ranges (event_kind e) e (joined (fields_of e))
+spells ranges (Fetch actor hart seq pc word predicted) within = (
   actor,
-  in_actor actor within.0.0,
+  within.0.0,
   _,
   refl,
   (
     hart,
-    in_hart hart within.1,
+    within.1,
     _,
     refl,
     (
       seq,
-      in_seq seq within.0.1,
+      within.0.1,
       _,
       refl,
       (
@@ -215,56 +185,58 @@ spells (Fetch actor hart seq pc word predicted) within = (
     ),
   ),
 )
-spells (Decode actor seq) within = (actor, in_actor actor within.0, _, refl, (seq, (in_seq seq within.1, refl), refl))
-spells (Rename actor seq phys) within = (
+spells ranges (Decode actor seq) within = (actor, within.0, _, refl, (seq, (within.1, refl), refl))
+spells ranges (Rename actor seq phys) within = (
   actor,
-  in_actor actor within.0.0,
+  within.0.0,
   _,
   refl,
   (
     seq,
-    in_seq seq within.0.1,
+    within.0.1,
     _,
     refl,
-    (phys, (in_phys phys within.1, refl), refl),
+    (phys, (within.1, refl), refl),
   ),
 )
-spells (Issue actor seq) within = (actor, in_actor actor within.0, _, refl, (seq, (in_seq seq within.1, refl), refl))
-spells (Complete actor seq outcome) within =
-    (actor, in_actor actor within.0.0, _, refl, (seq, in_seq seq within.0.1, _, refl, (outcome, (within.1, refl), refl)))
-spells (Drop actor seq) within = (actor, in_actor actor within.0, _, refl, (seq, (in_seq seq within.1, refl), refl))
-spells (Retire actor seq effect) within =
-    (actor, in_actor actor within.0.0, _, refl, (seq, in_seq seq within.0.1, _, refl, (effect, (within.1, refl), refl)))
+spells ranges (Issue actor seq) within = (actor, within.0, _, refl, (seq, (within.1, refl), refl))
+spells ranges (Complete actor seq outcome) within =
+    (actor, within.0.0, _, refl, (seq, within.0.1, _, refl, (outcome, (within.1, refl), refl)))
+spells ranges (Drop actor seq) within = (actor, within.0, _, refl, (seq, (within.1, refl), refl))
+spells ranges (Retire actor seq effect) within =
+    (actor, within.0.0, _, refl, (seq, within.0.1, _, refl, (effect, (within.1, refl), refl)))
 
 -- the letter of the kind and its fields are the line
-spelled : (line letter fields : List ℕ) (k : EventKind) (e : Event) → line ≡ letter ++ 32 ∷ fields
-    → letter ≡ letter_of k ∷ [] → Reads k e fields → line ≡ line_of e
-spelled line letter fields k e whole named is =
+spelled : (ranges : Ranges) (line letter fields : List ℕ) (k : EventKind) (e : Event) → line ≡ letter ++ 32 ∷ fields
+    → letter ≡ letter_of k ∷ [] → Reads ranges k e fields → line ≡ line_of e
+spelled ranges line letter fields k e whole named is =
     let text : line ≡ letter_of k ∷ 32 ∷ joined (fields_of e) = whole ∙ rw (named, is.whole) refl in
     let own : line ≡ letter_of (event_kind e) ∷ 32 ∷ joined (fields_of e) = rw is.its_kind text in
     own ∙ sym (line_of-joined e)
 
 -- a line that is read, and one that is spelled
-pub event_of_only : (e : Event) (line : List ℕ) → event_of line ≡ Ok e → IsEventInRange e × (line ≡ line_of e)
-unfolding event_within
-event_of_only e line read =
-    let was = found trace_ranges (kind_named (first_field line)) (others line) e read in
-    let k = was.its_kind in
-    let reading = event_reading trace_ranges k in
-    let is = reads k e (others line) (reading.only small e (others line) was.read) in
-    let letter = named_only (first_field line) k was.named_is in
-    let whole = (cut line (λ none. reading.some e (ap (event_fields trace_ranges k) (sym none) ∙ was.read))).0 in
-    (is.within, spelled line (first_field line) (others line) k e whole letter is)
+module _ (ranges : Ranges) (small : AreSmall ranges) where
+  pub event_within_only : (e : Event) (line : List ℕ) → event_within ranges line ≡ Ok e
+      → IsEventWithin ranges e × (line ≡ line_of e)
+  unfolding event_within
+  event_within_only e line read =
+      let was = found ranges (kind_named (first_field line)) (others line) e read in
+      let k = was.its_kind in
+      let reading = event_reading ranges k in
+      let is = reads ranges k e (others line) (reading.only small e (others line) was.read) in
+      let letter = named_only (first_field line) k was.named_is in
+      let whole = (cut line (λ none. reading.some e (ap (event_fields ranges k) (sym none) ∙ was.read))).0 in
+      (is.within, spelled ranges line (first_field line) (others line) k e whole letter is)
 
-pub event_of-line_of : (e : Event) → IsEventInRange e → event_of (line_of e) ≡ Ok e
-event_of-line_of e within =
-    let k = event_kind e in
-    let names = letter_names k in
-    let fields = joined (fields_of e) in
-    let first : first_field (line_of e) ≡ letter_of k ∷ [] =
-    ap first_field (line_of-joined e) ∙ field-cut 32 (letter_of k ∷ []) fields names.1 in
-    let behind : others (line_of e) ≡ fields =
-    ap others (line_of-joined e) ∙ rest-cut 32 (letter_of k ∷ []) fields names.1 in
-    let read = (event_reading trace_ranges k).back small e fields (spells e within) in
-    line_read trace_ranges k (line_of e) e (ap kind_named first ∙ names.0)
-    (ap (event_fields trace_ranges k) behind ∙ read)
+  pub event_within-line_of : (e : Event) → IsEventWithin ranges e → event_within ranges (line_of e) ≡ Ok e
+  event_within-line_of e within =
+      let k = event_kind e in
+      let names = letter_names k in
+      let fields = joined (fields_of e) in
+      let first : first_field (line_of e) ≡ letter_of k ∷ [] =
+      ap first_field (line_of-joined e) ∙ field-cut 32 (letter_of k ∷ []) fields names.1 in
+      let behind : others (line_of e) ≡ fields =
+      ap others (line_of-joined e) ∙ rest-cut 32 (letter_of k ∷ []) fields names.1 in
+      let read = (event_reading ranges k).back small e fields (spells ranges e within) in
+      line_read ranges k (line_of e) e (ap kind_named first ∙ names.0)
+      (ap (event_fields ranges k) behind ∙ read)

@@ -1,6 +1,6 @@
 -- The readings of the definitions, as fields in turn: of an outcome, an effect, and the event of each kind.
 
-use Rattle.std.proofs.Common.{◌≡◌, ℕ, ◌*◌, ◌^◌, ◌<◌, ◌≤◌, List, ◌∷◌, ◌++◌, Option, None, Some, Ok, refl, sym, ◌∙◌, ap}
+use Rattle.std.proofs.Common.{◌≡◌, ℕ, ◌*◌, ◌<◌, ◌≤◌, List, ◌∷◌, ◌++◌, Option, None, Some, Ok, refl, sym, ◌∙◌, ap}
 use Rattle.std.specs.{Fmt.decimal, Prelude.IfSome, Prelude.min}
 use Rattle.text_fields.specs.{Reading.decimal_field, Spelling.hex}
 use Rattle.text_fields.specs.{Spelling.optional}
@@ -14,7 +14,7 @@ use Rattle.event_text.specs.{declared.ranges.Ranges.Ranges, Line.address_text, L
 use Rattle.event_text.specs.Reading.{complete_of, decode_of, drop_of, effect_of, event_fields, fetch_of, issue_of}
 use Rattle.event_text.specs.Reading.{outcome_of, rename_of, retire_of, written_of}
 use Rattle.event_text.proofs.{LineFields.at_most_four, LineFields.effect_fields, LineFields.outcome_fields}
-use Rattle.event_text.proofs.{Joining.joined}
+use Rattle.event_text.proofs.{Joining.joined, Small.AreSmall}
 use Rattle.event_text.proofs.FieldLaws.{IsSized, next, number, optional_byte, optional_number, optional_sized}
 use Rattle.event_text.proofs.FieldLaws.{optional_word, sized_text, word}
 use Rattle.event_text.proofs.Sequences.{After, after, Alone, alone, Before, before, IsField, IsReading, Made, made}
@@ -211,13 +211,6 @@ effect_reading =
     said effect_to effect_from (before 4 _ optional_word (λ value. before 3 _ next (λ next.
     before 2 _ optional_word (λ addr. before 1 _ optional_sized (λ number.
     after (written_of addr number) _ (λ write. made _ (alone optional_byte)))))))
-
--- the ranges are of numbers of 32 bits
-pub record AreSmall (ranges : Ranges) : Type 0 where
-  pub actor : ranges.actor < 2 ^ 32
-  pub hart : ranges.hart < 2 ^ 32
-  pub seq : ranges.seq < 2 ^ 32
-  pub phys : ranges.phys < 2 ^ 32
 
 -- the fields behind the actor, and with it
 module _ (ranges : Ranges) where

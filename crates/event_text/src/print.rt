@@ -15,7 +15,7 @@ use text_fields::{push_ascii, push_hex, push_number, push_small_number};
 pub type Line = ArrayString<64>;
 
 #[inline]
-fn push_number_field<const N: usize>(line: &mut ArrayString<N>, value: u32)
+pub(crate) fn push_number_field<const N: usize>(line: &mut ArrayString<N>, value: u32)
     requires { array_string_len line.old + 11 ≤ N }
     ensures spelled { line.new.bytes ≡ line.old.bytes ++ after_space (decimal value) }
     ensures length { array_string_len line.new ≤ array_string_len line.old + 11 }
@@ -25,7 +25,7 @@ fn push_number_field<const N: usize>(line: &mut ArrayString<N>, value: u32)
 }
 
 #[inline]
-fn push_small_number_field<const N: usize>(line: &mut ArrayString<N>, value: u8)
+pub(crate) fn push_small_number_field<const N: usize>(line: &mut ArrayString<N>, value: u8)
     requires { array_string_len line.old + 4 ≤ N }
     ensures spelled { line.new.bytes ≡ line.old.bytes ++ after_space (decimal value) }
     ensures length { array_string_len line.new ≤ array_string_len line.old + 4 }

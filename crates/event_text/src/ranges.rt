@@ -1,5 +1,9 @@
 //! The ranges of the numbers in the lines of a trace.
 
+ghost use Rattle.std.specs.Prelude.{◌≡◌};
+ghost use Rattle.event_text.specs.Ranges.{ranges_of};
+
+use crate::head::TraceHead;
 use events::{Phys, Seq};
 use numbers::sizes::{MOST_ACTORS, MOST_EVENTS, MOST_EXTRA, MOST_HARTS, RENAMED_REGISTERS};
 
@@ -13,10 +17,30 @@ pub struct Ranges {
     pub phys: Phys,
 }
 
-/// Those of `smt-trace 1`: what a core of the greatest size has. `trace_ranges` in `specs/Ranges`.
-pub const RANGES: Ranges = Ranges {
+/// Those of version 1, for ever. `first_ranges` in `specs/Ranges`.
+pub const FIRST_RANGES: Ranges = Ranges {
+    actor: 15,
+    hart: 7,
+    seq: 16_777_215,
+    phys: 503,
+};
+
+/// Those of version 2: what a core of the greatest size has. `second_ranges` in `specs/Ranges`.
+pub const SECOND_RANGES: Ranges = Ranges {
     actor: (MOST_ACTORS - 1) as u8,
     hart: MOST_HARTS - 1,
     seq: MOST_EVENTS - 1,
     phys: RENAMED_REGISTERS * MOST_HARTS as u16 + MOST_EXTRA - 1,
 };
+
+impl TraceHead {
+    /// The ranges of its version.
+    pub fn ranges(&self) -> Ranges
+        ensures { result ≡ ranges_of self.now }
+    {
+        match self {
+            TraceHead::First => FIRST_RANGES,
+            TraceHead::Second(_) => SECOND_RANGES,
+        }
+    }
+}

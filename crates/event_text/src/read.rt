@@ -7,10 +7,10 @@ ghost use Rattle.event_text.specs.declared.read.Rule.TheVariants.{FieldCount};
 ghost use Rattle.event_text.specs.Reading.{rule_number, outcome_of, effect_of, fetch_of};
 ghost use Rattle.event_text.specs.Reading.{rename_of, complete_of, retire_of, decode_of, issue_of};
 ghost use Rattle.event_text.specs.Reading.{drop_of, behind_actor, event_fields, kind_named};
-ghost use Rattle.event_text.specs.Reading.{event_of, event_within, of_fields};
+ghost use Rattle.event_text.specs.Reading.{event_within, of_fields};
 
 use crate::fields::{first_next, first_optional_sized, read_optional_byte, read_phys, written};
-use crate::ranges::{RANGES, Ranges};
+use crate::ranges::Ranges;
 use events::{Effect, Event, EventKind, Outcome};
 use std::fmt;
 use text_fields::{
@@ -22,19 +22,20 @@ use thiserror::Error;
 /// The first rule that a line of a trace breaks.
 #[derive(Clone, Copy, Debug, PartialEq, Eq, Drop, Error)]
 pub enum Rule {
-    UnknownLetter,
+    /// The first field is none that the line may begin with.
+    FirstField,
     FieldCount,
     Field(FieldError),
 }
 
 impl Rule {
-    /// Its number: 3 an unknown letter, 4 a wrong number of fields, 5 a field spelled otherwise, 6
-    /// a number out of range.
+    /// Its number: 3 a first field that the line may not begin with, 4 a wrong number of fields, 5 a
+    /// field spelled otherwise, 6 a number out of range.
     pub fn number(self) -> u8
         ensures { result ≡ rule_number self }
     {
         match self {
-            Rule::UnknownLetter => 3,
+            Rule::FirstField => 3,
             Rule::FieldCount => 4,
             Rule::Field(FieldError::Misspelled) => 5,
             Rule::Field(FieldError::OutOfRange) => 6,
@@ -45,7 +46,7 @@ impl Rule {
 impl fmt::Display for Rule {
     fn fmt<W: fmt::Write>(&self, f: &mut fmt::Formatter<W>) -> fmt::Result {
         f.write_str(match self {
-            Rule::UnknownLetter => "unknown letter",
+            Rule::FirstField => "unknown first field",
             Rule::FieldCount => "wrong number of fields",
             Rule::Field(FieldError::Misspelled) => "a field is spelled otherwise",
             Rule::Field(FieldError::OutOfRange) => "a field is out of range",
@@ -199,22 +200,15 @@ fn kind_named(text: &[u8]) -> Option<EventKind>
     EventKind::from_letter(text[0])
 }
 
-/// The event of a line without its newline, or the first rule that the line breaks, its fields from
-/// left to right.
-pub fn read_event_line(line: &[u8]) -> Result<Event, Rule>
-    ensures { result ≡ event_of line.now }
-{
-    read_event_within(line, RANGES)
-}
-
-/// `read_event_line` of a version of the trace format that has these ranges.
+/// The event of a line without its newline, in a version of the trace format that has these ranges,
+/// or the first rule that the line breaks, its fields from left to right.
 #[tactic(auto, unfolding(crate::specs::Reading::event_within))]
 pub fn read_event_within(line: &[u8], ranges: Ranges) -> Result<Event, Rule>
     ensures { result ≡ event_within ranges line.now }
 {
     let (letter, fields) = split_field(line, b' ');
     let Some(kind) = kind_named(letter) else {
-        return Err(Rule::UnknownLetter);
+        return Err(Rule::FirstField);
     };
     match read_fields(kind, fields, ranges) {
         Ok(event) => Ok(event),

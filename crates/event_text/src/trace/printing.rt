@@ -1,15 +1,17 @@
 //! Printing: the text of events goes out in pieces of many lines. No function here takes memory.
 
-ghost use Rattle.std.specs.Prelude.{◌≡◌, ◌+◌, ◌≤◌, ◌++◌, false, length, OnOk, OnErr};
+ghost use Rattle.std.specs.Prelude.{◌≡◌, ◌+◌, ◌*◌, ◌≤◌, ◌++◌, false, flat_map, length, OnOk, OnErr};
 ghost use Rattle.arrayvec.specs.ArrayString.{array_string_len};
-ghost use Rattle.event_text.specs.Line.{line_of};
+ghost use Rattle.events.specs.Roles.{role_name};
+ghost use Rattle.event_text.specs.declared.head.TraceHead.TheVariants.{Second};
+ghost use Rattle.event_text.specs.{Heads.head_lines, Line.after_space, Trace.trace_text};
 ghost use Rattle.event_text.specs.Sinking.{HasPut, HasPutBut, HasBroken};
-ghost use Rattle.event_text.specs.Trace.{ended, trace_text};
 
-use crate::print::push_event;
+use crate::head::TraceHeader;
+use crate::print::{push_event, push_number_field, push_small_number_field};
 use crate::sink::{Broken, Sink, put_all};
 use arrayvec::ArrayString;
-use events::History;
+use events::{History, Role};
 use text_fields::push_ascii;
 
 /// Whole lines that are held back, to go out together: a put may be a call of the system.
@@ -18,17 +20,21 @@ type Piece = ArrayString<4096>;
 /// The room that any line takes, with the newline that ends it.
 const LONGEST: usize = 65;
 
-/// Puts the text of a history's events into a sink that hasn't failed, in pieces. It ends at the
-/// first put that fails, and puts nothing after it.
-pub fn print_trace<S: Sink>(history: &History, sink: &mut S) -> Result<(), Broken>
+/// Puts the trace of a history, of version 2 and of such a core, into a sink that hasn't failed, in
+/// pieces. It ends at the first put that fails, and puts nothing after it.
+pub fn print_trace<S: Sink>(
+    header: &TraceHeader,
+    history: &History,
+    sink: &mut S,
+) -> Result<(), Broken>
     requires { S.has_failed sink.old ≡ false }
-    ensures printed { OnOk result
-        (HasPut S.written S.has_failed sink.old sink.new (trace_text history.now.items)) }
+    ensures printed { OnOk result (HasPut S.written S.has_failed sink.old sink.new
+        (trace_text (Second header.now) history.now.items)) }
     ensures broken { OnErr result (HasBroken S.written S.has_failed S.puts sink.old sink.new
-        (trace_text history.now.items)) }
+        (trace_text (Second header.now) history.now.items)) }
 {
     let mut piece = Piece::new();
-    push_line(&mut piece, "smt-trace 1");
+    push_head(&mut piece, header);
     for event in history.iter() {
         make_room(&mut piece, sink)?;
         push_event(&mut piece, &event);
@@ -54,11 +60,34 @@ fn make_room<S: Sink>(piece: &mut Piece, sink: &mut S) -> Result<(), Broken>
     Ok(())
 }
 
-// Appends a line and the newline that ends it.
-fn push_line(piece: &mut Piece, line: &str)
-    requires { array_string_len piece.old + length line.now + 1 ≤ 4096 }
-    ensures spelled { piece.new.bytes ≡ piece.old.bytes ++ ended line.now }
+/// The most bytes of the lines that say how a trace of version 2 begins.
+const LONGEST_HEAD: usize = 262;
+
+/// Room for these lines.
+pub(crate) type HeadText = ArrayString<LONGEST_HEAD>;
+
+// Appends the lines that say how a trace of version 2 begins.
+pub(crate) fn push_head<const N: usize>(text: &mut ArrayString<N>, header: &TraceHeader)
+    requires { array_string_len text.old + 262 ≤ N }
+    ensures { text.new.bytes ≡ text.old.bytes ++ head_lines (Second header.now) }
 {
-    piece.push_str(line);
-    push_ascii(piece, b'\n');
+    text.push_str("smt-trace 2\nconfig");
+    push_small_number_field(text, header.harts());
+    push_number_field(text, u32::from(header.extra()));
+    push_small_number_field(text, header.queue());
+    push_roles(text, header.roles());
+    push_ascii(text, b'\n');
+}
+
+// Appends the names of roles, each behind a space.
+fn push_roles<const N: usize>(text: &mut ArrayString<N>, roles: &[Role])
+    requires { array_string_len text.old + 7 * length roles.now ≤ N }
+    ensures spelled { text.new.bytes ≡ text.old.bytes
+        ++ flat_map (λ role. after_space (role_name role)) roles.now }
+    ensures length { array_string_len text.new ≤ array_string_len text.old + 7 * length roles.now }
+{
+    for role in roles {
+        push_ascii(text, b' ');
+        text.push_str(role.name());
+    }
 }

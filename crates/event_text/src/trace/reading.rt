@@ -1,16 +1,23 @@
 //! Reading: the events of a text, or the first line that is refused.
 
-ghost use Rattle.std.specs.Prelude.{◌≡◌, ◌==◌, ◌++◌, List, All, IfOk, IfErr, IfSome, IfNone, true, false};
+ghost use Rattle.std.specs.Prelude.{◌≡◌, ◌==◌, ◌++◌, List, IfOk, IfErr, IfSome, IfNone, true, false};
 ghost use Rattle.text_fields.specs.Splitting.{field, field_count};
 ghost use Rattle.events.specs.declared.event.Event.{Event as AnyEvent};
+ghost use Rattle.event_text.specs.declared.head.TraceHead.{TraceHead as AnyHead};
 ghost use Rattle.event_text.specs.declared.trace.reading.TraceRefused.TheVariants.{Memory};
+ghost use Rattle.event_text.specs.Core.{AreCoreSizes};
+ghost use Rattle.event_text.specs.Heads.{config_line, ended, head_lines};
 ghost use Rattle.event_text.specs.Line.{line_of};
-ghost use Rattle.events.specs.Range.{IsEventInRange};
+ghost use Rattle.event_text.specs.Ranges.{IsEventWithin};
 ghost use Rattle.event_text.specs.Refusals.{IsRefusedFor, Gives};
-ghost use Rattle.event_text.specs.Trace.{ended, header, trace_text, Breaks, BreaksHeader, BreaksEvent};
+ghost use Rattle.event_text.specs.Trace.{event_lines, trace_text, AreWithin, IsHead};
+ghost use Rattle.event_text.specs.Trace.{Breaks, BreaksConfig, BreaksEvent};
 
-use crate::read::read_event_line;
+use crate::head::{TraceHead, TraceHeader};
+use crate::ranges::Ranges;
+use crate::read::read_event_within;
 use crate::trace::Trace;
+use crate::trace::config::read_config_line;
 use events::Event;
 use memchr::memchr;
 use std::alloc::{AllocFailed, Global};
@@ -24,7 +31,7 @@ const USUAL_LINE: usize = 20;
 #[derive(Clone, Copy, Debug, PartialEq, Eq, Drop, Error)]
 pub enum TraceRefused {
     /// The line, from 1, is the first that breaks a rule, and the rule the first that it breaks: 1
-    /// it isn't the first line of a trace, 2 no newline ends it, and 3 to 6 as of an event's line.
+    /// it names no version, 2 no newline ends it, and 3 to 6 as `Rule` numbers them.
     #[error("trace line {line} refused {rule}")]
     Line { line: usize, rule: u8 },
     #[error("memory")]
@@ -39,41 +46,90 @@ impl From<AllocFailed<Event>> for TraceRefused {
     }
 }
 
-/// Reads a trace: the line `smt-trace 1` and a line for each event, each ended by a newline. Any
-/// bytes may come.
+/// Reads a trace, of version 1 or 2: the lines that say how it begins and a line for each event, each
+/// ended by a newline. Any bytes may come.
 pub fn read_trace(text: &[u8], alloc: Global) -> Result<Trace, TraceRefused>
-    ensures read { IfOk result (λ events. text.now ≡ trace_text events) }
-    ensures in_range { IfOk result (All IsEventInRange) }
+    ensures read { IfOk result (λ trace. text.now ≡ trace_text trace.head trace.events) }
+    ensures is_head { IfOk result (λ trace. IsHead trace.head) }
+    ensures in_range { IfOk result (λ trace. AreWithin trace.head trace.events) }
     ensures refused { IfErr result (IsRefusedFor text.now) }
-    ensures back { (events : List AnyEvent)
-        → All IsEventInRange events → text.now ≡ trace_text events → Gives events result }
+    ensures back { (head : AnyHead) (events : List AnyEvent) → IsHead head → AreWithin head events
+        → text.now ≡ trace_text head events → Gives head events result }
 {
-    match read_events(text, alloc) {
-        Ok(events) => Ok(Trace { events }),
-        Err(refused) => Err(refused),
+    read_parts(text, alloc)
+}
+
+fn read_parts(text: &[u8], alloc: Global) -> Result<Trace, TraceRefused>
+    ensures read { IfOk result (λ trace. text.now ≡ trace_text trace.head trace.events) }
+    ensures is_head { IfOk result (λ trace. IsHead trace.head) }
+    ensures in_range { IfOk result (λ trace. AreWithin trace.head trace.events) }
+    ensures refused { IfErr result (IsRefusedFor text.now) }
+{
+    let (head, lines) = match read_head(text) {
+        Ok(parts) => parts,
+        Err(refused) => return Err(refused),
+    };
+    let events = read_events(&head, lines, alloc)?;
+    Ok(Trace { head, events })
+}
+
+// How a text begins, and the lines behind that.
+fn read_head(text: &[u8]) -> Result<(TraceHead, &[u8]), TraceRefused>
+    ensures read { IfOk result (λ p. text.now ≡ head_lines p.0 ++ p.1.now) }
+    ensures is_head { IfOk result (λ p. IsHead p.0) }
+    ensures refused { IfErr result (IsRefusedFor text.now) }
+{
+    let Some((line, behind)) = split_line(text) else {
+        return Err(TraceRefused::Line { line: 1, rule: 2 });
+    };
+    if line == b"smt-trace 1".as_slice() {
+        return Ok((TraceHead::First, behind));
+    }
+    if line != b"smt-trace 2".as_slice() {
+        return Err(TraceRefused::Line { line: 1, rule: 1 });
+    }
+    match read_core(behind) {
+        Ok((header, behind)) => Ok((TraceHead::Second(header), behind)),
+        Err(rule) => Err(TraceRefused::Line { line: 2, rule }),
     }
 }
 
-fn read_events(text: &[u8], alloc: Global) -> Result<Vec<Event>, TraceRefused>
-    ensures read { IfOk result (λ events. text.now ≡ trace_text events.items) }
-    ensures in_range { IfOk result (λ events. All IsEventInRange events.items) }
-    ensures refused { IfErr result (IsRefusedFor text.now) }
+// The core of the first line and the text behind it, or the rule that this line breaks.
+#[tactic(auto, unfolding(crate::specs::Trace::Breaks))]
+fn read_core(text: &[u8]) -> Result<(TraceHeader, &[u8]), u8>
+    ensures read { IfOk result (λ p. text.now ≡ ended (config_line p.0) ++ p.1.now) }
+    ensures sizes { IfOk result (λ p. AreCoreSizes p.0) }
+    ensures broken { IfErr result (Breaks BreaksConfig text.now) }
 {
-    let mut rest = match read_header(text) {
-        Ok(rest) => rest,
-        Err(rule) => return Err(TraceRefused::Line { line: 1, rule }),
+    let Some((line, behind)) = split_line(text) else {
+        return Err(2);
     };
+    match read_config_line(line) {
+        Ok(header) => Ok((header, behind)),
+        Err(rule) => Err(rule.number()),
+    }
+}
+
+// The events of all lines behind those that say how a trace begins.
+fn read_events(head: &TraceHead, lines: &[u8], alloc: Global) -> Result<Vec<Event>, TraceRefused>
+    requires { IsHead head.now }
+    ensures read { IfOk result (λ events. lines.now ≡ event_lines events.items) }
+    ensures in_range { IfOk result (λ events. AreWithin head.now events.items) }
+    ensures refused { IfErr result (IsRefusedFor (head_lines head.now ++ lines.now)) }
+{
+    let ranges = head.ranges();
+    let mut rest = lines;
     let Ok(mut events) = Vec::with_capacity(alloc, rest.len() / USUAL_LINE) else {
         return Err(TraceRefused::Memory);
     };
     while !rest.is_empty() {
-        match read_first_event(rest) {
+        match read_first_event(rest, ranges) {
             Ok((event, others)) => {
                 events.push(event)?;
                 rest = others;
             }
             Err(rule) => {
-                let line = events.len() + 2;
+                let line = events.len() + head.line_count() + 1;
                 return Err(TraceRefused::Line { line, rule });
             }
         }
@@ -81,32 +137,17 @@ fn read_events(text: &[u8], alloc: Global) -> Result<Vec<Event>, TraceRefused>
     Ok(events)
 }
 
-// The text behind the first line of a trace, or the rule that this line breaks.
-#[tactic(auto, unfolding(crate::specs::Trace::Breaks))]
-fn read_header(text: &[u8]) -> Result<&[u8], u8>
-    ensures read { IfOk result (λ rest. text.now ≡ ended header ++ rest.now) }
-    ensures broken { IfErr result (Breaks BreaksHeader text.now) }
-{
-    let Some((line, rest)) = split_line(text) else {
-        return Err(2);
-    };
-    if line != b"smt-trace 1".as_slice() {
-        return Err(1);
-    }
-    Ok(rest)
-}
-
 // The event of the first line and the text behind it, or the rule that this line breaks.
 #[tactic(auto, unfolding(crate::specs::Trace::Breaks))]
-fn read_first_event(text: &[u8]) -> Result<(Event, &[u8]), u8>
+fn read_first_event(text: &[u8], ranges: Ranges) -> Result<(Event, &[u8]), u8>
     ensures read { IfOk result (λ p. text.now ≡ ended (line_of p.0) ++ p.1.now) }
-    ensures in_range { IfOk result (λ p. IsEventInRange p.0) }
-    ensures broken { IfErr result (Breaks BreaksEvent text.now) }
+    ensures in_range { IfOk result (λ p. IsEventWithin ranges p.0) }
+    ensures broken { IfErr result (Breaks (BreaksEvent ranges) text.now) }
 {
     let Some((line, rest)) = split_line(text) else {
         return Err(2);
     };
-    match read_event_line(line) {
+    match read_event_within(line, ranges) {
         Ok(event) => Ok((event, rest)),
         Err(broken) => Err(broken.number()),
     }

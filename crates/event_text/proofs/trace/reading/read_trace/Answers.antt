@@ -1,11 +1,7 @@
-use Rattle.std.proofs.Common.{sym, ◌∙◌}
-use Rattle.event_text.proofs.TraceLaws.{refused_for_memory, same_events}
+use Rattle.event_text.proofs.RefusalLaws.{gives}
 use Rattle.event_text.proofs.trace.reading.read_trace.Goals as goal
 
-pub returns-in-Ok-clause-back : goal.returns-in-Ok-clause-back
-returns-in-Ok-clause-back c = λ events within spelled.
-    same_events _ events c.in-Ok.ensures.in_range within (sym c.in-Ok.ensures.read ∙ spelled)
-
-pub returns-in-Err-clause-back : goal.returns-in-Err-clause-back
-returns-in-Err-clause-back c = λ events within spelled.
-    refused_for_memory _ events _ c.in-Err.ensures.refused within spelled
+pub returns-clause-back : goal.returns-clause-back
+returns-clause-back c =
+    gives c.args.text.now c.read_parts.result c.read_parts.ensures.read c.read_parts.ensures.is_head
+    c.read_parts.ensures.in_range c.read_parts.ensures.refused
