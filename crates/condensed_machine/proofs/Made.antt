@@ -10,13 +10,14 @@ use Rattle.outcome_laws.specs.{Paths.can_step, Paths.stepped}
 use Rattle.sc_machine.specs.declared.hart.Hart.{Hart}
 use Rattle.changed_memory.specs.Shared.{Shared}
 use Rattle.condensed_machine.specs.Machine.{Program, IsSound, Machine, Grows, InEachSetup}
-use Rattle.condensed_machine.specs.Decoded.{Decoded, decoded, full, hart_at, hart_in, no_shared, Knows}
+use Rattle.condensed_machine.specs.Decoded.{Decoded, decoded, full, hart_at, hart_in, no_shared, numbers_of}
+use Rattle.condensed_machine.specs.Decoded.{Knows}
 use Rattle.condensed_machine.specs.Executing.{IsExecuted, IsBehind, ComesToRest, InEachState, SharedAfter}
 use Rattle.condensed_machine.specs.{Tables.HasNumber, Tables.IsSharedAfter, Steps.SettlesBy, Steps.MakesStep}
 use Rattle.condensed_machine.specs.{declared.executed.Executed.Executed, declared.state.State.State}
 use Rattle.condensed_machine.proofs.Instructions.{can_go}
 use Rattle.condensed_machine.proofs.Moving.{IsNext, settles_by, hart_is}
-use Rattle.condensed_machine.specs.Learning.{still_decoded, kept_within}
+use Rattle.condensed_machine.specs.Learning.{still_decoded, still_numbered, kept_within}
 use Rattle.condensed_machine.proofs.Numbers.{own_number, other_number}
 
 -- Hart h, which is x, has moved on from s to t, where the harts share this, and the machine has become n by what it
@@ -32,7 +33,8 @@ pub record HasDone (m n : Machine) (s t : State) (h steps : ℕ) (x : Hart) (com
   pub is_behind : InEachState m.program h x common (λ setup u. IsBehind setup u h behind)
   pub rests : ComesToRest m.program behind steps moved
   pub has : HasNumber n.hart_states moved number
-  pub numbered : t.harts ≡ slice_set s.harts h number
+  pub numbered : numbers_of n t ≡ slice_set (numbers_of m s) h number
+  pub far : t.far < length n.far_harts
   pub shared : IsSharedAfter m.program.image h done common n.shared_states t.shared
 
 abbrev pub HasMoved : Machine → Machine → State → State → ℕ → ℕ → Type 0
@@ -46,18 +48,19 @@ moved_from m n s t h steps x common of_hart of_shared done =
 
 module _ (m n : Machine) (s t : State) (h steps : ℕ) (sound : IsSound m.program) (grows : Grows m n)
     (knows : Knows m s) (inside : h < m.program.harts) (moved : HasMoved m n s t h steps) where
-  in_room : h < length s.harts
+  in_room : h < length (numbers_of m s)
   in_room = omega (arith, sound.few, knows.room)
 
   own : hart_at (decoded n t).harts h ≡ moved.moved
   own =
       ap (λ numbers. hart_at (map (hart_at n.hart_states) numbers) h) moved.numbered
-      ∙ own_number n.hart_states s.harts h moved.number moved.moved in_room moved.has
+      ∙ own_number n.hart_states (numbers_of m s) h moved.number moved.moved in_room moved.has
 
   others : (g : ℕ) → g ≢ h → hart_at (decoded n t).harts g ≡ hart_at (decoded m s).harts g
   others g other =
       ap (λ numbers. hart_at (map (hart_at n.hart_states) numbers) g) moved.numbered
-      ∙ other_number n.hart_states s.harts h g moved.number other
+      ∙ other_number n.hart_states (numbers_of m s) h g moved.number other
+      ∙ ap (λ numbers. hart_at (map (hart_at n.hart_states) numbers) g) (sym (still_numbered m n s grows knows))
       ∙ ap (λ (d : Decoded). hart_at d.harts g) (still_decoded m n s grows knows)
 
   next : IsNext m.program (decoded m s) (decoded n t) h moved.done steps moved.moved
@@ -98,20 +101,21 @@ module _ (m n : Machine) (s t : State) (h steps : ℕ) (sound : IsSound m.progra
 
   pub known : Knows n t
   known = record {
-    room = ap length moved.numbered ∙ length-set s.harts h moved.number ∙ knows.room;
+    room = ap length moved.numbered ∙ length-set (numbers_of m s) h moved.number ∙ knows.room;
     harts = λ g here.
         subst (λ numbers. slice_index numbers g < length n.hart_states) (sym moved.numbered)
         (elim (cases_eq g h) [
           | inl same ↦
-              subst (λ k. slice_index (slice_set s.harts h moved.number) k < length n.hart_states) (sym same)
-              (subst (λ k. k < length n.hart_states) (sym (get_or-set_same s.harts h moved.number 0 in_room))
+              subst (λ k. slice_index (slice_set (numbers_of m s) h moved.number) k < length n.hart_states) (sym same)
+              (subst (λ k. k < length n.hart_states) (sym (get_or-set_same (numbers_of m s) h moved.number 0 in_room))
               (slice_get_within n.hart_states moved.number moved.moved moved.has))
           | inr other ↦
-              let at : g < length s.harts =
-              omega (arith, ap length moved.numbered, length-set s.harts h moved.number, here) in
-              subst (λ k. k < length n.hart_states) (sym (get_or-set_other s.harts h g moved.number 0 other))
-              (kept_within m.hart_states n.hart_states (slice_index s.harts g) (hart_in m s h) grows.hart_states
-              (knows.harts g at))
+              let at : g < length (numbers_of m s) =
+              omega (arith, ap length moved.numbered, length-set (numbers_of m s) h moved.number, here) in
+              subst (λ k. k < length n.hart_states) (sym (get_or-set_other (numbers_of m s) h g moved.number 0 other))
+              (kept_within m.hart_states n.hart_states (slice_index (numbers_of m s) g) (hart_in m s h)
+              grows.hart_states (knows.harts g at))
         ]);
+    far = moved.far;
     shared = slice_get_within n.shared_states t.shared moved.shared.after moved.shared.has;
   }

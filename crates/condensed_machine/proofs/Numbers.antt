@@ -5,7 +5,7 @@ use Rattle.std.proofs.lemmas.List.{get_or-map, get_or-set_other, get_or-set_same
 use Rattle.std.proofs.lemmas.Option.{slice_get-get_or, get_or_from_slice_get}
 use Rattle.sc_machine.specs.declared.hart.Hart.{Hart}
 use Rattle.condensed_machine.specs.Machine.{Machine, HaveZero}
-use Rattle.condensed_machine.specs.Decoded.{hart_at, hart_in, no_hart, Knows}
+use Rattle.condensed_machine.specs.Decoded.{hart_at, hart_in, no_hart, numbers_of, Knows}
 use Rattle.condensed_machine.specs.declared.state.State.{State}
 
 -- ---- A state in which one hart has another number
@@ -29,10 +29,10 @@ pub hart_of_number : (table : List Hart) (numbers : List ℕ) (h : ℕ) → h < 
 hart_of_number table numbers h inside = get_or-map (hart_at table) numbers h 0 no_hart inside
 
 -- x0 is 0 in each hart of a state.
-pub zero_in : (m : Machine) (s : State) (h : ℕ) → HaveZero m.hart_states → Knows m s → h < length s.harts
+pub zero_in : (m : Machine) (s : State) (h : ℕ) → HaveZero m.hart_states → Knows m s → h < length (numbers_of m s)
     → slice_index (hart_in m s h).registers 0 ≡ 0
 zero_in m s h zeros knows inside =
-    let number = slice_index s.harts h in
+    let number = slice_index (numbers_of m s) h in
     let has = slice_get-get_or m.hart_states number no_hart (knows.harts h inside) in
-    subst (λ (x : Hart). slice_index x.registers 0 ≡ 0) (sym (hart_of_number m.hart_states s.harts h inside))
+    subst (λ (x : Hart). slice_index x.registers 0 ≡ 0) (sym (hart_of_number m.hart_states (numbers_of m s) h inside))
     (zeros number (hart_at m.hart_states number) has)

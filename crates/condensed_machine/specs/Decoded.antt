@@ -6,6 +6,7 @@ use Rattle.smt_model.specs.{declared.config.Status.TheVariants.Going}
 use Rattle.sc_machine.specs.declared.hart.Hart.{Hart}
 use Rattle.changed_memory.specs.Shared.{Shared, byte_at, reserved_at}
 use Rattle.condensed_machine.specs.Machine.{Machine, Program}
+use Rattle.condensed_machine.specs.Numbering.{numbers_in}
 use Rattle.condensed_machine.specs.declared.state.State.{State}
 
 -- The parts of a state: each hart, and what they share.
@@ -27,9 +28,13 @@ hart_at harts n = slice_index_or harts n no_hart
 abbrev pub shared_at : List Shared → ℕ → Shared
 shared_at shared n = slice_index_or shared n no_shared
 
+-- The numbers of a state's harts.
+abbrev pub numbers_of : Machine → State → List ℕ
+numbers_of m s = numbers_in m.far_harts s
+
 abbrev pub decoded : Machine → State → Decoded
 decoded m s = record {
-  harts = map (hart_at m.hart_states) s.harts;
+  harts = map (hart_at m.hart_states) (numbers_of m s);
   shared = shared_at m.shared_states s.shared;
 }
 
@@ -64,6 +69,7 @@ state_of m s = full m.program (decoded m s)
 
 -- Each number of a state is that of something that was found.
 pub record Knows (m : Machine) (s : State) : Type 0 where
-  pub room : length s.harts ≡ most_harts
-  pub harts : (h : ℕ) → h < length s.harts → slice_index s.harts h < length m.hart_states
+  pub room : length (numbers_of m s) ≡ most_harts
+  pub harts : (h : ℕ) → h < length (numbers_of m s) → slice_index (numbers_of m s) h < length m.hart_states
+  pub far : s.far < length m.far_harts
   pub shared : s.shared < length m.shared_states

@@ -1,5 +1,5 @@
 -- A machine that learns: what it has said stays true. These are laws of an impl, so they stand here.
-use Rattle.std.specs.Prelude.{◌≡◌, ℕ, suc, ◌<◌, Bool, true, ◌&&◌, nat_eq, List, [], ◌∷◌, map, length, replicate}
+use Rattle.std.specs.Prelude.{◌≡◌, ℕ, suc, ◌<◌, Bool, true, ◌&&◌, nat_eq, List, [], ◌∷◌, ◌++◌, map, length, replicate}
 use Rattle.std.specs.Prelude.{slice_index, slice_index_or, Option, Some, None, IfSome}
 use Rattle.std.proofs.Common.{refl, sym, ap, ap₂, subst, ◌∙◌, suc-le-suc, zero-le}
 use Rattle.std.proofs.lemmas.Option.{slice_get-get_or, get_or_from_slice_get, slice_get_within}
@@ -11,7 +11,8 @@ use Rattle.sc_machine.specs.declared.hart.Hart.{Hart}
 use Rattle.changed_memory.specs.Shared.{Shared}
 use Rattle.searches.specs.declared.step.Step.{Step}
 use Rattle.condensed_machine.specs.Machine.{Program, Machine, Grows, Keeps}
-use Rattle.condensed_machine.specs.Decoded.{Decoded, decoded, full, hart_at, no_hart, no_shared, state_of, Knows}
+use Rattle.condensed_machine.specs.Decoded.{Decoded, decoded, full, hart_at, no_hart, no_shared, numbers_of}
+use Rattle.condensed_machine.specs.Decoded.{state_of, Knows}
 use Rattle.condensed_machine.specs.Steps.{SettlesBy, MakesStep, Steps}
 use Rattle.condensed_machine.specs.declared.state.State.{State}
 
@@ -37,19 +38,28 @@ maps_same f g (x ∷ xs) same =
 abbrev made_of : List Hart → Shared → Decoded
 made_of harts shared = record { harts = harts; shared = shared }
 
+pub still_numbered : (m n : Machine) (s : State) → Grows m n → Knows m s → numbers_of n s ≡ numbers_of m s
+still_numbered m n s grows knows =
+    ap (λ others. s.near ++ others) (kept_at m.far_harts n.far_harts s.far [] grows.far_harts knows.far)
+
 pub still_decoded : (m n : Machine) (s : State) → Grows m n → Knows m s → decoded n s ≡ decoded m s
 still_decoded m n s grows knows =
     ap₂ made_of
-    (maps_same (hart_at n.hart_states) (hart_at m.hart_states) s.harts
-    (λ i inside. kept_at m.hart_states n.hart_states (slice_index s.harts i) no_hart grows.hart_states
+    (ap (map (hart_at n.hart_states)) (still_numbered m n s grows knows)
+    ∙ maps_same (hart_at n.hart_states) (hart_at m.hart_states) (numbers_of m s)
+    (λ i inside. kept_at m.hart_states n.hart_states (slice_index (numbers_of m s) i) no_hart grows.hart_states
     (knows.harts i inside)))
     (kept_at m.shared_states n.shared_states s.shared no_shared grows.shared_states knows.shared)
 
 pub still_knows : (m n : Machine) (s : State) → Grows m n → Knows m s → Knows n s
 still_knows m n s grows knows = record {
-  room = knows.room;
-  harts = λ h inside.
-      kept_within m.hart_states n.hart_states (slice_index s.harts h) no_hart grows.hart_states (knows.harts h inside);
+  room = ap length (still_numbered m n s grows knows) ∙ knows.room;
+  harts =
+      subst (λ numbers. (h : ℕ) → h < length numbers → slice_index numbers h < length n.hart_states)
+      (sym (still_numbered m n s grows knows))
+      (λ h inside. kept_within m.hart_states n.hart_states (slice_index (numbers_of m s) h) no_hart
+      grows.hart_states (knows.harts h inside));
+  far = kept_within m.far_harts n.far_harts s.far [] grows.far_harts knows.far;
   shared = kept_within m.shared_states n.shared_states s.shared no_shared grows.shared_states knows.shared;
 }
 
@@ -57,6 +67,7 @@ pub learns_nothing : (m : Machine) → Grows m m
 learns_nothing m = record {
   program = refl;
   hart_states = λ n x is. is;
+  far_harts = λ n x is. is;
   shared_states = λ n x is. is;
 }
 
@@ -64,6 +75,7 @@ pub learns_more : (l m n : Machine) → Grows l m → Grows m n → Grows l n
 learns_more l m n first second = record {
   program = second.program ∙ first.program;
   hart_states = λ k x is. second.hart_states k x (first.hart_states k x is);
+  far_harts = λ k x is. second.far_harts k x (first.far_harts k x is);
   shared_states = λ k x is. second.shared_states k x (first.shared_states k x is);
 }
 
@@ -106,12 +118,14 @@ still_true m n s h (Some step) grows knows next steps = λ setup image harts.
 
 -- States that are equal by `==` are one.
 abbrev pub is_same : State → State → Bool
-is_same s t = pointwise nat_eq s.harts t.harts && nat_eq s.shared t.shared
+is_same s t = pointwise nat_eq s.near t.near && (nat_eq s.far t.far && nat_eq s.shared t.shared)
 
 pub equal_is_one : (s t : State) → is_same s t ≡ true → s ≡ t
 equal_is_one s t e =
-    let a = pointwise nat_eq s.harts t.harts in
-    let b = nat_eq s.shared t.shared in
-    let harts = (pointwise_decides unsigned_Decides s.harts t.harts).0 (first_so a b e) in
-    let shared = (unsigned_Decides s.shared t.shared).0 (second_so a b e) in
-    λ i. record { harts = harts i; shared = shared i }
+    let a = pointwise nat_eq s.near t.near in
+    let b = nat_eq s.far t.far in
+    let c = nat_eq s.shared t.shared in
+    let near = (pointwise_decides unsigned_Decides s.near t.near).0 (first_so a (b && c) e) in
+    let far = (unsigned_Decides s.far t.far).0 (first_so b c (second_so a (b && c) e)) in
+    let shared = (unsigned_Decides s.shared t.shared).0 (second_so b c (second_so a (b && c) e)) in
+    λ i. record { near = near i; far = far i; shared = shared i }

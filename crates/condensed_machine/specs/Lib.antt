@@ -1,6 +1,7 @@
 pub mod Settling
 pub mod Resting
 pub mod Machine
+pub mod Numbering
 pub mod ProgramInside
 pub mod MachineInside
 pub mod Decoded

@@ -25,10 +25,12 @@ pub record IsSound (p : Program) : Type 0 where
   pub registers : length p.watched ≡ 32
   pub live : IsLiveTable p.image (live_of p.live)
 
--- The program, and the harts and shared parts found so far. The number of one is its place.
+-- The program, and the harts and shared parts found so far, and the numbers of the harts behind the first ones of a
+-- state. The number of one is its place.
 pub record Machine : Type 0 where
   pub program : Program
   pub hart_states : List Hart
+  pub far_harts : List (List ℕ)
   pub shared_states : List Shared
 
 -- x0 stands as 0 in each hart.
@@ -43,6 +45,7 @@ Keeps {A} old new = (n : ℕ) (x : A) → slice_get old n ≡ Some x → slice_g
 pub record Grows (m n : Machine) : Type 0 where
   pub program : n.program ≡ m.program
   pub hart_states : Keeps m.hart_states n.hart_states
+  pub far_harts : Keeps m.far_harts n.far_harts
   pub shared_states : Keeps m.shared_states n.shared_states
 
 -- It is so of each setup with the program's image and harts.

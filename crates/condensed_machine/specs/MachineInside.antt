@@ -7,6 +7,7 @@ abbrev pub machine_of : Inside → Machine
 machine_of a = record {
   program = a.program;
   hart_states = a.hart_states.keys;
+  far_harts = a.far_harts.keys;
   shared_states = a.shared_states.keys;
 }
 

@@ -9,8 +9,8 @@ ghost use Rattle.condensed_machine.specs.Steps.{HasBegun};
 
 use crate::begun::Begun;
 use crate::machine::CondensedMachine;
+use crate::numbering::state_of;
 use crate::program::Program;
-use crate::state::State;
 use crate::tables::{number_hart, number_of_shared};
 use changed_memory::SharedState;
 use indexmap::IndexSet;
@@ -35,13 +35,8 @@ impl CondensedMachine {
         let start = SharedState::start(self.alloc);
         let shared = number_of_shared(&mut self.shared_states, &start, self.alloc)?;
         let First { numbers, ways } = first_harts(&self.program, &mut self.hart_states)?;
-        Ok(Begun {
-            state: State {
-                harts: numbers,
-                shared,
-            },
-            ways,
-        })
+        let state = state_of(&mut self.far_harts, numbers, shared)?;
+        Ok(Begun { state, ways })
     }
 }
 

@@ -3,8 +3,8 @@
 //!
 //! Read in this order: `local` (a step that other harts don't see), `settling` (how a hart follows its own),
 //! `resting` (which registers it keeps), `program` (what is searched), `executed` and `tables` (what a step
-//! does, and the numbers of the parts of states), `state`, `machine`, `stepping`, `begun` and `beginning` (the
-//! first state), `searching` (the machine as one that is searched).
+//! does, and the numbers of the parts of states), `state`, `numbering` (the numbers of a state's harts), `machine`,
+//! `stepping`, `begun` and `beginning` (the first state), `searching` (the machine as one that is searched).
 #![tactic(auto)]
 
 mod beginning;
@@ -12,6 +12,7 @@ mod begun;
 mod executed;
 mod local;
 mod machine;
+mod numbering;
 mod program;
 mod resting;
 mod searching;

@@ -7,9 +7,10 @@ ghost use Rattle.smt_model.specs.Faults.{read_fault};
 ghost use Rattle.condensed_machine.specs.Decoded.{Knows, decoded, hart_in, state_of};
 ghost use Rattle.condensed_machine.specs.Machine.{IsNew};
 
+use crate::numbering::number_in;
 use crate::program::Program;
 use crate::resting::REGISTERS;
-use crate::state::State;
+use crate::state::{FAR_HARTS, State};
 use changed_memory::SharedState;
 use elf_image::Image;
 use indexmap::IndexSet;
@@ -27,6 +28,8 @@ use std::marker::Model;
 pub struct CondensedMachine {
     pub(crate) program: Program,
     pub(crate) hart_states: IndexSet<Hart>,
+    /// The numbers of the harts that stand in a state together.
+    pub(crate) far_harts: IndexSet<[u32; FAR_HARTS]>,
     pub(crate) shared_states: IndexSet<SharedState>,
     /// Where the shared parts behind a step are made, before they are looked up.
     pub(crate) scratch: SharedState,
@@ -75,6 +78,7 @@ impl CondensedMachine {
         CondensedMachine {
             program,
             hart_states: IndexSet::new(alloc),
+            far_harts: IndexSet::new(alloc),
             shared_states: IndexSet::new(alloc),
             scratch: SharedState::start(alloc),
             alloc,
@@ -141,7 +145,7 @@ impl CondensedMachine {
         requires hart { hart < self.now.program.harts }
         ensures { result.now ≡ hart_in self.now state hart }
     {
-        &self.hart_states.as_slice()[state.harts[usize::from(hart)] as usize]
+        &self.hart_states.as_slice()[number_in(&self.far_harts, state, hart) as usize]
     }
 
     /// What the harts of a state share.

@@ -6,6 +6,7 @@ ghost use Rattle.condensed_machine.specs.Machine.{Grows};
 ghost use Rattle.condensed_machine.specs.Steps.{Steps};
 
 use crate::machine::CondensedMachine;
+use crate::numbering::moved;
 use crate::state::State;
 use crate::tables::{number_hart, number_shared};
 use searches::Step;
@@ -25,14 +26,14 @@ impl CondensedMachine {
         ensures steps { IfOk result (Steps self.new state hart) }
         ensures knows { IfOk result (λ next. IfSome next (λ step. Knows self.new step.state)) }
     {
-        let mut moved = *self.hart(state, hart);
-        if !moved.is_going() {
+        let mut own = *self.hart(state, hart);
+        if !own.is_going() {
             return Ok(None);
         }
         let shared = self.shared(state);
-        let executed = self.program.execute(shared, hart, &mut moved);
-        let way = self.program.come_to_rest(&mut moved);
-        let number = number_hart(&mut self.hart_states, moved)?;
+        let executed = self.program.execute(shared, hart, &mut own);
+        let way = self.program.come_to_rest(&mut own);
+        let number = number_hart(&mut self.hart_states, own)?;
         let shared_number = number_shared(
             &mut self.shared_states,
             &mut self.scratch,
@@ -42,9 +43,7 @@ impl CondensedMachine {
             executed,
             self.alloc,
         )?;
-        Ok(Some(Step {
-            state: state.with(hart, number, shared_number),
-            way,
-        }))
+        let next = moved(&mut self.far_harts, state, hart, number, shared_number)?;
+        Ok(Some(Step { state: next, way }))
     }
 }

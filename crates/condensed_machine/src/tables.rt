@@ -80,7 +80,7 @@ fn number_new(shared: &mut IndexSet<SharedState>, new: SharedState) -> Result<u3
 }
 
 /// A place as a number. Fails where there are more places than numbers, for which there is no memory.
-fn number_of(place: usize) -> Result<u32, AllocError>
+pub(crate) fn number_of(place: usize) -> Result<u32, AllocError>
     ensures { IfOk result (λ number. number ≡ place) }
 {
     u32::try_from(place).map_err(|_| AllocError)

@@ -55,7 +55,7 @@ module _ (law : AsksHaveOneAnswer) (setup : Setup) (limit : ℕ) (guess : ℕ �
   pub record Stands (past : List Event) (core : CoreView) (held : Holding) : Type 0 where
     pub legal : is_legal setup past
     pub core_is : core ≡ core_of past
-    pub places : length held ≡ 16
+    pub places : length held ≡ most_actors
     pub holds : (k seq : ℕ) → job past k ≡ Some seq → HoldsJob past held k
 
   -- ---- What is answered is the event that follows
@@ -116,7 +116,7 @@ module _ (law : AsksHaveOneAnswer) (setup : Setup) (limit : ℕ) (guess : ℕ �
 
   -- The slot of the actor has the job, those of the others what they had.
   given_jobs : (past : List Event) (k : ℕ) (e : Event) (held between : Holding) (view : JobView) (done : DoneView)
-      → IsNext setup by_guess past (AskIssue k) e → is_legal setup past → length held ≡ 16 → k < most_actors
+      → IsNext setup by_guess past (AskIssue k) e → is_legal setup past → length held ≡ most_actors → k < most_actors
       → ((j seq : ℕ) → job past j ≡ Some seq → HoldsJob past held j)
       → IsJobOf setup (e ∷ past) k view → done.job ≡ view → between ≡ slice_set held k (Some done)
       → (j seq : ℕ) → job (e ∷ past) j ≡ Some seq → HoldsJob (e ∷ past) between j
@@ -342,7 +342,7 @@ module _ (law : AsksHaveOneAnswer) (setup : Setup) (limit : ℕ) (guess : ℕ �
       ∙ ap core_of here.whole
 
   -- Nobody has a job, and nothing has happened.
-  pub at_start : (held : Holding) → length held ≡ 16 → Stands [] (core_of []) held
+  pub at_start : (held : Holding) → length held ≡ most_actors → Stands [] (core_of []) held
   at_start held places = record {
     legal = tt;
     core_is = refl;

@@ -45,7 +45,8 @@ one_ask harts (Complete actor seq outcome) = refl
 one_ask harts (Drop actor seq) = refl
 one_ask harts (Retire actor seq effect) = refl
 
-module _ (setup : Setup) (few_actors : length setup.roles ≤ 16) (few_harts : setup.harts ≤ 8) (harts : List ℕ) where
+module _ (setup : Setup) (few_actors : length setup.roles ≤ most_actors) (few_harts : setup.harts ≤ most_harts)
+    (harts : List ℕ) where
   -- The event answers its ask, which can be spelled.
   record IsWorded (past : List Event) (e : Event) : Type 0 where
     suits : answers (ask_for harts e) past e ≡ true
@@ -171,8 +172,8 @@ pub asks_for : (setup : Setup) (limit : ℕ) (events : List Event) (harts : List
     → is_legal setup (reverse events) → harts ≡ harts_in (reverse events) → LinesAreScripts
     → AsksFor (reverse events) (text_for harts events)
 asks_for setup limit events harts accepted legal are law =
-    let few_actors : length setup.roles ≤ 16 = grind (arith, nat_tests) in
-    let few_harts : setup.harts ≤ 8 = grind (arith, nat_tests) in
+    let few_actors : length setup.roles ≤ most_actors = grind (arith, nat_tests) in
+    let few_harts : setup.harts ≤ most_harts = grind (arith, nat_tests) in
     let have = subst (λ hs. HaveHarts hs (reverse events)) (sym are) (have_harts setup (reverse events) legal) in
     let lines = lines_are setup few_actors few_harts harts (reverse events) legal have in
     let turned : reverse (lines_for harts (reverse events)) ≡ lines_for harts events =

@@ -6,6 +6,7 @@ use Rattle.std.specs.Option.{option_map_or}
 use Rattle.std.proofs.lemmas.List.Elements.{All-nil, All-cons, All-head, All-tail, All-append, All-get_or, All-weaker}
 use Rattle.std.proofs.lemmas.List.Concat.{flat_map-append}
 use Rattle.std.proofs.lemmas.Option.{slice_get-get_or}
+use Rattle.numbers.specs.Sizes.{most_harts}
 use Rattle.rv_instr.specs.declared.instr.{Instr.Instr, BranchOp.TheVariants.Bne, ImmediateOp.TheVariants.Addi}
 use Rattle.rv_instr.specs.declared.instr.Instr.TheVariants as instr
 use Rattle.rv_instr.specs.Table.{IsSigned, IsDistance, IsUpper, IsInstructionInRange}
@@ -50,7 +51,7 @@ upper_in_range value = (omega arith, omega arith)
 branch_in_range : (here there : ℕ) → here ≤ 1000 → there ≤ 1000 → IsDistance 13 (distance here there)
 branch_in_range here there low high = search rules
 
-jump_in_range : (here there : ℕ) → here ≤ 16384 → there ≤ 16384 → IsDistance 21 (distance here there)
+jump_in_range : (here there : ℕ) → here ≤ 32768 → there ≤ 32768 → IsDistance 21 (distance here there)
 jump_in_range here there low high = search rules
 
 constant_in_range : (register value : ℕ) → register < 32 → All IsInstructionInRange (constant_words register value)
@@ -108,11 +109,11 @@ thread_in_range thread sound =
     (one_in_range instr.Ebreak tt)
 
 -- the jumps to the blocks
-jump_words_in_range : (here there : ℕ) → here ≤ 16384 → there ≤ 16384 → All IsInstructionInRange (jump_words here there)
+jump_words_in_range : (here there : ℕ) → here ≤ 32768 → there ≤ 32768 → All IsInstructionInRange (jump_words here there)
 jump_words_in_range here there low high =
     one_in_range (instr.Jal 0 (distance here there)) (omega arith, jump_in_range here there low high)
 
-turn_in_range : (threads : List Thread) (hart : ℕ) → All (IsThread 64) threads → length threads ≤ 8
+turn_in_range : (threads : List Thread) (hart : ℕ) → All (IsThread 64) threads → length threads ≤ most_harts
     → hart < length threads
     → All IsInstructionInRange (turn_words threads hart)
 turn_in_range threads hart sound few there =
@@ -134,7 +135,7 @@ code_in_range test sound =
     let last = length threads - 1 in
     let each = threads_sound test sound in
     let some : 1 ≤ length threads = sound.harts.0 in
-    let few : length threads ≤ 8 = sound.harts.1 in
+    let few : length threads ≤ most_harts = sound.harts.1 in
     let turns = flat_map (turn_words threads) (below last) in
     let jump = jump_words (3 * last) (block_place threads last) in
     let small = block_place_small threads last each few in

@@ -8,13 +8,8 @@ use Rattle.smt_model.specs.Basics.{below}
 use Rattle.litmus_tests.specs.declared.step.{LitmusStep.LitmusStep, Comparison.Comparison}
 use Rattle.litmus_tests.specs.declared.step.LitmusStep.TheVariants.{Straight, Constant, Branch}
 use Rattle.litmus_tests.specs.declared.step.Comparison.TheVariants.{Equal, Different}
+use Rattle.litmus_tests.specs.WellFormed.{step_length}
 use Rattle.litmus_images.specs.Words.{constant_words, distance}
-
--- How many words a step has.
-abbrev pub step_length : LitmusStep → ℕ
-step_length (Straight instruction) = 1
-step_length (Constant register value) = 2
-step_length (Branch comparison left right target) = 1
 
 -- How many words stand before the step with this index, the end of the steps among them.
 unfoldable pub step_place : List LitmusStep → ℕ → ℕ

@@ -1,12 +1,13 @@
 //! The code of a litmus test: each hart goes to its own block by its number, which it finds in x10.
 
 ghost use Rattle.std.specs.Prelude.{◌≡◌, ◌≤◌, ◌<◌, ◌+◌, ◌*◌, ◌++◌, length, All, IfOk, OnOk, flat_map};
+ghost use Rattle.numbers.specs.Sizes.{most_harts};
 ghost use Rattle.litmus_tests.specs.WellFormed.{IsWellFormed, IsStart, IsThread};
 ghost use Rattle.litmus_images.specs.Code.{start_words, thread_words, block_place, turn_words};
 ghost use Rattle.litmus_images.specs.{Code.dispatch_words, Code.code_of, Words.jump_words};
 
 use crate::constants::{distance, number_of, push_constant};
-use crate::steps::{push_steps, step_place};
+use crate::steps::push_steps;
 use litmus_tests::{LitmusTest, RegisterStart, Thread};
 use rv_instr::{BranchOp, ImmediateOp, Instr};
 use std::alloc::{AllocError, Global};
@@ -47,17 +48,17 @@ fn thread_length(thread: &Thread) -> usize
     ensures value { result ≡ length (thread_words thread.now) }
     ensures small { result ≤ 1064 }
 {
-    2 + 2 * thread.starts.len() + step_place(&thread.steps, thread.steps.len())
+    thread.length()
 }
 
 /// How many words stand before the block of a hart.
 #[tactic(auto, unfolding(crate::specs::Code::block_place))]
 fn block_place(threads: &[Thread], hart: usize) -> usize
     requires threads { All (IsThread 64) threads.now }
-    requires few { (1 ≤ length threads.now) × (length threads.now ≤ 8) }
+    requires few { (1 ≤ length threads.now) × (length threads.now ≤ most_harts) }
     requires hart { hart < length threads.now }
     ensures value { result ≡ block_place threads.now hart }
-    ensures small { result ≤ 8534 }
+    ensures small { result ≤ 1067 * most_harts }
 {
     let mut place = 3 * (threads.len() - 1) + 1;
     for other in 0..hart {
@@ -69,7 +70,7 @@ fn block_place(threads: &[Thread], hart: usize) -> usize
 /// Appends the words by which a hart goes to its block, unless it is a later one.
 fn push_turn(code: &mut Vec<Instr>, threads: &[Thread], hart: usize) -> Result<(), AllocError>
     requires threads { All (IsThread 64) threads.now }
-    requires few { (1 ≤ length threads.now) × (length threads.now ≤ 8) }
+    requires few { (1 ≤ length threads.now) × (length threads.now ≤ most_harts) }
     requires hart { hart < length threads.now }
     ensures { OnOk result (code.new.items ≡ code.old.items ++ turn_words threads.now hart) }
 {
@@ -91,8 +92,8 @@ fn push_turn(code: &mut Vec<Instr>, threads: &[Thread], hart: usize) -> Result<(
 
 /// Appends a jump from the word with one number to the word with another.
 fn push_jump(code: &mut Vec<Instr>, here: usize, there: usize) -> Result<(), AllocError>
-    requires here { here ≤ 16384 }
-    requires there { there ≤ 16384 }
+    requires here { here ≤ 32768 }
+    requires there { there ≤ 32768 }
     ensures { OnOk result (code.new.items ≡ code.old.items ++ jump_words here there) }
 {
     code.push(Instr::Jal {
@@ -106,7 +107,7 @@ fn push_jump(code: &mut Vec<Instr>, here: usize, there: usize) -> Result<(), All
 #[tactic(auto, unfolding(crate::specs::Code::dispatch_words))]
 fn push_dispatch(code: &mut Vec<Instr>, threads: &[Thread]) -> Result<(), AllocError>
     requires threads { All (IsThread 64) threads.now }
-    requires few { (1 ≤ length threads.now) × (length threads.now ≤ 8) }
+    requires few { (1 ≤ length threads.now) × (length threads.now ≤ most_harts) }
     ensures { OnOk result (code.new.items ≡ code.old.items ++ dispatch_words threads.now) }
 {
     let last = threads.len() - 1;

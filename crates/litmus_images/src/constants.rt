@@ -67,8 +67,8 @@ pub(crate) fn push_constant(
 
 /// How many bytes it is from the word with one number to the word with another.
 pub(crate) fn distance(here: usize, there: usize) -> i32
-    requires here { here ≤ 16384 }
-    requires there { there ≤ 16384 }
+    requires here { here ≤ 32768 }
+    requires there { there ≤ 32768 }
     ensures { result ≡ distance here there }
 {
     4 * there as i32 - 4 * here as i32

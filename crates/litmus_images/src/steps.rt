@@ -2,23 +2,12 @@
 
 ghost use Rattle.std.specs.Prelude.{◌≡◌, ◌≤◌, ◌<◌, ◌*◌, ◌++◌, length, All, OnOk};
 ghost use Rattle.litmus_tests.specs.WellFormed.{IsStep};
-ghost use Rattle.litmus_images.specs.Steps.{step_length, step_place, words_at, steps_words, branch_op};
+ghost use Rattle.litmus_images.specs.Steps.{step_place, words_at, steps_words, branch_op};
 
 use crate::constants::{distance, push_constant};
 use litmus_tests::{Comparison, LitmusStep};
 use rv_instr::{BranchOp, Instr};
 use std::alloc::AllocError;
-
-/// How many words a step has.
-fn step_length(step: LitmusStep) -> usize
-    ensures { result ≡ step_length step }
-{
-    match step {
-        LitmusStep::Straight(_) => 1,
-        LitmusStep::Constant { .. } => 2,
-        LitmusStep::Branch { .. } => 1,
-    }
-}
 
 /// How many words stand before the step with this index, the end of the steps among them.
 #[tactic(auto, unfolding(crate::specs::Steps::step_place))]
@@ -30,7 +19,7 @@ pub(crate) fn step_place(steps: &[LitmusStep], index: usize) -> usize
 {
     let mut place = 0;
     for step in &steps[..index] {
-        place += step_length(*step);
+        place += step.length();
     }
     place
 }

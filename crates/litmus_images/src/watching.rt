@@ -10,7 +10,7 @@ use arrayvec::ArrayVec;
 use litmus_tests::{LitmusTest, Observed};
 use outcomes::{MOST_WATCHED, Watch, WatchedRegister};
 
-/// How many harts the test has: 1 to 8.
+/// How many harts the test has: 1 to `MOST_HARTS`.
 pub fn harts_of(test: &LitmusTest) -> u8
     requires { IsWellFormed test.now }
     ensures { result ≡ length test.now.threads.items }

@@ -1,7 +1,10 @@
 //! Why a text is refused.
 
 use crate::place::Place;
+use crate::test::MOST_BYTES;
 use arrayvec::ArrayString;
+use litmus_tests::test::{MOST_LOCATIONS, MOST_NESTED, MOST_OBSERVED, MOST_STEPS, MOST_TERMS};
+use numbers::sizes::HART_ROOM;
 use std::alloc::{AllocError, AllocFailed};
 use std::fmt;
 
@@ -11,7 +14,7 @@ pub type Shown = ArrayString<24>;
 /// What is wrong with a text.
 #[derive(Clone, Copy, Debug, PartialEq, Eq, Drop)]
 pub enum Fault {
-    /// More than 65,536 bytes, told behind them.
+    /// More than `MOST_BYTES`, told behind them.
     TooLong,
     /// A comment or a string that doesn't end, told where it begins.
     EndlessComment,
@@ -48,7 +51,7 @@ pub enum Fault {
     NoCondition,
     /// Something behind the condition.
     BehindCondition,
-    /// More than 8 harts, 500 steps, 64 locations, 64 things looked at, 128 terms, 16 levels.
+    /// More than there may be.
     TooManyHarts,
     TooManySteps,
     TooManyLocations,
@@ -77,9 +80,23 @@ impl Fault {
         }
     }
 
+    /// How much there may be, and of what, where there is more.
+    fn limit(self) -> Option<(usize, &'static str)> {
+        match self {
+            Fault::TooLong => Some((MOST_BYTES, "bytes")),
+            Fault::TooManyHarts => Some((HART_ROOM, "harts")),
+            Fault::TooManySteps => Some((MOST_STEPS, "steps of a hart")),
+            Fault::TooManyLocations => Some((MOST_LOCATIONS, "locations")),
+            Fault::TooManyObserved => Some((MOST_OBSERVED, "registers and locations looked at")),
+            Fault::TooManyTerms => Some((MOST_TERMS, "terms")),
+            Fault::TooDeep => Some((MOST_NESTED, "levels of not and parentheses")),
+            _ => None,
+        }
+    }
+
+    /// What is wrong, but for a limit and for the numbers of columns.
     fn words(self) -> &'static str {
         match self {
-            Fault::TooLong => "more than 65536 bytes",
             Fault::EndlessComment => "a comment that doesn't end",
             Fault::EndlessString => "a string that doesn't end",
             Fault::NotRiscv => "a first word that isn't RISCV",
@@ -99,18 +116,22 @@ impl Fault {
             Fault::LabelTwice => "a label that is there twice",
             Fault::NoCondition => "no exists, ~exists or forall",
             Fault::BehindCondition => "something behind the condition",
-            Fault::TooManyHarts => "more than 8 harts",
-            Fault::TooManySteps => "more than 500 steps of a hart",
-            Fault::TooManyLocations => "more than 64 locations",
-            Fault::TooManyObserved => "more than 64 registers and locations looked at",
-            Fault::TooManyTerms => "more than 128 terms",
-            Fault::TooDeep => "more than 16 levels of not and parentheses",
+            Fault::TooLong
+            | Fault::TooManyHarts
+            | Fault::TooManySteps
+            | Fault::TooManyLocations
+            | Fault::TooManyObserved
+            | Fault::TooManyTerms
+            | Fault::TooDeep => "",
         }
     }
 }
 
 impl fmt::Display for Fault {
     fn fmt<W: fmt::Write>(&self, f: &mut fmt::Formatter<W>) -> fmt::Result {
+        if let Some((most, of_what)) = self.limit() {
+            return write!(f, "more than {most} {of_what}");
+        }
         f.write_str(self.words())?;
         match *self {
             Fault::Columns { columns: 1, harts } => write!(

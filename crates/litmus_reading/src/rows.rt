@@ -2,9 +2,9 @@
 
 use crate::cut::cut;
 use crate::refused::{Fault, Stop};
-use crate::sound::MOST_HARTS;
 use crate::take::start_of;
 use crate::word::{Mark, Token, Word, is_mark};
+use numbers::sizes::HART_ROOM;
 
 /// Reads `P0 | P1 ;`: how many harts there are, and the words behind.
 pub(crate) fn read_harts(words: &[Word], end: usize) -> Result<(u8, &[Word]), Stop> {
@@ -12,7 +12,7 @@ pub(crate) fn read_harts(words: &[Word], end: usize) -> Result<(u8, &[Word]), St
     if row.len() == words.len() {
         return Err(Stop::at(end, Fault::Unfinished));
     }
-    if let Some(word) = row.get(2 * MOST_HARTS) {
+    if let Some(word) = row.get(2 * HART_ROOM) {
         return Err(Stop::at(word.start, Fault::TooManyHarts));
     }
     for (place, word) in row.iter().enumerate() {

@@ -1,7 +1,8 @@
 //! Whether a test makes sense: what it names is there, and there isn't too much of anything. It is asked of each
 //! test that was read, so nobody has to rely on how it was read.
 
-ghost use Rattle.std.specs.Prelude.{◌≡◌, true, length, All};
+ghost use Rattle.std.specs.Prelude.{◌≡◌, ◌≤◌, true, length, sum_by, All};
+ghost use Rattle.numbers.specs.Sizes.{most_harts};
 ghost use Rattle.rv_instr.specs.Table.{IsInstructionInRange, IsSigned};
 ghost use Rattle.litmus_tests.specs.WellFormed.{
   is_straight,
@@ -13,16 +14,15 @@ ghost use Rattle.litmus_tests.specs.WellFormed.{
   IsThread,
   IsValue,
   IsWellFormed,
+  thread_length,
 };
 
-use litmus_tests::test::{MOST_LOCATIONS, MOST_OBSERVED, MOST_STEPS};
+use litmus_tests::test::{MOST_LOCATIONS, MOST_OBSERVED, MOST_STEPS, MOST_WORDS};
 use litmus_tests::{
     Condition, LitmusStep, LitmusTest, Location, Observed, RegisterStart, Term, Thread, Value,
 };
+use numbers::sizes::HART_ROOM;
 use rv_instr::Instr;
-
-/// How many harts a test has at most.
-pub(crate) const MOST_HARTS: usize = 8;
 
 /// How many registers have a start at most.
 const MOST_STARTS: usize = 31;
@@ -32,7 +32,7 @@ pub(crate) fn makes_sense(test: &LitmusTest) -> bool
     ensures { result ≡ true → IsWellFormed test.now }
 {
     let (harts, locations) = (test.threads.len(), test.locations.len());
-    if harts < 1 || harts > MOST_HARTS || locations > MOST_LOCATIONS {
+    if harts < 1 || harts > HART_ROOM || locations > MOST_LOCATIONS {
         return false;
     }
     if test.observed.len() > MOST_OBSERVED {
@@ -42,6 +42,9 @@ pub(crate) fn makes_sense(test: &LitmusTest) -> bool
         return false;
     }
     if !are_threads(test.threads.as_slice(), locations) {
+        return false;
+    }
+    if !are_short(test.threads.as_slice(), locations) {
         return false;
     }
     if !are_observed(test.observed.as_slice(), harts, locations) {
@@ -71,6 +74,19 @@ fn are_threads(threads: &[Thread], locations: usize) -> bool
         }
     }
     true
+}
+
+/// Whether the code of all harts isn't too long.
+fn are_short(threads: &[Thread], locations: usize) -> bool
+    requires few { length threads.now ≤ most_harts }
+    requires sound { All (IsThread locations) threads.now }
+    ensures { result ≡ true → sum_by thread_length threads.now ≤ 16000 }
+{
+    let mut words = 0;
+    for hart in 0..threads.len() {
+        words += threads[hart].length();
+    }
+    words <= MOST_WORDS
 }
 
 fn are_observed(observed: &[Observed], harts: usize, locations: usize) -> bool

@@ -1,5 +1,6 @@
 -- When a litmus test makes sense: what it names is there.
-use Rattle.std.specs.Prelude.{◌≡◌, ℕ, ◌≤◌, ◌<◌, Bool, true, false, List, length, All, Contains}
+use Rattle.std.specs.Prelude.{◌≡◌, ℕ, ◌+◌, ◌*◌, ◌≤◌, ◌<◌, Bool, true, false, List, length, sum_by, All, Contains}
+use Rattle.numbers.specs.Sizes.{most_harts}
 use Rattle.rv_instr.specs.{declared.instr.Instr.Instr, Table.IsInstructionInRange}
 use Rattle.rv_instr.specs.declared.instr.Instr.TheVariants as instr
 use Rattle.litmus_tests.specs.declared.value.Value.{Value}
@@ -48,6 +49,16 @@ pub record IsThread (locations : ℕ) (thread : Thread) : Type 0 where
   pub steps : All (IsStep (length thread.steps.items)) thread.steps.items
   pub short : length thread.steps.items ≤ 500
 
+-- How many words of code a step comes to.
+abbrev pub step_length : LitmusStep → ℕ
+step_length (Straight instruction) = 1
+step_length (Constant register value) = 2
+step_length (Branch comparison left right target) = 1
+
+-- How many words of code a hart has: one before its starts, two for each of them, its steps, and one at its end.
+abbrev pub thread_length : Thread → ℕ
+thread_length thread = 2 + 2 * length thread.starts.items + sum_by step_length thread.steps.items
+
 -- Each term of the condition is about something that tells final states apart.
 abbrev pub IsTerm : ℕ → List Observed → Term → Type 0
 IsTerm locations observed term = Contains observed term.observed × IsValue locations term.value
@@ -62,10 +73,11 @@ IsCondition locations observed (Either' p first q second) =
     IsCondition locations observed first × IsCondition locations observed second
 
 pub record IsWellFormed (test : LitmusTest) : Type 0 where
-  pub harts : (1 ≤ length test.threads.items) × (length test.threads.items ≤ 8)
+  pub harts : (1 ≤ length test.threads.items) × (length test.threads.items ≤ most_harts)
   pub locations : length test.locations.items ≤ 64
   pub initials : All (λ location. IsValue (length test.locations.items) location.initial) test.locations.items
   pub threads : All (IsThread (length test.locations.items)) test.threads.items
+  pub short : sum_by thread_length test.threads.items ≤ 16000
   pub condition : IsCondition (length test.locations.items) test.observed.items test.condition
   pub observed : All (IsObserved (length test.threads.items) (length test.locations.items)) test.observed.items
   pub few : length test.observed.items ≤ 64

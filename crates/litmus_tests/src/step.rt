@@ -1,3 +1,6 @@
+ghost use Rattle.std.specs.Prelude.{◌≡◌, ◌≤◌};
+ghost use Rattle.litmus_tests.specs.WellFormed.{step_length};
+
 use numbers::Reg;
 use rv_instr::Instr;
 
@@ -27,4 +30,17 @@ pub enum LitmusStep {
         right: Reg,
         target: usize,
     },
+}
+
+impl LitmusStep {
+    /// How many words of code it comes to.
+    pub fn length(self) -> usize
+        ensures value { result ≡ step_length self }
+        ensures small { result ≤ 2 }
+    {
+        match self {
+            LitmusStep::Straight(_) | LitmusStep::Branch { .. } => 1,
+            LitmusStep::Constant { .. } => 2,
+        }
+    }
 }

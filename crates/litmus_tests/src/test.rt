@@ -1,3 +1,6 @@
+ghost use Rattle.std.specs.Prelude.{◌≡◌, ◌≤◌, ◌*◌, length, sum_by};
+ghost use Rattle.litmus_tests.specs.WellFormed.{step_length, thread_length};
+
 use crate::condition::{Condition, Observed, Quantifier};
 use crate::step::LitmusStep;
 use crate::value::Value;
@@ -7,6 +10,10 @@ use numbers::Reg;
 /// instructions at most).
 pub const MOST_STEPS: usize = 500;
 
+/// How many words of code all harts have together at most: they stand in the RAM of a test's image. No text
+/// that is short enough to be read has so many.
+pub const MOST_WORDS: usize = 16_000;
+
 /// How many locations a test has at most.
 pub const MOST_LOCATIONS: usize = 64;
 
@@ -15,7 +22,7 @@ pub const MOST_OBSERVED: usize = 64;
 
 /// How many terms a condition has at most, and how deep `not` and parentheses are nested at most: what
 /// follows a condition by recursion then has a small stack.
-pub const MOST_TERMS: usize = 128;
+pub const MOST_TERMS: usize = 32;
 
 pub const MOST_NESTED: usize = 16;
 
@@ -40,6 +47,31 @@ pub struct RegisterStart {
 pub struct Thread {
     pub starts: Vec<RegisterStart>,
     pub steps: Vec<LitmusStep>,
+}
+
+impl Thread {
+    /// How many words of code it has.
+    pub fn length(&self) -> usize
+        requires few { length self.now.starts.items ≤ 31 }
+        requires short { length self.now.steps.items ≤ 500 }
+        ensures value { result ≡ thread_length self.now }
+        ensures small { result ≤ 1064 }
+    {
+        2 + 2 * self.starts.len() + steps_length(&self.steps)
+    }
+}
+
+/// How many words steps come to.
+fn steps_length(steps: &[LitmusStep]) -> usize
+    requires { length steps.now ≤ 500 }
+    ensures value { result ≡ sum_by step_length steps.now }
+    ensures small { result ≤ 2 * length steps.now }
+{
+    let mut words = 0;
+    for step in steps {
+        words += step.length();
+    }
+    words
 }
 
 /// A litmus test. That it makes sense, `specs/WellFormed` says.

@@ -1,6 +1,6 @@
 //! The condition of a test, written from its tree.
 
-ghost use Rattle.std.specs.Prelude.{◌≡◌, OnOk};
+ghost use Rattle.std.specs.Prelude.{◌≡◌, IsOk, OnOk};
 ghost use Rattle.std.specs.Io.KnownBytes.{Appends};
 ghost use Rattle.litmus_text.specs.Condition.{condition_text, term_text, opening, closing, joint, is_either, is_joined};
 
@@ -19,28 +19,65 @@ pub(crate) fn write_condition<W: Write>(
     ensures { OnOk result (Appends (W.contents out.old) (W.contents out.new)
         (condition_text test.now condition.now)) }
 {
+    let mut went = Ok(());
+    put_condition(condition, test, out, &mut went);
+    went
+}
+
+/// Writes a condition where all went well so far. No result goes from call to call, so that a frame is small:
+/// there are as many at a time as the condition has terms and levels.
+fn put_condition<W: Write>(
+    condition: &Condition,
+    test: &LitmusTest,
+    out: &mut W,
+    went: &mut io::Result<()>,
+)
+    ensures { OnOk went.new (IsOk went.old × Appends (W.contents out.old) (W.contents out.new)
+        (condition_text test.now condition.now)) }
+{
     match condition {
-        Condition::Always => out.write_all(b"true"),
-        Condition::Holds(term) => write_term(test, term, out),
+        Condition::Always => put("true", out, went),
+        Condition::Holds(term) => put_term(test, term, out, went),
         Condition::Not(inner) => {
             let is_wrapped = is_joined(inner);
-            out.write_all(b"not ")?;
-            out.write_all(opening(is_wrapped).as_bytes())?;
-            write_condition(inner, test, out)?;
-            out.write_all(closing(is_wrapped).as_bytes())
+            put("not ", out, went);
+            put(opening(is_wrapped), out, went);
+            put_condition(inner, test, out, went);
+            put(closing(is_wrapped), out, went);
         }
         Condition::Both(first, second) => {
-            out.write_all(opening(is_either(first)).as_bytes())?;
-            write_condition(first, test, out)?;
-            out.write_all(joint(is_either(first), is_either(second)).as_bytes())?;
-            write_condition(second, test, out)?;
-            out.write_all(closing(is_either(second)).as_bytes())
+            put(opening(is_either(first)), out, went);
+            put_condition(first, test, out, went);
+            put(joint(is_either(first), is_either(second)), out, went);
+            put_condition(second, test, out, went);
+            put(closing(is_either(second)), out, went);
         }
         Condition::Either(first, second) => {
-            write_condition(first, test, out)?;
-            out.write_all(b" \\/ ")?;
-            write_condition(second, test, out)
+            put_condition(first, test, out, went);
+            put(" \\/ ", out, went);
+            put_condition(second, test, out, went);
         }
+    }
+}
+
+/// Writes a text where all went well so far.
+#[inline(never)]
+fn put<W: Write>(text: &'static str, out: &mut W, went: &mut io::Result<()>)
+    ensures { OnOk went.new (IsOk went.old × Appends (W.contents out.old) (W.contents out.new) text.now) }
+{
+    if went.is_ok() {
+        *went = out.write_all(text.as_bytes());
+    }
+}
+
+/// Writes a term where all went well so far.
+#[inline(never)]
+fn put_term<W: Write>(test: &LitmusTest, term: &Term, out: &mut W, went: &mut io::Result<()>)
+    ensures { OnOk went.new (IsOk went.old × Appends (W.contents out.old) (W.contents out.new)
+        (term_text test.now term.now)) }
+{
+    if went.is_ok() {
+        *went = write_term(test, term, out);
     }
 }
 

@@ -46,6 +46,7 @@ fn onward_of_instr(instr: Instr, pc: u32) -> Onward
         | Instr::Register { .. }
         | Instr::MulDiv { .. }
         | Instr::Fence
+        | Instr::InstructionFence
         | Instr::Ecall
         | Instr::Ebreak
         | Instr::LoadReserved { .. }

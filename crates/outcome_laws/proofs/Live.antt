@@ -93,6 +93,7 @@ goes_of (instr.Shift op rd rs1 amount) pc a b to goes = goes_behind pc to goes
 goes_of (instr.Register op rd rs1 rs2) pc a b to goes = goes_behind pc to goes
 goes_of (instr.MulDiv op rd rs1 rs2) pc a b to goes = goes_behind pc to goes
 goes_of instr.Fence pc a b to goes = goes_behind pc to goes
+goes_of instr.InstructionFence pc a b to goes = goes_behind pc to goes
 goes_of instr.Ecall pc a b to goes = called (a == 93) (a == 1) b pc to (sym (call_next pc a b) ∙ goes)
 goes_of instr.Ebreak pc a b to goes = absurd (stops_never 3 to goes)
 goes_of (instr.LoadReserved rd rs1 ordering) pc a b to goes = goes_behind pc to goes

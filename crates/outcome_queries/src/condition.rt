@@ -14,7 +14,7 @@ use text_fields::{field_count, split_field};
 /// A condition: its terms, all of which hold where it holds.
 pub type Condition = ArrayVec<Term, MOST_WATCHED>;
 
-/// Reads a condition: terms with `&` between, 64 at most, as `h0=1 & a0@1=2`.
+/// Reads a condition: terms with `&` between, `MOST_WATCHED` at most, as `h0=1 & a0@1=2`.
 pub fn read_condition(text: &[u8]) -> Result<Condition, QueryRefused>
     ensures read { IfOk result (λ terms. IsSeparated SpellsTerm 38 text.now terms.items) }
     ensures refused { IfErr result (IsRefusedFor SpellsTerm 38 text.now) }

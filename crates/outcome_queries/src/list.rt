@@ -15,7 +15,7 @@ use text_fields::{field_count, split_field};
 /// What is watched, in the order in which it was named.
 pub type WatchList = ArrayVec<Watched, MOST_WATCHED>;
 
-/// Reads a list of what is watched: registers at harts and words, apart by commas, 64 at most, as
+/// Reads a list of what is watched: registers at harts and words, apart by commas, `MOST_WATCHED` at most, as
 /// `a0@1,x5@0,80001000:4`.
 pub fn read_watch_list(text: &[u8]) -> Result<WatchList, QueryRefused>
     ensures read { IfOk result (λ list. IsSeparated Spells 44 text.now list.items) }

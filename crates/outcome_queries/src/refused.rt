@@ -1,3 +1,4 @@
+use outcomes::MOST_WATCHED;
 use std::fmt;
 
 /// What was expected where a text is refused.
@@ -13,11 +14,11 @@ pub enum Expected {
 
 impl fmt::Display for Expected {
     fn fmt<W: fmt::Write>(&self, f: &mut fmt::Formatter<W>) -> fmt::Result {
-        f.write_str(match self {
-            Expected::Watched => "REGISTER@HART or ADDRESS:4",
-            Expected::Term => "hN=K, hN=stopped K, REGISTER@HART=K or ADDRESS:4=K",
-            Expected::End => "no more than 64",
-        })
+        match self {
+            Expected::Watched => f.write_str("REGISTER@HART or ADDRESS:4"),
+            Expected::Term => f.write_str("hN=K, hN=stopped K, REGISTER@HART=K or ADDRESS:4=K"),
+            Expected::End => write!(f, "no more than {MOST_WATCHED}"),
+        }
     }
 }
 

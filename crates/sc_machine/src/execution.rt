@@ -37,6 +37,8 @@ pub struct NextInstruction {
 }
 
 /// What hart `hart`, with `state` of its own, does next. The code is that of the memory's image.
+// It stands in the step of the plain machine, or what it answers would go there through memory.
+#[inline(always)]
 pub fn next_execution(memory: &Memory, code: &Code, hart: u8, state: &Hart) -> Execution
     requires hart { hart < most_harts }
     requires code { IsCodeOf memory.now.image code.now }
@@ -63,6 +65,8 @@ pub fn next_execution(memory: &Memory, code: &Code, hart: u8, state: &Hart) -> E
 
 /// The instruction that a hart has yet to execute, and what it computes of the hart's registers, with
 /// the faults of its access. Neither asks what memory holds now, but for the image.
+// It stands in its callers, as `next_execution` does.
+#[inline(always)]
 pub fn next_instruction(memory: &Memory, code: &Code, state: &Hart) -> NextInstruction
     requires code { IsCodeOf memory.now.image code.now }
     ensures word { result.word ≡ word_here memory.now state.now }

@@ -82,6 +82,8 @@ impl Plain {
     }
 
     /// What a hart does next.
+    // In line for the same reason as `step`.
+    #[inline(always)]
     fn execution(&self, hart: u8) -> Execution
         requires { hart < length self.now.harts }
         ensures is { InEachState self.now (λ setup s. IsExecution setup s hart result) }
@@ -96,6 +98,8 @@ impl Plain {
     }
 
     /// Does what an instruction of a hart does.
+    // In line for the same reason as `step`.
+    #[inline(always)]
     fn apply(&mut self, hart: u8, execution: Execution)
         requires inside { hart < length self.old.harts }
         requires allowed { IsAllowed self.old.memory execution }

@@ -5,7 +5,7 @@ use Rattle.std.proofs.Common.{refl, sym, ap, ◌∙◌, append-nil}
 use Rattle.std.proofs.lemmas.List.{reverse-append, reverse-reverse, map_push}
 use Rattle.std.proofs.lemmas.List.Concat.{flat_map-append}
 use Rattle.rv_instr.specs.declared.op.UnitKind.TheVariants.{Alu, Mul}
-use Rattle.smt_model.specs.declared.config.Role.{Role}
+use Rattle.events.specs.declared.role.Role.{Role}
 use Rattle.smt_model.specs.Asks.{Ask, AskFetch, AskDecode, AskRename, AskRetire}
 use Rattle.smt_laws.specs.Scripts.{unit_of_kind, with_unit, turn_asks, fetch_asks, script}
 use Rattle.scripts.specs.{declared.actions.ScriptWord.ScriptWord, Lines.words_in}

@@ -6,9 +6,10 @@ use Rattle.std.proofs.Common.{refl, sym, ap, subst, ◌∙◌, inl, inr, arith}
 use Rattle.std.proofs.{lemmas.Bool.cases_eq, lemmas.Bool.Decides.nat_tests, lemmas.List.Elements.filter-append}
 use Rattle.std.proofs.{lemmas.List.Quantifiers.position-Some, lemmas.List.Sums.fails_before_first}
 use Rattle.rv_instr.specs.{Registers.same_unit, declared.op.UnitKind.UnitKind}
-use Rattle.smt_model.specs.{declared.config.Role.Role, Setup.unit_of_role, Basics.holds_of, Basics.first}
+use Rattle.events.specs.declared.role.Role.{Role}
+use Rattle.smt_model.specs.{Setup.unit_of_role, Basics.holds_of, Basics.first}
 use Rattle.smt_model.specs.Basics.{below}
-use Rattle.smt_model.specs.declared.config.Role.TheVariants as role
+use Rattle.events.specs.declared.role.Role.TheVariants as role
 use Rattle.smt_model.proofs.{Lists.first-passes, Registers.Claims.member-below}
 use Rattle.smt_laws.specs.Scripts.{unit_of_kind}
 

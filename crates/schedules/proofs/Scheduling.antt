@@ -8,7 +8,8 @@ use Rattle.numbers.specs.Sizes.{most_actors, most_harts}
 use Rattle.rv_instr.specs.declared.op.UnitKind.{UnitKind}
 use Rattle.rv_instr.specs.declared.op.UnitKind.TheVariants.{Alu, Mul, Mem}
 use Rattle.events.specs.declared.effect.Record.{Record}
-use Rattle.smt_model.specs.{declared.config.Role.Role, Setup.Setup, Setup.is_accepted, Plain.Run, Plain.run}
+use Rattle.events.specs.declared.role.Role.{Role}
+use Rattle.smt_model.specs.{Setup.Setup, Setup.is_accepted, Plain.Run, Plain.run}
 use Rattle.smt_laws.specs.{Execution.IsExecution, Execution.RunsAreExecutions}
 use Rattle.smt_laws.specs.{Shown.AcceptedCoresCanShow, Scripts.ScriptsShowRuns, Scripts.unit_of_kind}
 use Rattle.sc_machine.specs.Steps.{are_harts}
@@ -34,7 +35,7 @@ unit_is None small = tt
 unit_is (Some k) small =
     (record { in_range = small k refl; once = omega arith; limit = omega arith }, tt)
 
-first_is : (harts : ℕ) → 1 ≤ harts → harts ≤ 8 → AllByRecursion IsWord (first_words harts)
+first_is : (harts : ℕ) → 1 ≤ harts → harts ≤ most_harts → AllByRecursion IsWord (first_words harts)
 first_is harts one few = (record { in_range = omega arith; once = one; limit = omega arith }, tt)
 
 turn_is : (units : Units) → ((k : ℕ) → units.alu ≡ Some k → k < most_actors) → ((k : ℕ) → units.mul ≡ Some k → k < most_actors)
@@ -58,21 +59,21 @@ turns_are units turn [] small = tt
 turns_are units turn (h ∷ order) small = (turn h small.0, turns_are units turn order small.1)
 
 -- The harts of a run are there.
-are_there : (setup : Setup) → setup.harts ≤ 8 → (all : List Record) → IsExecution setup all
+are_there : (setup : Setup) → setup.harts ≤ most_harts → (all : List Record) → IsExecution setup all
     → AllByRecursion (λ h. h < most_harts) (map (λ (r : Record). r.hart) all)
 are_there setup few [] goes = tt
 are_there setup few (r ∷ all) goes =
     let there = goes.0.there in
     (omega arith, are_there setup few all goes.1)
 
-harts_are : (setup : Setup) (order : List ℕ) (ran : Run) → setup.harts ≤ 8 → RunsAreExecutions
+harts_are : (setup : Setup) (order : List ℕ) (ran : Run) → setup.harts ≤ most_harts → RunsAreExecutions
     → run setup (reverse order) ≡ Some ran → AllByRecursion (λ h. h < most_harts) order
 harts_are setup order ran few law runs =
     let says = law setup (reverse order) ran runs in
     unreversed (λ h. h < most_harts) order
     (subst (AllByRecursion (λ h. h < most_harts)) says.1 (are_there setup few ran.records says.0))
 
-unit_small : (setup : Setup) → length setup.roles ≤ 16 → (kind : UnitKind) (o : Option ℕ)
+unit_small : (setup : Setup) → length setup.roles ≤ most_actors → (kind : UnitKind) (o : Option ℕ)
     → o ≡ unit_of_kind setup.roles kind → (k : ℕ) → o ≡ Some k → k < most_actors
 unit_small setup few kind o is k found =
     let inside = found_inside kind setup.roles k (sym is ∙ found) in
@@ -82,8 +83,8 @@ unit_small setup few kind o is k found =
 
 pub record IsSmall (setup : Setup) : Type 0 where
   pub some_hart : 1 ≤ setup.harts
-  pub few_harts : setup.harts ≤ 8
-  pub few_actors : length setup.roles ≤ 16
+  pub few_harts : setup.harts ≤ most_harts
+  pub few_actors : length setup.roles ≤ most_actors
 
 small : (setup : Setup) (limit : ℕ) → is_accepted setup limit ≡ true → IsSmall setup
 small setup limit accepted = record {

@@ -37,7 +37,7 @@ use Rattle.schedules.proofs.Replying.{complete_closes, none_to_complete}
 
 -- No actor holds anything, and none has an open job.
 record IsEmptyHanded (core : CoreView) (held : Holding) : Type 0 where
-  pub places : length held ≡ 16
+  pub places : length held ≡ most_actors
   pub empty : (k : ℕ) → slice_index_or held k None ≡ None
   pub closed : (k : ℕ) → job core.past k ≡ None
 
@@ -76,7 +76,7 @@ replicated d (suc n) zero = refl
 replicated d (suc n) (suc k) = replicated d n k
 
 pub nobody-empty : (k : ℕ) → slice_index_or nobody k None ≡ None
-nobody-empty k = replicated None 16 k
+nobody-empty k = replicated None most_actors k
 
 -- ---- An ask that lends and takes no job
 
@@ -187,7 +187,7 @@ module _ (predict : Predictor) (k : ℕ) (core : CoreView) (done : DoneView) (le
         }
 
     back_stands : (s : Said) (next : CoreView) (held : Holding)
-        → CompleteReplied k done.job core s next → length held ≡ 16
+        → CompleteReplied k done.job core s next → length held ≡ most_actors
         → ((j : ℕ) → slice_index_or held j None ≡ None) → ((j : ℕ) → (k == j) ≡ false → job core.past j ≡ None)
         → Stands next held
     back_stands (said.Event e) next held replied places empty others =

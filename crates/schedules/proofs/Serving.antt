@@ -8,7 +8,8 @@ use Rattle.std.proofs.lemmas.List.{take-append-drop, drop_more}
 use Rattle.std.proofs.lemmas.List.Elements.{recursion_from_All}
 use Rattle.rv_instr.specs.declared.op.UnitKind.{UnitKind}
 use Rattle.events.specs.declared.effect.Record.{Record}
-use Rattle.smt_model.specs.{declared.config.Role.Role, Setup.Setup}
+use Rattle.events.specs.declared.role.Role.{Role}
+use Rattle.smt_model.specs.{Setup.Setup}
 use Rattle.smt_laws.specs.{Shown.HasUnit, Scripts.unit_of_kind}
 use Rattle.schedules.specs.Refusals.{unit_of_record, IsServed, IsFirstUnserved}
 use Rattle.schedules.proofs.{Asking.reverse_cons, Places.found_suits}

@@ -4,7 +4,8 @@ use Rattle.std.specs.Prelude.{All, length, reverse}
 use Rattle.elf_image.specs.Image.{ProgramImage}
 use Rattle.rv_instr.specs.{Registers.op_unit, declared.op.UnitKind.UnitKind}
 use Rattle.events.specs.declared.effect.Record.{Record}
-use Rattle.smt_model.specs.{declared.config.Role.Role, Setup.Setup, Setup.is_accepted}
+use Rattle.events.specs.declared.role.Role.{Role}
+use Rattle.smt_model.specs.{Setup.Setup, Setup.is_accepted}
 use Rattle.smt_model.specs.Plain.{Run, run}
 use Rattle.smt_laws.specs.{Execution.op_of_record, Scripts.unit_of_kind}
 use Rattle.sc_machine.specs.Steps.{are_harts}

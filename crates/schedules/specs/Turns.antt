@@ -2,7 +2,7 @@
 -- and actor 0 asks for all else.)
 use Rattle.std.specs.Prelude.{◌≡◌, ℕ, List, [], ◌∷◌, ◌++◌, Option, Some, None, flat_map, map}
 use Rattle.rv_instr.specs.declared.op.UnitKind.TheVariants.{Alu, Mul, Mem}
-use Rattle.smt_model.specs.declared.config.Role.{Role}
+use Rattle.events.specs.declared.role.Role.{Role}
 use Rattle.smt_laws.specs.Scripts.{unit_of_kind}
 use Rattle.scripts.specs.{declared.actions.Action.Action, declared.actions.ScriptWord.ScriptWord}
 use Rattle.scripts.specs.{Lines.line_text}

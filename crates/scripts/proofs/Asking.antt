@@ -5,6 +5,7 @@ use Rattle.std.specs.Prelude.{get_or, slice_get, slice_set, map}
 use Rattle.std.specs.Option.{option_map}
 use Rattle.std.proofs.{lemmas.Bool.and_parts, lemmas.Bool.false≢true, lemmas.Bool.Decides.nat_tests}
 use Rattle.std.proofs.lemmas.Option.{none-some, same_Some, slice_get-map}
+use Rattle.numbers.specs.Sizes.{most_actors}
 use Rattle.events.specs.{declared.event.Event.Event, Event.actor_of}
 use Rattle.events.specs.declared.event.Event.TheVariants.{Fetch, Decode, Rename, Issue, Complete, Drop, Retire}
 use Rattle.core_state.specs.View.{CoreView}
@@ -172,7 +173,7 @@ up_at from (suc n) zero x at = let same = same_Some from x at in omega (arith, s
 up_at from (suc n) (suc k) x at = let further = up_at (suc from) n k x at in omega (arith, further)
 
 place_at : (k x : ℕ) → slice_get places k ≡ Some x → x ≡ k
-place_at k x at = let here = up_at 0 16 k x at in omega (arith, here)
+place_at k x at = let here = up_at 0 most_actors k x at in omega (arith, here)
 
 module _ {X : Type 0} (actor count : X → ℕ) (last : X → Option Event) where
   -- At each place lies the pass of its actor, which has counted all that the history holds of it.

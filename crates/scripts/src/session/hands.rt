@@ -12,7 +12,7 @@ pub struct Hands {
 
 // `Hands::abandon_all` names what each of so many actors holds: no loop by value goes over what
 // can't be let go.
-const _: () = prove!(MOST_ACTORS == 16);
+const _: () = prove!(MOST_ACTORS == 32);
 
 impl Hands {
     /// No actor holds anything.
@@ -51,19 +51,57 @@ impl Hands {
     /// Gives up all that is held.
     pub fn abandon_all(self) {
         let Hands { held } = self;
-        let [a, b, c, d, e, f, g, h, i, j, k, l, m, n, o, p] = held;
-        abandon_four(a, b, c, d);
-        abandon_four(e, f, g, h);
-        abandon_four(i, j, k, l);
-        abandon_four(m, n, o, p);
+        let [
+            d0,
+            d1,
+            d2,
+            d3,
+            d4,
+            d5,
+            d6,
+            d7,
+            d8,
+            d9,
+            d10,
+            d11,
+            d12,
+            d13,
+            d14,
+            d15,
+            d16,
+            d17,
+            d18,
+            d19,
+            d20,
+            d21,
+            d22,
+            d23,
+            d24,
+            d25,
+            d26,
+            d27,
+            d28,
+            d29,
+            d30,
+            d31,
+        ] = held;
+        abandon_eight([d0, d1, d2, d3, d4, d5, d6, d7]);
+        abandon_eight([d8, d9, d10, d11, d12, d13, d14, d15]);
+        abandon_eight([d16, d17, d18, d19, d20, d21, d22, d23]);
+        abandon_eight([d24, d25, d26, d27, d28, d29, d30, d31]);
     }
 }
 
-fn abandon_four(a: Option<Done>, b: Option<Done>, c: Option<Done>, d: Option<Done>) {
+fn abandon_eight(held: [Option<Done>; 8]) {
+    let [a, b, c, d, e, f, g, h] = held;
     abandon(a);
     abandon(b);
     abandon(c);
     abandon(d);
+    abandon(e);
+    abandon(f);
+    abandon(g);
+    abandon(h);
 }
 
 fn abandon(done: Option<Done>) {

@@ -1,6 +1,6 @@
 use Rattle.std.proofs.Common.{◌≡◌, ◌≤◌, ◌*◌, take}
 use Rattle.std.specs.Prelude.{sum_by}
-use Rattle.litmus_images.specs.Steps.{step_length}
+use Rattle.litmus_tests.specs.WellFormed.{step_length}
 use Rattle.litmus_images.proofs.steps.step_place.Given as goal
 
 -- the words of those so far, two each at most

@@ -1,5 +1,6 @@
 use Rattle.std.proofs.Common.{◌∙◌, sym, ap, length, slice_index_or, refl, arith}
 use Rattle.std.proofs.lemmas.Option.{slice_get-get_or}
+use Rattle.searches.proofs.Places.{contains_at}
 use Rattle.outcomes.proofs.Collected.{one_more, no_more, all_listed, end_at}
 use Rattle.outcomes.proofs.collecting.list_outcomes.Goals as goal
 use Rattle.outcomes.proofs.collecting.list_outcomes.Goals.{in-Some+in_ok-outcome+in_ok-put, in_default}
@@ -34,3 +35,9 @@ returns-clause-outcomes c =
     all_listed c.args.machine.now c.args.watch.now c.args.search.now.states c.args.search.now.ends c.loop-index.index
     c.loop-index.listed.items
     (omega (arith, ap length c.ends-index-end.ensures, c.loop-index-test.false)) c.loop-index.invariant.0
+
+pub outcome_of-requires-clause-known : goal.outcome_of-requires-clause-known
+outcome_of-requires-clause-known c =
+    let state = c.in-Some.state in
+    let place = slice_index_or c.ends.result.now c.loop-index.index 0 in
+    c.requires.known state (contains_at c.args.search.now.states place state (sym c.state.ensures ∙ c.in-Some.is))

@@ -1,10 +1,11 @@
-use Rattle.std.proofs.Common.{◌<◌, map, length, sym, subst, ◌∙◌, arith}
+use Rattle.std.proofs.Common.{ℕ, ◌<◌, map, length, sym, ap, subst, ◌∙◌, arith}
 use Rattle.std.specs.Prelude.{slice_index}
 use Rattle.std.proofs.lemmas.Option.{get_or_from_slice_get, slice_get_within}
 use Rattle.smt_model.specs.{Plain.start}
 use Rattle.changed_memory.specs.Shared.{Shared}
 use Rattle.condensed_machine.specs.Decoded.{hart_at, no_hart, no_shared, shared_at}
 use Rattle.condensed_machine.specs.Executing.{SharedAgrees}
+use Rattle.condensed_machine.specs.Numbering.{numbers_in}
 use Rattle.condensed_machine.proofs.Numbers.{hart_of_number}
 use Rattle.condensed_machine.proofs.Turns.{settles_in_turn, shared_begins, numbers_within}
 use Rattle.condensed_machine.proofs.machine.CondensedMachine.begin.Goals as goal
@@ -19,30 +20,41 @@ returns-clause-begun c = record {
       let first = c.start-start.result in
       let shared_table = c.number_of_shared.new.shared.keys in
       let number = c.in_ok-shared.shared in
+      let state = c.in_ok-state.state in
+      let numbered = c.in_ok-state.ensures.numbered in
       let agrees : SharedAgrees p.image (start setup) first =
       shared_begins p setup first image c.start-start.ensures.changes c.start-start.ensures.reserved
       c.start-start.ensures.output in
       settles_in_turn p table ways numbers setup image harts c.in_ok-numbers.ensures.begun
       (record {
-        harts = map (hart_at table) numbers;
-        shared = shared_at shared_table number;
+        harts = map (hart_at table) (numbers_in c.state_of.new.far_harts.keys state);
+        shared = shared_at shared_table state.shared;
       })
       c.self.invariant.sound
       (λ h y inside has.
       let within : h < length numbers =
       omega (arith, c.in_ok-numbers.ensures.room, c.self.invariant.sound.few) in
-      hart_of_number table numbers h within ∙ get_or_from_slice_get table (slice_index numbers h) y no_hart has)
+      ap (λ all. hart_at (map (hart_at table) all) h) numbered.numbers_are
+      ∙ hart_of_number table numbers h within ∙ get_or_from_slice_get table (slice_index numbers h) y no_hart has)
+      (subst (λ k. SharedAgrees p.image (start setup) (shared_at shared_table k)) (sym numbered.shared_is)
       (subst (λ (shared : Shared). SharedAgrees p.image (start setup) shared)
-      (sym (get_or_from_slice_get shared_table number first no_shared c.in_ok-shared.ensures.number)) agrees);
+      (sym (get_or_from_slice_get shared_table number first no_shared c.in_ok-shared.ensures.number)) agrees));
 }
 
 pub returns-clause-knows : goal.returns-clause-knows
-returns-clause-knows c = record {
-  room = c.in_ok-numbers.ensures.room;
-  harts = λ h inside.
-      numbers_within c.self.inside.program c.first_harts.new.table.keys c.in_ok-numbers.field-0.ways
-      c.in_ok-numbers.field-0.numbers c.self.invariant.sound.some c.in_ok-numbers.ensures.begun
-      c.in_ok-numbers.ensures.absent h;
-  shared = slice_get_within c.number_of_shared.new.shared.keys c.in_ok-shared.shared c.start-start.result
-      c.in_ok-shared.ensures.number;
-}
+returns-clause-knows c =
+    let table = c.first_harts.new.table.keys in
+    let shared_table = c.number_of_shared.new.shared.keys in
+    let numbered = c.in_ok-state.ensures.numbered in
+    record {
+      room = ap length numbered.numbers_are ∙ c.in_ok-numbers.ensures.room;
+      harts =
+          subst (λ all. (h : ℕ) → h < length all → slice_index all h < length table) (sym numbered.numbers_are)
+          (λ h inside.
+          numbers_within c.self.inside.program table c.in_ok-numbers.field-0.ways
+          c.in_ok-numbers.field-0.numbers c.self.invariant.sound.some c.in_ok-numbers.ensures.begun
+          c.in_ok-numbers.ensures.absent h);
+      far = numbered.known;
+      shared = subst (λ k. k < length shared_table) (sym numbered.shared_is)
+          (slice_get_within shared_table c.in_ok-shared.shared c.start-start.result c.in_ok-shared.ensures.number);
+    }

@@ -1,17 +1,18 @@
 use Rattle.std.proofs.Common.{◌≡◌, ℕ, ◌<◌, length, refl, sym, ap, subst, ◌∙◌, arith}
-use Rattle.std.specs.Prelude.{slice_index}
+use Rattle.std.specs.Prelude.{slice_index, slice_set}
 use Rattle.elf_image.specs.Image.{ProgramImage}
 use Rattle.sc_machine.specs.declared.hart.Hart.{Hart}
 use Rattle.changed_memory.specs.Shared.{Shared}
 use Rattle.condensed_machine.specs.Machine.{Machine, Grows, HaveZero}
 use Rattle.condensed_machine.specs.MachineInside.{machine_of}
-use Rattle.condensed_machine.specs.Decoded.{Knows, decoded, hart_in}
+use Rattle.condensed_machine.specs.Decoded.{Knows, decoded, hart_in, numbers_of}
+use Rattle.condensed_machine.specs.{Numbering.HasNumbers, declared.state.State.State}
 use Rattle.condensed_machine.specs.Tables.{IsSharedAfter}
 use Rattle.condensed_machine.proofs.Made.{HasMoved, moved_from, made, known}
 use Rattle.condensed_machine.proofs.Numbers.{zero_in}
 use Rattle.condensed_machine.proofs.Zero.{zero_behind, zero_rests}
 use Rattle.condensed_machine.proofs.machine.CondensedMachine.make_step.Goals as goal
-use Rattle.condensed_machine.proofs.machine.CondensedMachine.make_step.Goals.{After-number_hart, After-with}
+use Rattle.condensed_machine.proofs.machine.CondensedMachine.make_step.Goals.{After-number_hart, After-moved}
 
 knows : (c : After-number_hart) → Knows (machine_of c.self.inside) c.args.state
 knows c = subst (λ m. Knows m c.args.state) (sym c.self.view_is) c.requires.known
@@ -24,8 +25,8 @@ hart_is c = c.hart.ensures ∙ ap (λ m. hart_in m c.args.state c.args.hart) (sy
 
 zero_before : (c : After-number_hart) → slice_index c.hart.result.now.registers 0 ≡ 0
 zero_before c =
-    let there : c.args.hart < length c.args.state.harts =
-    omega (arith, inside c, c.self.invariant.sound.few, c.requires.known.room) in
+    let there : c.args.hart < length (numbers_of (machine_of c.self.inside) c.args.state) =
+    omega (arith, inside c, c.self.invariant.sound.few, (knows c).room) in
     subst (λ (x : Hart). slice_index x.registers 0 ≡ 0) (sym (hart_is c))
     (zero_in (machine_of c.self.inside) c.args.state c.args.hart c.self.invariant.zero (knows c) there)
 
@@ -49,46 +50,58 @@ invariant_of-self-in_err-shared_number c =
       zero = zeros (goal.at.invariant_of-self-in_err-shared_number c).After-number_hart;
     }
 
+pub invariant_of-self-in_err-next : goal.invariant_of-self-in_err-next
+invariant_of-self-in_err-next c =
+    record {
+      sound = c.self.invariant.sound;
+      zero = zeros (goal.at.invariant_of-self-in_err-next c).After-number_hart;
+    }
+
 pub invariant_of-self-2 : goal.invariant_of-self-2
 invariant_of-self-2 c =
     record { sound = c.self.invariant.sound; zero = zeros (goal.at.invariant_of-self-2 c).After-number_hart }
 
-abbrev after : After-with → Machine
+abbrev after : After-moved → Machine
 after c = record {
   program = c.self.inside.program;
   hart_states = c.number_hart.new.harts.keys;
+  far_harts = c.moved.new.far_harts.keys;
   shared_states = c.number_shared.new.shared.keys;
 }
 
-grows : (c : After-with) → Grows (machine_of c.self.inside) (after c)
+grows : (c : After-moved) → Grows (machine_of c.self.inside) (after c)
 grows c = record {
   program = refl;
   hart_states = c.number_hart.ensures.kept;
+  far_harts = c.moved.ensures.kept;
   shared_states = c.number_shared.ensures.kept;
 }
 
-shared_is : (c : After-with) → c.shared-shared.result.now ≡ (decoded (machine_of c.self.inside) c.args.state).shared
+shared_is : (c : After-moved) → c.shared-shared.result.now ≡ (decoded (machine_of c.self.inside) c.args.state).shared
 shared_is c = c.shared-shared.ensures ∙ ap (λ m. (decoded m c.args.state).shared) (sym c.self.view_is)
 
-shared_after : (c : After-with)
+shared_after : (c : After-moved) (next : State) → next.shared ≡ c.in_ok-shared_number.shared_number
     → IsSharedAfter c.self.inside.program.image c.args.hart c.execute-executed.result c.shared-shared.result.now
-    c.number_shared.new.shared.keys c.with.result.shared
-shared_after c =
+    c.number_shared.new.shared.keys next.shared
+shared_after c next same =
     let e = c.execute-executed.result in
     let table = c.number_shared.new.shared.keys in
     let before = (decoded (machine_of c.self.inside) c.args.state).shared in
-    subst (λ (i : ProgramImage). IsSharedAfter i c.args.hart e c.shared-shared.result.now table c.with.result.shared)
+    subst (λ (i : ProgramImage). IsSharedAfter i c.args.hart e c.shared-shared.result.now table next.shared)
     c.start.ensures.image
-    (subst (λ (old : Shared). IsSharedAfter c.start.result.now.image c.args.hart e old table c.with.result.shared)
+    (subst (λ (old : Shared). IsSharedAfter c.start.result.now.image c.args.hart e old table next.shared)
     (sym (shared_is c))
-    (subst (λ (n : ℕ). IsSharedAfter c.start.result.now.image c.args.hart e before table n) (sym c.with.ensures.shared)
+    (subst (λ (n : ℕ). IsSharedAfter c.start.result.now.image c.args.hart e before table n) (sym same)
     c.in_ok-shared_number.ensures.number))
 
-moved : (c : After-with) → slice_index c.hart.result.now.registers 0 ≡ 0
+moved : (c : After-moved) (next : State) → slice_index c.hart.result.now.registers 0 ≡ 0
     → c.hart.result.now ≡ hart_in (machine_of c.self.inside) c.args.state c.args.hart
-    → HasMoved (machine_of c.self.inside) (after c) c.args.state c.with.result c.args.hart c.come_to_rest-way.result
-moved c zero of_hart =
-    moved_from (machine_of c.self.inside) (after c) c.args.state c.with.result c.args.hart c.come_to_rest-way.result
+    → HasNumbers c.moved.new.far_harts.keys
+    (slice_set (numbers_of (machine_of c.self.inside) c.args.state) c.args.hart c.in_ok-number.number)
+    c.in_ok-shared_number.shared_number next
+    → HasMoved (machine_of c.self.inside) (after c) c.args.state next c.args.hart c.come_to_rest-way.result
+moved c next zero of_hart numbered =
+    moved_from (machine_of c.self.inside) (after c) c.args.state next c.args.hart c.come_to_rest-way.result
     c.hart.result.now c.shared-shared.result.now of_hart (shared_is c)
     (record {
       zero = zero;
@@ -101,25 +114,33 @@ moved c zero of_hart =
       is_behind = c.execute-executed.ensures.behind;
       rests = c.come_to_rest-way.ensures;
       has = c.in_ok-number.ensures.number;
-      numbered = c.with.ensures.harts;
-      shared = shared_after c;
+      numbered = numbered.numbers_are;
+      far = numbered.known;
+      shared = shared_after c next numbered.shared_is;
     })
+
+pub returns-in_err-next-clause-grows : goal.returns-in_err-next-clause-grows
+returns-in_err-next-clause-grows c =
+    let at = (goal.at.returns-in_err-next-clause-grows c).After-moved in
+    subst (λ m. Grows m (after at)) c.self.view_is (grows at)
 
 pub returns-clause-grows : goal.returns-clause-grows
 returns-clause-grows c =
-    let at = (goal.at.returns-clause-grows c).After-with in
+    let at = (goal.at.returns-clause-grows c).After-moved in
     subst (λ m. Grows m (after at)) c.self.view_is (grows at)
 
 pub returns-clause-steps : goal.returns-clause-steps
 returns-clause-steps c =
     let early = (goal.at.returns-clause-steps c).After-number_hart in
-    let at = (goal.at.returns-clause-steps c).After-with in
-    made (machine_of c.self.inside) (after at) c.args.state c.with.result c.args.hart c.come_to_rest-way.result
-    c.self.invariant.sound (grows at) (knows early) (inside early) (moved at (zero_before early) (hart_is early))
+    let at = (goal.at.returns-clause-steps c).After-moved in
+    made (machine_of c.self.inside) (after at) c.args.state c.in_ok-next.next c.args.hart c.come_to_rest-way.result
+    c.self.invariant.sound (grows at) (knows early) (inside early)
+    (moved at c.in_ok-next.next (zero_before early) (hart_is early) c.in_ok-next.ensures.moved)
 
 pub returns-clause-knows : goal.returns-clause-knows
 returns-clause-knows c =
     let early = (goal.at.returns-clause-knows c).After-number_hart in
-    let at = (goal.at.returns-clause-knows c).After-with in
-    known (machine_of c.self.inside) (after at) c.args.state c.with.result c.args.hart c.come_to_rest-way.result
-    c.self.invariant.sound (grows at) (knows early) (inside early) (moved at (zero_before early) (hart_is early))
+    let at = (goal.at.returns-clause-knows c).After-moved in
+    known (machine_of c.self.inside) (after at) c.args.state c.in_ok-next.next c.args.hart c.come_to_rest-way.result
+    c.self.invariant.sound (grows at) (knows early) (inside early)
+    (moved at c.in_ok-next.next (zero_before early) (hart_is early) c.in_ok-next.ensures.moved)
