@@ -15,8 +15,8 @@ if [ "$smtsim" = "$root/smtsim" ]; then smtsim=$root/crates/smtsim/out/smtsim; f
 # keep LOOP HARTS EVENTS: a trace of so many events, and the same with a first event of an actor that isn't there.
 keep() {
     prepare "$1" "$2" "$3"
-    { echo 'smt-trace 1'; step "$work/script" | sed -n 's/^done //p'; } >"$work/trace"
-    sed '2s/^F 0 /F 15 /' "$work/trace" >"$work/refused"
+    step "$work/script" --trace "$work/trace" >/dev/null
+    sed '3s/^F 0 /F 31 /' "$work/trace" >"$work/refused"
 }
 
 # check TRACE STATUS COMMAND..: the check of a trace under a command, which has to end with this status: 3 where harts are still going,

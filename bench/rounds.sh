@@ -7,22 +7,30 @@ trap 'rm -rf "$work"' EXIT
 : >"$work/empty"
 "$smtsim" --help >/dev/null
 
-# units LOOP HARTS: the steps of the units in a round, in an order in which no ask is idle and no load looks too early.
+# units LOOP HARTS: the steps of the units in a round of so many harts, in an order in which no ask is idle and no load looks too early. The
+# beginning is the three instructions before the loops that touch memory.
 units() {
     case $1 in
+    beginning) echo "U3*$((3 * $2))" ;;
     loop) echo "U3*$((6 * $2)) U4*$((2 * $2))" ;;
     increment) echo "U5*$2 U3*$2 U5*$((2 * $2)) U3*$((3 * $2)) U5*$2" ;;
     atomic) echo "U3*$((6 * $2)) U5*$((2 * $2))" ;;
     esac
 }
 
-# a_round HARTS INSTRUCTIONS UNITS: takes so many instructions of each hart from the fetch to the end, six events each.
+# a_round LOOP HARTS INSTRUCTIONS: takes so many instructions of each hart from the fetch to the end, six events each. Behind the fetch come eight
+# harts at the most at a time, since the queue has 64 places.
 a_round() {
-    printf 'F0*%s' $(($1 * $2))
-    printf " D1.%s*$2" $(seq 0 $(($1 - 1)))
-    printf " R1.%s*$2" $(seq 0 $(($1 - 1)))
-    printf ' %s' "$3"
-    printf " T2.%s*$2" $(seq 0 $(($1 - 1)))
+    printf 'F0*%s' $(($2 * $3))
+    first=0
+    while [ "$first" -lt "$2" ]; do
+        last=$((first + 7 < $2 ? first + 7 : $2 - 1))
+        printf " D1.%s*$3" $(seq "$first" "$last")
+        printf " R1.%s*$3" $(seq "$first" "$last")
+        printf ' %s' "$(units "$1" $((last - first + 1)))"
+        printf " T2.%s*$3" $(seq "$first" "$last")
+        first=$((last + 1))
+    done
     echo
 }
 
@@ -32,13 +40,15 @@ prepare() {
     image=$root/bench/$1.elf
     printf 'harts = %s\nqueue = 64\nlimit = %s\n' "$2" "$3" >"$work/config.toml"
     : >"$work/script"
-    [ "$1" = loop ] || a_round "$2" 3 "U3*$((3 * $2))" >"$work/script"
-    yes "$(a_round "$2" 8 "$(units "$1" "$2")")" | head -n $(($3 / (48 * $2) + 1)) >>"$work/script"
+    [ "$1" = loop ] || a_round beginning "$2" 3 >"$work/script"
+    yes "$(a_round "$1" "$2" 8)" | head -n $(($3 / (48 * $2) + 1)) >>"$work/script"
 }
 
-# step SCRIPT: status 3 says that harts are still going, as they are in an endless loop.
+# step SCRIPT ..: with options behind it. Status 3 says that harts are still going, as they are in an endless loop.
 step() {
-    "$smtsim" step "$image" "$1" --config "$work/config.toml" || [ $? -eq 3 ]
+    script=$1
+    shift
+    "$smtsim" step "$image" "$script" --config "$work/config.toml" "$@" || [ $? -eq 3 ]
 }
 
 # try_round LOOP HARTS: every round is like the first ones, so if a short script fills its history, so does a long one.

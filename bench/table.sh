@@ -1,7 +1,7 @@
 #!/bin/sh
 # Prints one table of what an event costs (of `plain`, a step), for `step`, `check`, `plain` and `run`: bench/table.sh [COUNTED [TIMED]].
 # Instructions are those that callgrind counts of so many events (else 10^5); nanoseconds, of the fastest of RUNS runs (else 3), and bytes, of
-# the peak of memory, are of so many (else 10^6). From all of them those of 100 events are taken off. HARTS says on how many harts (else `1 4`),
+# the peak of memory, are of so many (else 10^6). From all of them those of 100 events are taken off. HARTS says on how many harts (else `1 4 16`),
 # LOOPS and SMTSIM are as in run.sh. Where one of Debian's packages `valgrind` and `time` isn't there, it says so and leaves its column open.
 set -eu
 root=$(cd "$(dirname "$0")/.." && pwd)
@@ -24,7 +24,7 @@ has_time=yes
 ready() {
     prepare "$2" "$3" "$4"
     case $1 in
-    check) { echo 'smt-trace 1'; step "$work/script" | sed -n 's/^done //p'; } >"$work/trace" ;;
+    check) step "$work/script" --trace "$work/trace" >/dev/null ;;
     plain) yes "$(seq -s ' ' 0 $(($3 - 1)))" | head -n $(($4 / $3)) >"$work/order" ;;
     esac
 }
@@ -70,7 +70,7 @@ nanoseconds() {
 printf '%-7s %-9s %5s %12s %12s %9s\n' command loop harts instructions nanoseconds bytes
 for command in step check plain run; do
     for loop in $loops; do
-        for harts in ${HARTS:-1 4}; do
+        for harts in ${HARTS:-1 4 16}; do
             try_round "$loop" "$harts"
             ready "$command" "$loop" "$harts" 100
             few=$(instructions "$command")

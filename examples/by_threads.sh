@@ -1,4 +1,5 @@
 # Read by the runs.sh of c, locks and litmus, with `here` set to their folder: makes runs by `smtsim run` and counts what comes of them.
+# CONFIG names a configuration; then all runs are of its harts and its actors, in place of those that the runs.sh names.
 # Their `judge` prints what a run came to, a line for each outcome, and fails where the run didn't end as it should.
 # shellcheck shell=sh disable=SC2154  # here is set by those that read this file.
 LC_ALL=C
@@ -11,9 +12,23 @@ trap 'rm -rf "$work"' EXIT
 trap 'exit 1' HUP INT TERM
 "$smtsim" --help >/dev/null
 
-# run_once: a run of $program on $harts harts, with its records. The history has so much room that no waiting fills it.
+# sizes HARTS ..: on how many harts the runs are.
+sizes() {
+    if [ -n "${CONFIG:-}" ]; then sed -n 's/^harts = //p' "$CONFIG"; else echo "$@"; fi
+}
+
+# configure: makes the configuration of a run. The history has so much room that no waiting fills it.
+configure() {
+    if [ -n "${CONFIG:-}" ]; then
+        cp "$CONFIG" "$work/config.toml"
+    else
+        printf 'harts = %s\nqueue = 64\nlimit = 16000000\n' "$harts" >"$work/config.toml"
+    fi
+}
+
+# run_once: a run of $program on $harts harts, with its records.
 run_once() {
-    printf 'harts = %s\nqueue = 64\nlimit = 16000000\n' "$harts" >"$work/config.toml"
+    configure
     status=0
     "$smtsim" run "$here/$program.elf" --config "$work/config.toml" --records >"$work/printed" || status=$?
     echo "status $status" >>"$work/printed"
@@ -21,7 +36,7 @@ run_once() {
 
 # same_by_plain: whether the plain machine, in the order of retirement, has the same records, harts, bytes and exit status.
 same_by_plain() {
-    sed -n 's/^\([0-7]\) .*/\1/p' "$work/printed" >"$work/order"
+    sed -n 's/^\([0-9][0-9]*\) .*/\1/p' "$work/printed" >"$work/order"
     status=0
     "$smtsim" plain "$here/$program.elf" "$work/order" --config "$work/config.toml" --records >"$work/plain" || status=$?
     echo "status $status" >>"$work/plain"

@@ -29,6 +29,7 @@ RUNS = """
     trace_full_device trace_takes_a_part check_1_mb check_first_wrong_line plain_order_of_1_mb
     plain_rounds_c_programs schedule_of_10000_words history_first_example chart_picture chart_kanata
     list_all_kinds explain_both_accepted outcomes_witness litmus_svg litmus_image_step input_script
+    migrate_first_example migrate_long migrate_takes_a_part migrate_from_standard_input
     script_from_a_pipe prompt_show prompt_trace times_kept run_counter_under_a_lock full_device_much
     file_size_limit closed_pipe_much help image_cut config_cut
 """.split()

@@ -30,6 +30,7 @@ RUNS = {
     "schedule": ("schedule litmus/message_passing.elf ORDER --config litmus/two.toml", False),
     "check": ("check overtaken/overtaken.elf TRACE --config overtaken/two.toml --records", False),
     "script": ("script overtaken/overtaken.elf TRACE --config overtaken/two.toml", False),
+    "migrate": ("migrate traces/overtaken_version_1.trace OUT --config overtaken/two.toml", False),
     "chart": ("chart overtaken/overtaken.elf TRACE --config overtaken/two.toml", False),
     "chart_svg": ("chart overtaken/overtaken.elf TRACE --config overtaken/two.toml --svg OUT", False),
     "chart_kanata": ("chart overtaken/overtaken.elf TRACE --config overtaken/two.toml --kanata OUT", False),

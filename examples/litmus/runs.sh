@@ -1,7 +1,8 @@
 #!/bin/sh
 # runs.sh [PROGRAM]: runs the litmus tests by threads on 2, 4 and 8 harts, TIMES times each (else ten), and prints a table of what came. Each
 # outcome has to be one that an order of whole instructions can have (outcomes.out), and the plain machine has to make the same in the order
-# of retirement: else a line on standard error and status 1. PROGRAM is the simulator, without it the one of this repository.
+# of retirement: else a line on standard error and status 1. PROGRAM is the simulator, without it the one of this repository. CONFIG is as in
+# by_threads.sh.
 set -eu
 here=$(cd "$(dirname "$0")" && pwd)
 . "$here/../by_threads.sh"
@@ -27,7 +28,7 @@ judge() {
 }
 
 for program in message_passing store_buffering load_buffering coherent_reads independent_reads; do
-    for harts in 2 4 8; do
+    for harts in $(sizes 2 4 8); do
         # Independent reads take two that write and two that read.
         if [ "$program $harts" != "independent_reads 2" ]; then runs_of "$program" "$harts"; fi
     done

@@ -2,7 +2,7 @@
 # runs.sh [PROGRAM]: runs the locks, the barrier and the broken lock by threads on 1, 2, 4 and 8 harts, TIMES times each (else ten), and prints
 # a table of what came. The locks and the barrier have to keep their promise, the broken lock may lose additions, and the plain machine has
 # to make the same in the order of retirement: else a line on standard error and status 1. PROGRAM is the simulator, without it the one of
-# this repository.
+# this repository. CONFIG is as in by_threads.sh.
 set -eu
 here=$(cd "$(dirname "$0")" && pwd)
 . "$here/../by_threads.sh"
@@ -18,10 +18,10 @@ judge() {
     *) least=$((8 * harts)) most=$((8 * harts)) ;;
     esac
     [ "${first:-0}" -ge "$least" ] && [ "${first:-9999}" -le "$most" ] && [ "$(told status)" = "$((first > 0))" ] &&
-        [ "$(grep -c '^hart [1-7] ended 0$' "$work/printed")" -eq $((harts - 1)) ]
+        [ "$(grep -c '^hart [1-9][0-9]* ended 0$' "$work/printed")" -eq $((harts - 1)) ]
 }
 
 for program in swap reserve ticket barrier broken; do
-    for harts in 1 2 4 8; do runs_of "$program" "$harts"; done
+    for harts in $(sizes 1 2 4 8); do runs_of "$program" "$harts"; done
 done
 exit "$agree"

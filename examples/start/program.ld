@@ -1,5 +1,6 @@
 /* Two loadable segments: the code from the start of RAM, to be read and executed, and behind it the data. The stacks are at the
-   end of RAM. Change ram_size together with the key `ram` of the configuration. A section that stands nowhere here is an error:
+   end of RAM, with room for those of most_harts; more harts want more of it, and a larger ram_size. Change ram_size together with the
+   key `ram` of the configuration. A section that stands nowhere here is an error:
    the linker would else put it where it likes, into the code too. */
 OUTPUT_ARCH(riscv)
 ENTRY(_start)

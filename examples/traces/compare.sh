@@ -1,6 +1,6 @@
 #!/bin/sh
-# compare.sh [PROGRAM]: checks every trace, and compares what is said with what is kept (said.out); and the run of the overtaken load
-# has to write its trace. No output and status 0 where all agree. PROGRAM is the simulator, without it the one of this repository.
+# compare.sh [PROGRAM]: checks every trace, and compares what is said with what is kept (said.out); the run of the overtaken load has to
+# write its trace, and those of version 1 have to become those of version 2. No output and status 0 where all agree. PROGRAM is the simulator, without it the one of this repository.
 set -eu
 LC_ALL=C
 export LC_ALL
@@ -21,7 +21,7 @@ checked() {
 agree=0
 overtaken=../overtaken/overtaken.elf
 {
-    for trace in overtaken first_value survivor register_twice; do checked "$trace" "$overtaken" ../overtaken/two.toml; done
+    for trace in overtaken overtaken_version_1 first_value first_value_version_1 survivor register_twice; do checked "$trace" "$overtaken" ../overtaken/two.toml; done
     checked two_inside ../locks/swap.elf ../locks/two.toml
     checked stale_sc reserve_and_store.elf two.toml
 } >"$work/said"
@@ -34,4 +34,11 @@ if [ "$status" -ne 3 ] || ! diff "$here/overtaken.trace" "$work/written.trace"; 
     echo "the run of the overtaken load writes another trace"
     agree=1
 fi
+for trace in overtaken first_value; do
+    if ! "$smtsim" migrate "$here/${trace}_version_1.trace" "$work/migrated.trace" --config "$here/../overtaken/two.toml" ||
+        ! diff "$here/$trace.trace" "$work/migrated.trace"; then
+        echo "$trace is migrated otherwise"
+        agree=1
+    fi
+done
 exit "$agree"

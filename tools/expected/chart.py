@@ -12,8 +12,7 @@ import sys
 
 import judge
 from instructions import spelled
-from judge_inputs import Complete, Decode, Drop, Fetch, Issue, Refused, Rename, Retire, Settings
-from judge_inputs import image_of, settings_of, trace_of
+from judge_inputs import Complete, Decode, Drop, Fetch, Issue, Refused, Rename, Retire
 from judge_words import op_of_word
 
 LETTERS = {Fetch: "F", Decode: "D", Rename: "R", Issue: "I", Complete: "C", Drop: "X", Retire: "T"}
@@ -154,10 +153,10 @@ def main(words):
     line.add_argument("--kanata", action="store_true")
     asked = line.parse_args(words)
     try:
-        settings = settings_of(judge.contents(asked.config)) if asked.config else Settings()
-        image = image_of(judge.contents(asked.image), settings.ram)
-        events = trace_of(judge.contents(asked.trace))
+        image, settings, events = judge.read(asked.image, asked.trace, asked.config)
         judge.judged(image, settings, events)
+        if asked.hart is not None and asked.hart >= settings.harts:
+            raise Refused(f"no hart {asked.hart}", 2)
     except Refused as refused:
         print(f"smtsim: {refused.said}", file=sys.stderr)
         return refused.status

@@ -12,8 +12,7 @@ import json
 import sys
 
 import judge
-from judge_inputs import Complete, Decode, Drop, Fetch, Issue, Refused, Rename, Retire, Settings
-from judge_inputs import image_of, settings_of, trace_of
+from judge_inputs import Complete, Decode, Drop, Fetch, Issue, Refused, Rename, Retire
 from judge_words import op_of_word
 
 KINDS = {
@@ -93,10 +92,8 @@ def main(words):
     line.add_argument("--json", action="store_true")
     asked = line.parse_args(words)
     try:
-        settings = settings_of(judge.contents(asked.config)) if asked.config else Settings()
-        image = image_of(judge.contents(asked.image), settings.ram)
-        events = trace_of(judge.contents(asked.trace))
-        text, _ = judge.judged(image, settings, events)
+        image, settings, events = judge.read(asked.image, asked.trace, asked.config)
+        text, status = judge.judged(image, settings, events)
     except Refused as refused:
         print(f"smtsim: {refused.said}", file=sys.stderr)
         return refused.status
@@ -106,7 +103,7 @@ def main(words):
     else:
         print(text, end="")
         print("\n".join(f"{word} {number}" for word, number in numbers(history).items()))
-    return 0
+    return status
 
 
 if __name__ == "__main__":

@@ -10,9 +10,8 @@ stands for each event: its letter and actor, and behind a point the hart of a de
 import sys
 
 from instructions import predicted
-from judge import contents, judged
-from judge_inputs import Complete, Decode, Drop, Fetch, Issue, Refused, Rename, Retire, Settings
-from judge_inputs import image_of, settings_of, trace_of
+from judge import judged, read
+from judge_inputs import Complete, Decode, Drop, Fetch, Issue, Refused, Rename, Retire
 from judge_rules import Rules
 
 LETTERS = {Fetch: "F", Decode: "D", Rename: "R", Issue: "I", Complete: "C", Drop: "C", Retire: "T"}
@@ -30,7 +29,7 @@ def decided_otherwise(history, n):
     return None
 
 
-def lines(settings, image, events):
+def lines(image, settings, events):
     """The lines of the script; Refused where there is none."""
     judged(image, settings, events)
     history = Rules(settings, image, events)
@@ -45,9 +44,7 @@ def lines(settings, image, events):
 
 
 def main(image, trace, config=None):
-    settings = Settings() if config is None else settings_of(contents(config))
-    found = image_of(contents(image), settings.ram)
-    for line in lines(settings, found, trace_of(contents(trace))):
+    for line in lines(*read(image, trace, config)):
         print(line)
 
 

@@ -3,14 +3,12 @@
 import re
 import tomllib
 
-ROLES = ("fetch", "front", "retire", "alu", "mul", "mem")
+import limits
+from limits import ROLES
+
 DEFAULTS = {
     "harts": 1, "extra": 64, "queue": 16, "ram": 65536, "limit": 1000000, "turns": 10**9,
     "actors": list(ROLES),
-}
-RANGES = {
-    "harts": (1, 8), "extra": (1, 256), "queue": (4, 64), "ram": (4096, 16777216),
-    "limit": (0, 16777216), "turns": (0, 10**18),
 }
 # How many files each command has, and which options beside `--config`.
 COMMANDS = {
@@ -51,7 +49,7 @@ def read_line(words):
             line[name[2:]] = read_number(value if has_value else rest.pop(0), *numbers[name])
         elif word in flags and word not in seen:
             line[word[2:]] = True
-        elif not word.startswith("-"):
+        elif word == "-" or not word.startswith("-"):
             line["files"].append(word)
             continue
         else:
@@ -81,18 +79,18 @@ def read_config(data):
         raise Refused("config refused", 2) from None
     settings = {**DEFAULTS, **given}
     ok = set(settings) == set(DEFAULTS)
-    for key, (low, high) in RANGES.items():
-        ok = ok and type(settings[key]) is int and low <= settings[key] <= high
+    for key, numbers in limits.NUMBERS.items():
+        ok = ok and type(settings[key]) is int and settings[key] in numbers
     actors = settings["actors"]
-    ok = ok and isinstance(actors, list) and 1 <= len(actors) <= 16
+    ok = ok and isinstance(actors, list) and len(actors) in limits.ACTORS
     ok = ok and all(actor in ROLES for actor in actors)
-    if not ok or settings["ram"] % 4096:
+    if not ok:
         raise Refused("config refused", 2)
     return settings
 
 
-ACTOR, HART, TIMES = r"(0|[1-9]|1[0-5])", r"([0-7])", r"(?:\*([1-9][0-9]{0,4}|100000))?"
-WORD = re.compile(rf"(?:([FICU]){ACTOR}|([DRT]){ACTOR}\.{HART}){TIMES}\Z")
+SMALL, TIMES = r"(0|[1-9][0-9]?)", r"(?:\*([1-9][0-9]{0,4}|100000))?"
+WORD = re.compile(rf"(?:([FICU]){SMALL}|([DRT]){SMALL}\.{SMALL}){TIMES}\Z")
 
 
 NUMBER = re.compile(r"(?:0|[1-9][0-9]{0,2})\Z")
@@ -117,8 +115,16 @@ def read_script(data):
     asks = []
     for place, word in enumerate(words_of(data), start=1):
         found = WORD.match(word)
-        if not found:
+        ask = found and ask_of(*found.groups())
+        if not ask:
             raise Refused(f"script word {place} refused", 2)
-        letter, actor, other, other_actor, hart, times = found.groups()
-        asks.append((letter or other, int(actor or other_actor), int(hart or 0), int(times or 1)))
+        asks.append(ask)
     return asks
+
+
+def ask_of(letter, actor, other, other_actor, hart, times):
+    """The ask of a word; None where a core can't have its actor or its hart."""
+    actor, hart = int(actor or other_actor), int(hart or 0)
+    if actor >= limits.MOST_ACTORS or hart >= limits.MOST_HARTS:
+        return None
+    return letter or other, actor, hart, int(times or 1)

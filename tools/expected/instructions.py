@@ -86,6 +86,8 @@ def decode(word):
         return Instruction(PRODUCTS[funct3], "compute", "mul", rd, rs1, rs2)
     if opcode == 0b0001111 and funct3 == 0:
         return Instruction("fence", "compute", "alu")
+    if opcode == 0b0001111 and funct3 == 1:
+        return Instruction("fence.i", "compute", "alu")
     if word == 0x00000073:
         return Instruction("ecall", "compute", "alu", 0, 17, 10)
     if word == 0x00100073:
@@ -114,7 +116,7 @@ def spelled(word, pc):
     rd, rs1, rs2 = f"x{i.rd}", f"x{i.rs1}", f"x{i.rs2}"
     if i is ILLEGAL:
         return ".word"
-    if name in ("fence", "ecall", "ebreak"):
+    if name in ("fence", "fence.i", "ecall", "ebreak"):
         return name
     if name in ("lui", "auipc"):
         return f"{name} {rd},0x{i.imm >> 12:05x}"
@@ -232,7 +234,7 @@ def compute(i, pc, a, b):
         return Computed(behind, addr=a + i.imm & MASK, data=b & (1 << 8 * SIZES[i.name]) - 1)
     if i.kind in ("lr", "sc", "amo"):
         return Computed(behind, addr=a, data=b)
-    if i.name == "fence":
+    if i.name in ("fence", "fence.i"):
         return Computed(behind)
     if i.name in ("lui", "auipc"):
         return Computed(behind, value=i.imm + (pc if i.name == "auipc" else 0) & MASK)

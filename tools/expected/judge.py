@@ -66,9 +66,18 @@ def judged(image, settings, events, records=False):
     return report(history, records)
 
 
+def read(image, trace, config):
+    """The image of these files, the settings that the trace is judged by, and its events."""
+    given = Settings() if config is None else settings_of(contents(config))
+    found = image_of(contents(image), given.ram)
+    told = trace_of(contents(trace))
+    return found, told.settings(given), told.events
+
+
 def contents(path):
+    """The bytes of a file; `-` is standard input."""
     try:
-        with open(path, "rb") as file:
+        with open("/dev/stdin" if path == "-" else path, "rb") as file:
             data = file.read(MOST_BYTES + 1)
     except OSError as failed:
         raise Refused("file", 5) from failed
@@ -77,30 +86,28 @@ def contents(path):
     return data
 
 
-def line_of(words):
-    """The files, the configuration's name and the options of a command line."""
+def line_of(words, flags=("--records",)):
+    """The two files, the configuration's name and the flags of a command line that has no other options."""
     files, options, rest = [], {}, list(words)
     while rest:
         word, has_value, value = rest.pop(0).partition("=")
-        if not word.startswith("-"):
+        if word == "-" or not word.startswith("-"):
             files.append(word + has_value + value)
         elif word == "--config" and word not in options and (has_value or rest):
             options[word] = value if has_value else rest.pop(0)
-        elif word == "--records" and word not in options and not has_value:
+        elif word in flags and word not in options and not has_value:
             options[word] = True
         else:
             raise Refused("command line", 2)
     if len(files) != 2:
         raise Refused("command line", 2)
-    return files, options.get("--config"), "--records" in options
+    return files, options.get("--config"), [flag for flag in flags if flag in options]
 
 
 def main(words):
     try:
         (image, trace), config, records = line_of(words)
-        settings = Settings() if config is None else settings_of(contents(config))
-        found = image_of(contents(image), settings.ram)
-        text, status = judged(found, settings, trace_of(contents(trace)), records)
+        text, status = judged(*read(image, trace, config), bool(records))
     except Refused as refused:
         print(f"smtsim: {refused.said}", file=sys.stderr)
         return refused.status

@@ -1,7 +1,8 @@
 """The files that the second judge reads: a program image, a configuration, a trace.
 
 Written from docs/FORMATS.md and from crates/elf_image/specs, crates/sim_inputs/specs and
-crates/event_text/specs. Nothing here is shared with the model of the program in this folder.
+crates/event_text/specs. Nothing here but the limits is shared with the model of the program in this
+folder.
 """
 
 import re
@@ -9,8 +10,10 @@ import tomllib
 from itertools import combinations
 from typing import NamedTuple, Optional
 
+import limits
+from limits import FIRST, MOST_EVENTS, SECOND
+
 RAM_START = 0x80000000
-MOST_EVENTS = 16777216
 
 
 class Refused(Exception):
@@ -134,17 +137,7 @@ class Settings(NamedTuple):
     ram: int = 65536
     limit: int = 1000000
     turns: int = 1000000000
-    actors: tuple = ("fetch", "front", "retire", "alu", "mul", "mem")
-
-
-RANGES = {
-    "harts": range(1, 9),
-    "extra": range(1, 257),
-    "queue": range(4, 65),
-    "ram": range(4096, 16777216 + 1, 4096),
-    "limit": range(MOST_EVENTS + 1),
-    "turns": range(10**18 + 1),
-}
+    actors: tuple = limits.ROLES
 
 
 def settings_of(text):
@@ -155,10 +148,11 @@ def settings_of(text):
         raise Refused("config refused", 2) from wrong
     for key, value in found.items():
         if key == "actors":
-            right = type(value) is list and 1 <= len(value) <= 16
-            right = right and all(type(role) is str and role in Settings().actors for role in value)
+            right = type(value) is list and len(value) in limits.ACTORS
+            right = right and all(type(role) is str and role in limits.ROLES for role in value)
         else:
-            right = key in RANGES and type(value) is int and value in RANGES[key]
+            numbers = limits.NUMBERS.get(key, ())
+            right = type(value) is int and value in numbers
         if not right:
             raise Refused("config refused", 2)
     return Settings(**{key: tuple(v) if key == "actors" else v for key, v in found.items()})
@@ -232,11 +226,13 @@ class Broken(Exception):
     """The rule that a line breaks."""
 
 
-def decimal(most):
+def decimal(numbers):
+    """The reader of a decimal field that has to be one of these numbers."""
+
     def field(text):
         if not re.fullmatch(rb"0|[1-9][0-9]*", text):
             raise Broken(5)
-        if len(text) > 20 or int(text) > most:
+        if len(text) > 20 or int(text) not in numbers:
             raise Broken(6)
         return int(text)
 
@@ -275,49 +271,117 @@ def write_of(address, number):
     return None if address is None else (address, *number)
 
 
-ACTOR, SEQ, WORD, BYTE = decimal(15), decimal(MOST_EVENTS - 1), hexadecimal(8), hexadecimal(2)
-HEAD = (ACTOR, SEQ)
+WORD, BYTE = hexadecimal(8), hexadecimal(2)
 VALUES = (optional(WORD), next_field, optional(WORD), optional(WORD), optional(BYTE))
-KINDS = {
-    b"F": (Fetch, (ACTOR, decimal(7), SEQ, WORD, optional(WORD), WORD)),
-    b"D": (Decode, HEAD),
-    b"R": (Rename, (*HEAD, optional(decimal(503)))),
-    b"I": (Issue, HEAD),
-    b"C": (lambda actor, seq, *rest: Complete(actor, seq, Outcome(*rest)), (*HEAD, *VALUES)),
-    b"X": (Drop, HEAD),
-    b"T": (
-        lambda actor, seq, value, next, address, number, out: Retire(
-            actor, seq, Effect(value, next, write_of(address, number), out)
+
+
+def kinds_within(spelled):
+    """The kinds of events by their letters, and the readers of their fields, in a version's ranges."""
+    actor, hart, register = (decimal(range(most + 1)) for most in spelled)
+    seq = decimal(range(MOST_EVENTS))
+    head = (actor, seq)
+    return {
+        b"F": (Fetch, (actor, hart, seq, WORD, optional(WORD), WORD)),
+        b"D": (Decode, head),
+        b"R": (Rename, (*head, optional(register))),
+        b"I": (Issue, head),
+        b"C": (lambda actor, seq, *rest: Complete(actor, seq, Outcome(*rest)), (*head, *VALUES)),
+        b"X": (Drop, head),
+        b"T": (
+            lambda actor, seq, value, next, address, number, out: Retire(
+                actor, seq, Effect(value, next, write_of(address, number), out)
+            ),
+            (*head, optional(WORD), next_field, optional(WORD), optional(sized), optional(BYTE)),
         ),
-        (*HEAD, optional(WORD), next_field, optional(WORD), optional(sized), optional(BYTE)),
-    ),
-}
+    }
 
 
-def event_of(line):
+KINDS = {b"smt-trace 1": kinds_within(FIRST), b"smt-trace 2": kinds_within(SECOND)}
+
+
+def event_of(line, kinds):
     """The event of a line without its newline; Broken with the first rule that the line breaks."""
     letter, *fields = line.split(b" ")
-    if letter not in KINDS:
+    if letter not in kinds:
         raise Broken(3)
-    event, readers = KINDS[letter]
+    event, readers = kinds[letter]
     if len(fields) != len(readers):
         raise Broken(4)
     return event(*(read(field) for read, field in zip(readers, fields)))
 
 
+class TraceCore(NamedTuple):
+    """The core that a trace of version 2 names."""
+
+    harts: int
+    extra: int
+    queue: int
+    actors: tuple
+
+
+def role(text):
+    if text.decode("latin-1") not in limits.ROLES:
+        raise Broken(5)
+    return text.decode()
+
+
+def core_of(line):
+    """The core of a config line without its newline; Broken with the first rule that it breaks."""
+    word, *fields = line.split(b" ")
+    if word != b"config":
+        raise Broken(3)
+    if len(fields) - 3 not in limits.ACTORS:
+        raise Broken(4)
+    sizes = (limits.HARTS, limits.EXTRA, limits.QUEUED)
+    numbers = [decimal(size)(field) for size, field in zip(sizes, fields)]
+    return TraceCore(*numbers, tuple(role(field) for field in fields[3:]))
+
+
+class Trace(NamedTuple):
+    """What a trace says: its core, None in version 1, and its events."""
+
+    core: Optional[TraceCore]
+    events: list
+
+    def settings(self, given):
+        """The settings that the trace is judged by: those of its own core, and the others as given."""
+        return given if self.core is None else given._replace(**self.core._asdict())
+
+
 def trace_of(text):
-    """The events of a trace's text; Refused with the first line that is wrong, and its rule."""
+    """The trace of a text; Refused with the first line that is wrong, and its rule."""
     *lines, behind = text.split(b"\n")
-    events = []
+    kinds, core, events = None, None, []
+    has_core = lines[:1] == [b"smt-trace 2"]
     for place, line in enumerate(lines):
         try:
             if place == 0:
-                if line != b"smt-trace 1":
+                if line not in KINDS:
                     raise Broken(1)
+                kinds = KINDS[line]
+            elif place == 1 and has_core:
+                core = core_of(line)
             else:
-                events.append(event_of(line))
+                events.append(event_of(line, kinds))
         except Broken as broken:
             raise Refused(f"trace line {place + 1} refused {broken.args[0]}", 4) from broken
-    if behind or not lines:
+    if behind or len(lines) < 1 + has_core:
         raise Refused(f"trace line {len(lines) + 1} refused 2", 4)
-    return events
+    return Trace(core, events)
+
+
+# ---- Version 2 of a text of version 1
+
+
+def head_of(settings):
+    """The two lines before the events of a trace of version 2."""
+    sizes = f"{settings.harts} {settings.extra} {settings.queue}"
+    return f"smt-trace 2\nconfig {sizes} {' '.join(settings.actors)}\n".encode()
+
+
+def migrated(settings, text):
+    """The text of version 2 of the events of a text of version 1; Refused for one of version 2."""
+    if text.split(b"\n")[0] == b"smt-trace 2":
+        raise Refused("trace version refused", 4)
+    trace_of(text)
+    return head_of(settings) + text[len(b"smt-trace 1\n") :]

@@ -110,9 +110,9 @@ def calculation(opcode, funct3, funct7, rd, rs1, rs2, immediate):
 
 
 def system(word):
-    """FENCE, of which only opcode and funct3 count, ECALL and EBREAK."""
-    if word % 2**7 == 0b0001111 and word >> 12 & 7 == 0:
-        return Op("fence")
+    """FENCE and FENCE.I, of which only opcode and funct3 count, ECALL and EBREAK."""
+    if word % 2**7 == 0b0001111 and word >> 12 & 7 in (0, 1):
+        return Op("fence" if word >> 12 & 7 == 0 else "fence.i")
     return {0x00000073: Op("ecall", first=17, second=10), 0x00100073: Op("ebreak")}.get(word)
 
 
@@ -201,7 +201,7 @@ def computed(op, pc, a, b):
         return Computed(jump_to(target - target % 2), value=behind)
     if name in TAKEN:
         return Computed(jump_to((pc + immediate) % WORD) if TAKEN[name](a, b) else goes_on)
-    if name == "fence":
+    if name in ("fence", "fence.i"):
         return Computed(goes_on)
     if name == "ebreak":
         return Computed(("s", 3))

@@ -8,7 +8,7 @@ from typing import NamedTuple
 
 from litmus_words import SUBSET, Refused
 
-MOST_TERMS, MOST_LEVELS, MOST_OBSERVED = 128, 16, 64
+MOST_TERMS, MOST_LEVELS, MOST_OBSERVED = 32, 16, 64
 
 
 class Question(NamedTuple):
@@ -115,7 +115,7 @@ class Asked:
     def count(self, at):
         """Counts a term or `true` that stands here."""
         if self.terms == MOST_TERMS:
-            raise Refused(at, "more than 128 terms")
+            raise Refused(at, f"more than {MOST_TERMS} terms")
         self.terms += 1
 
     def read_term(self):

@@ -5,9 +5,10 @@ from dataclasses import dataclass, field
 
 import litmus_code
 import litmus_question
+from limits import MOST_HARTS
 from litmus_words import BLANKS, MOST_BYTES, SUBSET, TYPES, UNFINISHED, Reader, Refused, behind_blanks, words_of
 
-MOST_HARTS, MOST_LOCATIONS = 8, 64
+MOST_LOCATIONS = 64
 NO_QUESTION = "no exists, ~exists or forall"
 QUESTIONS = ("exists", "~", "not", "forall", "locations", "filter")
 
@@ -136,7 +137,7 @@ def read_start_value(reader):
 def read_heads(words, end):
     """How many harts there are."""
     if len(words) > 2 * MOST_HARTS:
-        raise Refused(words[2 * MOST_HARTS].at, "more than 8 harts")
+        raise Refused(words[2 * MOST_HARTS].at, f"more than {MOST_HARTS} harts")
     for k, word in enumerate(words):
         if k % 2 == 0 and (word.kind != "hart" or word.text != f"P{k // 2}"):
             raise Refused(word.at, "harts that aren't P0, P1 and so on")

@@ -22,9 +22,11 @@ import sys
 import tempfile
 
 import image
+import limits
 import program
 import schedule
-from inputs import DEFAULTS, ROLES, Refused
+from inputs import DEFAULTS, Refused
+from limits import ROLES
 from plain import Plain
 
 EXAMPLES = os.path.normpath(f"{os.path.dirname(os.path.abspath(__file__))}/../../examples")
@@ -136,10 +138,11 @@ def every_order(harts, steps):
 
 def random_settings(chance):
     """A configuration with a unit of each kind, and sizes from the least on."""
-    actors = ["alu", "mul", "mem", *chance.choices(ROLES, k=chance.randint(0, 13))]
+    more = chance.randint(0, chance.choice([13, limits.MOST_ACTORS - 3]))
+    actors = ["alu", "mul", "mem", *chance.choices(ROLES, k=more)]
     chance.shuffle(actors)
     return {
-        **DEFAULTS, "harts": chance.randint(1, 8), "extra": chance.choice([1, 2, 31, 64, 256]),
+        **DEFAULTS, "harts": chance.choice(limits.HARTS), "extra": chance.choice([1, 2, 31, 64, limits.MOST_EXTRA]),
         "queue": chance.choice([4, 5, 16, 64]), "actors": actors,
     }
 

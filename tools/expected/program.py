@@ -20,8 +20,9 @@ from rounds import make_rounds
 
 
 def read_file(name):
+    """The bytes of a file, None where it can't be read; `-` is standard input."""
     try:
-        with open(name, "rb") as file:
+        with open("/dev/stdin" if name == "-" else name, "rb") as file:
             return file.read()
     except OSError:
         return None

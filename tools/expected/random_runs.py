@@ -1,14 +1,15 @@
 """Random configurations, images, scripts and orders, from a seed.
 
-    python3 tools/expected/random_runs.py write FOLDER [COUNT] [SEED]
+    python3 tools/expected/random_runs.py write FOLDER [COUNT] [SEED] [wide]
         the inputs, and what the model here prints for them
-    python3 tools/expected/random_runs.py compare PROGRAM [COUNT] [SEED]
+    python3 tools/expected/random_runs.py compare PROGRAM [COUNT] [SEED] [wide]
         a built program beside the model
-    python3 tools/expected/random_runs.py compare PROGRAM=OTHER [COUNT] [SEED]
+    python3 tools/expected/random_runs.py compare PROGRAM=OTHER [COUNT] [SEED] [wide]
         two built programs beside each other
 
-Run K of a seed is the same whatever COUNT is. `compare` prints the runs that differ and leaves
-their inputs in a folder that it names; it ends with status 1 where there is one.
+With `wide` all cores have 9 to 16 harts and 17 to 32 actors. Run K of a seed is the same whatever
+COUNT is. `compare` prints the runs that differ and leaves their inputs in a folder that it names; it
+ends with status 1 where there is one.
 """
 
 import os
@@ -18,11 +19,11 @@ import sys
 import tempfile
 
 import image
+import limits
 import program
 from instructions import ILLEGAL, decode
+from limits import ROLES
 from plain import Plain
-
-ROLES = ("fetch", "front", "retire", "alu", "mul", "mem")
 
 
 def some_word(r, kinds=100):
@@ -111,25 +112,36 @@ def jump(rd, to):
     return high << 12 | rd << 7 | 0x6F
 
 
-def some_config(r):
-    harts = r.choice((1, 1, 2, 2, 3, 4, 8))
-    actors = r.choice(
-        (
-            list(ROLES),
-            ["alu"],
-            ["alu", "mul", "mem"],
-            [r.choice(ROLES) for _ in range(r.randint(1, 16))],
-            ["alu"] * 16,
-        )
+def some_config(r, wide=False):
+    """The settings of a core; of one that is wide, which one in ten is in any case, with more than 8 harts and 16
+    actors."""
+    wide = wide or r.random() < 0.1
+    ways = (
+        list(ROLES),
+        ["alu"],
+        ["alu", "mul", "mem"],
+        [r.choice(ROLES) for _ in range(r.randint(1, 16))],
+        ["alu"] * 16,
+    )
+    wide_ways = (
+        [r.choice(ROLES) for _ in range(r.randint(17, limits.MOST_ACTORS))],
+        [r.choice(("alu", "mul", "mem")) for _ in range(limits.MOST_ACTORS)],
+        ["front"] * 20 + list(ROLES),
     )
     return {
-        "harts": harts,
-        "extra": r.choice((1, 2, 3, 8, 64, 256)),
+        "harts": r.choice((9, 10, 12, 15, 16, 16) if wide else (1, 1, 2, 2, 3, 4, 8)),
+        "extra": r.choice((1, 16, 64, 256, 257, limits.MOST_EXTRA) if wide else (1, 2, 3, 8, 64, 256)),
         "queue": r.choice((4, 5, 16, 64)),
         "ram": r.choice((4096, 8192, 65536)),
         "limit": r.choice((0, 1, 17, 60, 1000, 100000, 1000000)) if r.random() < 0.4 else 1000000,
-        "actors": actors,
+        "actors": r.choice(wide_ways if wide else ways),
     }
+
+
+def with_memory_units(r, actors):
+    """The actors, three of them at their end such that memory is accessed."""
+    most = limits.MOST_ACTORS if len(actors) > 16 else 16
+    return [*actors[: most - 3], "mem", "alu", r.choice(("mem", "mul"))]
 
 
 def some_script(r, config, share_of_rounds):
@@ -137,32 +149,33 @@ def some_script(r, config, share_of_rounds):
     units = [k for k, role in enumerate(roles) if role in ("alu", "mul", "mem")] or [0]
     others = list(range(len(roles)))
     if r.random() < share_of_rounds:
-        return some_rounds(r, harts, units)
+        return some_rounds(r, harts, units, others if harts > 8 else [0])
     asks, calm = [], r.random()
     for _ in range(r.choice((10, 40, 100, 300))):
         letter = r.choice("FFFDDRRUUUUICTTT")
         actor = r.choice(units if letter in "ICU" else others)
         if r.random() < 0.03:
-            actor = r.randrange(16)
-        hart = r.randrange(harts) if r.random() < 0.99 else r.randrange(8)
+            actor = r.randrange(limits.MOST_ACTORS)
+        hart = r.randrange(harts) if r.random() < 0.99 else r.randrange(limits.MOST_HARTS)
         word = f"{letter}{actor}.{hart}" if letter in "DRT" else f"{letter}{actor}"
         times = r.choice((1, 1, 2, 3, 4, 8)) if r.random() < calm else 1
         asks.append(word if times == 1 and r.random() < 0.9 else f"{word}*{times}")
     return r.choice((" ", "\n", "  ")).join(asks) + r.choice(("", "\n"))
 
 
-def some_rounds(r, harts, units):
-    """Rounds that take all harts some steps on, so that programs come to their ends."""
-    a_round = [f"F0*{r.randint(1, 8) * harts}"]
+def some_rounds(r, harts, units, others):
+    """Rounds that take all harts some steps on, so that programs come to their ends. Units issue, and the others do
+    the rest."""
+    a_round = [f"F{r.choice(others)}*{r.randint(1, 8) * harts}"]
     for h in range(harts):
-        a_round += [f"{letter}0.{h}*{r.randint(1, 8)}" for letter in "DR"]
+        a_round += [f"{letter}{r.choice(others)}.{h}*{r.randint(1, 8)}" for letter in "DR"]
     a_round += [f"{r.choice('UUUI')}{u}" for u in units for _ in range(r.randint(1, 8))]
     a_round += [f"C{u}" for u in units]
-    a_round += [f"T0.{h}*{r.randint(1, 8)}" for h in range(harts)]
+    a_round += [f"T{r.choice(others)}.{h}*{r.randint(1, 8)}" for h in range(harts)]
     return " ".join(a_round * r.choice((1, 3, 8, 20)))
 
 
-WRONG = ("8", "9", "255", "256", "1000", "00", "01", "-0", "-1", "+1", "0x0", "a", "0,0", "0\t0")
+WRONG = ("16", "17", "255", "256", "1000", "00", "01", "-0", "-1", "+1", "0x0", "a", "0,0", "0\t0")
 
 
 def some_order(r, made, harts):
@@ -181,14 +194,14 @@ def some_order(r, made, harts):
     return r.choice((" ", "\n", "  ")).join(map(str, words)) + r.choice(("", "\n", " "))
 
 
-def inputs_of(seed, k):
+def inputs_of(seed, k, wide=False):
     """The files of run k: name and bytes; and the words."""
     r = random.Random(f"{seed} {k}")
-    config = some_config(r)
+    config = some_config(r, wide)
     words = some_code(r)
     uses_memory = words[:2] == TO_MEMORY
     if uses_memory:
-        config["actors"] = [*config["actors"][:13], "mem", "alu", r.choice(("mem", "mul"))]
+        config["actors"] = with_memory_units(r, config["actors"])
     entry = image.BASE + 4 * r.randrange(len(words)) if r.random() < 0.1 else image.BASE
     text = "".join(f"{key} = {value}\n".replace("'", '"') for key, value in config.items())
     files = {
@@ -208,8 +221,8 @@ def inputs_of(seed, k):
     return files, line
 
 
-def prepare(folder, seed, k):
-    files, line = inputs_of(seed, k)
+def prepare(folder, seed, k, wide):
+    files, line = inputs_of(seed, k, wide)
     os.makedirs(folder, exist_ok=True)
     for name, data in files.items():
         with open(f"{folder}/{name}", "wb") as file:
@@ -233,10 +246,10 @@ def by_program(name, folder, line):
     return done.stdout, done.stderr, done.returncode
 
 
-def write(folder, count, seed):
+def write(folder, count, seed, wide):
     for k in range(count):
         place = f"{folder}/{k}"
-        line = prepare(place, seed, k)
+        line = prepare(place, seed, k, wide)
         out, err, status = by_model(place, line)
         words = " ".join(line)
         texts = {"words": f"{words}\n", "stdout": out, "stderr": err, "status": f"{status}\n"}
@@ -245,13 +258,13 @@ def write(folder, count, seed):
                 file.write(text)
 
 
-def compare(names, count, seed):
+def compare(names, count, seed, wide):
     first, _, second = names.partition("=")
     folder = tempfile.mkdtemp(prefix="random_runs.")
     differing, endings = [], {}
     for k in range(count):
         place = f"{folder}/{k}"
-        line = prepare(place, seed, k)
+        line = prepare(place, seed, k, wide)
         found = by_program(first, place, line)
         wanted = by_program(second, place, line) if second else by_model(place, line)
         endings[found[2]] = endings.get(found[2], 0) + 1
@@ -267,13 +280,15 @@ def compare(names, count, seed):
 
 
 def main(words):
+    wide = words[-1:] == ["wide"]
+    words = words[:-1] if wide else words
     if len(words) < 2 or words[0] not in ("write", "compare"):
         print(__doc__, file=sys.stderr)
         return 2
     count, seed = int(words[2]) if len(words) > 2 else 1000, int(words[3]) if len(words) > 3 else 1
     if words[0] == "compare":
-        return compare(words[1], count, seed)
-    write(words[1], count, seed)
+        return compare(words[1], count, seed, wide)
+    write(words[1], count, seed, wide)
     return 0
 
 

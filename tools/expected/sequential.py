@@ -19,7 +19,7 @@ def disagreements(machine):
     """What a plain run in the order of retirement says otherwise than a core."""
     plain = Plain(machine.image, len(machine.harts))
     for place, found in enumerate(machine.records):
-        wanted = plain.step(int(found[0]))
+        wanted = plain.step(int(found.split()[0]))
         if wanted != found:
             return [f"record {place} is {found}, not {wanted}"]
     said = []

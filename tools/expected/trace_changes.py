@@ -1,6 +1,8 @@
-"""Changes of a trace, for traces.py: of one line, or of where it stands; or one event more."""
+"""Changes of a trace, for traces.py: of one line, or of where it stands; or one event more; or of the lines before the
+events, of a trace of version 2."""
 
 import core
+import limits
 
 BAD_SPELLINGS = (
     lambda line: line.upper(), lambda line: line + " ", lambda line: line.replace(" ", "  ", 1),
@@ -51,8 +53,9 @@ def other_field(r, letter, at, text):
     if letter == "T" and at == 5 and r.random() < 0.4:
         return other_width(r, text)
     if at < 2 or (letter, at) in {("F", 2), ("R", 2)}:
-        mosts = {("R", 2): 503, ("F", 1): 7}
-        return other_decimal(r, text, 15 if at == 0 else mosts.get((letter, at), 60))
+        spelled = r.choice((limits.FIRST, limits.SECOND))
+        mosts = {("R", 2): spelled.register, ("F", 1): spelled.hart}
+        return other_decimal(r, text, spelled.actor if at == 0 else mosts.get((letter, at), 60))
     return other_hex(r, text)
 
 
@@ -61,6 +64,45 @@ def with_other_field(r, line):
     at = r.randrange(len(fields))
     fields[at] = other_field(r, letter, at, fields[at])
     return " ".join((letter, *fields))
+
+
+HEADS = ("smt-trace 1", "smt-trace 3", "smt-trace 2 ", "smt-trace 02", "config", "")
+NUMBERS = ("0", "00", "01", "1", "2", "4", "16", "17", "32", "64", "65", "528", "529", "1024", "-1", "-", "", "alu")
+
+
+def other_size(r, text):
+    """Another number for one of the sizes: mostly a near one."""
+    return str(max(0, int(text) + r.choice((-1, 1, 2)))) if r.random() < 0.6 else r.choice(NUMBERS)
+
+
+def other_role(r, roles):
+    """Other roles: one more, one less, another, or one that is none."""
+    at, way = r.randrange(len(roles)), r.randrange(5)
+    role = r.choice((*limits.ROLES, "add", "ALU", "alu ", "", "0"))
+    if way == 0:
+        return roles[:at] + roles[at + 1 :]
+    if way == 1:
+        return roles[:at] + [role] * r.choice((1, 1, 27, 32, 33)) + roles[at:]
+    return roles[:at] + [role] + roles[at + 1 :]
+
+
+def other_head(r, lines):
+    """The two lines before the events, one of them changed or gone, or both in each other's place."""
+    first, second = lines
+    word, *fields = second.split(" ")
+    way = r.random()
+    if way < 0.1:
+        return [r.choice(HEADS), second]
+    if way < 0.2:
+        return r.choice(([first], [second], [second, first], [first, first, second], [first, second, second]))
+    if way < 0.3:
+        return [first, r.choice(BAD_SPELLINGS)(second)]
+    if way < 0.6:
+        at = r.randrange(3)
+        fields[at] = other_size(r, fields[at])
+    else:
+        fields[3:] = other_role(r, fields[3:])
+    return [first, " ".join((word, *fields))]
 
 
 def with_other_letter(r, line, lines):

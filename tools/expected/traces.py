@@ -10,11 +10,13 @@ The model of the core here makes the history of a random program, configuration 
 of them what the rules leave open (where a fetch goes on, which free register is taken) is decided
 at random. Half of the traces stay as they are: the second judge (judge.py) has to print the model's
 report on them, and by its definitions as many loads look again as the model says. In the other half
-one line is changed, moved, doubled, taken out or put behind. The judge and the model, which makes
-one event of the trace after the other while it can, have to refuse the same event; the rule is the
-judge's alone. `PROGRAM check` has to print what the judge prints, byte for byte, with the same
-status. What differs is left in FOLDER and told, and the exit status is then 1. Trace K of a seed is
-the same whatever COUNT is.
+one line is changed, moved, doubled, taken out or put behind. Some of the traces are of version 1;
+those of version 2 have a configuration of other sizes beside them, and in some of the changed ones the
+lines before the events are changed. The judge and the model, which makes one event of the trace after
+the other while it can, have to refuse the same event; the rule is the judge's alone. `PROGRAM check`
+has to print what the judge prints, byte for byte, with the same status, and `PROGRAM migrate` has to
+write what the judge's reader does. What differs is left in FOLDER and told, and the exit status is
+then 1. Trace K of a seed is the same whatever COUNT is.
 """
 
 import collections
@@ -33,11 +35,14 @@ import inputs
 import judge
 import judge_history
 import judge_inputs
+import limits
 import program
 import random_runs
-from trace_changes import changed, one_more
+from trace_changes import changed, one_more, other_head
 
 MOST_LINES = (20, 60, 100, 160, 320)
+# The place of a change before all events.
+BEFORE = -3
 
 
 class OpenCore(core.Core):
@@ -147,8 +152,27 @@ def text_of(lines):
     return "".join(f"{line}\n" for line in lines).encode()
 
 
-def trace_text(lines):
-    return text_of(["smt-trace 1", *lines])
+def version_for(settings):
+    """The first version that a trace of a core may have: in the first there are no more harts and actors."""
+    return 2 if settings["harts"] > limits.FIRST.hart + 1 or len(settings["actors"]) > limits.FIRST.actor + 1 else 1
+
+
+def heads_of(settings, version):
+    """The lines before the events of a trace of a version."""
+    if version == 1:
+        return ["smt-trace 1"]
+    sizes = " ".join(str(settings[key]) for key in ("harts", "extra", "queue"))
+    return ["smt-trace 2", f"config {sizes} {' '.join(settings['actors'])}"]
+
+
+def config_text(config):
+    return text_of(f"{key} = {value}".replace("'", '"') for key, value in config.items())
+
+
+def beside(r, config):
+    """A configuration of another core beside a trace of version 2, with the same memory."""
+    other = random_runs.some_config(r)
+    return {**other, "ram": config["ram"]} if r.random() < 0.7 else config
 
 
 def made(seed, k):
@@ -158,7 +182,7 @@ def made(seed, k):
     config, words = random_runs.some_config(r), random_runs.some_code(r)
     del config["limit"]
     if words[:2] == random_runs.TO_MEMORY:
-        config["actors"] = [*config["actors"][:13], "mem", "alu", r.choice(("mem", "mul"))]
+        config["actors"] = random_runs.with_memory_units(r, config["actors"])
     script, way = random_runs.some_script(r, config, 0.7), r.random()
     if way < 0.1:
         words, script = filling(r, config)
@@ -171,10 +195,14 @@ def made(seed, k):
     lines = history_of(machine, inputs.read_script(script.encode()), most)
     report, looked = list(program.report(machine, True)), program.looked(machine)
     place = None
-    if k % 2 and lines:
+    version = r.choice((version_for(settings), 2))
+    heads = heads_of(settings, version)
+    if k % 2 and version == 2 and r.random() < 0.3:
+        heads, place = other_head(r, heads), BEFORE
+    elif k % 2 and lines:
         lines, place = one_more(r, lines, machine) if way < 0.1 else changed(r, lines, machine)
-    keys = (f"{key} = {value}".replace("'", '"') for key, value in config.items())
-    files = {"image.elf": file, "config.toml": text_of(keys), "trace": trace_text(lines)}
+    config = beside(r, config) if version == 2 else config
+    files = {"image.elf": file, "config.toml": config_text(config), "trace": text_of([*heads, *lines])}
     status = program.exit_status([hart.status for hart in machine.harts])
     return files, (text_of(report).decode(), "", status), looked, place
 
@@ -184,33 +212,67 @@ def by_judge(files, records=True):
     try:
         settings = judge_inputs.settings_of(files["config.toml"])
         found = judge_inputs.image_of(files["image.elf"], settings.ram)
-        events = judge_inputs.trace_of(files["trace"])
-        text, status = judge.judged(found, settings, events, records)
+        told = judge_inputs.trace_of(files["trace"])
+        text, status = judge.judged(found, told.settings(settings), told.events, records)
     except judge_inputs.Refused as refused:
         return "", f"smtsim: {refused.said}\n", refused.status
     return text, "", status
 
 
-def by_program(name, folder):
-    words = [name, "check", "image.elf", "trace", "--config", "config.toml", "--records"]
-    done = subprocess.run(words, cwd=folder, capture_output=True, text=True, check=False)
+def by_program(name, folder, *words):
+    line = [name, *words, "--config", "config.toml"]
+    done = subprocess.run(line, cwd=folder, capture_output=True, text=True, check=False)
     return done.stdout, done.stderr, done.returncode
+
+
+def migrated_by_judge(files):
+    """What migration prints, and the text that it writes; None for none."""
+    try:
+        settings = judge_inputs.settings_of(files["config.toml"])
+        return ("", "", 0), judge_inputs.migrated(settings, files["trace"])
+    except judge_inputs.Refused as refused:
+        return ("", f"smtsim: {refused.said}\n", refused.status), None
+
+
+def migrated_by_program(name, folder):
+    out = f"{folder}/migrated"
+    if os.path.exists(out):
+        os.remove(out)
+    said = by_program(name, folder, "migrate", "trace", "migrated")
+    if not os.path.exists(out):
+        return said, None
+    with open(out, "rb") as file:
+        return said, file.read()
+
+
+def is_second(files):
+    return files["trace"].startswith(b"smt-trace 2\n")
 
 
 def first_not_followed(files):
     """The place of the first event that the model's core doesn't make; None where it makes all."""
     settings = inputs.read_config(files["config.toml"])
-    machine = FollowingCore(image.load(files["image.elf"], settings["ram"]), settings)
     lines = files["trace"].decode().split("\n")[1:-1]
+    if is_second(files):
+        _, harts, extra, queue, *actors = lines.pop(0).split(" ")
+        settings |= {"harts": int(harts), "extra": int(extra), "queue": int(queue), "actors": actors}
+    machine = FollowingCore(image.load(files["image.elf"], settings["ram"]), settings)
     return next((k for k, line in enumerate(lines) if not machine.follows(line)), None)
 
 
-def is_refused_early(said, place):
+def is_refused_early(files, said, place):
     """An event, or a line, is refused that stands before the change."""
     words = said.split()
     if words[1:2] == ["event"]:
         return int(words[2]) < place
-    return words[1:3] == ["trace", "line"] and int(words[3]) < place + 2
+    return words[1:3] == ["trace", "line"] and int(words[3]) < place + 2 + is_second(files)
+
+
+def way_of(place):
+    """Whether a trace was changed, for the count."""
+    if place is None:
+        return "as made"
+    return "changed before its events" if place == BEFORE else "changed"
 
 
 def kind_of(files, found):
@@ -220,7 +282,7 @@ def kind_of(files, found):
         return "accepted"
     if words[1] == "trace":
         return f"line refused {words[-1]}"
-    line = files["trace"].split(b"\n")[int(words[2]) + 1]
+    line = files["trace"].split(b"\n")[int(words[2]) + 1 + is_second(files)]
     return f"{line[:1].decode()} refused rule {words[-1]}"
 
 
@@ -234,9 +296,9 @@ def write(folder, files):
 def looked_by_judge(files):
     settings = judge_inputs.settings_of(files["config.toml"])
     found = judge_inputs.image_of(files["image.elf"], settings.ram)
-    events = judge_inputs.trace_of(files["trace"])
-    history = judge_history.History(settings, found, events)
-    return f"looks {history.looks(len(events))} of {history.loads(len(events))} loads"
+    told = judge_inputs.trace_of(files["trace"])
+    history, n = judge_history.History(told.settings(settings), found, told.events), len(told.events)
+    return f"looks {history.looks(n)} of {history.loads(n)} loads"
 
 
 def differences(folder, name, files, report, looked, place, found):
@@ -245,7 +307,7 @@ def differences(folder, name, files, report, looked, place, found):
         yield "the judge and the model say otherwise"
     if place is None and looked_by_judge(files) != looked:
         yield "the judge and the model count other looks"
-    if place is not None and is_refused_early(found[1], place):
+    if place is not None and is_refused_early(files, found[1], place):
         yield "the judge refuses what stands before the change"
     words = found[1].split()
     if "line" not in words:
@@ -254,8 +316,11 @@ def differences(folder, name, files, report, looked, place, found):
             yield "the model refuses another event"
     if name != "-":
         write(folder, files)
-        if by_program(os.path.abspath(name), folder) != found:
+        name = os.path.abspath(name)
+        if by_program(name, folder, "check", "image.elf", "trace", "--records") != found:
             yield "the judge and the program say otherwise"
+        if migrated_by_program(name, folder) != migrated_by_judge(files):
+            yield "the judge and the program migrate otherwise"
 
 
 def repeated(line):
@@ -272,14 +337,19 @@ def told_by_run(name):
     is_told = any(text.startswith("events ") for text in sections.get("stdout", ()))
     if words[:1] != ["step"] or not is_plain_step or not is_told:
         return None
-    line = inputs.read_line(words)
+    try:
+        line = inputs.read_line(words)
+    except inputs.Refused:
+        return None  # An option that the model hasn't.
     config = "\n".join(sections.get(f"file {line['config']}", ())).encode()
+    settings = inputs.read_config(config)
     with open(f"{fill.RUNS}/{line['files'][0]}", "rb") as file:
         found = file.read()
     printed = [text for line in sections["stdout"] for text in repeated(line)]
     lines = [text[5:] for text in printed if text.startswith("done ")]
     report = text_of(printed[printed.index(f"events {len(lines)}") :]).decode()
-    files = {"image.elf": found, "config.toml": config, "trace": trace_text(lines)}
+    heads = heads_of(settings, version_for(settings))
+    files = {"image.elf": found, "config.toml": config, "trace": text_of([*heads, *lines])}
     return files, (report, "", int(head["status"]))
 
 
@@ -309,8 +379,8 @@ def main(words):
     for k in range(count):
         files, report, looked, place = made(seed, k)
         found = by_judge(files)
-        events += files["trace"].count(b"\n") - 1
-        said[("changed: " if place is not None else "as made: ") + kind_of(files, found)] += 1
+        events += files["trace"].count(b"\n") - 1 - is_second(files)
+        said[f"{way_of(place)}: {kind_of(files, found)}"] += 1
         differing = list(differences(f"{folder}/now", name, files, report, looked, place, found))
         if differing:
             wrong += 1

@@ -17,12 +17,13 @@ import judge
 import judge_inputs
 import litmus
 import litmus_tests
+import migrate
 import outcomes_compare
 import program
 import random_runs
 import schedule
 import traces
-from trace_changes import changed
+from trace_changes import changed, other_head
 
 # How many seconds a model has for one case, and how many states that of a litmus test looks at.
 PATIENCE = 10
@@ -42,10 +43,10 @@ class Case(NamedTuple):
 
 class Kind:
     """A kind of case, under the name of what it tries. Of what the program prints the model doesn't know the
-    lines that begin with `unknown`."""
+    lines that begin with `unknown`; both write the file `writes`, if any."""
 
-    def __init__(self, name, make, model, unknown=None):
-        self.name, self.make, self.model, self.unknown = name, make, model, unknown
+    def __init__(self, name, make, model, unknown=None, writes=None):
+        self.name, self.make, self.model, self.unknown, self.writes = name, make, model, unknown, writes
 
     def known(self, text):
         """What a program has printed, as far as the model knows it."""
@@ -103,6 +104,10 @@ def by_history_script(line):
     return captured(lambda words: history_script.main(*words), [line[1], line[2], line[4]])
 
 
+def by_migrate(line):
+    return captured(migrate.main, line[1:])
+
+
 def by_chart(line):
     return captured(chart.main, line[1:])
 
@@ -155,16 +160,21 @@ def some_script(r):
 
 
 def some_trace(r):
-    """The files of a trace: of a legal history, or with one change."""
+    """The files of a trace of either version: of a legal history, or with one change."""
     files = some_script(r)
     settings = inputs.read_config(files["config.toml"])
     made = image.load(files["image.elf"], settings["ram"])
     machine = traces.OpenCore(made, settings, r, r.choice((0, 0, 0.2)))
     lines = traces.history_of(machine, inputs.read_script(files["script"]), r.choice(traces.MOST_LINES))
-    if lines and r.random() < 0.4:
+    heads = traces.heads_of(settings, r.choice((1, 2)))
+    if len(heads) > 1 and r.random() < 0.2:
+        heads = other_head(r, heads)
+    elif lines and r.random() < 0.4:
         lines, _ = changed(r, lines, machine)
     del files["script"]
-    files["trace"] = "".join(f"{text}\n" for text in ["smt-trace 1", *lines]).encode()
+    files["trace"] = traces.text_of([*heads, *lines])
+    if heads[0] == "smt-trace 2":
+        files["config.toml"] = traces.config_text(traces.beside(r, settings))
     return files
 
 
@@ -181,7 +191,12 @@ def some_chart(r):
     line = ["chart", "image.elf", "trace", "--config", "config.toml", "--from", str(first)]
     line += ["--to", str(first + r.choice((0, 5, 300)))] if r.random() < 0.6 else []
     line += ["--width", str(r.choice((40, 80, 120, 300)))] if r.random() < 0.6 else []
+    line += ["--hart", str(r.choice((0, 0, 1, 7, 8, 15)))] if r.random() < 0.2 else []
     return some_trace(r), line
+
+
+def some_migration(r):
+    return some_trace(r), ["migrate", "trace", "written", "--config", "config.toml"]
 
 
 def some_schedule(r):
@@ -218,6 +233,7 @@ KINDS = {
         Kind("schedule", some_schedule, by_schedule),
         Kind("script", some_history, by_history_script),
         Kind("chart", some_chart, by_chart),
+        Kind("migrate", some_migration, by_migrate, writes="written"),
         Kind("outcomes", some_outcomes, by_every_order, "states "),
         Kind("litmus", some_litmus, by_litmus),
     )

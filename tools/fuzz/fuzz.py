@@ -40,11 +40,22 @@ def by_program(program, folder, line):
     return done.stdout.decode("latin-1"), done.stderr.decode("latin-1"), done.returncode
 
 
+def written(folder, name):
+    """What is in the file that was written, which is taken away; None where there is none."""
+    if name is None or not os.path.exists(f"{folder}/{name}"):
+        return None
+    with open(f"{folder}/{name}", "rb") as file:
+        found = file.read()
+    os.remove(f"{folder}/{name}")
+    return found
+
+
 def both(program, folder, case):
-    """What the program says of a case, and what the model says."""
+    """What the program says of a case and writes, and what the model does."""
     put(folder, case.files)
     out, err, status = by_program(program, folder, case.line)
-    return (case.kind.known(out), err, status), case.kind.said(folder, case.line)
+    by_the_program = (case.kind.known(out), err, status, written(folder, case.kind.writes))
+    return by_the_program, (*case.kind.said(folder, case.line), written(folder, case.kind.writes))
 
 
 def differs(program, folder, case):

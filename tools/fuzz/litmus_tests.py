@@ -1,7 +1,8 @@
 """Random litmus tests of the subset that docs/FORMATS.md names, small enough to look at all their states."""
 
-# How many rows there are, by the number of harts.
+# How many rows there are, by the number of harts; of 17, which are too many, none is looked at.
 ROWS = {1: (0, 1, 3, 5, 8), 2: (0, 2, 3, 3, 4, 4, 4, 5, 5, 6), 3: (1, 2, 2, 3, 3, 4), 4: (1, 2, 2, 2, 3)}
+ROWS |= {9: (0,), 16: (0,), 17: (0,)}
 NAMES = ("x", "y", "z", "_a1", "rw", "X0", "LOCK_2")
 ABI_NAMES = {1: "ra", 2: "sp", 5: "t0", 6: "t1", 7: "t2", 8: "fp", 9: "s1", 10: "a0", 11: "a1", 28: "t3", 31: "t6"}
 # The registers for numbers, and for addresses.
@@ -46,7 +47,7 @@ class Maker:
 
     def __init__(self, r):
         self.r = r
-        self.harts = r.choice((1, 2, 2, 2, 2, 3, 3, 4))
+        self.harts = r.choice((1, 2, 2, 2, 2, 3, 3, 4) * 3 + (9, 16, 17))
         self.names = r.sample(NAMES, r.choice((1, 2, 2, 2, 3)))
         # The registers that hold an address, by hart, those that hold another number, and those that are written.
         self.bases = [[] for _ in range(self.harts)]

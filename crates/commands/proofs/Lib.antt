@@ -13,6 +13,7 @@ pub mod OfScript
 pub mod Sound
 pub mod SoundCommands
 pub mod OfLitmus
+pub mod OfMigrate
 pub mod OfLine
 pub mod OfExplain
 pub mod OneImage

@@ -14,7 +14,7 @@ use Rattle.sim_inputs.specs.declared.line.Command.TheVariants as commands
 use Rattle.sim_inputs.specs.{Configuration.IsConfiguration}
 use Rattle.commands.specs.declared.refused.Refused.{Refused}
 use Rattle.commands.specs.declared.refused.Refused.TheVariants.{Image, Config, Script, Order, Step, Memory, File}
-use Rattle.commands.specs.declared.refused.Refused.TheVariants.{Output, Thread, Trace, Event, NoUnit, Limit, NoHart}
+use Rattle.commands.specs.declared.refused.Refused.TheVariants.{Output, Thread, Trace, Version, Event, NoUnit, Limit, NoHart}
 use Rattle.commands.specs.declared.refused.Refused.TheVariants.{Prediction, Register, Picture}
 use Rattle.commands.specs.declared.refused.Refused.TheVariants.{Watch, Condition, ManyWatched, NoWord}
 use Rattle.commands.specs.declared.refused.Refused.TheVariants.{NoOutcome, NotStuck, Litmus, NothingToDraw}
@@ -115,6 +115,7 @@ writing_refusal config image old new (Script number) is = absurd is
 writing_refusal config image old new (Order index) is = absurd is
 writing_refusal config image old new (Step index why) is = absurd is
 writing_refusal config image old new (Trace line rule) is = absurd is
+writing_refusal config image old new Version is = absurd is
 writing_refusal config image old new (Event index rule) is = absurd is
 writing_refusal config image old new (Prediction index) is = absurd is
 writing_refusal config image old new (Register index) is = absurd is
@@ -175,6 +176,7 @@ line_refusal command config image second (Script number) explains is = absurd is
 line_refusal command config image second (Order index) explains is = absurd is
 line_refusal command config image second (Step index why) explains is = absurd is
 line_refusal command config image second (Trace line rule) explains is = absurd is
+line_refusal command config image second Version explains is = absurd is
 line_refusal command config image second (Event index rule) explains is = absurd is
 line_refusal command config image second (Prediction index) explains is = absurd is
 line_refusal command config image second (Register index) explains is = absurd is
@@ -214,6 +216,7 @@ line_comes_to (commands.Script script) config image second Traced old new status
 line_comes_to (commands.List list) config image second Traced old new status is told = absurd (cc)
 line_comes_to (commands.Outcomes outcomes) config image second Traced old new status is told = absurd (cc)
 line_comes_to (commands.Litmus litmus) config image second Traced old new status is told = absurd (cc)
+line_comes_to (commands.Migrate migrate) config image second Traced old new status is told = absurd (cc)
 line_comes_to (commands.Chart chart) config image second Traced old new status is told = absurd (cc)
 
 pub line_ended : (answer : Result ℕ Refused) (command : Command) (config : List ℕ) (image second : Read)

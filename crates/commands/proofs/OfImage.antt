@@ -2,7 +2,7 @@
 use Rattle.std.specs.Prelude.{ℕ, List}
 use Rattle.commands.specs.declared.refused.Refused.{Refused}
 use Rattle.commands.specs.declared.refused.Refused.TheVariants.{Image, Config, Script, Order, Step, Memory, File}
-use Rattle.commands.specs.declared.refused.Refused.TheVariants.{Output, Thread, Trace, Event, NoUnit, Limit, NoHart}
+use Rattle.commands.specs.declared.refused.Refused.TheVariants.{Output, Thread, Trace, Version, Event, NoUnit, Limit, NoHart}
 use Rattle.commands.specs.declared.refused.Refused.TheVariants.{Prediction, Register, Picture}
 use Rattle.commands.specs.declared.refused.Refused.TheVariants.{Watch, Condition, ManyWatched, NoWord}
 use Rattle.commands.specs.declared.refused.Refused.TheVariants.{NoOutcome, NotStuck, Litmus, NothingToDraw}
@@ -17,6 +17,7 @@ refusal_behind file ram P (Script number) never passes is = (passes, is)
 refusal_behind file ram P (Order index) never passes is = (passes, is)
 refusal_behind file ram P (Step index why) never passes is = (passes, is)
 refusal_behind file ram P (Trace line rule) never passes is = (passes, is)
+refusal_behind file ram P Version never passes is = (passes, is)
 refusal_behind file ram P (Event index rule) never passes is = (passes, is)
 refusal_behind file ram P (Prediction index) never passes is = (passes, is)
 refusal_behind file ram P (Register index) never passes is = (passes, is)

@@ -13,7 +13,7 @@ use Rattle.sim_inputs.specs.{Configuration.IsConfiguration}
 use Rattle.reports.specs.Statuses.{says_harts}
 use Rattle.commands.specs.declared.refused.Refused.{Refused}
 use Rattle.commands.specs.declared.refused.Refused.TheVariants.{Image, Config, Script, Order, Step, Memory, File}
-use Rattle.commands.specs.declared.refused.Refused.TheVariants.{Output, Thread, Trace, Event, NoUnit, Limit, NoHart}
+use Rattle.commands.specs.declared.refused.Refused.TheVariants.{Output, Thread, Trace, Version, Event, NoUnit, Limit, NoHart}
 use Rattle.commands.specs.declared.refused.Refused.TheVariants.{Prediction, Register, Picture}
 use Rattle.commands.specs.declared.refused.Refused.TheVariants.{Watch, Condition, ManyWatched, NoWord}
 use Rattle.commands.specs.declared.refused.Refused.TheVariants.{NoOutcome, NotStuck, Litmus, NothingToDraw}
@@ -23,8 +23,9 @@ use Rattle.commands.specs.Refused.{exit_status_of, refusal_of, AreAccepted, Pass
 use Rattle.commands.specs.Inputs.{Read}
 use Rattle.commands.specs.Commands.{IsCommandRefusal, CommandComesTo}
 use Rattle.commands.specs.Perform.{IsProgramRefusal, ProgramComesTo, LineComesTo, LitmusLineComesTo}
+use Rattle.commands.specs.Perform.{MigrateLineComesTo}
 use Rattle.sim_inputs.specs.declared.line.LitmusCommand.{LitmusCommand}
-use Rattle.commands.specs.Commands.{litmus_of, ForTest}
+use Rattle.commands.specs.Commands.{litmus_of, migrates, ForTest, ForMigration}
 use Rattle.commands.proofs.Sound.{zero_says}
 use Rattle.commands.proofs.SoundCommands.{sound}
 
@@ -48,6 +49,7 @@ module _ (command : Command) (text : List ℕ) (settings : Settings) (file : Lis
   command_refusal (Order index) is = (settings, configured, (passes, program, loaded, is))
   command_refusal (Step index why) is = (settings, configured, (passes, program, loaded, is))
   command_refusal (Trace line rule) is = (settings, configured, (passes, program, loaded, is))
+  command_refusal Version is = (settings, configured, (passes, program, loaded, is))
   command_refusal (Event index rule) is = (settings, configured, (passes, program, loaded, is))
   command_refusal (Prediction index) is = (settings, configured, (passes, program, loaded, is))
   command_refusal (Register index) is = (settings, configured, (passes, program, loaded, is))
@@ -111,6 +113,18 @@ litmus_says litmus (Ok text) (Ok file) old new status is = elim is.2.comes [
 litmus_says litmus (Ok text) (Err why) old new status is = absurd is.2
 litmus_says litmus (Err why) test old new status is = absurd is
 
+migration_says : (config trace : Read) (Traced : ToWrite → Type 0) (old new : Option (List ℕ)) (status : ℕ)
+    → MigrateLineComesTo config trace Traced old new status → IsTrue (says_harts status)
+migration_says (Ok text) (Ok file) Traced old new status is = zero_says status is.1.2.zero
+migration_says (Ok text) (Err why) Traced old new status is = absurd is.1.2
+migration_says (Err why) trace Traced old new status is = absurd is.1
+
+other_says : (of_migration : Bool) (OfMigration OfOther : Type 0) (status : ℕ)
+    → (OfMigration → IsTrue (says_harts status)) → (OfOther → IsTrue (says_harts status))
+    → ForMigration of_migration OfMigration OfOther → IsTrue (says_harts status)
+other_says true OfMigration OfOther status migration other is = migration is
+other_says false OfMigration OfOther status migration other is = other is
+
 either_says : (found : Option LitmusCommand) (OfTest : LitmusCommand → Type 0) (OfOther : Type 0) (status : ℕ)
     → ((litmus : LitmusCommand) → OfTest litmus → IsTrue (says_harts status))
     → (OfOther → IsTrue (says_harts status)) → ForTest found OfTest OfOther → IsTrue (says_harts status)
@@ -122,9 +136,13 @@ pub status_says : (command : Command) (config image second : Read) (Traced : ToW
     → IsTrue (says_harts status)
 status_says command config image second Traced old new status is =
     either_says (litmus_of command) (λ litmus. LitmusLineComesTo litmus config image old new status)
-    (ProgramComesTo command config image second Traced old new status) status
+    (ForMigration (migrates command) (MigrateLineComesTo config second Traced old new status)
+    (ProgramComesTo command config image second Traced old new status)) status
     (λ litmus. litmus_says litmus config image old new status)
-    (program_says command config image second Traced old new status) is
+    (other_says (migrates command) (MigrateLineComesTo config second Traced old new status)
+    (ProgramComesTo command config image second Traced old new status) status
+    (migration_says config second Traced old new status)
+    (program_says command config image second Traced old new status)) is
 
 -- A refusal's exit status is 2, 4 or 5, and so never one that says how harts stand; it is 5 for a
 -- file that is unread.
@@ -136,6 +154,7 @@ known_refusal (Script number) status is = inr (inl is)
 known_refusal (Order index) status is = inr (inl is)
 known_refusal (Step index why) status is = inr (inl is)
 known_refusal (Trace line rule) status is = inr (inr (inl is))
+known_refusal Version status is = inr (inr (inl is))
 known_refusal (Event index rule) status is = inr (inr (inl is))
 known_refusal (Prediction index) status is = inr (inr (inl is))
 known_refusal (Register index) status is = inr (inr (inl is))
@@ -163,6 +182,7 @@ never_says (Script number) = refl
 never_says (Order index) = refl
 never_says (Step index why) = refl
 never_says (Trace line rule) = refl
+never_says Version = refl
 never_says (Event index rule) = refl
 never_says (Prediction index) = refl
 never_says (Register index) = refl

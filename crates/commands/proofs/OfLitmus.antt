@@ -59,6 +59,7 @@ module _ (litmus : LitmusCommand) (text file : List ℕ) (settings : Settings)
   test_refusal (reason.Order index) is = absurd is
   test_refusal (reason.Step index stopped) is = absurd is
   test_refusal (reason.Trace line rule) is = absurd is
+  test_refusal reason.Version is = absurd is
   test_refusal (reason.Event index rule) is = absurd is
   test_refusal (reason.Prediction index) is = absurd is
   test_refusal (reason.Register index) is = absurd is

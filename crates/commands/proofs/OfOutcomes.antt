@@ -28,6 +28,7 @@ module _ (settings : Settings) (image : ProgramImage) (command : OutcomesCommand
   search_refused (reason.Order index) is = absurd is
   search_refused (reason.Step index stopped) is = absurd is
   search_refused (reason.Trace line rule) is = absurd is
+  search_refused reason.Version is = absurd is
   search_refused (reason.Event index rule) is = absurd is
   search_refused (reason.Prediction index) is = absurd is
   search_refused (reason.Register index) is = absurd is

@@ -21,6 +21,7 @@ use Rattle.sim_inputs.specs.declared.line.ChartCommand.{ChartCommand}
 use Rattle.sim_inputs.specs.declared.line.ExplainCommand.{ExplainCommand}
 use Rattle.sim_inputs.specs.declared.line.OutcomesCommand.{OutcomesCommand}
 use Rattle.sim_inputs.specs.declared.line.LitmusCommand.{LitmusCommand}
+use Rattle.sim_inputs.specs.declared.line.MigrateCommand.{MigrateCommand}
 use Rattle.reports.specs.{Report.status_number, Statuses.says_harts}
 use Rattle.stress_runs.specs.{End.EndView, Ends.end_of, Ends.worst_of}
 use Rattle.commands.specs.Refused.{AreAccepted, AreRefused}
@@ -142,17 +143,17 @@ of_check check settings program (Ok trace) = record {
   no_image = λ number is. is;
   unfit = λ accepted is. is;
   output = λ Traced old new status is. (
-    is.events,
+    is.read,
     is.is_trace,
     (
-      subst (λ setup. is_accepted setup (length is.events) ≡ true) is.setup
+      subst (λ setup. is_accepted setup (length is.read.events) ≡ true) is.setup
           (subst (λ limit. is_accepted is.core.setup limit ≡ true) is.limit is.accepted),
-      subst (λ setup. is_legal setup (reverse is.events)) is.setup
+      subst (λ setup. is_legal setup (reverse is.read.events)) is.setup
           (subst (λ past. is_legal is.core.setup past) is.past is.shown.legal),
     ),
   );
   flushed = λ Traced old mid new status flushed is. record {
-    events = is.events;
+    read = is.read;
     is_trace = is.is_trace;
     core = is.core;
     setup = is.setup;
@@ -295,7 +296,7 @@ of_chart : (chart : ChartCommand) (settings : Settings) (program : ProgramImage)
 of_chart chart settings program (Ok trace) = record {
   no_image = λ number is. is;
   unfit = λ accepted is. is;
-  output = λ Traced old new status is. is.history;
+  output = λ Traced old new status is. (is.history.0, is.history.1, is.history.2.0);
   flushed = λ Traced old mid new status flushed is. is;
   says = λ Traced old new status is. zero_says status is.zero;
 }
@@ -352,6 +353,17 @@ of_litmus litmus settings program second = record {
   says = λ Traced old new status is. absurd is;
 }
 
+-- Nor is a migration performed with an image.
+of_migrate : (migrate : MigrateCommand) (settings : Settings) (program : ProgramImage) (second : Read)
+    → IsSound (commands.Migrate migrate) settings program second
+of_migrate migrate settings program second = record {
+  no_image = λ number is. is;
+  unfit = λ accepted is. is;
+  output = λ Traced old new status is. is;
+  flushed = λ Traced old mid new status flushed is. is;
+  says = λ Traced old new status is. absurd is;
+}
+
 pub sound : (command : Command) (settings : Settings) (program : ProgramImage) (second : Read)
     → IsSound command settings program second
 sound (commands.Step step) settings program second = of_step step settings program second
@@ -364,4 +376,5 @@ sound (commands.List list) settings program second = of_list list settings progr
 sound (commands.Explain explain) settings program second = of_explain explain settings program second
 sound (commands.Outcomes outcomes) settings program second = of_outcomes outcomes settings program second
 sound (commands.Litmus litmus) settings program second = of_litmus litmus settings program second
+sound (commands.Migrate migrate) settings program second = of_migrate migrate settings program second
 sound (commands.Chart chart) settings program second = of_chart chart settings program second

@@ -15,12 +15,12 @@ ghost use Rattle.reports.specs.Counts.{idle_lines};
 
 use crate::refused::Refused;
 use crate::wanted::Wanted;
-use event_text::{Sink, print_trace};
+use event_text::Sink;
 use events::Record;
 use history_counts::{Counts, counts_of};
 use numbers::sizes::MOST_ACTORS;
 use reports::{
-    RunEnd, report, report_counts, report_ends, report_idle, report_json, report_looks,
+    RunEnd, put_trace, report, report_counts, report_ends, report_idle, report_json, report_looks,
     report_records, status_of, write_tables,
 };
 use smt_core::Core;
@@ -71,7 +71,7 @@ fn write_trace<S: Sink>(core: &Core, wanted: bool, sink: &mut S) -> Result<(), R
     if !wanted {
         return Ok(());
     }
-    match print_trace(core.history(), sink) {
+    match put_trace(core, sink) {
         Ok(()) => Ok(()),
         Err(_) => Err(Refused::Output),
     }

@@ -1,19 +1,18 @@
 //! The command `chart`: the pipeline of a trace, drawn.
 
 ghost use Rattle.std.specs.Prelude.{◌≡◌, IfOk, IfErr, OnOk, reverse, true, false};
-ghost use Rattle.core_state.specs.Setup.{setup_of};
 ghost use Rattle.charts.specs.Rows.{AreRows};
 ghost use Rattle.event_text.specs.Sinking.{HasPut};
 ghost use Rattle.commands.specs.declared.refused.Refused.TheVariants.{Output};
-ghost use Rattle.commands.specs.Check.{IsHistoryRefusal, AreHistory};
+ghost use Rattle.commands.specs.Check.{IsHistoryRefusal, AreHistory, setup_by};
 ghost use Rattle.commands.specs.Chart.{IsChartRefusal, ChartComesTo, IsDrawingRefusal};
 ghost use Rattle.commands.specs.Chart.{has_file, hart_fits, IsHartRefusal, IsPictureRefusal};
 
-use crate::check::{follow_all, read_events};
+use crate::check::{config_by, follow_all, read_events};
 use crate::refused::Refused;
 use charts::{Row, View, last_pictured, rows_of, write_kanata, write_svg, write_text};
 use elf_image::Image;
-use event_text::{Sink, put_all};
+use event_text::{Sink, Trace, put_all};
 use events::Event;
 use sim_inputs::{ChartCommand, Settings};
 use std::alloc::{AllocError, Global};
@@ -45,27 +44,27 @@ pub fn perform_chart<S: Sink, W: Write>(
         → W.contents out.new ≡ W.contents out.old }
 {
     let trace = read_events(trace, alloc)?;
-    let rows = history_rows(image, settings, trace.events(), alloc)?;
-    let harts = settings.config.harts;
+    let rows = history_rows(image, settings, &trace, alloc)?;
+    let harts = config_by(settings, trace.head()).harts;
     let text = drawn(rows.as_slice(), trace.events(), chart, harts, alloc)?;
     put_chart(text.as_slice(), chart, file, out)
 }
 
-/// The rows of a history of the core of an image.
+/// The rows of the history of a trace, in the core that it is of.
 fn history_rows(
     image: &Image,
     settings: &Settings,
-    events: &[Event],
+    trace: &Trace,
     alloc: Global,
 ) -> Result<Vec<Row>, Refused>
     ensures history { OnOk result
-        (AreHistory (setup_of image.now settings.now.config) events.now) }
-    ensures rows { IfOk result (λ rows. AreRows (reverse events.now) rows.items) }
+        (AreHistory (setup_by settings.now image.now trace.now.head) trace.now.events) }
+    ensures rows { IfOk result (λ rows. AreRows (reverse trace.now.events) rows.items) }
     ensures refused { IfErr result
-        (IsHistoryRefusal (setup_of image.now settings.now.config) events.now) }
+        (IsHistoryRefusal (setup_by settings.now image.now trace.now.head) trace.now.events) }
 {
-    follow_all(image, settings, events, alloc)?;
-    match rows_of(events, alloc) {
+    follow_all(image, settings, trace, alloc)?;
+    match rows_of(trace.events(), alloc) {
         Ok(rows) => Ok(rows),
         Err(AllocError) => Err(Refused::Memory),
     }

@@ -1,22 +1,27 @@
 //! The command `check`: whether a trace is a history of the core.
 
-ghost use Rattle.std.specs.Prelude.{◌≡◌, IfOk, IfErr, length, reverse};
+ghost use Rattle.std.specs.Prelude.{◌≡◌, ◌≤◌, IfOk, IfErr, length, reverse};
 ghost use Rattle.std.specs.Prelude.{true, false};
+ghost use Rattle.numbers.specs.Sizes.{most_actors};
+ghost use Rattle.elf_image.specs.Image.{ProgramImage};
 ghost use Rattle.smt_core.specs.Shown.{Shown};
 ghost use Rattle.smt_model.specs.Setup.{is_accepted};
 ghost use Rattle.core_state.specs.Setup.{setup_of};
 ghost use Rattle.commands.specs.declared.refused.Refused.TheVariants.{Output};
 ghost use Rattle.commands.specs.Check.{IsCheckRefusal, CheckComesTo, IsTraceOf};
-ghost use Rattle.commands.specs.Check.{IsTraceRefusal, IsHistoryRefusal};
+ghost use Rattle.commands.specs.Check.{IsTraceRefusal, IsHistoryRefusal, setup_by};
 
 use crate::account::report_core;
 use crate::refused::Refused;
 use crate::wanted::Wanted;
+use arrayvec::ArrayVec;
 use elf_image::Image;
-use event_text::{Trace, TraceRefused, read_trace};
-use events::Event;
+use event_text::{Trace, TraceHead, TraceRefused, read_trace};
+use events::Role;
 use history_check::{CheckRefused, Checked, check};
+use numbers::sizes::MOST_ACTORS;
 use sim_inputs::Settings;
+use smt_model::Config;
 use std::alloc::Global;
 use std::io::Write;
 
@@ -41,11 +46,11 @@ pub fn perform_check<W: Write>(
         (W.contents out.old) (W.contents out.new)) }
 {
     let trace = read_events(trace, alloc)?;
-    let checked = follow_all(image, settings, trace.events(), alloc)?;
+    let checked = follow_all(image, settings, &trace, alloc)?;
     report_core(checked.core(), &[], wanted, out, alloc)
 }
 
-/// The events of a trace's text.
+/// The trace that a text is.
 pub(crate) fn read_events(text: &[u8], alloc: Global) -> Result<Trace, Refused>
     ensures trace { IfOk result (IsTraceOf text.now) }
     ensures refused { IfErr result (IsTraceRefusal text.now) }
@@ -57,25 +62,53 @@ pub(crate) fn read_events(text: &[u8], alloc: Global) -> Result<Trace, Refused>
     }
 }
 
-/// A core of an image that has followed these events, with room for no more.
+/// The sizes of the core that a trace is of: those that it says itself, or else those of the settings.
+pub(crate) fn config_by(settings: &Settings, head: &TraceHead) -> Config
+    ensures { (image : ProgramImage)
+        → setup_of image result ≡ setup_by settings.now image head.now }
+{
+    match head {
+        TraceHead::First => settings.config.copied(),
+        TraceHead::Second(header) => Config {
+            harts: header.harts(),
+            extra: header.extra(),
+            queue: header.queue(),
+            roles: copy_of(header.roles()),
+        },
+    }
+}
+
+fn copy_of(roles: &[Role]) -> ArrayVec<Role, MOST_ACTORS>
+    requires { length roles.now ≤ most_actors }
+    ensures { result.items ≡ roles.now }
+{
+    let mut copy = ArrayVec::new();
+    for role in roles {
+        copy.push(*role);
+    }
+    copy
+}
+
+/// The core that a trace is of, which has followed its events, with room for no more.
 pub(crate) fn follow_all(
     image: &Image,
     settings: &Settings,
-    events: &[Event],
+    trace: &Trace,
     alloc: Global,
 ) -> Result<Checked, Refused>
     ensures whole { IfOk result
         (λ checked. checked ≡ record {
-          setup = setup_of image.now settings.now.config;
-          limit = length events.now;
-          past = reverse events.now;
+          setup = setup_by settings.now image.now trace.now.head;
+          limit = length trace.now.events;
+          past = reverse trace.now.events;
         }) }
     ensures accepted { IfOk result (λ checked. is_accepted checked.setup checked.limit ≡ true) }
     ensures shown { IfOk result (λ checked. Shown checked) }
     ensures refused { IfErr result
-        (IsHistoryRefusal (setup_of image.now settings.now.config) events.now) }
+        (IsHistoryRefusal (setup_by settings.now image.now trace.now.head) trace.now.events) }
 {
-    match check(image, settings.config.copied(), events, alloc) {
+    let config = config_by(settings, trace.head());
+    match check(image, config, trace.events(), alloc) {
         Ok(checked) => Ok(checked),
         Err(CheckRefused::BadConfig) => Err(Refused::Config),
         Err(CheckRefused::Memory) => Err(Refused::Memory),

@@ -4,9 +4,8 @@
 //! read, and what is made of the first two), `wanted` (what is wanted of a core), `account` (what is
 //! reported of one), then a module a command: `step`, `run`, `stress` (many runs), `check`, `plain`,
 //! `plain_rounds`, `schedule`, `script`, `list`, `chart`, `explain`, `all_outcomes` and `litmus` (both over
-//! `searching`); `performing` (all of
-//! it: the files taken in their order, the command, the exit status); and `prompt` (the same of a
-//! script that is typed).
+//! `searching`), and `migrate`; `performing` (all of it: the files taken in their order, the command, the
+//! exit status); and `prompt` (the same of a script that is typed).
 //! `retiring` has the law that a printed schedule is retired.
 //! What each command comes to, and when each of its refusals comes, stands in `specs` under the
 //! command's name; what a line comes to, in `specs/Perform`.
@@ -20,6 +19,7 @@ mod explain;
 mod inputs;
 mod list;
 mod litmus;
+mod migrate;
 mod performing;
 mod plain;
 mod plain_rounds;
@@ -41,6 +41,7 @@ pub use explain::perform_explain;
 pub use inputs::Inputs;
 pub use list::perform_list;
 pub use litmus::{perform_litmus, perform_test};
+pub use migrate::perform_migrate;
 pub use performing::perform;
 pub use plain::perform_plain;
 pub use plain_rounds::{MOST_STEPS, perform_rounds};

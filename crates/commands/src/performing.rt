@@ -6,11 +6,13 @@ ghost use Rattle.commands.specs.declared.refused.Refused.{Refused as AnyRefused}
 ghost use Rattle.commands.specs.Refused.{exit_status_of, refusal_of};
 ghost use Rattle.sim_inputs.specs.declared.line.Command.TheVariants.{Run};
 ghost use Rattle.commands.specs.Inputs.{as_read, Read};
-ghost use Rattle.commands.specs.Commands.{IsUnreported, wants_trace, explains, litmus_of};
+ghost use Rattle.commands.specs.Commands.{IsUnreported, wants_trace, explains, litmus_of, migrates};
 ghost use Rattle.commands.specs.Litmus.{writes_file};
 ghost use Rattle.commands.specs.Perform.{IsRefusal, LineComesTo, IsPerformed};
 ghost use Rattle.commands.specs.Perform.{IsProgramRefusal, ProgramComesTo};
 ghost use Rattle.commands.specs.Perform.{IsLitmusLineRefusal, LitmusLineComesTo};
+ghost use Rattle.commands.specs.Perform.{IsMigrateLineRefusal, MigrationComesTo};
+ghost use Rattle.event_text.specs.Sinking.{HasPut};
 ghost use Rattle.commands.specs.Written.{IsWritten};
 
 use crate::all_outcomes::perform_outcomes;
@@ -20,6 +22,7 @@ use crate::explain::{perform_explain, point_to_explain};
 use crate::inputs::{Inputs, image_of, settings_of};
 use crate::list::perform_list;
 use crate::litmus::perform_litmus;
+use crate::migrate::perform_migrate;
 use crate::plain::perform_plain;
 use crate::plain_rounds::{perform_rounds, rounds_of};
 use crate::refused::{Refused, Unread, refuse};
@@ -31,6 +34,7 @@ use crate::stress::perform_stress;
 use crate::wanted::Wanted;
 use actors::Gate;
 use elf_image::Image;
+use event_text::Sink;
 use sim_inputs::{Command, Line, LitmusCommand, RunCommand, Settings};
 use smt_core::Predict;
 use std::alloc::Global;
@@ -39,16 +43,17 @@ use std::sync::Wait;
 use std::thread::Threads;
 use stress_runs::EndFiles;
 
-/// Does all that the program does once its files are read, and answers its exit status: how the
-/// harts stand, 0 for a listing, a schedule, a script, a chart and a litmus test, 2 for a refused input, 4 for a refused trace, 5
-/// where memory, a thread or a file failed. A refusal is one line on `err`. The configuration is
-/// looked at first, then the image, then the script, the order or the trace; a file that couldn't
-/// be read is refused where it is looked at. Where `err` is a terminal, a second line says which
-/// command explains a refused configuration or image. All that is printed is flushed.
+/// Does all that the program does once its files are read, and answers its exit status: how the harts
+/// stand, 0 for a listing, a schedule, a script, a chart, a litmus test and a migration, 2 for a refused
+/// input, 4 for a refused trace, 5 where memory, a thread or a file failed. A refusal is one line on `err`.
+/// The configuration is looked at first, then the image, then the script, the order or the trace; a file
+/// that couldn't be read is refused where it is looked at. Where `err` is a terminal, a second line says
+/// which command explains a refused configuration or image. All that is printed is flushed.
 ///
-/// The trace of a core goes into `trace`, a sink that hasn't failed, where the line names a file
-/// for it: behind the last ask, and before the tables and the report. Where the sink fails, neither
-/// is printed. So does a chart that is written to a file. A run of threads asks `gate` whether it may go on.
+/// The trace of a core goes into `trace`, a sink that hasn't failed, where the line names a file for it:
+/// behind the last ask, and before the tables and the report. Where the sink fails, neither is printed. So
+/// does a chart that is written to a file, and a migrated trace. A run of threads asks `gate` whether it
+/// may go on.
 pub fn perform<
     G: Gate + Sync,
     P: Predict + Copy + Send,
@@ -136,6 +141,7 @@ fn perform_line<
 {
     match &line.command {
         Command::Litmus(litmus) => read_and_test(litmus, inputs, gate, trace, out, alloc),
+        Command::Migrate(_) => read_and_migrate(inputs, trace, alloc),
         _ => read_and_perform(rt, line, inputs, gate, predict, trace, out, alloc),
     }
 }
@@ -172,6 +178,28 @@ fn read_and_test<G: Gate, S: EndFiles, W: Write>(
     }
 }
 
+/// The exit status of a migration, which prints nothing.
+fn read_and_migrate<S: Sink>(
+    inputs: &Inputs<'_>,
+    file: &mut S,
+    alloc: Global,
+) -> Result<u8, Refused>
+    requires works { S.has_failed file.old ≡ false }
+    ensures unset { IfErr inputs.now.config (λ why. result ≡ Err (refusal_of why)) }
+    ensures refused { IfErr result (IsMigrateLineRefusal (as_read inputs.now.config)
+        (as_read inputs.now.second)) }
+    ensures ended { IfOk result (MigrationComesTo (as_read inputs.now.config)
+        (as_read inputs.now.second) (HasPut S.written S.has_failed file.old file.new)) }
+{
+    let sizes = inputs.config?;
+    let settings = settings_of(sizes, alloc)?;
+    let text = inputs.second?;
+    match perform_migrate(text, &settings, file, alloc) {
+        Ok(status) => Ok(status),
+        Err(refused) => Err(refused),
+    }
+}
+
 /// The exit status of a line with an image, with all flushed that it prints.
 fn read_and_perform<
     G: Gate + Sync,
@@ -191,6 +219,7 @@ fn read_and_perform<
 ) -> Result<u8, Refused>
     requires works { S.has_failed trace.old ≡ false }
     requires program { litmus_of line.now.command ≡ None }
+    requires image { migrates line.now.command ≡ false }
     ensures unset { IfErr inputs.now.config (λ why. result ≡ Err (refusal_of why)) }
     ensures refused { IfErr result (IsProgramRefusal line.now.command (as_read inputs.now.config)
         (as_read inputs.now.image) (as_read inputs.now.second)) }
@@ -252,6 +281,7 @@ fn perform_command<
     requires works { S.has_failed trace.old ≡ false }
     requires other { explains command.now ≡ false }
     requires program { litmus_of command.now ≡ None }
+    requires image { migrates command.now ≡ false }
     ensures { IsPerformed S.begins S.written S.has_failed trace.old trace.new command.now settings.now
         image.now (as_read second.entry) (W.contents out.old) (W.contents out.new) result }
 {
@@ -289,6 +319,7 @@ fn perform_command<
         Command::List(_) => perform_list(image, out),
         Command::Explain(_) => unreachable!(),
         Command::Litmus(_) => unreachable!(),
+        Command::Migrate(_) => unreachable!(),
         Command::Outcomes(outcomes) => {
             perform_outcomes(image, settings, outcomes, gate, trace, out, alloc)
         }

@@ -34,6 +34,9 @@ pub enum Refused {
     /// 1 to 6, the first that it breaks.
     #[error("trace line {line} refused {rule}")]
     Trace { line: usize, rule: u8 },
+    /// The trace that was to be migrated has version 2 already.
+    #[error("trace version refused")]
+    Version,
     /// This event of the trace, from 0, is the first that isn't allowed, and the rule the first
     /// that it breaks.
     #[error("event {index} refused rule {rule}")]
@@ -111,7 +114,7 @@ impl Refused {
             Refused::Watch(_) | Refused::Condition(_) | Refused::ManyWatched => 2,
             Refused::NoWord(_) | Refused::NoOutcome(_) | Refused::NotStuck => 2,
             Refused::Litmus(_, _) | Refused::NothingToDraw => 2,
-            Refused::Trace { .. } | Refused::Event { .. } => 4,
+            Refused::Trace { .. } | Refused::Version | Refused::Event { .. } => 4,
             Refused::Prediction(_) | Refused::Register(_) => 4,
             Refused::Memory | Refused::Thread | Refused::File | Refused::Output => 5,
         }

@@ -1,17 +1,16 @@
 //! The command `script`: the script that makes the core have a history again.
 
 ghost use Rattle.std.specs.Prelude.{◌≡◌, reverse, IfOk, IfErr};
-ghost use Rattle.core_state.specs.Setup.{setup_of};
 ghost use Rattle.actors.specs.declared.static_predictor.StaticPredictor.{StaticPredictor as Static};
 ghost use Rattle.history_scripts.specs.Again.{IsScriptOf};
-ghost use Rattle.commands.specs.Retiring.{guesses_statically};
+ghost use Rattle.commands.specs.{Check.setup_by, Retiring.guesses_statically};
 ghost use Rattle.commands.specs.Script.{IsScriptingRefusal, ScriptComesTo, IsMakingRefusal};
 
-use crate::check::read_events;
+use crate::check::{config_by, read_events};
 use crate::refused::Refused;
 use actors::StaticPredictor;
 use elf_image::Image;
-use events::Event;
+use event_text::Trace;
 use history_scripts::{HistoryScript, ScriptRefused, make_script};
 use sim_inputs::Settings;
 use std::alloc::Global;
@@ -40,26 +39,27 @@ pub fn perform_script<W: Write>(
         (W.contents out.old) (W.contents out.new)) }
 {
     let trace = read_events(trace, alloc)?;
-    let script = script_of(image, settings, trace.events(), alloc)?;
+    let script = script_of(image, settings, &trace, alloc)?;
     match script.write(out) {
         Ok(()) => Ok(0),
         Err(_) => Err(Refused::Output),
     }
 }
 
-/// The script of a list of events, for the core of an image and some settings.
+/// The script of a trace's events, for the core that it is of.
 fn script_of<'a>(
     image: &Image,
     settings: &Settings,
-    events: &'a [Event],
+    trace: &'a Trace,
     alloc: Global,
 ) -> Result<HistoryScript<'a>, Refused>
     ensures made { IfOk result (IsScriptOf {P = Static} guesses_statically
-        (setup_of image.now settings.now.config) (reverse events.now)) }
+        (setup_by settings.now image.now trace.now.head) (reverse trace.now.events)) }
     ensures refused { IfErr result
-        (IsMakingRefusal (setup_of image.now settings.now.config) events.now) }
+        (IsMakingRefusal (setup_by settings.now image.now trace.now.head) trace.now.events) }
 {
-    match make_script(image, &settings.config, events, &mut StaticPredictor, alloc) {
+    let config = config_by(settings, trace.head());
+    match make_script(image, &config, trace.events(), &mut StaticPredictor, alloc) {
         Ok(script) => Ok(script),
         Err(ScriptRefused::Config) => Err(Refused::Config),
         Err(ScriptRefused::Event { index, rule }) => Err(Refused::Event { index, rule }),

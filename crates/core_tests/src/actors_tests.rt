@@ -124,7 +124,7 @@ fn a_run_needs_an_actor_of_each_role(rt: HostRuntime) {
 
 #[test]
 fn a_run_needs_a_core(rt: HostRuntime) {
-    let mut config = one_of_each(9);
+    let mut config = one_of_each(17);
     config.roles.pop();
     assert!(rt; refused(&rt, config, 1000, rt.alloc()) == Some(RunRefused::Config));
     let past_most = 16_777_217;

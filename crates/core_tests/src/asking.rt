@@ -1,7 +1,7 @@
 //! Sizes of cores, and the asks of a run with the events that they should make.
 
 use arrayvec::ArrayVec;
-use event_text::read_event_line;
+use event_text::{SECOND_RANGES, read_event_within};
 use events::Event;
 use smt_core::{Answer, CompleteAnswer, Config, Core, Done, IssueAnswer, Predict, Role, work};
 use std::alloc::Global;
@@ -10,7 +10,7 @@ use test_files::{file_of, image_of};
 /// Sizes with so many actors, each a unit for arithmetic.
 pub fn config(harts: u8, extra: u16, queue: u8, actors: usize) -> Config {
     let mut roles = ArrayVec::new();
-    for _ in 0..actors.min(16) {
+    for _ in 0..actors {
         let _ = roles.try_push(Role::Alu);
     }
     Config {
@@ -76,7 +76,7 @@ pub fn make<P: Predict>(core: &mut Core, predictor: &mut P, step: Step) -> Optio
 /// Whether an event came, and is printed as this line: each line is read as one event alone.
 fn is_line(event: Option<Event>, line: &str) -> bool {
     match event {
-        Some(event) => read_event_line(line.as_bytes()) == Ok(event),
+        Some(event) => read_event_within(line.as_bytes(), SECOND_RANGES) == Ok(event),
         None => false,
     }
 }

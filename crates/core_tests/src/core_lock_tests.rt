@@ -4,6 +4,7 @@
 mod posting;
 
 ghost use Rattle.std.specs.Prelude.{◌≡◌};
+ghost use Rattle.numbers.specs.Sizes.{most_actors};
 
 use crate::first_program::{End, FIRST_END, end_of, first_image};
 use crate::rows::counts;
@@ -11,6 +12,7 @@ use arrayvec::ArrayVec;
 use core_lock::{Ask, CoreReader, Held, LockedCore, Origin, Pass, Said};
 use elf_image::Image;
 use events::Event;
+use numbers::sizes::MOST_ACTORS;
 use smt_core::{Config, Core, Done, Finished, Role, work};
 use std::alloc::Global;
 use std::marker::Brand;
@@ -129,10 +131,11 @@ fn two_with<L: Origin + Send + Sync, R: Threads + Wait + Sync>(
     image: &Image,
 ) -> Joined
     requires name { blank.name ≡ L.name }
-    requires parts { (blank.parts ≡ L.parts) × (L.parts ≡ 16) }
+    requires parts { (blank.parts ≡ L.parts) × (L.parts ≡ most_actors) }
     requires origin { (core.setup ≡ L.setup) × (core.limit ≡ L.limit) }
 {
     let (core, passes) = LockedCore::<L>::new(core, blank);
+    // No part of an array is lent while another is: each pass has a name.
     let [
         mut first,
         mut second,
@@ -150,6 +153,22 @@ fn two_with<L: Origin + Send + Sync, R: Threads + Wait + Sync>(
         p13,
         p14,
         p15,
+        p16,
+        p17,
+        p18,
+        p19,
+        p20,
+        p21,
+        p22,
+        p23,
+        p24,
+        p25,
+        p26,
+        p27,
+        p28,
+        p29,
+        p30,
+        p31,
     ] = passes;
     let (a, b) = (&mut first, &mut second);
     let shared = &core;
@@ -159,7 +178,8 @@ fn two_with<L: Origin + Send + Sync, R: Threads + Wait + Sync>(
         move || the_rest(rt, shared, b),
     );
     let passes = [
-        first, second, p2, p3, p4, p5, p6, p7, p8, p9, p10, p11, p12, p13, p14, p15,
+        first, second, p2, p3, p4, p5, p6, p7, p8, p9, p10, p11, p12, p13, p14, p15, p16, p17, p18,
+        p19, p20, p21, p22, p23, p24, p25, p26, p27, p28, p29, p30, p31,
     ];
     Joined {
         finished: core.finish(passes, image, &config()),
@@ -169,7 +189,7 @@ fn two_with<L: Origin + Send + Sync, R: Threads + Wait + Sync>(
 }
 
 fn two<R: Threads + Wait + Sync>(rt: &R, core: Core, image: &Image) -> Joined {
-    two_with::<Brand, R>(rt, core, Blank::new(16), image)
+    two_with::<Brand, R>(rt, core, Blank::new(MOST_ACTORS as u64), image)
 }
 
 /// Whether each of two threads' passes agreed at its last look, whether all did at the end, whether
@@ -226,7 +246,7 @@ struct Alone {
 
 fn ask_alone_with<L: Origin>(core: Core, blank: Blank, image: &Image) -> Alone
     requires name { blank.name ≡ L.name }
-    requires parts { (blank.parts ≡ L.parts) × (L.parts ≡ 16) }
+    requires parts { (blank.parts ≡ L.parts) × (L.parts ≡ most_actors) }
     requires origin { (core.setup ≡ L.setup) × (core.limit ≡ L.limit) }
 {
     let (mut held, mut passes) = Held::<L>::new(core, blank);
@@ -261,7 +281,7 @@ fn ask_alone_with<L: Origin>(core: Core, blank: Blank, image: &Image) -> Alone
 }
 
 fn ask_alone(core: Core, image: &Image) -> Alone {
-    ask_alone_with::<Brand>(core, Blank::new(16), image)
+    ask_alone_with::<Brand>(core, Blank::new(MOST_ACTORS as u64), image)
 }
 
 /// What is asserted of such a core: besides the answers, what the first two passes counted and how many
@@ -354,7 +374,7 @@ struct Replied {
 
 fn answered_with<L: Origin>(core: Core, blank: Blank) -> Replied
     requires name { blank.name ≡ L.name }
-    requires parts { (blank.parts ≡ L.parts) × (L.parts ≡ 16) }
+    requires parts { (blank.parts ≡ L.parts) × (L.parts ≡ most_actors) }
     requires origin { (core.setup ≡ L.setup) × (core.limit ≡ L.limit) }
 {
     let (mut held, mut passes) = Held::<L>::new(core, blank);
@@ -372,7 +392,7 @@ fn answered_with<L: Origin>(core: Core, blank: Blank) -> Replied
 }
 
 fn answered_alone(core: Core) -> Replied {
-    answered_with::<Brand>(core, Blank::new(16))
+    answered_with::<Brand>(core, Blank::new(MOST_ACTORS as u64))
 }
 
 fn answered(alloc: Global) -> Option<Replied> {

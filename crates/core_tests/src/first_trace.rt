@@ -1,7 +1,7 @@
 //! The eighteen events of the first program, as they stand in its trace, and traces with other lines
 //! in the places of two.
 
-use event_text::read_event_line;
+use event_text::{SECOND_RANGES, read_event_within};
 use events::Event;
 use std::alloc::Global;
 
@@ -87,7 +87,7 @@ pub fn trace_with(row: &Row, alloc: Global) -> Option<Vec<Event>> {
         } else {
             *line
         };
-        let event = read_event_line(line.as_bytes()).ok()?;
+        let event = read_event_within(line.as_bytes(), SECOND_RANGES).ok()?;
         events.push(event).ok()?;
     }
     Some(events)

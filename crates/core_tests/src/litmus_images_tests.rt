@@ -129,6 +129,7 @@ fn is_zero(hart: u8, alloc: Global) -> Result<Box<Condition>, AllocError>
 }
 
 /// Store buffering: whether both harts can load 0.
+#[tactic(auto, using(crate::proofs::ShortThreads::two_short))]
 fn buffering(alloc: Global) -> Result<LitmusTest, AllocError>
     ensures { IfOk result IsWellFormed }
 {
@@ -178,9 +179,9 @@ fn branching_steps(alloc: Global) -> Result<Vec<LitmusStep>, AllocError>
     Ok(steps)
 }
 
-/// One hart with branches, and no location.
-fn branching(alloc: Global) -> Result<LitmusTest, AllocError>
-    ensures { IfOk result IsWellFormed }
+fn branching_threads(alloc: Global) -> Result<Vec<Thread>, AllocError>
+    ensures sound { IfOk result (λ threads. All (IsThread 0) threads.items) }
+    ensures one { IfOk result (λ threads. length threads.items ≡ 1) }
 {
     let steps = branching_steps(alloc)?;
     let mut threads = Vec::new(alloc);
@@ -188,6 +189,15 @@ fn branching(alloc: Global) -> Result<LitmusTest, AllocError>
         starts: Vec::new(alloc),
         steps,
     })?;
+    Ok(threads)
+}
+
+/// One hart with branches, and no location.
+#[tactic(auto, using(crate::proofs::ShortThreads::one_short))]
+fn branching(alloc: Global) -> Result<LitmusTest, AllocError>
+    ensures { IfOk result IsWellFormed }
+{
+    let threads = branching_threads(alloc)?;
     Ok(LitmusTest {
         name: Vec::new(alloc),
         locations: Vec::new(alloc),

@@ -417,8 +417,8 @@ static REFUSED: [(&str, &str); 34] = [
         "line 3, column 7: harts that aren't P0, P1 and so on: P2",
     ),
     (
-        "RISCV A\n{ }\nP0|P1|P2|P3|P4|P5|P6|P7|P8;",
-        "line 3, column 25: more than 8 harts",
+        "RISCV A\n{ }\nP0|P1|P2|P3|P4|P5|P6|P7|P8|P9|P10|P11|P12|P13|P14|P15|P16;",
+        "line 3, column 55: more than 16 harts",
     ),
     (
         "RISCV A\n{ }\nP0|P1;\n nop ;\n",
@@ -541,6 +541,27 @@ fn has_limit(
     read_litmus(text.as_slice(), alloc).is_ok() && is_refused(longer.as_slice(), want, alloc)
 }
 
+/// A test of sixteen harts, of which the last one has an instruction.
+const SIXTEEN_HARTS: &str =
+    "RISCV A\n{ x; }\nP0|P1|P2|P3|P4|P5|P6|P7|P8|P9|P10|P11|P12|P13|P14|P15;\n\
+|||||||||||||||li x5,1;\nexists 15:x5=1";
+
+#[test]
+fn reads_sixteen_harts(rt: HostRuntime) {
+    let Some(test) = read(&rt, SIXTEEN_HARTS) else {
+        assert!(rt; false);
+        return;
+    };
+    assert!(rt; test.threads.len() == 16);
+    let constant = LitmusStep::Constant {
+        register: 5,
+        value: 1,
+    };
+    assert!(rt; does(&test, 14, &[]));
+    assert!(rt; does(&test, 15, &[constant]));
+    assert!(rt; test.observed.as_slice() == [register(15, 5)].as_slice());
+}
+
 #[test]
 fn has_limits(rt: HostRuntime) {
     let alloc = rt.alloc();
@@ -560,9 +581,9 @@ fn has_limits(rt: HostRuntime) {
         has_limit(
             terms,
             "/\\x=0",
-            127,
+            31,
             "",
-            "line 4, column 648: more than 128 terms",
+            "line 4, column 168: more than 32 terms",
             alloc
         )
     );

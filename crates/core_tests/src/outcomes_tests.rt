@@ -165,3 +165,55 @@ fn three_instructions_of_each_of_two_harts(rt: HostRuntime) {
         Err(_) => holds(&rt, "found", false),
     }
 }
+
+/// `lui x5,0x80001`, `slli x6,x10,2`, `add x5,x5,x6`, `sw x10,0(x5)`, `ebreak`: each hart puts its number into a
+/// word of its own.
+static OWN_WORDS: [u32; 5] = [
+    0x8000_12b7,
+    0x0025_1313,
+    0x0062_82b3,
+    0x00a2_a023,
+    0x0010_0073,
+];
+
+/// x10 of hart 9, and the word of hart 9.
+fn watching_the_last() -> Watch {
+    let mut registers = ArrayVec::new();
+    registers.push(WatchedRegister {
+        hart: 9,
+        register: 10,
+    });
+    let mut words = ArrayVec::new();
+    words.push(0x8000_1024);
+    Watch { registers, words }
+}
+
+/// Whether in an outcome all of ten harts were stopped by EBREAK, and what is watched of hart 9 is 9.
+fn is_of_ten(found: &Outcomes) -> bool {
+    match found.outcome(0) {
+        None => false,
+        Some(outcome) => {
+            outcome.statuses.as_slice() == [Status::Stopped(3); 10].as_slice()
+                && outcome.registers.as_slice() == [9].as_slice()
+                && outcome.words.as_slice() == [9].as_slice()
+        }
+    }
+}
+
+// In a state each hart has yet to store or is over: that are 2^10.
+#[test]
+fn ten_harts_that_store(rt: HostRuntime) {
+    let found = match image_with(&OWN_WORDS, rt.alloc()) {
+        Some(image) => find_outcomes(&image, 10, &watching_the_last(), 1024, &(), rt.alloc()),
+        None => Err(OutcomesRefused::Memory),
+    };
+    match found {
+        Ok(found) => {
+            holds(&rt, "one", found.count() == 1);
+            holds(&rt, "ten", is_of_ten(&found));
+            holds(&rt, "states", found.states() == 1024);
+            holds(&rt, "steps", witness_of(&found, rt.alloc()) == Some(50));
+        }
+        Err(_) => holds(&rt, "found", false),
+    }
+}

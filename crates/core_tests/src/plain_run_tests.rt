@@ -131,9 +131,10 @@ fn an_order_stops_at_a_step_that_is_refused(rt: HostRuntime) {
     holds(
         &rt,
         "harts",
-        stopped(9, &[], rt.alloc()) == Some(OrderStopped::Harts),
+        stopped(17, &[], rt.alloc()) == Some(OrderStopped::Harts),
     );
-    holds(&rt, "empty", stopped(8, &[], rt.alloc()).is_none());
+    holds(&rt, "empty", stopped(16, &[], rt.alloc()).is_none());
+    holds(&rt, "last", stopped(16, &[15], rt.alloc()).is_none());
 }
 
 /// The words for why an order stopped.

@@ -188,12 +188,21 @@ fn refusal(alloc: Global, harts: u8) -> Option<PlainRefused> {
 }
 
 #[test]
-fn there_are_one_to_eight_harts(rt: HostRuntime) {
+fn the_last_of_sixteen_harts_knows_its_number(rt: HostRuntime) -> Result<(), Fail> {
+    let machine = machine_of(rt.alloc(), &EXIT_WITH_5, 16, 0).ok_or("refused")?;
+    let registers = [0, 0, 0, 0, 0, 15, 16];
+    assert!(rt; seen(&machine, 15) == Some((Status::Going, 0x8000_0000, registers)));
+    assert!(rt; seen(&machine, 16).is_none());
+    Ok(())
+}
+
+#[test]
+fn there_are_one_to_sixteen_harts(rt: HostRuntime) {
     let refused = [
         refusal(rt.alloc(), 0),
         refusal(rt.alloc(), 1),
-        refusal(rt.alloc(), 8),
-        refusal(rt.alloc(), 9),
+        refusal(rt.alloc(), 16),
+        refusal(rt.alloc(), 17),
     ];
     assert!(rt;
         refused

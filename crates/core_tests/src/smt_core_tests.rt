@@ -150,14 +150,14 @@ macro_rules! sizes {
 
 static SIZES: [(&str, Sizes); 9] = [
     ("no harts", sizes!(0, 64, 16, 1, 1, true)),
-    ("nine harts", sizes!(9, 64, 16, 1, 1, true)),
+    ("17 harts", sizes!(17, 64, 16, 1, 1, true)),
     ("no extra registers", sizes!(1, 0, 16, 1, 1, true)),
-    ("257 extra registers", sizes!(1, 257, 16, 1, 1, true)),
+    ("529 extra registers", sizes!(1, 529, 16, 1, 1, true)),
     ("a queue of 3", sizes!(1, 64, 3, 1, 1, true)),
     ("a queue of 65", sizes!(1, 64, 65, 1, 1, true)),
     ("no actors", sizes!(1, 64, 16, 0, 1, true)),
     ("a limit too large", sizes!(1, 1, 4, 16, 16_777_217, true)),
-    ("the largest", sizes!(8, 256, 64, 16, 1000, false)),
+    ("the largest", sizes!(16, 528, 64, 32, 1000, false)),
 ];
 
 /// Whether a core of such sizes is refused for them; None where it is refused for want of memory.
@@ -373,7 +373,35 @@ fn full_comes_before_idle_and_idle_where_nothing_can_be_done(rt: HostRuntime) {
 }
 
 #[test]
+fn the_largest_core_has_1024_registers_of_which_528_are_free(rt: HostRuntime) {
+    let core = first_core(config(16, 528, 64, 32), 1, rt.alloc()).expect(&rt, "a core");
+    let (_parts, registers) = core.parts();
+    assert!(rt; registers == 1024);
+    let free = core.free_registers();
+    assert!(rt; free.len() == 528);
+    assert!(rt; free.as_slice().first() == Some(&496));
+    assert!(rt; free.as_slice().last() == Some(&1023));
+}
+
+/// The hart that a fetch was of.
+fn hart_of(answer: Answer) -> Option<u8> {
+    match answer {
+        Answer::Done(Event::Fetch { hart, .. }) => Some(hart),
+        _ => None,
+    }
+}
+
+// No hart has more instructions that wait than the others have, but those that were fetched already.
+#[test]
+fn fetches_go_round_sixteen_harts(rt: HostRuntime) {
+    let mut core = first_core(config(16, 64, 16, 1), 100, rt.alloc()).expect(&rt, "a core");
+    for turn in 0..32u8 {
+        assert!(rt; hart_of(core.fetch(0, &mut Behind)) == Some(turn % 16));
+    }
+}
+
+#[test]
 fn a_core_has_the_harts_of_its_sizes(rt: HostRuntime) {
-    let core = first_core(config(8, 64, 16, 1), 1, rt.alloc());
-    assert!(rt; core.map(|core| core.harts()) == Some(8));
+    let core = first_core(config(16, 64, 16, 1), 1, rt.alloc());
+    assert!(rt; core.map(|core| core.harts()) == Some(16));
 }

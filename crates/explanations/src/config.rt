@@ -5,7 +5,7 @@ ghost use Rattle.explanations.specs.Explained.{Begins, IsConfigExplained, IsTold
 
 use crate::config_fault::write_config_fault;
 use crate::lines::joined;
-use sim_inputs::{ConfigFault, Settings, read_config_or_fault, role_name};
+use sim_inputs::{ConfigFault, Settings, read_config_or_fault};
 use smt_model::Role;
 use std::alloc::{AllocError, Global};
 use std::io;
@@ -81,7 +81,7 @@ fn write_settings<W: Write>(settings: &Settings, out: &mut W) -> io::Result<()> 
 /// Writes the role of each actor, and which role none has, where `run` needs one of each.
 fn write_actors<W: Write>(roles: &[Role], out: &mut W) -> io::Result<()> {
     for (actor, role) in roles.iter().enumerate() {
-        writeln!(out, "actor {actor} {}", role_name(*role))?;
+        writeln!(out, "actor {actor} {}", role.name())?;
     }
     for role in [
         Role::Fetch,
@@ -92,7 +92,7 @@ fn write_actors<W: Write>(roles: &[Role], out: &mut W) -> io::Result<()> {
         Role::Mem,
     ] {
         if !roles.contains(&role) {
-            let name = role_name(role);
+            let name = role.name();
             writeln!(
                 out,
                 "no actor is `{name}`: `run`, which needs one of each role, refuses this"

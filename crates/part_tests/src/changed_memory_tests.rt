@@ -6,6 +6,7 @@ ghost use Rattle.shared_memory.specs.Contents.{IsStart};
 use crate::rows::{holds, holds_at};
 use changed_memory::{SharedState, keeps_shared};
 use events::Effect;
+use numbers::sizes::MOST_HARTS;
 use rv_decode::decode_op;
 use rv_execute::execute;
 use shared_memory::{AccessKind, Memory, fault};
@@ -65,7 +66,7 @@ fn step(start: &Memory, shared: &mut SharedState, hart: u8, instruction: Operand
     if fault(start, op, addr).is_some() {
         return None;
     }
-    if hart >= 8 {
+    if hart >= MOST_HARTS {
         return None;
     }
     let effect = shared.effect(start, hart, op, computed);
@@ -101,8 +102,8 @@ static STORES: [Row; 11] = [
 ];
 
 /// SC fails without a reservation and after a store to its word, and succeeds once after one to
-/// another word.
-static CONDITIONAL: [Row; 10] = [
+/// another word; of the last hart as of the first.
+static CONDITIONAL: [Row; 14] = [
     (0, (SC, WORD, 5), Some(1)),
     (0, (LR, WORD, 0), Some(0)),
     (1, (SH, WORD + 2, 7), None),
@@ -113,6 +114,10 @@ static CONDITIONAL: [Row; 10] = [
     (0, (SC, WORD, 5), Some(0)),
     (0, (SC, WORD, 6), Some(1)),
     (0, (LW, WORD, 0), Some(5)),
+    (15, (LR, WORD, 0), Some(5)),
+    (15, (SC, WORD, 8), Some(0)),
+    (15, (SC, WORD, 9), Some(1)),
+    (0, (LW, WORD, 0), Some(8)),
 ];
 
 /// An AMO gives the word that it changes.

@@ -4,8 +4,8 @@ use crate::rows::{holds, instr_of, word_and_text};
 use rv_decode::encode;
 
 /// Words that the GNU assembler 2.40 and its linker make of the text beside each (-march=rv32ima)
-/// at 80000000; llvm-mc 14 makes the same of those that aren't jumps to a label. One or more of
-/// every row, with the ends of the immediates' ranges.
+/// at 80000000; llvm-mc 14 makes the same of those that aren't jumps to a label, and alone was asked for
+/// fence.i. One or more of every row, with the ends of the immediates' ranges.
 const ASSEMBLED: &str = "\
 80001337 lui x6,0x80001
 00000fb7 lui x31,0x00000
@@ -56,6 +56,7 @@ fff16093 ori x1,x2,-1
 011867b3 or x15,x16,x17
 0149f933 and x18,x19,x20
 0ff0000f fence
+0000100f fence.i
 00000073 ecall
 00100073 ebreak
 027302b3 mul x5,x6,x7
@@ -96,5 +97,5 @@ fn reads_and_writes_the_words_of_an_assembler(rt: HostRuntime) {
         holds(&rt, row, is_read_and_written(word, text));
         rows = rows.wrapping_add(1);
     }
-    assert!(rt; rows == 72);
+    assert!(rt; rows == 73);
 }

@@ -1,11 +1,16 @@
-//! The lines of events and records, against lines worked by hand from their form; and whole traces
-//! in `traces`.
+//! The lines of events and records, against lines worked by hand from their form; whole traces in
+//! `traces`, what version 2 has of its own in `versions`, and the way there in `migrating`.
 
+mod migrating;
 mod traces;
+mod versions;
 
 use crate::rows::holds;
 use arrayvec::ArrayString;
-use event_text::{print_event, print_record, push_event, push_record, read_event_line};
+use event_text::{
+    FIRST_RANGES, Ranges, SECOND_RANGES, print_event, print_record, push_event, push_record,
+    read_event_within,
+};
 use events::{Effect, Event, Next, Outcome, Record, Written};
 
 macro_rules! fetch {
@@ -186,7 +191,9 @@ fn others() -> [(Event, &'static str); 10] {
 /// Whether an event is printed as this line and read back from it. What a table's event writes is
 /// short.
 fn is_line(event: &Event, line: &str) -> bool {
-    print_event(event).as_str() == line && read_event_line(line.as_bytes()) == Ok(*event)
+    print_event(event).as_str() == line
+        && read_event_within(line.as_bytes(), FIRST_RANGES) == Ok(*event)
+        && read_event_within(line.as_bytes(), SECOND_RANGES) == Ok(*event)
 }
 
 #[test]
@@ -246,8 +253,8 @@ fn prints_an_event_and_a_record_behind_a_text(rt: HostRuntime) {
     assert!(rt; text.as_str() == "done D 4 70605, 1 80000014 - 00000005 p80000018 - - -");
 }
 
-/// Lines, by the number of the first rule that each breaks.
-static REFUSED: [(&str, u8); 20] = [
+/// Lines, by the number of the first rule that each breaks in either version.
+static REFUSED: [(&str, u8); 18] = [
     ("", 3),
     ("Q 0 0", 3),
     ("DD 0 0", 3),
@@ -264,14 +271,33 @@ static REFUSED: [(&str, u8); 20] = [
     ("T 2 5 - p80000018 80001001 - -", 5),
     ("T 2 5 - p80000018 - aa -", 5),
     ("T 2 5 - p80000018 80001001 aaa -", 5),
-    ("D 16 x", 6),
+    ("D 32 x", 6),
     ("D 0 16777216", 6),
-    ("R 0 0 504", 6),
-    ("F 0 8 0 80000000 - 80000004", 6),
 ];
 
-fn broken_rule(line: &str) -> Option<u8> {
-    match read_event_line(line.as_bytes()) {
+/// Lines of events that are in range in version 2 alone.
+static WIDER: [&str; 8] = [
+    "D 16 0",
+    "X 31 16777215",
+    "F 0 8 0 80000000 - 80000004",
+    "F 31 15 0 80000000 - 80000004",
+    "R 0 0 504",
+    "R 0 0 1023",
+    "I 16 1",
+    "T 31 0 - p80000004 - - -",
+];
+
+/// Lines of events that are out of range in each version.
+static OUTSIDE: [&str; 5] = [
+    "D 32 0",
+    "D 256 0",
+    "F 0 16 0 80000000 - 80000004",
+    "R 0 0 1024",
+    "R 0 0 65536",
+];
+
+fn broken_rule(line: &str, ranges: Ranges) -> Option<u8> {
+    match read_event_within(line.as_bytes(), ranges) {
         Ok(_) => None,
         Err(rule) => Some(rule.number()),
     }
@@ -280,6 +306,20 @@ fn broken_rule(line: &str) -> Option<u8> {
 #[test]
 fn a_line_is_refused_for_the_first_rule_that_it_breaks(rt: HostRuntime) {
     for (line, rule) in &REFUSED {
-        holds(&rt, line, broken_rule(line) == Some(*rule));
+        let first = broken_rule(line, FIRST_RANGES);
+        let second = broken_rule(line, SECOND_RANGES);
+        holds(&rt, line, first == Some(*rule) && second == Some(*rule));
+    }
+}
+
+#[test]
+fn version_2_has_wider_ranges(rt: HostRuntime) {
+    for line in &WIDER {
+        holds(&rt, line, broken_rule(line, FIRST_RANGES) == Some(6));
+        holds(&rt, line, broken_rule(line, SECOND_RANGES).is_none());
+    }
+    for line in &OUTSIDE {
+        holds(&rt, line, broken_rule(line, FIRST_RANGES) == Some(6));
+        holds(&rt, line, broken_rule(line, SECOND_RANGES) == Some(6));
     }
 }

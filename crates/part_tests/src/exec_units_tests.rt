@@ -46,6 +46,8 @@ const ECALL: Op = Op::Known(Instr::Ecall);
 
 const EBREAK: Op = Op::Known(Instr::Ebreak);
 
+const FENCE_I: Op = Op::Known(Instr::InstructionFence);
+
 macro_rules! outcome {
     ($value:expr, $next:expr, $out:expr) => {
         Outcome {
@@ -61,7 +63,7 @@ macro_rules! outcome {
 const BEHIND: Next = Next::Pc(0x8000_0004);
 
 /// An instruction with its two numbers, and what it computes.
-static ROWS: [(&str, Op, u32, u32, Outcome); 12] = [
+static ROWS: [(&str, Op, u32, u32, Outcome); 13] = [
     ("addi", ADDI, 0, 0, outcome!(Some(5), BEHIND, None)),
     (
         "addi wraps",
@@ -121,6 +123,7 @@ static ROWS: [(&str, Op, u32, u32, Outcome); 12] = [
         0,
         outcome!(None, Next::Stopped(3), None),
     ),
+    ("fence.i", FENCE_I, 0, 0, outcome!(None, BEHIND, None)),
     (
         "load",
         LW,

@@ -21,9 +21,11 @@ fn a_new_list_holds_exactly_the_extra_registers(rt: HostRuntime) {
         (2, 1, 62, 63),
         (2, 64, 62, 126),
         (8, 256, 248, 504),
+        // The largest core: 16 times 31 registers, and 528 more.
+        (16, 528, 496, 1024),
     ] {
         let free = FreeList::new(harts, extra);
-        for register in 0..600u16 {
+        for register in 0..1100u16 {
             let own = first <= register && register < end;
             holds_at(&rt, register as u32, free.holds(register) == own);
         }
@@ -34,7 +36,7 @@ fn a_new_list_holds_exactly_the_extra_registers(rt: HostRuntime) {
 fn a_named_register_is_taken_once(rt: HostRuntime) {
     let mut free = FreeList::new(2, 64);
     assert!(rt; free.take_this(125));
-    for register in [125, 126, 61, 511, 512, 65535] {
+    for register in [125, 126, 61, 1023, 1024, 65535] {
         holds_at(&rt, register as u32, !free.take_this(register));
     }
     assert!(rt; free.take() == Some(62));

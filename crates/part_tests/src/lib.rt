@@ -2,7 +2,7 @@
 //! stand in one crate, since a crate with tests of its own is proved twice by the gate. Each module
 //! has the tests of the crate that it is named after, through its public calls alone; of `elf_image`
 //! there are also `image_tests` (what an image is) and `writer_tests`, of `rv_decode` also
-//! `encoder_tests`, and of `issue_queue` also `queue_commands_tests`.
+//! `encoder_tests`, and of `issue_queue` also `queue_commands_tests`; `sizes_tests` is of `numbers`.
 #![tactic(auto)]
 
 #[cfg(test)]
@@ -51,6 +51,8 @@ mod rv_word_tests;
 mod searches_tests;
 #[cfg(test)]
 mod shared_memory_tests;
+#[cfg(test)]
+mod sizes_tests;
 #[cfg(test)]
 mod text_fields_tests;
 #[cfg(test)]

@@ -4,7 +4,14 @@ use rename_map::HartMaps;
 
 #[test]
 fn a_hart_begins_in_its_own_31_physical_registers(rt: HostRuntime) {
-    for (hart, register, phys) in [(0, 1, 0), (0, 31, 30), (1, 1, 31), (1, 5, 35), (7, 31, 247)] {
+    for (hart, register, phys) in [
+        (0, 1, 0),
+        (0, 31, 30),
+        (1, 1, 31),
+        (1, 5, 35),
+        (7, 31, 247),
+        (15, 31, 495),
+    ] {
         if 0 < register && register < 32 {
             let maps = HartMaps::new(hart);
             let mapped = [maps.lookup(register), maps.committed(register)];

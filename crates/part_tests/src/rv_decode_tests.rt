@@ -11,7 +11,7 @@ static ILLEGAL: [u32; 24] = [
     0x00033283, // ld x5,0(x6)
     0x00036283, // lwu x5,0(x6)
     0x00533023, // sd x5,0(x6)
-    0x0000100f, // fence.i
+    0x0000200f, // what stands beside fence and fence.i: cbo.inval of x0
     0x34029073, // csrrw x0,mscratch,x5
     0x30200073, // mret
     0x10500073, // wfi
@@ -46,6 +46,16 @@ fn words_of_no_row_are_illegal(rt: HostRuntime) {
 fn a_fence_of_any_kind_is_a_fence(rt: HostRuntime) {
     for word in [0x0330000f, 0x8330000f, 0x0210000f] {
         let fence = matches!(instr_of(word, 0, "fence"), Some(Instr::Fence));
+        holds_at(&rt, word, fence);
+    }
+}
+
+// Words that llvm-mc 14 makes: fence.i; and the same with its free fields set, which the ISA reserves and tells
+// an implementation to ignore.
+#[test]
+fn an_instruction_fence_has_free_fields(rt: HostRuntime) {
+    for word in [0x0000100f, 0x7ff2918f] {
+        let fence = matches!(instr_of(word, 0, "fence.i"), Some(Instr::InstructionFence));
         holds_at(&rt, word, fence);
     }
 }

@@ -26,7 +26,7 @@ macro_rules! named {
 
 /// Those that the assembler's text names, and for ECALL the registers of a call's number and first
 /// argument.
-static NAMED: [(u32, Named); 18] = [
+static NAMED: [(u32, Named); 19] = [
     (0x80001337, named!(Some(6), None, None, UnitKind::Alu)), // lui x6,0x80001
     (0xfffff897, named!(Some(17), None, None, UnitKind::Alu)), // auipc x17,0xfffff
     (0x001000ef, named!(Some(1), None, None, UnitKind::Alu)), // jal x1,.+2048
@@ -43,6 +43,7 @@ static NAMED: [(u32, Named); 18] = [
         named!(Some(30), Some(31), Some(0), UnitKind::Mul),
     ), // remu x30,x31,x0
     (0x0ff0000f, named!(None, None, None, UnitKind::Alu)), // fence iorw,iorw
+    (0x0000100f, named!(None, None, None, UnitKind::Alu)), // fence.i
     (0x00000073, named!(None, Some(17), Some(10), UnitKind::Alu)), // ecall
     (0x00100073, named!(None, None, None, UnitKind::Alu)), // ebreak
     (0x100322af, named!(Some(5), Some(6), None, UnitKind::Mem)), // lr.w x5,(x6)

@@ -26,7 +26,7 @@ fn each_row_is_spelled_and_read_as_another_disassembler_spells_it(rt: HostRuntim
         pc = pc.wrapping_add(4);
         rows = rows.wrapping_add(1);
     }
-    assert!(rt; rows == 217);
+    assert!(rt; rows == 218);
     for (word, pc, text) in &WRAPPING {
         holds(&rt, text, is_spelled(*word, *pc, text));
     }

@@ -33,6 +33,7 @@ typed_command at_terminal (commands.Chart chart) step is = absurd (cc)
 typed_command at_terminal (commands.Explain explain) step is = absurd (cc)
 typed_command at_terminal (commands.Outcomes outcomes) step is = absurd (cc)
 typed_command at_terminal (commands.Litmus litmus) step is = absurd (cc)
+typed_command at_terminal (commands.Migrate migrate) step is = absurd (cc)
 
 -- It is performed with its other files as they were read, and refused as an empty script is.
 pub typed_performed : (at_terminal : Bool) (line : Line) (step : StepCommand) (status : ℕ) (config image : Read)

@@ -10,6 +10,7 @@ mod list;
 mod litmus;
 mod looks;
 mod meeting;
+mod migrate;
 mod plain;
 mod refusals;
 mod run;

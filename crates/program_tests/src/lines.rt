@@ -2,7 +2,8 @@
 
 use sim_inputs::{
     ChartCommand, CheckCommand, Command, ExplainCommand, Line, ListCommand, LitmusCommand,
-    OutcomesCommand, PlainCommand, RunCommand, ScheduleCommand, ScriptCommand, StepCommand,
+    MigrateCommand, OutcomesCommand, PlainCommand, RunCommand, ScheduleCommand, ScriptCommand,
+    StepCommand,
 };
 
 macro_rules! line {
@@ -81,6 +82,14 @@ pub fn check_line(records: bool) -> Line<'static> {
         json: false,
         records,
         why: false,
+    },))
+}
+
+/// A trace of version 1 that is written as one of version 2.
+pub fn migrate_line() -> Line<'static> {
+    line!(Command::Migrate(MigrateCommand {
+        trace: "trace",
+        out: "out",
     },))
 }
 

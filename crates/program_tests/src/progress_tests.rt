@@ -3,6 +3,7 @@
 
 use actors::{Gate, Point};
 use core_lock::BoardView;
+use numbers::sizes::MOST_ACTORS;
 use program::Progress;
 use std::alloc::{AllocError, Global};
 use std::io;
@@ -87,7 +88,7 @@ impl Write for &Screen {
 
 /// A board on which the first actor has posted 10 events and the second 20.
 fn thirty_events() -> BoardView {
-    let mut counts = [0; 16];
+    let mut counts = [0; MOST_ACTORS];
     counts[0] = 10;
     counts[1] = 20;
     BoardView { counts, stop: 0 }

@@ -15,7 +15,10 @@ static WORDS: [ScriptWord; 7] = [
         repeat: 1,
     },
     ScriptWord {
-        action: Action::Rename { actor: 15, hart: 7 },
+        action: Action::Rename {
+            actor: 31,
+            hart: 15,
+        },
         repeat: 2,
     },
     ScriptWord {
@@ -56,7 +59,7 @@ fn is_same(word: &ScriptWord, wanted: &ScriptWord) -> bool {
 
 #[test]
 fn a_script_is_read_word_by_word(rt: HostRuntime) -> Result<(), Fail> {
-    let text = b" F0 D1.0\nR15.7*2 T2.0*100000\n\nI3 C4*1 U5 ";
+    let text = b" F0 D1.0\nR31.15*2 T2.0*100000\n\nI3 C4*1 U5 ";
     let words = read_script(text, rt.alloc())?;
     assert!(rt; words.len() == WORDS.len());
     for (word, wanted) in words.iter().zip(&WORDS) {
@@ -88,7 +91,7 @@ fn a_script_that_is_cut_is_refused_at_the_word_that_was_cut(rt: HostRuntime) {
 
 /// A bar stands between two.
 const NO_WORDS: &str =
-    "F0.0|D0|*0|F0*0|F0*01|F0*100001|F16|D0.8|F00|f0|F0\r|F|0|F+0|D0.|D.0|D0.0.0|F0*|F0**2|F0*2*2|\
+    "F0.0|D0|*0|F0*0|F0*01|F0*100001|F32|D0.16|F00|f0|F0\r|F|0|F+0|D0.|D.0|D0.0.0|F0*|F0**2|F0*2*2|\
 F 0|F0\t|X0|F-1|D00.0|U3*4294967297";
 
 #[test]

@@ -8,8 +8,8 @@ mod refused_words;
 use crate::rows::holds;
 use sim_inputs::{
     ChartCommand, CheckCommand, Command, ExplainCommand, Line, ListCommand, LitmusCommand,
-    OutcomesCommand, PlainCommand, RunCommand, ScheduleCommand, ScriptCommand, StepCommand,
-    read_words,
+    MigrateCommand, OutcomesCommand, PlainCommand, RunCommand, ScheduleCommand, ScriptCommand,
+    StepCommand, read_words,
 };
 use std::alloc::{AllocError, Global};
 
@@ -23,7 +23,7 @@ fn words_of(text: &str, alloc: Global) -> Result<Vec<&str>, AllocError> {
 }
 
 /// Words, and what they ask for.
-static LINES: [(&str, Line<'_>); 36] = [
+static LINES: [(&str, Line<'_>); 38] = [
     (
         "smtsim chart a t",
         Line {
@@ -535,6 +535,26 @@ static LINES: [(&str, Line<'_>); 36] = [
             }),
         },
     ),
+    (
+        "smtsim migrate t o",
+        Line {
+            config: None,
+            command: Command::Migrate(MigrateCommand {
+                trace: "t",
+                out: "o",
+            }),
+        },
+    ),
+    (
+        "smtsim migrate - --config c o",
+        Line {
+            config: Some("c"),
+            command: Command::Migrate(MigrateCommand {
+                trace: "-",
+                out: "o",
+            }),
+        },
+    ),
 ];
 
 /// The files of a line: its configuration, its image, the other one that is read, and the one that is
@@ -566,6 +586,7 @@ fn flags_of(line: &Line<'_>) -> (&'static str, [bool; 3]) {
         Command::Explain(_) => ("explain", [false; 3]),
         Command::Outcomes(outcomes) => ("outcomes", [outcomes.stuck, false, false]),
         Command::Litmus(litmus) => ("litmus", [litmus.image.is_some(), false, false]),
+        Command::Migrate(_) => ("migrate", [false; 3]),
     }
 }
 
@@ -643,7 +664,7 @@ fn each_line_is_read_with_its_files_and_options(rt: HostRuntime) {
 }
 
 /// A line of each command, and its files.
-static NAMED: [(Line<'_>, Named<'_>); 13] = [
+static NAMED: [(Line<'_>, Named<'_>); 14] = [
     (
         Line {
             config: Some("c"),
@@ -812,6 +833,16 @@ static NAMED: [(Line<'_>, Named<'_>); 13] = [
             }),
         },
         (Some("c"), Some("a"), None, Some("s")),
+    ),
+    (
+        Line {
+            config: Some("c"),
+            command: Command::Migrate(MigrateCommand {
+                trace: "t",
+                out: "o",
+            }),
+        },
+        (Some("c"), None, Some("t"), Some("o")),
     ),
 ];
 

@@ -186,6 +186,7 @@ pub fn decode(word: u32) -> Option<Instr>
         OP_IMM => immediate(word),
         OP => register(word),
         MISC_MEM if bits(word, 12, 3) == 0b000 => Some(Instr::Fence),
+        MISC_MEM if bits(word, 12, 3) == 0b001 => Some(Instr::InstructionFence),
         SYSTEM if word == 0x00000073 => Some(Instr::Ecall),
         SYSTEM if word == 0x00100073 => Some(Instr::Ebreak),
         AMO => atomic(word),

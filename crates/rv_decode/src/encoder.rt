@@ -163,11 +163,13 @@ fn format_atomic(funct5: u32, rd: Reg, rs1: Reg, rs2: Reg, ordering: Ordering) -
         + AMO
 }
 
-/// A word that spells the instruction. FENCE's free fields are those of `fence iorw,iorw`.
+/// A word that spells the instruction. FENCE's free fields are those of `fence iorw,iorw`, and
+/// those of FENCE.I are 0.
 pub fn encode(instr: Instr) -> u32
     requires { IsInstructionInRange instr }
     ensures spelled { Spells result instr }
     ensures fence { instr ≡ Instr.Fence → result ≡ 0x0FF0000F }
+    ensures instruction_fence { instr ≡ Instr.InstructionFence → result ≡ 0x0000100F }
 {
     match instr {
         Instr::Lui { rd, imm } => format_u(LUI, rd, imm),
@@ -221,6 +223,7 @@ pub fn encode(instr: Instr) -> u32
             rs2,
         ),
         Instr::Fence => 0x0FF0000F,
+        Instr::InstructionFence => 0x0000100F,
         Instr::Ecall => 0x00000073,
         Instr::Ebreak => 0x00100073,
         Instr::LoadReserved { rd, rs1, ordering } => format_atomic(0b00010, rd, rs1, 0, ordering),

@@ -42,7 +42,9 @@ fn computed_of(instr: Instr, pc: u32, a: u32, b: u32) -> Computed
         Instr::Branch { op, offset, .. } if is_taken(op, a, b) => {
             Computed::just_next(jump_to(add(pc, extended(offset))))
         }
-        Instr::Branch { .. } | Instr::Fence => Computed::just_next(Next::Pc(next_pc(pc))),
+        Instr::Branch { .. } | Instr::Fence | Instr::InstructionFence => {
+            Computed::just_next(Next::Pc(next_pc(pc)))
+        }
         Instr::Load { offset, .. } => Computed::touches(pc, add(a, extended(offset)), 0),
         Instr::Store { op, offset, .. } => {
             Computed::touches(pc, add(a, extended(offset)), stored_part(op, b))

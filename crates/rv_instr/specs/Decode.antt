@@ -23,7 +23,7 @@ use Rattle.rv_instr.specs.declared.instr.MulDivOp.TheVariants.{Mul, Mulh, Mulhsu
 use Rattle.rv_instr.specs.declared.instr.MulDivOp.TheVariants.{Rem, Remu}
 use Rattle.rv_instr.specs.declared.instr.Instr.TheVariants.{Lui, Auipc, Jal, Jalr, Branch, Load}
 use Rattle.rv_instr.specs.declared.instr.Instr.TheVariants.{Store, Immediate, Shift, Register}
-use Rattle.rv_instr.specs.declared.instr.Instr.TheVariants.{MulDiv, Fence, Ecall, Ebreak}
+use Rattle.rv_instr.specs.declared.instr.Instr.TheVariants.{MulDiv, Fence, InstructionFence, Ecall, Ebreak}
 use Rattle.rv_instr.specs.declared.instr.Instr.TheVariants.{LoadReserved, StoreConditional, Amo}
 use Rattle.rv_instr.specs.Fields.{opcode_at, rd_at, funct3_at, rs1_at, rs2_at, funct7_at}
 use Rattle.rv_instr.specs.Fields.{funct5_at, ordering_at, imm_i, imm_s, imm_b, imm_u, imm_j}
@@ -172,7 +172,10 @@ register_of word =
       Some (Register op (rd_at word) (rs1_at word) (rs2_at word)))
 
 unfoldable pub fence_of : ℕ → Option Instr
-fence_of word = if funct3_at word == 0b000 then Some Fence else None
+fence_of word =
+    if funct3_at word == 0b000 then Some Fence
+    else if funct3_at word == 0b001 then Some InstructionFence
+    else None
 
 unfoldable pub system_of : ℕ → Option Instr
 system_of word =

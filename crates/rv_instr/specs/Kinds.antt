@@ -23,6 +23,7 @@ kind_of_instr (instr.Shift _ _ _ _) = Computing
 kind_of_instr (instr.Register _ _ _ _) = Computing
 kind_of_instr (instr.MulDiv _ _ _ _) = Computing
 kind_of_instr instr.Fence = Computing
+kind_of_instr instr.InstructionFence = Computing
 kind_of_instr instr.Ecall = Computing
 kind_of_instr instr.Ebreak = Computing
 kind_of_instr (instr.LoadReserved _ _ _) = Reserving

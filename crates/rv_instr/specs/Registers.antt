@@ -7,7 +7,7 @@ use Rattle.rv_instr.specs.{declared.op.UnitKind.TheVariants.Mul}
 use Rattle.rv_instr.specs.{declared.op.UnitKind.TheVariants.Mem}
 use Rattle.rv_instr.specs.declared.instr.Instr.TheVariants.{Lui, Auipc, Jal, Jalr, Branch, Load}
 use Rattle.rv_instr.specs.declared.instr.Instr.TheVariants.{Store, Immediate, Shift, Register}
-use Rattle.rv_instr.specs.declared.instr.Instr.TheVariants.{MulDiv, Fence, Ecall, Ebreak}
+use Rattle.rv_instr.specs.declared.instr.Instr.TheVariants.{MulDiv, Fence, InstructionFence, Ecall, Ebreak}
 use Rattle.rv_instr.specs.declared.instr.Instr.TheVariants.{LoadReserved, StoreConditional, Amo}
 
 -- the register that an instruction writes; x0 counts as one
@@ -24,6 +24,7 @@ rd_of (Shift _ rd _ _) = Some rd
 rd_of (Register _ rd _ _) = Some rd
 rd_of (MulDiv _ rd _ _) = Some rd
 rd_of Fence = None
+rd_of InstructionFence = None
 rd_of Ecall = None
 rd_of Ebreak = None
 rd_of (LoadReserved rd _ _) = Some rd
@@ -45,6 +46,7 @@ rs1_of (Shift _ _ rs1 _) = Some rs1
 rs1_of (Register _ _ rs1 _) = Some rs1
 rs1_of (MulDiv _ _ rs1 _) = Some rs1
 rs1_of Fence = None
+rs1_of InstructionFence = None
 rs1_of Ecall = Some 17
 rs1_of Ebreak = None
 rs1_of (LoadReserved _ rs1 _) = Some rs1
@@ -65,6 +67,7 @@ rs2_of (Shift _ _ _ _) = None
 rs2_of (Register _ _ _ rs2) = Some rs2
 rs2_of (MulDiv _ _ _ rs2) = Some rs2
 rs2_of Fence = None
+rs2_of InstructionFence = None
 rs2_of Ecall = Some 10
 rs2_of Ebreak = None
 rs2_of (LoadReserved _ _ _) = None

@@ -24,7 +24,7 @@ use Rattle.rv_instr.specs.declared.instr.MulDivOp.TheVariants.{Mul, Mulh, Mulhsu
 use Rattle.rv_instr.specs.declared.instr.MulDivOp.TheVariants.{Rem, Remu}
 use Rattle.rv_instr.specs.declared.instr.Instr.TheVariants.{Lui, Auipc, Jal, Jalr, Branch, Load}
 use Rattle.rv_instr.specs.declared.instr.Instr.TheVariants.{Store, Immediate, Shift, Register}
-use Rattle.rv_instr.specs.declared.instr.Instr.TheVariants.{MulDiv, Fence, Ecall, Ebreak}
+use Rattle.rv_instr.specs.declared.instr.Instr.TheVariants.{MulDiv, Fence, InstructionFence, Ecall, Ebreak}
 use Rattle.rv_instr.specs.declared.instr.Instr.TheVariants.{LoadReserved, StoreConditional, Amo}
 use Rattle.rv_instr.specs.Fields.{opcode_at, rd_at, funct3_at, rs1_at, rs2_at, funct7_at}
 use Rattle.rv_instr.specs.Fields.{funct5_at, ordering_at, imm_i, imm_s, imm_b, imm_u, imm_j}
@@ -139,6 +139,8 @@ Spells word (MulDiv op rd rs1 rs2) =
     × (rd ≡ rd_at word) × (rs1 ≡ rs1_at word) × (rs2 ≡ rs2_at word)
 Spells word Fence =
     (opcode_at word ≡ 0b0001111) × (funct3_at word ≡ 0b000)  -- the other fields are free
+Spells word InstructionFence =
+    (opcode_at word ≡ 0b0001111) × (funct3_at word ≡ 0b001)  -- here too
 Spells word Ecall = word ≡ 0x00000073
 Spells word Ebreak = word ≡ 0x00100073
 Spells word (LoadReserved rd rs1 ordering) =
@@ -178,6 +180,7 @@ IsInstructionInRange (Shift _ rd rs1 amount) = (rd < 32) × (rs1 < 32) × (amoun
 IsInstructionInRange (Register _ rd rs1 rs2) = (rd < 32) × (rs1 < 32) × (rs2 < 32)
 IsInstructionInRange (MulDiv _ rd rs1 rs2) = (rd < 32) × (rs1 < 32) × (rs2 < 32)
 IsInstructionInRange Fence = Unit {0}
+IsInstructionInRange InstructionFence = Unit {0}
 IsInstructionInRange Ecall = Unit {0}
 IsInstructionInRange Ebreak = Unit {0}
 IsInstructionInRange (LoadReserved rd rs1 _) = (rd < 32) × (rs1 < 32)

@@ -151,6 +151,8 @@ pub enum Instr {
         rs2: Reg,
     },
     Fence,
+    /// FENCE.I: the fetches behind it see the writes before it.
+    InstructionFence,
     Ecall,
     Ebreak,
     LoadReserved {

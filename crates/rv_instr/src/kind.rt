@@ -71,6 +71,7 @@ impl Instr {
             | Instr::Register { .. }
             | Instr::MulDiv { .. }
             | Instr::Fence
+            | Instr::InstructionFence
             | Instr::Ecall
             | Instr::Ebreak => Kind::Computing,
         }

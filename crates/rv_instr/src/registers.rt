@@ -31,6 +31,7 @@ impl Instr {
             Instr::Branch { .. }
             | Instr::Store { .. }
             | Instr::Fence
+            | Instr::InstructionFence
             | Instr::Ecall
             | Instr::Ebreak => None,
         }
@@ -59,6 +60,7 @@ impl Instr {
             | Instr::Auipc { .. }
             | Instr::Jal { .. }
             | Instr::Fence
+            | Instr::InstructionFence
             | Instr::Ebreak => None,
         }
     }
@@ -85,6 +87,7 @@ impl Instr {
             | Instr::Immediate { .. }
             | Instr::Shift { .. }
             | Instr::Fence
+            | Instr::InstructionFence
             | Instr::Ebreak
             | Instr::LoadReserved { .. } => None,
         }
@@ -111,6 +114,7 @@ impl Instr {
             | Instr::Shift { .. }
             | Instr::Register { .. }
             | Instr::Fence
+            | Instr::InstructionFence
             | Instr::Ecall
             | Instr::Ebreak => UnitKind::Alu,
         }

@@ -10,7 +10,7 @@ use Rattle.rv_text.specs.{declared.mnemonic.AtomicOp.AtomicOp, declared.mnemonic
 use Rattle.rv_text.specs.{declared.mnemonic.AtomicOp.TheVariants.StoreConditional}
 use Rattle.rv_text.specs.{declared.mnemonic.AtomicOp.TheVariants.Amo}
 use Rattle.rv_text.specs.declared.mnemonic.Mnemonic.TheVariants.{Lui, Auipc, Jal, Jalr, Branch, Load, Store, Immediate}
-use Rattle.rv_text.specs.declared.mnemonic.Mnemonic.TheVariants.{Shift, Register, MulDiv, Fence, Ecall, Ebreak, Atomic}
+use Rattle.rv_text.specs.declared.mnemonic.Mnemonic.TheVariants.{Shift, Register, MulDiv, Fence, InstructionFence, Ecall, Ebreak, Atomic}
 use Rattle.rv_text.specs.Spelling.{mnemonic_of, register_text, first_register_text, next_register, base_register}
 use Rattle.rv_text.specs.Spelling.{address_register, signed_text, amount_text, hex_text, target_text, operands_of}
 use Rattle.rv_text.specs.Spelling.{HasWord}
@@ -126,6 +126,9 @@ instr_takes pc here (MulDiv op) text i e =
     record { row = refl; in_range = (t.1, t.2, t.3); has_word = tt; spelled = t.0 }) i e
 instr_takes pc here Fence text i e = made pc Fence text (end_at [] text) (λ x. instr.Fence)
     (λ x read. record { row = refl; in_range = tt; has_word = tt; spelled = end_at_takes [] text x read }) i e
+instr_takes pc here InstructionFence text i e =
+    made pc InstructionFence text (end_at [] text) (λ x. instr.InstructionFence)
+    (λ x read. record { row = refl; in_range = tt; has_word = tt; spelled = end_at_takes [] text x read }) i e
 instr_takes pc here Ecall text i e = made pc Ecall text (end_at [] text) (λ x. instr.Ecall)
     (λ x read. record { row = refl; in_range = tt; has_word = tt; spelled = end_at_takes [] text x read }) i e
 instr_takes pc here Ebreak text i e = made pc Ebreak text (end_at [] text) (λ x. instr.Ebreak)
@@ -160,6 +163,7 @@ instr_again pc here (instr.Register op rd rs1 rs2) h w =
 instr_again pc here (instr.MulDiv op rd rs1 rs2) h w =
     rw (three_alone_again first_is next_is next_is rd rs1 rs2 h.0 h.1 h.2 refl refl refl) refl
 instr_again pc here instr.Fence h w = rw (end_at_again []) refl
+instr_again pc here instr.InstructionFence h w = rw (end_at_again []) refl
 instr_again pc here instr.Ecall h w = rw (end_at_again []) refl
 instr_again pc here instr.Ebreak h w = rw (end_at_again []) refl
 instr_again pc here (instr.LoadReserved rd rs1 ordering) h w =

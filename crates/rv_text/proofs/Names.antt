@@ -1,6 +1,6 @@
 -- No two rows have the same name: a search of the rows by name finds each row by its own.
 use Rattle.std.proofs.Common.{◌≡◌, ℕ, Bool, true, false, ◌==◌, if◌then◌else◌, List, [], ◌∷◌, ◌++◌, length, Option, Some}
-use Rattle.std.proofs.Common.{None, refl, sym, ap, ◌∙◌, arith}
+use Rattle.std.proofs.Common.{None, refl, subst, sym, ap, ◌∙◌, arith}
 use Rattle.std.specs.{Prelude.IfSome, Prelude.IfNone, List.flat_map, List.position_or_len, Str.bytes_eq}
 use Rattle.std.proofs.lemmas.List.{length-append}
 use Rattle.rv_word.specs.declared.amo_kind.AmoKind.TheVariants as kinds
@@ -17,7 +17,7 @@ use Rattle.rv_text.specs.{declared.mnemonic.AtomicOp.TheVariants.LoadReserved}
 use Rattle.rv_text.specs.{declared.mnemonic.AtomicOp.TheVariants.StoreConditional}
 use Rattle.rv_text.specs.{declared.mnemonic.AtomicOp.TheVariants.Amo}
 use Rattle.rv_text.specs.declared.mnemonic.Mnemonic.TheVariants.{Lui, Auipc, Jal, Jalr, Branch, Load, Store, Immediate}
-use Rattle.rv_text.specs.declared.mnemonic.Mnemonic.TheVariants.{Shift, Register, MulDiv, Fence, Ecall, Ebreak, Atomic}
+use Rattle.rv_text.specs.declared.mnemonic.Mnemonic.TheVariants.{Shift, Register, MulDiv, Fence, InstructionFence, Ecall, Ebreak, Atomic}
 use Rattle.rv_text.specs.Mnemonic.{mnemonic_name, atomic_name, ordering_name}
 use Rattle.rv_text.specs.Reading.{IsPlain}
 
@@ -33,7 +33,7 @@ atomics = LoadReserved ∷ StoreConditional ∷ Amo kinds.Swap ∷ Amo kinds.Add
     ∷ Amo kinds.Or ∷ Amo kinds.Min ∷ Amo kinds.Max ∷ Amo kinds.Minu ∷ Amo kinds.Maxu ∷ []
 
 rows : List Mnemonic
-rows = Lui ∷ Auipc ∷ Jal ∷ Jalr ∷ Fence ∷ Ecall ∷ Ebreak
+rows = Lui ∷ Auipc ∷ Jal ∷ Jalr ∷ Fence ∷ InstructionFence ∷ Ecall ∷ Ebreak
     ∷ Branch Beq ∷ Branch Bne ∷ Branch Blt ∷ Branch Bge ∷ Branch Bltu ∷ Branch Bgeu
     ∷ Load Lb ∷ Load Lh ∷ Load Lw ∷ Load Lbu ∷ Load Lhu
     ∷ Store Sb ∷ Store Sh ∷ Store Sw
@@ -99,6 +99,9 @@ plain_from_no_dot (Atomic op ordering) text none e =
       dot_place op (ordering_name ordering),
       length-append (atomic_name op) (46 ∷ ordering_name ordering),
     ))
+plain_from_no_dot InstructionFence text none e =
+    let whole = subst (λ name. position_or_len (λ b. b == 46) name ≡ length name) e none in
+    absurd (omega (arith, whole))
 plain_from_no_dot _ text none e = tt
 
 -- what a search of the rows without a dot gives, where the text has none

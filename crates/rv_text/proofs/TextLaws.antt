@@ -59,6 +59,7 @@ spaceless _ = refl
 operands_apart : (pc : ℕ) (i : Instr) → prefix_len is_no_space (operands_of i pc) ≡ 0
 unfolding register_text
 operands_apart pc instr.Fence = refl
+operands_apart pc instr.InstructionFence = refl
 operands_apart pc _ = refl
 
 prefix_len-append : (p : ℕ → Bool) (front rest : List ℕ) → list_all p front ≡ true → prefix_len p rest ≡ 0

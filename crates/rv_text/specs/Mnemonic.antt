@@ -27,7 +27,7 @@ use Rattle.rv_text.specs.{declared.mnemonic.AtomicOp.TheVariants.StoreConditiona
 use Rattle.rv_text.specs.{declared.mnemonic.AtomicOp.TheVariants.Amo}
 use Rattle.rv_text.specs.declared.mnemonic.Mnemonic.TheVariants.{Lui, Auipc, Jal, Jalr, Branch}
 use Rattle.rv_text.specs.declared.mnemonic.Mnemonic.TheVariants.{Load, Store, Immediate, Shift}
-use Rattle.rv_text.specs.declared.mnemonic.Mnemonic.TheVariants.{Register, MulDiv, Fence, Ecall}
+use Rattle.rv_text.specs.declared.mnemonic.Mnemonic.TheVariants.{Register, MulDiv, Fence, InstructionFence, Ecall}
 use Rattle.rv_text.specs.declared.mnemonic.Mnemonic.TheVariants.{Ebreak, Atomic}
 
 abbrev pub branch_name : BranchOp → List ℕ
@@ -124,6 +124,7 @@ mnemonic_name (Shift op) = shift_name op
 mnemonic_name (Register op) = register_name op
 mnemonic_name (MulDiv op) = mul_div_name op
 mnemonic_name Fence = codes "fence"
+mnemonic_name InstructionFence = codes "fence.i"
 mnemonic_name Ecall = codes "ecall"
 mnemonic_name Ebreak = codes "ebreak"
 mnemonic_name (Atomic op ordering) = atomic_name op ++ 46 ∷ ordering_name ordering  -- 46 is '.'

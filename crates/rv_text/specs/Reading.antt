@@ -20,7 +20,7 @@ use Rattle.rv_text.specs.declared.refused.TextRefused.TheVariants.{UnknownName, 
 use Rattle.rv_text.specs.declared.refused.TextRefused.TheVariants.{OutOfRange, TrailingText}
 use Rattle.rv_text.specs.declared.mnemonic.Mnemonic.TheVariants.{Lui, Auipc, Jal, Jalr, Branch}
 use Rattle.rv_text.specs.declared.mnemonic.Mnemonic.TheVariants.{Load, Store, Immediate, Shift}
-use Rattle.rv_text.specs.declared.mnemonic.Mnemonic.TheVariants.{Register, MulDiv, Fence, Ecall}
+use Rattle.rv_text.specs.declared.mnemonic.Mnemonic.TheVariants.{Register, MulDiv, Fence, InstructionFence, Ecall}
 use Rattle.rv_text.specs.declared.mnemonic.Mnemonic.TheVariants.{Ebreak, Atomic}
 
 infixl 10 ◌>>=◌
@@ -43,9 +43,10 @@ behind_name text = drop (position_or_len (λ c. c == 32) text) text
 
 -- ---- rows, as their names are looked for: those whose name has no dot first
 
--- no atomic
+-- without a dot
 abbrev pub IsPlain : Mnemonic → Type 0
 IsPlain (Atomic _ _) = ⊥
+IsPlain InstructionFence = ⊥
 IsPlain _ = Unit {0}
 
 -- one of the rows that stand by themselves
@@ -234,6 +235,7 @@ instr_at pc (Shift op) text = shift_operands text >>= λ x. Ok (instr.Shift op x
 instr_at pc (Register op) text = register_operands text >>= λ x. Ok (instr.Register op x.0 x.1 x.2)
 instr_at pc (MulDiv op) text = register_operands text >>= λ x. Ok (instr.MulDiv op x.0 x.1 x.2)
 instr_at pc Fence text = end_at [] text >>= λ x. Ok instr.Fence
+instr_at pc InstructionFence text = end_at [] text >>= λ x. Ok instr.InstructionFence
 instr_at pc Ecall text = end_at [] text >>= λ x. Ok instr.Ecall
 instr_at pc Ebreak text = end_at [] text >>= λ x. Ok instr.Ebreak
 instr_at pc (Atomic op ordering) text = atomic_at op ordering text

@@ -10,7 +10,7 @@ use Rattle.rv_word.specs.Word.{word_of}
 use Rattle.rv_instr.specs.{declared.instr.Instr.Instr, Table.IsInstructionInRange}
 use Rattle.rv_instr.specs.declared.instr.Instr.TheVariants.{Lui, Auipc, Jal, Jalr, Branch, Load}
 use Rattle.rv_instr.specs.declared.instr.Instr.TheVariants.{Store, Immediate, Shift, Register}
-use Rattle.rv_instr.specs.declared.instr.Instr.TheVariants.{MulDiv, Fence, Ecall, Ebreak}
+use Rattle.rv_instr.specs.declared.instr.Instr.TheVariants.{MulDiv, Fence, InstructionFence, Ecall, Ebreak}
 use Rattle.rv_instr.specs.declared.instr.Instr.TheVariants.{LoadReserved, StoreConditional, Amo}
 use Rattle.text_fields.specs.Spelling.{hex}
 use Rattle.rv_text.specs.{declared.mnemonic.Mnemonic.Mnemonic, Mnemonic.mnemonic_name}
@@ -31,6 +31,7 @@ mnemonic_of (Shift op _ _ _) = mnemonic.Shift op
 mnemonic_of (Register op _ _ _) = mnemonic.Register op
 mnemonic_of (MulDiv op _ _ _) = mnemonic.MulDiv op
 mnemonic_of Fence = mnemonic.Fence
+mnemonic_of InstructionFence = mnemonic.InstructionFence
 mnemonic_of Ecall = mnemonic.Ecall
 mnemonic_of Ebreak = mnemonic.Ebreak
 mnemonic_of (LoadReserved _ _ ordering) = mnemonic.Atomic atomics.LoadReserved ordering
@@ -102,6 +103,7 @@ operands_of (Register _ rd rs1 rs2) pc =
 operands_of (MulDiv _ rd rs1 rs2) pc =
     first_register_text rd ++ next_register rs1 ++ next_register rs2
 operands_of Fence pc = []
+operands_of InstructionFence pc = []
 operands_of Ecall pc = []
 operands_of Ebreak pc = []
 operands_of (LoadReserved rd rs1 _) pc = first_register_text rd ++ address_register rs1 ++ codes ")"

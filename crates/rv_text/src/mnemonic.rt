@@ -30,6 +30,7 @@ pub enum Mnemonic {
     Register(RegisterOp),
     MulDiv(MulDivOp),
     Fence,
+    InstructionFence,
     Ecall,
     Ebreak,
     Atomic(AtomicOp, Ordering),

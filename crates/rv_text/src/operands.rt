@@ -275,6 +275,7 @@ pub(crate) fn instr_of(pc: u32, mnemonic: Mnemonic, text: &[u8]) -> Result<Instr
         Mnemonic::Register(op) => register_of(op, text),
         Mnemonic::MulDiv(op) => mul_div_of(op, text),
         Mnemonic::Fence => expect_end("", text).and(Ok(Instr::Fence)),
+        Mnemonic::InstructionFence => expect_end("", text).and(Ok(Instr::InstructionFence)),
         Mnemonic::Ecall => expect_end("", text).and(Ok(Instr::Ecall)),
         Mnemonic::Ebreak => expect_end("", text).and(Ok(Instr::Ebreak)),
         Mnemonic::Atomic(op, ordering) => atomic_of(op, ordering, text),

@@ -96,6 +96,7 @@ fn push_mnemonic(text: &mut Text, mnemonic: Mnemonic)
         Mnemonic::Register(op) => register_name(op),
         Mnemonic::MulDiv(op) => mul_div_name(op),
         Mnemonic::Fence => "fence",
+        Mnemonic::InstructionFence => "fence.i",
         Mnemonic::Ecall => "ecall",
         Mnemonic::Ebreak => "ebreak",
         Mnemonic::Atomic(op, ordering) => {
@@ -123,6 +124,7 @@ fn mnemonic_of(instr: Instr) -> Mnemonic
         Instr::Register { op, .. } => Mnemonic::Register(op),
         Instr::MulDiv { op, .. } => Mnemonic::MulDiv(op),
         Instr::Fence => Mnemonic::Fence,
+        Instr::InstructionFence => Mnemonic::InstructionFence,
         Instr::Ecall => Mnemonic::Ecall,
         Instr::Ebreak => Mnemonic::Ebreak,
         Instr::LoadReserved { ordering, .. } => Mnemonic::Atomic(AtomicOp::LoadReserved, ordering),
@@ -226,7 +228,7 @@ fn push_operands(text: &mut Text, instr: Instr, pc: u32)
             push_two_registers(text, rd, rs1);
             push_register(text, ",x", rs2);
         }
-        Instr::Fence | Instr::Ecall | Instr::Ebreak => {}
+        Instr::Fence | Instr::InstructionFence | Instr::Ecall | Instr::Ebreak => {}
         Instr::LoadReserved { rd, rs1, .. } => {
             push_register(text, " x", rd);
             push_address(text, rs1);

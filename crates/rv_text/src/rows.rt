@@ -19,7 +19,7 @@ use crate::mnemonic::{AtomicOp, Mnemonic};
 use rv_instr::{BranchOp, ImmediateOp, LoadOp, MulDivOp, Ordering, RegisterOp, ShiftOp, StoreOp};
 use rv_word::AmoKind;
 
-/// The row with this name, where it is no atomic.
+/// The row with this name, which has no dot.
 fn plain(text: &str) -> Option<Mnemonic>
     ensures found { IfSome result (λ m. (text.now ≡ mnemonic_name m) × IsPlain m) }
     ensures none { IfNone result ((m : _) → IsPlain m → text.now ≡ mnemonic_name m → ⊥) }
@@ -208,6 +208,9 @@ pub(crate) fn mnemonic_named(text: &str) -> Option<Mnemonic>
     ensures found { IfSome result (λ m. text.now ≡ mnemonic_name m) }
     ensures only { (m : _) → text.now ≡ mnemonic_name m → result ≡ Some m }
 {
+    if text == "fence.i" {
+        return Some(Mnemonic::InstructionFence);
+    }
     let Some((name, bits)) = text.split_once('.') else {
         return plain(text);
     };

@@ -2,8 +2,8 @@
 use Rattle.std.proofs.Common.{◌≡◌, ℕ, zero, suc, ◌<◌, List, [], ◌∷◌, map, length, get_or, refl, ap, ◌∙◌, arith}
 use Rattle.toml.specs.Data.{Data, string, Items, item}
 use Rattle.toml.specs.{View.view, View.items_of, View.items_view, declared.value.Value.Value}
-use Rattle.smt_model.specs.declared.config.Role.{Role}
-use Rattle.sim_inputs.specs.Configuration.{role_name}
+use Rattle.events.specs.declared.role.Role.{Role}
+use Rattle.events.specs.Roles.{role_name}
 
 -- the values are the names of these roles
 abbrev pub AreNames : List Value → List Role → Type 0

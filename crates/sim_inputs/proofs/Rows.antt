@@ -110,9 +110,9 @@ key_twice : parse_document (codes "a=1\na=1") ≡ None
 unfolding toml_on_literals
 key_twice = refl
 
-nine : parse_document (codes "harts = 9") ≡ Some (member (codes "harts") (integer (pos 9)) no_members)
+seventeen : parse_document (codes "harts = 17") ≡ Some (member (codes "harts") (integer (pos 17)) no_members)
 unfolding toml_on_literals
-nine = refl
+seventeen = refl
 
 abbrev number_of : Data → ℕ
 number_of (integer (pos n)) = n
@@ -134,8 +134,8 @@ two_harts : (settings : Settings) → IsConfiguration (codes "harts = 2") settin
     → (settings.config.harts ≡ 2) × (settings.config.extra ≡ 64) × (settings.turns ≡ 1000000000)
 two_harts settings is = harts_of (codes "harts = 2") 2 settings one_key is
 
--- Nine harts are too many.
-nine_harts : (settings : Settings) → IsConfiguration (codes "harts = 9") settings → ⊥
-nine_harts settings is =
-    let harts = (harts_of (codes "harts = 9") 9 settings nine is).0 in
+-- Seventeen harts are too many.
+seventeen_harts : (settings : Settings) → IsConfiguration (codes "harts = 17") settings → ⊥
+seventeen_harts settings is =
+    let harts = (harts_of (codes "harts = 17") 17 settings seventeen is).0 in
     let accepted = rw harts at is.sets.in_range.accepted in cc

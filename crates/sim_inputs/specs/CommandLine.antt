@@ -25,7 +25,7 @@ use Rattle.sim_inputs.specs.{declared.line.WordsRefused.TheVariants.Help}
 use Rattle.sim_inputs.specs.{declared.line.WordsRefused.TheVariants.Refused}
 use Rattle.sim_inputs.specs.{declared.line.WordsRefused.TheVariants.Memory}
 use Rattle.sim_inputs.specs.declared.line.OutcomesCommand.{OutcomesCommand}
-use Rattle.sim_inputs.specs.declared.line.LitmusCommand.{LitmusCommand}
+use Rattle.sim_inputs.specs.declared.line.{LitmusCommand.LitmusCommand, MigrateCommand.MigrateCommand}
 use Rattle.sim_inputs.specs.Rules.{smtsim}
 use Rattle.sim_inputs.specs.Files.{reads_input_once}
 
@@ -233,6 +233,10 @@ pub record IsLitmus (rows : List Row) (litmus : LitmusCommand) : Type 0 where
   pub svg : IsFileOption rows (codes "svg") litmus.svg
   pub together : can_be_tested litmus ≡ true
 
+pub record IsMigrate (rows : List Row) (migrate : MigrateCommand) : Type 0 where
+  pub trace : IsFile rows (codes "TRACE") migrate.trace
+  pub out : IsFile rows (codes "OUT") migrate.out
+
 -- A subcommand of this name, with what was found for it, is the command.
 abbrev pub IsCommandOf : Text → List Row → LineCommand → Type 0
 IsCommandOf name rows (commands.Step step) = (name ≡ codes "step") × IsStep rows step
@@ -248,6 +252,7 @@ IsCommandOf name rows (commands.Explain explain) = (name ≡ codes "explain") ×
 IsCommandOf name rows (commands.Outcomes outcomes) =
     (name ≡ codes "outcomes") × IsOutcomes rows outcomes
 IsCommandOf name rows (commands.Litmus litmus) = (name ≡ codes "litmus") × IsLitmus rows litmus
+IsCommandOf name rows (commands.Migrate migrate) = (name ≡ codes "migrate") × IsMigrate rows migrate
 
 -- A subcommand of this name, with what was found for it, is the line: its command, and the
 -- configuration, which every command may have. One of its files at most is standard input.

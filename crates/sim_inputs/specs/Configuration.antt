@@ -6,9 +6,10 @@ use Rattle.numbers.specs.Sizes.{most_events}
 use Rattle.toml.specs.Data.{Data, string, integer, array, Members, no_members, member, get_member}
 use Rattle.toml.specs.{View.items_of, Parse.parse_document, Errors.IsBlank}
 use Rattle.elf_image.specs.Image.{IsRamSize}
-use Rattle.smt_model.specs.{declared.config.Config.Config, declared.config.Role.Role}
-use Rattle.smt_model.specs.{Setup.are_core_sizes}
-use Rattle.smt_model.specs.declared.config.Role.TheVariants as role
+use Rattle.events.specs.{declared.role.Role.Role, Roles.role_name}
+use Rattle.smt_model.specs.{declared.config.Config.Config}
+use Rattle.numbers.specs.Sizes.{are_core_sizes}
+use Rattle.events.specs.declared.role.Role.TheVariants as role
 use Rattle.sim_inputs.specs.{declared.settings.Settings.Settings}
 use Rattle.sim_inputs.specs.{declared.configuration.ConfigRefused.ConfigRefused}
 use Rattle.sim_inputs.specs.declared.configuration.ConfigRefused.TheVariants as refused
@@ -21,15 +22,6 @@ known_keys = codes "harts" ∷ codes "extra" ∷ codes "queue" ∷ codes "ram" �
 abbrev pub keys_in : Members → List (List ℕ)
 keys_in no_members = []
 keys_in (member key found rest) = key ∷ keys_in rest
-
--- The name of an actor's role.
-abbrev pub role_name : Role → List ℕ
-role_name role.Fetch = codes "fetch"
-role_name role.Front = codes "front"
-role_name role.Retire = codes "retire"
-role_name role.Alu = codes "alu"
-role_name role.Mul = codes "mul"
-role_name role.Mem = codes "mem"
 
 -- What was found at a key is the number; where nothing was found, the number is the default.
 abbrev pub IsNumber : ℕ → Option Data → ℕ → Type 0

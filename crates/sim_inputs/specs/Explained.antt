@@ -5,7 +5,7 @@ use Rattle.numbers.specs.Sizes.{most_harts, most_extra, fewest_queued, most_queu
 use Rattle.numbers.specs.Sizes.{most_events}
 use Rattle.toml.specs.{Data.Members, Data.get_member, Parse.parse_document}
 use Rattle.elf_image.specs.Image.{IsRamSize}
-use Rattle.smt_model.specs.{declared.config.Role.Role}
+use Rattle.events.specs.declared.role.Role.{Role}
 use Rattle.sim_inputs.specs.{declared.settings.Settings.Settings}
 use Rattle.sim_inputs.specs.declared.explained.fault.NumberKey.{NumberKey}
 use Rattle.sim_inputs.specs.declared.explained.fault.NumberKey.TheVariants as key

@@ -89,10 +89,16 @@ files_with config (commands.Litmus litmus) = record {
   second = None;
   trace = written_for_test litmus;
 }
+files_with config (commands.Migrate migrate) = record {
+  config = config;
+  image = None;
+  second = Some migrate.trace;
+  trace = Some migrate.out;
+}
 
 -- The configuration, the image or the litmus test, the file that is read beside them (the script, the
--- trace that is read, or the order), and the file that is written: the trace of a core, a chart, an order
--- or its script, or what is made of a test.
+-- trace that is read, or the order), and the file that is written: the trace of a core or of a migration, a
+-- chart, an order or its script, or what is made of a test.
 abbrev pub files_of : Line → Files
 files_of line = files_with line.config line.command
 

@@ -5,8 +5,8 @@ use Rattle.std.specs.{List.fold}
 use Rattle.clap.specs.Words.{App, Rule, Text, new_app, new_rule, with_rule, with_subcommand}
 use Rattle.clap.specs.{declared.builder.action.ArgAction.TheVariants.SetTrue}
 
--- An argument that names a file and must be there: the image, the script, the trace, the order, and the
--- litmus test.
+-- An argument that names a file and must be there: the image, the script, the trace, the order, the
+-- litmus test, and the file that a migration writes.
 abbrev pub file_rule : Text → Rule
 file_rule name = record (new_rule name) { required = true }
 
@@ -128,6 +128,9 @@ test_rule = file_rule (codes "TEST")
 abbrev pub written_image_rule : Rule
 written_image_rule = file_option_rule (codes "image")
 
+abbrev pub written_out_rule : Rule
+written_out_rule = file_rule (codes "OUT")
+
 -- A subcommand of this name, with its arguments in order.
 abbrev pub subcommand : Text → List Rule → App
 subcommand name rules = fold with_rule (new_app name) rules
@@ -188,7 +191,11 @@ abbrev pub litmus_command : App
 litmus_command = subcommand (codes "litmus") (test_rule ∷ config_rule ∷ states_rule ∷ written_image_rule
     ∷ why_rule ∷ svg_rule ∷ [])
 
--- The whole command line: one of the eleven subcommands must be there. `clap` adds `--help` and
+-- `migrate TRACE OUT`, with `--config FILE`.
+abbrev pub migrate_command : App
+migrate_command = subcommand (codes "migrate") (trace_rule ∷ written_out_rule ∷ config_rule ∷ [])
+
+-- The whole command line: one of the twelve subcommands must be there. `clap` adds `--help` and
 -- `help`.
 abbrev pub top : App
 top = let app =
@@ -197,4 +204,4 @@ top = let app =
 abbrev pub smtsim : App
 smtsim = fold (λ app sub. with_subcommand app sub.top) top (step_command ∷ run_command
     ∷ check_command ∷ plain_command ∷ schedule_command ∷ script_command ∷ list_command
-    ∷ chart_command ∷ explain_command ∷ outcomes_command ∷ litmus_command ∷ [])
+    ∷ chart_command ∷ explain_command ∷ outcomes_command ∷ litmus_command ∷ migrate_command ∷ [])

@@ -6,7 +6,8 @@ ghost use Rattle.sim_inputs.specs.Rules.{smtsim};
 ghost use Rattle.sim_inputs.specs.Table.{rule_in, subcommand_in, with_row};
 
 use crate::forms::{
-    CHART_FORM, CONFIGURATION_FORM, LITMUS_FORM, ORDER_FORM, OUTCOMES_FORM, SCRIPT_FORM, TRACE_FORM,
+    CHART_FORM, CONFIGURATION_FORM, LITMUS_FORM, MIGRATE_FORM, ORDER_FORM, OUTCOMES_FORM,
+    SCRIPT_FORM, TRACE_FORM,
 };
 use clap::{Arg, ArgAction, Command};
 use std::alloc::{AllocError, Global};
@@ -263,8 +264,14 @@ const SVG_OF_WHY: Argument = Argument {
     help: "The file for a picture of that",
 };
 
-/// The subcommands, in the order in which help lists them.
-static SUBCOMMANDS: [Subcommand; 11] = [
+const WRITTEN_OUT: Argument = Argument {
+    kind: Kind::File,
+    name: "OUT",
+    help: "The file for the trace of version 2",
+};
+
+/// The subcommands that have an image, in the order in which help lists them.
+static OF_IMAGES: [Subcommand; 10] = [
     Subcommand {
         name: "step",
         about: "Make a script's asks of the core in order, and print a report",
@@ -356,11 +363,21 @@ static SUBCOMMANDS: [Subcommand; 11] = [
         ],
         form: OUTCOMES_FORM,
     },
+];
+
+/// Those that have none, which help lists behind them.
+static OF_OTHERS: [Subcommand; 2] = [
     Subcommand {
         name: "litmus",
         about: "List every final state of a litmus test, as herd does",
         arguments: &[TEST, CONFIG, STATES, WRITTEN_IMAGE, WHY_NEVER, SVG_OF_WHY],
         form: LITMUS_FORM,
+    },
+    Subcommand {
+        name: "migrate",
+        about: "Write version 2 of a trace of version 1",
+        arguments: &[TRACE, WRITTEN_OUT, CONFIG],
+        form: MIGRATE_FORM,
     },
 ];
 
@@ -372,7 +389,8 @@ pub fn describe<'a>(alloc: Global) -> Result<Command<'a>, AllocError>
         .about("Simulate a simultaneous multithreading core whose harts run one RV32IMA program")
         .after_help(CONFIGURATION_FORM)
         .subcommand_required(true);
-    add_subcommands(command, &SUBCOMMANDS, alloc)
+    let of_images = add_subcommands(command, &OF_IMAGES, alloc)?;
+    add_subcommands(of_images, &OF_OTHERS, alloc)
 }
 
 /// Adds subcommands in turn.

@@ -5,7 +5,7 @@ ghost use Rattle.std.specs.Prelude.{IfSome, IfNone, IsTrue, ◌↔◌, codes, st
 ghost use Rattle.numbers.specs.Sizes.{most_actors};
 ghost use Rattle.toml.specs.Data.{get_member};
 ghost use Rattle.toml.specs.View.{table_view};
-ghost use Rattle.smt_model.specs.Setup.{are_core_sizes};
+ghost use Rattle.numbers.specs.Sizes.{are_core_sizes};
 ghost use Rattle.sim_inputs.specs.Configuration.{known_keys, keys_in, AreRoles, SetsSizes, Sets};
 ghost use Rattle.sim_inputs.specs.Configuration.{AreInRange, IsConfiguration, IsNumber};
 ghost use Rattle.sim_inputs.specs.Explained.{name_of, default_of, least_of, greatest_of, IsFaultIn};
@@ -19,7 +19,7 @@ use crate::roles::{every_role, roles_of};
 use crate::settings::Settings;
 use arrayvec::ArrayVec;
 use elf_image::RamSize;
-pub use fault::{ActorsFault, ConfigFault, KNOWN_KEYS, NumberKey, ROLE_NAMES, role_name};
+pub use fault::{ActorsFault, ConfigFault, KNOWN_KEYS, NumberKey, ROLE_NAMES};
 use numbers::sizes::MOST_ACTORS;
 use smt_model::{Config, Role};
 use std::alloc::Global;

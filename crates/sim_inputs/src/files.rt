@@ -13,8 +13,8 @@ pub struct Files<'a> {
     pub image: Option<&'a str>,
     /// The script, the trace that is read, or the order.
     pub second: Option<&'a str>,
-    /// The file that is written: the trace of a core, a chart, an order or its script, or what is made of
-    /// a litmus test.
+    /// The file that is written: the trace of a core or of a migration, a chart, an order or its script,
+    /// or what is made of a litmus test.
     pub trace: Option<&'a str>,
 }
 
@@ -71,6 +71,7 @@ impl<'a> Line<'a> {
             Command::Explain(explain) => (Some(explain.image), None, None),
             Command::Outcomes(outcomes) => (Some(outcomes.image), None, outcomes.written()),
             Command::Litmus(litmus) => (Some(litmus.test), None, litmus.written()),
+            Command::Migrate(migrate) => (None, Some(migrate.trace), Some(migrate.out)),
         };
         Files {
             config: self.config,

@@ -17,7 +17,9 @@ to 100000, the word is asked n times, as in F0*4.";
 
 /// How a trace is written, for the help of `check` and of `script`.
 pub(crate) const TRACE_FORM: &str = "\
-A trace has the line smt-trace 1, then one for each event, the oldest first:
+A trace has the line smt-trace 2, then a line of its core:
+  config harts extra queue role role ..
+and then one for each event, the oldest first:
   F actor hart number pc word predicted       fetch
   D actor number                              decode
   R actor number register                     rename
@@ -29,7 +31,8 @@ One space stands between two fields, a newline ends each line, and - is none.
 Pcs, words, values, addresses and data are eight hexadecimal digits in lower
 case, out is two, and the data of a retirement are two for each byte written.
 next is p and a pc, e and a status of eight digits, or s and a cause. All other
-fields are decimal.";
+fields are decimal, but for roles. A trace of version 1, which begins with the
+line smt-trace 1, has no line of its core: it is that of the configuration.";
 
 /// How an order is written, for the help of `plain` and of `schedule`.
 pub(crate) const ORDER_FORM: &str = "\
@@ -75,3 +78,9 @@ pub(crate) const LITMUS_FORM: &str = "\
 TEST is a litmus test in herd's RISC-V format. The plain machine has as many
 harts as the test, whatever the configuration says, and a word of memory for
 each location. The states are printed as herd prints them, each once.";
+
+/// What a migration does, for the help of `migrate`.
+pub(crate) const MIGRATE_FORM: &str = "\
+A trace of version 1 doesn't say of which core it is. One of version 2 does, in
+its second line: the sizes and roles that the configuration has. The events
+stay as they are. OUT is written only where TRACE is a trace of version 1.";

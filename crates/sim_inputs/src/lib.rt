@@ -22,13 +22,13 @@ mod words;
 
 pub use configuration::{ConfigRefused, read_config};
 pub use explained::{
-    ActorsFault, ConfigFault, KNOWN_KEYS, NumberKey, ROLE_NAMES, read_config_or_fault, role_name,
+    ActorsFault, ConfigFault, KNOWN_KEYS, NumberKey, ROLE_NAMES, read_config_or_fault,
 };
 pub use files::{Files, is_standard_input};
 pub use line::{
     ChartCommand, CheckCommand, Command, ExplainCommand, Line, ListCommand, LitmusCommand,
-    OutcomesCommand, PlainCommand, RunCommand, ScheduleCommand, ScriptCommand, StepCommand,
-    WordsRefused,
+    MigrateCommand, OutcomesCommand, PlainCommand, RunCommand, ScheduleCommand, ScriptCommand,
+    StepCommand, WordsRefused,
 };
 pub use settings::Settings;
 pub use words::read_words;

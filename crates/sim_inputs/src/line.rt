@@ -22,6 +22,7 @@ pub enum Command<'a> {
     Explain(ExplainCommand<'a>),
     Outcomes(OutcomesCommand<'a>),
     Litmus(LitmusCommand<'a>),
+    Migrate(MigrateCommand<'a>),
 }
 
 /// `step IMAGE SCRIPT`: the script's asks are made in order, without threads.
@@ -185,6 +186,15 @@ pub struct LitmusCommand<'a> {
     /// `--svg FILE`: the file that a picture is written to, of why the condition holds of none. There is
     /// one of the two at most.
     pub svg: Option<&'a str>,
+}
+
+/// `migrate TRACE OUT`: the trace of version 2 that has the events of one of version 1 is written.
+#[derive(Clone, Copy, Drop)]
+pub struct MigrateCommand<'a> {
+    /// The file of the trace, which is read.
+    pub trace: &'a str,
+    /// The file that the trace of version 2 is written to.
+    pub out: &'a str,
 }
 
 /// Why there is nothing to do.

@@ -2,14 +2,14 @@ ghost use Rattle.std.specs.Prelude.{◌≡◌, ◌≤◌, ◌∷◌, [], List, l
 ghost use Rattle.numbers.specs.Sizes.{most_actors};
 ghost use Rattle.toml.specs.Data.{string};
 ghost use Rattle.toml.specs.View.{view, items_of, array_view};
-ghost use Rattle.smt_model.specs.declared.config.Role.{Role as AnyRole};
-ghost use Rattle.smt_model.specs.declared.config.Role.TheVariants.{Fetch, Front, Retire, Alu, Mul};
-ghost use Rattle.smt_model.specs.declared.config.Role.TheVariants.{Mem};
-ghost use Rattle.sim_inputs.specs.Configuration.{role_name};
+ghost use Rattle.events.specs.declared.role.Role.{Role as AnyRole};
+ghost use Rattle.events.specs.declared.role.Role.TheVariants.{Fetch, Front, Retire, Alu, Mul};
+ghost use Rattle.events.specs.declared.role.Role.TheVariants.{Mem};
+ghost use Rattle.events.specs.Roles.{role_name};
 
 use arrayvec::ArrayVec;
+use events::Role;
 use numbers::sizes::MOST_ACTORS;
-use smt_model::Role;
 use toml::Value;
 use toml::value::Array;
 
@@ -56,23 +56,7 @@ fn role_of(value: &Value) -> Option<Role>
     ensures none { IfNone result ((role : AnyRole) → view value.now ≡ string (role_name role) → ⊥) }
 {
     match value.as_str() {
-        Some(name) => role_named(name),
+        Some(name) => Role::named(name.as_bytes()),
         None => None,
-    }
-}
-
-/// The role of this name, if there is one.
-fn role_named(name: &str) -> Option<Role>
-    ensures found { IfSome result (λ role. name.now ≡ role_name role) }
-    ensures only { (role : AnyRole) → name.now ≡ role_name role → result ≡ Some role }
-{
-    match name {
-        "fetch" => Some(Role::Fetch),
-        "front" => Some(Role::Front),
-        "retire" => Some(Role::Retire),
-        "alu" => Some(Role::Alu),
-        "mul" => Some(Role::Mul),
-        "mem" => Some(Role::Mem),
-        _ => None,
     }
 }

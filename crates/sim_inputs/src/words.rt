@@ -5,7 +5,7 @@ ghost use Rattle.sim_inputs.specs.CommandLine.{IsStep, IsRun, IsCheck, IsPlain, 
 ghost use Rattle.sim_inputs.specs.CommandLine.{IsList, IsChart, IsExplain, can_be_drawn, can_be_run};
 ghost use Rattle.sim_inputs.specs.CommandLine.{is_reported, can_be_plain, number_or, number_in};
 ghost use Rattle.sim_inputs.specs.CommandLine.{IsOutcomes, can_be_searched, are_orders_together};
-ghost use Rattle.sim_inputs.specs.CommandLine.{has_one_file, IsLitmus, can_be_tested};
+ghost use Rattle.sim_inputs.specs.CommandLine.{has_one_file, IsLitmus, can_be_tested, IsMigrate};
 ghost use Rattle.sim_inputs.specs.CommandLine.{AreWordsRefusedFor, IsRefusalOf};
 
 use crate::description::describe;
@@ -13,8 +13,8 @@ use crate::files::reads_input_once;
 use crate::limits::with_limits;
 use crate::line::{
     ChartCommand, CheckCommand, Command, ExplainCommand, Line, ListCommand, LitmusCommand,
-    OutcomesCommand, PlainCommand, RunCommand, ScheduleCommand, ScriptCommand, StepCommand,
-    WordsRefused,
+    MigrateCommand, OutcomesCommand, PlainCommand, RunCommand, ScheduleCommand, ScriptCommand,
+    StepCommand, WordsRefused,
 };
 use clap::error::ErrorKind;
 use clap::{ArgMatches, Error};
@@ -86,11 +86,12 @@ fn command_named<'a>(name: &str, found: &ArgMatches<'a>) -> Option<Command<'a>>
         "explain" => Some(Command::Explain(explain_in(found)?)),
         "outcomes" => Some(Command::Outcomes(outcomes_in(found)?)),
         "litmus" => Some(Command::Litmus(litmus_in(found)?)),
+        "migrate" => Some(Command::Migrate(migrate_in(found)?)),
         _ => None,
     }
 }
 
-/// The command `step` of what was found; none where a file is missing that it must have. The ten
+/// The command `step` of what was found; none where a file is missing that it must have. The eleven
 /// below answer for their commands; five of them have options that don't go together.
 fn step_in<'a>(found: &ArgMatches<'a>) -> Option<StepCommand<'a>>
     ensures { Finds (IsStep (rows_of (found_of found.now))) result }
@@ -315,6 +316,15 @@ fn can_be_tested(litmus: &LitmusCommand<'_>) -> bool
     ensures { result ≡ can_be_tested litmus.now }
 {
     litmus.states >= 1 && !(litmus.image.is_some() && litmus.svg.is_some())
+}
+
+fn migrate_in<'a>(found: &ArgMatches<'a>) -> Option<MigrateCommand<'a>>
+    ensures { Finds (IsMigrate (rows_of (found_of found.now))) result }
+{
+    Some(MigrateCommand {
+        trace: file(found, "TRACE")?,
+        out: file(found, "OUT")?,
+    })
 }
 
 /// The number that was found for an option, of at most `greatest`, or the default where it isn't

@@ -31,10 +31,7 @@ order_step written has_failed r s t xs i d held left bytes inside before room is
     (HasPutBut-more written has_failed r t (order_text (harts_of (take i xs))) left (order_line x.hart)
     (HasPutBut-step written has_failed r s t (order_text (harts_of (take i xs))) held left before room))
 
--- The events of a history, and the harts of what has retired, the oldest first.
-pub items_are : (items past : List Event) → reverse items ≡ past → items ≡ reverse past
-items_are items past is = sym (reverse-reverse items) ∙ ap reverse is
-
+-- The harts of what has retired, the oldest first.
 map-reverse : {A B : Type 0} (f : A → B) (xs : List A) → map f (reverse xs) ≡ reverse (map f xs)
 map-reverse f [] = refl
 map-reverse f (x ∷ xs) =

@@ -5,7 +5,8 @@ ghost use Rattle.stress_runs.specs.declared.keeping.Part.{Part as AnyPart};
 ghost use Rattle.stress_runs.specs.Kept.{IsKept};
 
 use crate::order::put_order;
-use event_text::{Broken, Over, Sink, print_trace};
+use event_text::{Broken, Over, Sink};
+use reports::put_trace;
 use smt_core::Core;
 use std::io::Write;
 
@@ -46,7 +47,7 @@ pub fn keep_end<F: EndFiles>(core: &Core, end: u64, files: &mut F) -> Result<(),
     ensures broken { OnErr result (F.has_failed files.new ≡ true) }
 {
     files.begin(end, Part::Trace)?;
-    print_trace(core.history(), files)?;
+    put_trace(core, files)?;
     files.begin(end, Part::Order)?;
     put_order(core.account().records, files)
 }

@@ -6,6 +6,7 @@ use super::count_shown;
 use crate::label::Widths;
 use crate::row::Row;
 use crate::view::{Band, View, first_left};
+use numbers::sizes::MOST_HARTS;
 use std::io;
 use std::io::Write;
 
@@ -28,8 +29,9 @@ const GAP: u32 = 18;
 /// How many columns lie from one number over them to the next.
 const COLUMNS_A_NUMBER: u32 = 10;
 
-/// The colours that the colour-blind can tell, one for each hart (Okabe and Ito, "Color Universal
-/// Design", 2008; a grey in place of black, which a dark page would hide).
+/// The colours that the colour-blind can tell, one for each of eight harts (Okabe and Ito, "Color
+/// Universal Design", 2008; a grey in place of black, which a dark page would hide). The eight harts
+/// behind them have the same colours with a thick edge, and the legend shows both.
 const STYLE: &str = "<style>
 text{font:12px monospace;fill:#1b1b1b}
 .page{fill:#ffffff}
@@ -39,14 +41,15 @@ text{font:12px monospace;fill:#1b1b1b}
 .gone{fill-opacity:.08;stroke-dasharray:3 2}
 .x{fill:#b03a00;font-weight:bold}
 .again{fill:none;stroke:#b03a00;stroke-width:1.6}
-.h0{fill:#e69f00;stroke:#e69f00}
-.h1{fill:#56b4e9;stroke:#56b4e9}
-.h2{fill:#009e73;stroke:#009e73}
-.h3{fill:#f0e442;stroke:#c4b800}
-.h4{fill:#0072b2;stroke:#0072b2}
-.h5{fill:#d55e00;stroke:#d55e00}
-.h6{fill:#cc79a7;stroke:#cc79a7}
-.h7{fill:#888888;stroke:#888888}
+.h0,.h8{fill:#e69f00;stroke:#e69f00}
+.h1,.h9{fill:#56b4e9;stroke:#56b4e9}
+.h2,.h10{fill:#009e73;stroke:#009e73}
+.h3,.h11{fill:#f0e442;stroke:#c4b800}
+.h4,.h12{fill:#0072b2;stroke:#0072b2}
+.h5,.h13{fill:#d55e00;stroke:#d55e00}
+.h6,.h14{fill:#cc79a7;stroke:#cc79a7}
+.h7,.h15{fill:#888888;stroke:#888888}
+.h8,.h9,.h10,.h11,.h12,.h13,.h14,.h15{stroke-width:3}
 @media (prefers-color-scheme:dark){
 text{fill:#ececec}
 .page{fill:#16181d}
@@ -178,7 +181,7 @@ fn height_of(rows: &[Row], view: &View, columns: u32) -> u32
 /// The colour of each hart of which there is a row.
 fn write_legend<W: Write>(rows: &[Row], view: &View, out: &mut W) -> io::Result<()> {
     let mut x = MARGIN;
-    for hart in 0..8_u8 {
+    for hart in 0..MOST_HARTS {
         if has_hart(rows, view, hart) {
             let text = x.saturating_add(18);
             write!(out, "<rect class=\"bar h{hart}\" x=\"{x}\" y=\"9\" ")?;

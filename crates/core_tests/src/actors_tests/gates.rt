@@ -7,6 +7,7 @@ use actors::{Gate, Open, Point, StaticPredictor, run};
 use core_lock::BoardView;
 use events::Event;
 use history_check::check;
+use numbers::sizes::MOST_ACTORS;
 use smt_core::{Core, Status};
 use std::alloc::{AllocError, Global};
 use std::sync::Wait;
@@ -17,7 +18,7 @@ use test_files::{file_of, image_of};
 /// Whether a gate lets an actor go on at both points.
 fn lets_on<G: Gate>(gate: &G) -> bool {
     let seen = BoardView {
-        counts: [0; 16],
+        counts: [0; MOST_ACTORS],
         stop: 0,
     };
     gate.at(3, Point::Turn, &seen) && gate.at(3, Point::Job, &seen)

@@ -3,15 +3,13 @@
 use super::{MANY_TURNS, first_run};
 use crate::asking::one_of_each;
 use actors::{Gate, Point};
-use core_lock::BoardView;
+use core_lock::{BOARD_WORDS, BoardView};
+use numbers::sizes::MOST_ACTORS;
 use smt_core::Finished;
 use std::alloc::{AllocError, Global};
 use std::sync::Wait;
 use std::sync::atomic::{AtomicBool, AtomicU64, Ordering};
 use std::thread::Threads;
-
-/// How many words stand on the board.
-const WORDS: usize = 17;
 
 /// A gate that notes the greatest number that each actor has seen in each word, and whether an actor
 /// has seen a word below what it had seen there before.
@@ -24,7 +22,7 @@ struct Watcher {
 impl Watcher {
     fn new(alloc: Global) -> Result<Watcher, AllocError> {
         let mut greatest = Vec::new(alloc);
-        for _ in 0..16 * WORDS {
+        for _ in 0..MOST_ACTORS * BOARD_WORDS {
             greatest.push(AtomicU64::new(0))?;
         }
         Ok(Watcher {
@@ -34,10 +32,11 @@ impl Watcher {
     }
 
     fn note(&self, actor: u8, word: usize, number: u64) {
-        if let Some(greatest) = self
-            .greatest
-            .get(usize::from(actor).wrapping_mul(WORDS).wrapping_add(word))
-        {
+        if let Some(greatest) = self.greatest.get(
+            usize::from(actor)
+                .wrapping_mul(BOARD_WORDS)
+                .wrapping_add(word),
+        ) {
             if greatest.fetch_max(number, Ordering::SeqCst) > number {
                 self.fell.store(true, Ordering::SeqCst);
             }
@@ -48,7 +47,7 @@ impl Watcher {
     fn seen(&self, actor: usize, word: usize) -> u64 {
         match self
             .greatest
-            .get(actor.wrapping_mul(WORDS).wrapping_add(word))
+            .get(actor.wrapping_mul(BOARD_WORDS).wrapping_add(word))
         {
             Some(greatest) => greatest.load(Ordering::SeqCst),
             None => 0,
@@ -61,7 +60,7 @@ impl Gate for Watcher {
         for (word, count) in seen.counts.iter().enumerate() {
             self.note(actor, word, *count);
         }
-        self.note(actor, 16, seen.stop);
+        self.note(actor, MOST_ACTORS, seen.stop);
         true
     }
 }
@@ -77,7 +76,7 @@ struct Seen {
 
 fn seen_of(watcher: &Watcher, finished: &Finished) -> Seen {
     let mut too_much = false;
-    for actor in 0..16 {
+    for actor in 0..MOST_ACTORS {
         for (word, count) in finished.counts.iter().enumerate() {
             too_much |= watcher.seen(actor, word) > *count;
         }

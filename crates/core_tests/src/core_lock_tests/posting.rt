@@ -1,22 +1,26 @@
 //! The board: a count that is posted and a reason to stop are seen by its reader.
 
 ghost use Rattle.std.specs.Prelude.{◌≡◌};
+ghost use Rattle.numbers.specs.Sizes.{most_actors};
 ghost use Rattle.core_lock.specs.Seats.{board_of, name_of};
 
 use crate::first_program::first_image;
 use arrayvec::ArrayVec;
 use core_lock::{Ask, Board, BoardView, Held, Origin, Pass, Reason, Said, Seat};
+use numbers::sizes::MOST_ACTORS;
 use smt_core::{Config, Core, Role};
 use std::alloc::Global;
 use std::marker::Brand;
 use std::sync::ledger::Blank;
 use test_cores::Behind;
 
-/// A core of the first program, with one actor, which fetches.
+/// A core of the first program, with as many actors as there may be, which fetch.
 fn core(alloc: Global) -> Option<Core> {
     let image = first_image(alloc)?;
     let mut roles = ArrayVec::new();
-    let _ = roles.try_push(Role::Fetch);
+    for _ in 0..MOST_ACTORS {
+        let _ = roles.try_push(Role::Fetch);
+    }
     let config = Config {
         harts: 1,
         extra: 64,
@@ -42,7 +46,7 @@ fn post<L: Origin>(board: &Board, seat: &mut Seat, pass: &Pass<L>) -> bool
     if place != pass.actor() {
         return false;
     }
-    if place >= 16 {
+    if usize::from(place) >= MOST_ACTORS {
         return false;
     }
     if seat.posted() > pass.count() {
@@ -52,8 +56,12 @@ fn post<L: Origin>(board: &Board, seat: &mut Seat, pass: &Pass<L>) -> bool
     true
 }
 
-/// Seat 0 posts the pass, seat 1 asks to stop since the history is full, and seat 16 reads.
-fn read_after_post<L: Origin>(alloc: Global, pass: &Pass<L>) -> Option<BoardView> {
+/// Seats 0 and 31 post these passes, seat 1 asks to stop since the history is full, and seat 32 reads.
+fn read_after_post<L: Origin>(
+    alloc: Global,
+    first_pass: &Pass<L>,
+    last_pass: &Pass<L>,
+) -> Option<BoardView> {
     let Ok(new) = Board::new(alloc) else {
         return None;
     };
@@ -75,43 +83,58 @@ fn read_after_post<L: Origin>(alloc: Global, pass: &Pass<L>) -> Option<BoardView
         _s13,
         _s14,
         _s15,
+        _s16,
+        _s17,
+        _s18,
+        _s19,
+        _s20,
+        _s21,
+        _s22,
+        _s23,
+        _s24,
+        _s25,
+        _s26,
+        _s27,
+        _s28,
+        _s29,
+        _s30,
+        mut last,
         mut reader,
     ] = seats;
-    if !post(&board, &mut first, pass) {
+    if !post(&board, &mut first, first_pass) || !post(&board, &mut last, last_pass) {
         return None;
     }
     board.stop(&mut second, Reason::Full);
     Some(board.read(&mut reader))
 }
 
-fn view_after_four_fetches_with<L: Origin>(
-    alloc: Global,
-    core: Core,
-    blank: Blank,
-) -> Option<BoardView>
+fn view_after_fetches_with<L: Origin>(alloc: Global, core: Core, blank: Blank) -> Option<BoardView>
     requires name { blank.name ≡ L.name }
-    requires parts { (blank.parts ≡ L.parts) × (L.parts ≡ 16) }
+    requires parts { (blank.parts ≡ L.parts) × (L.parts ≡ most_actors) }
     requires origin { (core.setup ≡ L.setup) × (core.limit ≡ L.limit) }
 {
     let (mut held, mut passes) = Held::<L>::new(core, blank);
     for _ in 0..4 {
         fetch(&mut held, &mut passes[0]);
     }
-    read_after_post(alloc, &passes[0])
+    for _ in 0..2 {
+        fetch(&mut held, &mut passes[31]);
+    }
+    read_after_post(alloc, &passes[0], &passes[31])
 }
 
-fn view_after_four_fetches(alloc: Global, core: Core) -> Option<BoardView> {
-    view_after_four_fetches_with::<Brand>(alloc, core, Blank::new(16))
+fn view_after_fetches(alloc: Global, core: Core) -> Option<BoardView> {
+    view_after_fetches_with::<Brand>(alloc, core, Blank::new(MOST_ACTORS as u64))
 }
 
 fn view(alloc: Global) -> Option<BoardView> {
-    view_after_four_fetches(alloc, core(alloc)?)
+    view_after_fetches(alloc, core(alloc)?)
 }
 
 #[test]
 fn a_reader_sees_what_was_posted_and_why_to_stop(rt: HostRuntime) {
     let view = view(rt.alloc()).expect(&rt, "a board and a core");
-    let counts = [4, 0, 0, 0, 0, 0, 0, 0, 0, 0, 0, 0, 0, 0, 0, 0];
-    assert!(rt; view.counts == counts);
+    assert!(rt; (view.counts.len(), view.counts[0], view.counts[31]) == (32, 4, 2));
+    assert!(rt; view.counts[1..31].iter().all(|count| *count == 0));
     assert!(rt; view.stop == 3);
 }

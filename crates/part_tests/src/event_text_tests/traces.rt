@@ -2,17 +2,25 @@
 
 use super::{others, trace};
 use crate::rows::{holds, holds_at, says};
-use event_text::{Over, TraceRefused, print_trace, read_trace};
-use events::{Event, History};
+use event_text::{Over, TraceHeader, TraceRefused, print_trace, read_trace};
+use events::{Event, History, Role};
 use std::alloc::{AllocError, Global};
 use std::io;
 use std::io::{ErrorKind, Write};
 use std::test::Fail;
 
-/// The text of a trace of the 18 events, so many times.
+/// The lines with which a trace of version 2 of the core of `header` begins.
+pub const HEAD: &str = "smt-trace 2\nconfig 2 64 16 fetch alu\n";
+
+/// A core of two harts and two actors.
+pub fn header() -> Option<TraceHeader> {
+    TraceHeader::new(2, 64, 16, &[Role::Fetch, Role::Alu])
+}
+
+/// The text of a trace of version 2 of the 18 events, so many times.
 fn trace_text(times: u32, alloc: Global) -> Result<Vec<u8>, AllocError> {
     let mut text = Vec::new(alloc);
-    text.extend_from_slice(b"smt-trace 1\n")?;
+    text.extend_from_slice(HEAD.as_bytes())?;
     for _ in 0..times {
         for (_, line) in &trace() {
             text.extend_from_slice(line.as_bytes())?;
@@ -31,16 +39,17 @@ fn a_trace_is_read_and_printed_again(rt: HostRuntime) -> Result<(), Fail> {
     }
     assert!(rt; read.events().len() == 18);
     let mut sink = Over::new(Vec::new(rt.alloc()));
-    print_trace(&history_of(read.events(), rt.alloc())?, &mut sink)?;
+    let header = read.header().expect(&rt, "a header");
+    print_trace(header, &history_of(read.events(), rt.alloc())?, &mut sink)?;
     assert!(rt; sink.into_inner().as_slice() == text.as_slice());
     Ok(())
 }
 
-/// Whether a trace of this line, and of the line again before others, is that of this event, so that
-/// the line is read where other lines follow and where none does.
-fn is_read(event: &Event, line: &str, alloc: Global) -> Result<bool, Fail> {
+/// Whether a trace that begins so, of this line, and of the line again before others, is that of this
+/// event, so that the line is read where other lines follow and where none does.
+fn is_read(head: &str, event: &Event, line: &str, alloc: Global) -> Result<bool, Fail> {
     let mut text = Vec::new(alloc);
-    for piece in ["smt-trace 1\n", line, "\nD 0 1234567\n", line, "\n"] {
+    for piece in [head, line, "\nD 0 1234567\n", line, "\n"] {
         text.extend_from_slice(piece.as_bytes())?;
     }
     let decode = Event::Decode {
@@ -54,8 +63,9 @@ fn is_read(event: &Event, line: &str, alloc: Global) -> Result<bool, Fail> {
 #[test]
 fn each_kind_of_line_is_read_from_a_trace(rt: HostRuntime) -> Result<(), Fail> {
     for (event, line) in trace().iter().chain(&others()) {
-        let is = is_read(event, line, rt.alloc())?;
-        holds(&rt, line, is);
+        let first = is_read("smt-trace 1\n", event, line, rt.alloc())?;
+        let second = is_read(HEAD, event, line, rt.alloc())?;
+        holds(&rt, line, first && second);
     }
     Ok(())
 }
@@ -65,9 +75,9 @@ static REFUSED: [(&str, usize, u8); 31] = [
     ("", 1, 2),
     ("smt-trace 1", 1, 2),
     ("smt-trace 2", 1, 2),
-    ("smt-trace 2\n", 1, 1),
+    ("smt-trace 3\n", 1, 1),
     ("smt-trace 1\r\n", 1, 1),
-    ("smt-trace 2\nD 0 00\n", 1, 1),
+    ("smt-trace 3\nD 0 00\n", 1, 1),
     ("smt-trace 1\n\n", 2, 3),
     ("smt-trace 1\nd 0 0\n", 2, 3),
     ("smt-trace 1\n D 0 0\n", 2, 3),
@@ -150,14 +160,20 @@ impl Write for Narrow {
 
 /// Whether a writer with so much room takes a beginning of the text, and fails once where that
 /// isn't all of it.
-fn begins(history: &History, text: &[u8], room: usize, alloc: Global) -> bool {
+fn begins(
+    header: &TraceHeader,
+    history: &History,
+    text: &[u8],
+    room: usize,
+    alloc: Global,
+) -> bool {
     let mut sink = Over::new(Narrow {
         taken: Vec::new(alloc),
         room,
         calls: 0,
         failures: 0,
     });
-    let whole = print_trace(history, &mut sink).is_ok();
+    let whole = print_trace(header, history, &mut sink).is_ok();
     let writer = sink.into_inner();
     whole == (room >= text.len())
         && text.get(..room.min(text.len())) == Some(writer.taken.as_slice())
@@ -168,10 +184,17 @@ fn begins(history: &History, text: &[u8], room: usize, alloc: Global) -> bool {
 fn printing_ends_where_the_sink_fails(rt: HostRuntime) -> Result<(), Fail> {
     let text = trace_text(1, rt.alloc())?;
     let read = read_trace(text.as_slice(), rt.alloc())?;
+    let header = header().expect(&rt, "a header");
     let history = history_of(read.events(), rt.alloc())?;
     assert!(rt; text.len() < 600);
     for room in 0..600u32 {
-        let is = begins(&history, text.as_slice(), room as usize, rt.alloc());
+        let is = begins(
+            &header,
+            &history,
+            text.as_slice(),
+            room as usize,
+            rt.alloc(),
+        );
         holds_at(&rt, room, is);
     }
     Ok(())
@@ -209,14 +232,21 @@ impl Write for ByteByByte {
 
 /// Whether a writer that fails at this call takes the bytes of the text before it, and is not
 /// called again.
-fn ends_at(history: &History, text: &[u8], fails_at: usize, says_so: bool, alloc: Global) -> bool {
+fn ends_at(
+    header: &TraceHeader,
+    history: &History,
+    text: &[u8],
+    fails_at: usize,
+    says_so: bool,
+    alloc: Global,
+) -> bool {
     let mut sink = Over::new(ByteByByte {
         taken: Vec::new(alloc),
         calls: 0,
         fails_at,
         says_so,
     });
-    let failed = print_trace(history, &mut sink).is_err();
+    let failed = print_trace(header, history, &mut sink).is_err();
     let writer = sink.into_inner();
     failed
         && writer.calls == fails_at
@@ -228,13 +258,14 @@ fn what_went_out_is_what_was_taken_before_the_call_that_failed(
     rt: HostRuntime,
 ) -> Result<(), Fail> {
     let text = trace_text(1, rt.alloc())?;
+    let header = header().expect(&rt, "a header");
     let history = repeated(1, rt.alloc())?;
     assert!(rt; text.len() < 600);
     for call in 1..600u32 {
         let at = call as usize;
         let is = at > text.len()
-            || ends_at(&history, text.as_slice(), at, true, rt.alloc())
-                && ends_at(&history, text.as_slice(), at, false, rt.alloc());
+            || ends_at(&header, &history, text.as_slice(), at, true, rt.alloc())
+                && ends_at(&header, &history, text.as_slice(), at, false, rt.alloc());
         holds_at(&rt, call, is);
     }
     Ok(())
@@ -290,6 +321,7 @@ impl Write for Counting {
 
 #[test]
 fn lines_go_out_in_large_pieces(rt: HostRuntime) -> Result<(), Fail> {
+    let header = header().expect(&rt, "a header");
     let history = repeated(50, rt.alloc())?;
     let text = trace_text(50, rt.alloc())?;
     assert!(rt; text.len() > 16384);
@@ -300,7 +332,7 @@ fn lines_go_out_in_large_pieces(rt: HostRuntime) -> Result<(), Fail> {
         least: usize::MAX,
         greatest: 0,
     });
-    print_trace(&history, &mut sink)?;
+    print_trace(&header, &history, &mut sink)?;
     let writer = sink.into_inner();
     assert!(rt; writer.taken.as_slice() == text.as_slice());
     assert!(rt; writer.greatest <= 4096);
@@ -311,6 +343,7 @@ fn lines_go_out_in_large_pieces(rt: HostRuntime) -> Result<(), Fail> {
 
 #[test]
 fn printing_ends_in_the_piece_where_the_sink_fails(rt: HostRuntime) -> Result<(), Fail> {
+    let header = header().expect(&rt, "a header");
     let history = repeated(50, rt.alloc())?;
     let text = trace_text(50, rt.alloc())?;
     let long = text.len();
@@ -327,7 +360,7 @@ fn printing_ends_in_the_piece_where_the_sink_fails(rt: HostRuntime) -> Result<()
         long,
         long.saturating_add(1),
     ] {
-        let is = begins(&history, text.as_slice(), room, rt.alloc());
+        let is = begins(&header, &history, text.as_slice(), room, rt.alloc());
         holds_at(&rt, u32::try_from(room).unwrap_or(u32::MAX), is);
     }
     Ok(())

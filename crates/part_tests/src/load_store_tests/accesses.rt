@@ -1,7 +1,8 @@
 //! What a completion and a retirement say of memory, by rows worked by hand from the manual's
 //! chapters "RV32I" and "A".
 
-ghost use Rattle.std.specs.Prelude.{◌<◌};
+ghost use Rattle.std.specs.Prelude.{◌≡◌, ◌<◌, IfSome, length};
+ghost use Rattle.numbers.specs.Sizes.{most_harts};
 
 use crate::rows::holds_at;
 use crate::shared_memory_tests::{first_memory, put};
@@ -153,7 +154,7 @@ fn retired(value: Option<u32>, write: Write) -> Effect {
 fn a_completion_says_its_fault_or_its_first_look(rt: HostRuntime) -> Result<(), Fail> {
     let mut memory = first_memory(rt.alloc()).ok_or("refused")?;
     put(&mut memory, WORD, 4, 0x1234_8080).map_err(|_| "fault")?;
-    let queues = LoadStore::new(rt.alloc()).expect(&rt, "queues");
+    let queues = LoadStore::new(16, rt.alloc()).expect(&rt, "queues");
     for (word, addr, datum, value) in &COMPLETIONS {
         let handed = computed(*addr, *datum);
         let op = decode_op(Some(*word));
@@ -165,8 +166,10 @@ fn a_completion_says_its_fault_or_its_first_look(rt: HostRuntime) -> Result<(), 
 
 /// Store 6 of hart 2, which isn't resolved; and load 5 of hart 0, 5 and 7 of hart 2 and 7 of hart 3,
 /// which have looked at a word; it was written since.
-fn touched_loads(alloc: Global) -> Option<LoadStore> {
-    let Ok(mut queues) = LoadStore::new(alloc) else {
+fn touched_loads(alloc: Global) -> Option<LoadStore>
+    ensures { IfSome result (λ queues. length queues ≡ 4) }
+{
+    let Ok(mut queues) = LoadStore::new(4, alloc) else {
         return None;
     };
     queues.add_store(2, 6);
@@ -203,7 +206,8 @@ fn an_instruction_retires_by_memory_as_it_is(rt: HostRuntime) -> Result<(), Fail
 
 /// The numbers that LB gives as it completes and as it retires.
 fn looks(memory: &Memory, queues: &LoadStore, hart: u8, seq: u32) -> (Option<u32>, Option<u32>)
-    requires { hart < 8 }
+    requires place { hart < length queues.now }
+    requires range { hart < most_harts }
 {
     let op = decode_op(Some(LB));
     let outcome = completion(memory, queues, hart, seq, op, computed(WORD, None));
@@ -237,7 +241,7 @@ fn a_load_sees_a_store_in_flight_at_its_first_look_alone(rt: HostRuntime) -> Res
 #[test]
 fn what_touches_no_memory_stays(rt: HostRuntime) -> Result<(), Fail> {
     let memory = first_memory(rt.alloc()).ok_or("refused")?;
-    let queues = LoadStore::new(rt.alloc()).expect(&rt, "queues");
+    let queues = LoadStore::new(16, rt.alloc()).expect(&rt, "queues");
     // The byte of a call stands beside its number.
     let op = decode_op(Some(ADDI));
     let outcome = Outcome {
@@ -258,7 +262,7 @@ fn what_touches_no_memory_stays(rt: HostRuntime) -> Result<(), Fail> {
 fn an_untouched_load_keeps_its_first_number(rt: HostRuntime) -> Result<(), Fail> {
     let mut memory = first_memory(rt.alloc()).ok_or("refused")?;
     put(&mut memory, WORD, 4, 0x0000_0070).map_err(|_| "fault")?;
-    let mut queues = LoadStore::new(rt.alloc()).expect(&rt, "queues");
+    let mut queues = LoadStore::new(16, rt.alloc()).expect(&rt, "queues");
     queues.add_load(1, 3);
     let op = decode_op(Some(LB));
     let outcome = completion(&memory, &queues, 1, 3, op, computed(WORD, None));

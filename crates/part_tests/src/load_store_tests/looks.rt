@@ -1,7 +1,7 @@
 //! The two looks of a load, by hand: stores in flight over memory, byte by byte.
 
 ghost use Rattle.rv_execute.specs.Access.{IsSize};
-ghost use Rattle.std.specs.Prelude.{◌<◌};
+ghost use Rattle.std.specs.Prelude.{◌≡◌, ◌<◌, length};
 
 use crate::shared_memory_tests::{first_memory, get, put};
 use events::Written;
@@ -11,7 +11,7 @@ use std::test::Fail;
 
 /// A load's first and second look, or none where it faults.
 fn looks(queues: &LoadStore, memory: &Memory, hart: u8, seq: u32, addr: u32) -> Option<(u32, u32)>
-    requires { hart < 8 }
+    requires { hart < length queues.now }
 {
     match memory.fault(addr, 4, AccessKind::Load) {
         Some(_) => None,
@@ -26,7 +26,7 @@ fn looks(queues: &LoadStore, memory: &Memory, hart: u8, seq: u32, addr: u32) -> 
 fn a_load_sees_the_older_resolved_stores_of_its_hart(rt: HostRuntime) -> Result<(), Fail> {
     let mut memory = first_memory(rt.alloc()).ok_or("refused")?;
     let begun = put(&mut memory, 0x8000_0100, 4, 0x1122_3344);
-    let mut queues = LoadStore::new(rt.alloc()).expect(&rt, "queues");
+    let mut queues = LoadStore::new(16, rt.alloc()).expect(&rt, "queues");
     queues.add_store(0, 3);
     queues.add_store(0, 5);
     queues.add_load(0, 6);
@@ -69,9 +69,11 @@ fn seen_over(
     fifth: Written,
     access: (u32, u8),
 ) -> Option<u32>
+    requires there { 0 < length queues.old }
     requires third { IsSize third.n }
     requires fifth { IsSize fifth.n }
     requires size { IsSize access.1 }
+    ensures { length queues.new ≡ length queues.old }
 {
     queues.resolve_store(0, 3, third.addr, third.n, third.datum);
     queues.resolve_store(0, 5, fifth.addr, fifth.n, fifth.datum);
@@ -104,7 +106,7 @@ fn byte(addr: u32, datum: u32) -> Written
 fn the_youngest_store_that_shares_a_byte_answers(rt: HostRuntime) -> Result<(), Fail> {
     let mut memory = first_memory(rt.alloc()).ok_or("refused")?;
     let begun = put(&mut memory, 0x8000_0100, 4, 0x1122_3344);
-    let mut queues = LoadStore::new(rt.alloc()).expect(&rt, "queues");
+    let mut queues = LoadStore::new(16, rt.alloc()).expect(&rt, "queues");
     queues.add_store(0, 3);
     queues.add_store(0, 5);
     let old = word(0x8000_0100, 0x0102_0304);
@@ -159,7 +161,7 @@ fn the_youngest_store_that_shares_a_byte_answers(rt: HostRuntime) -> Result<(), 
 #[test]
 fn the_oldest_store_writes_as_it_retires(rt: HostRuntime) -> Result<(), Fail> {
     let mut memory = first_memory(rt.alloc()).ok_or("refused")?;
-    let mut queues = LoadStore::new(rt.alloc()).expect(&rt, "queues");
+    let mut queues = LoadStore::new(16, rt.alloc()).expect(&rt, "queues");
     queues.add_store(3, 9);
     queues.resolve_store(3, 9, 0x8000_0100, 4, 0x5566_7788);
     let is_free = memory.fault(0x8000_0100, 4, AccessKind::Store).is_none();
@@ -175,7 +177,7 @@ fn the_oldest_store_writes_as_it_retires(rt: HostRuntime) -> Result<(), Fail> {
 
 #[test]
 fn what_is_added_can_be_taken_out(rt: HostRuntime) {
-    let mut queues = LoadStore::new(rt.alloc()).expect(&rt, "queues");
+    let mut queues = LoadStore::new(16, rt.alloc()).expect(&rt, "queues");
     queues.add_load(5, 1);
     queues.add_store(6, 2);
     let full = [queues.loads_full(5), queues.stores_full(6)];
@@ -185,24 +187,26 @@ fn what_is_added_can_be_taken_out(rt: HostRuntime) {
     assert!(rt; !queues.loads_full(5) && !queues.stores_full(6));
 }
 
-/// Whether loads 3 and 4 of hart 1, and 3 of hart 7, have to look again.
-fn needs(queues: &LoadStore) -> [bool; 3] {
+/// Whether loads 3 and 4 of hart 1, and 3 of hart 15, have to look again.
+fn needs(queues: &LoadStore) -> [bool; 3]
+    requires { length queues.now ≡ 16 }
+{
     [
         queues.needs_look(1, 3),
         queues.needs_look(1, 4),
-        queues.needs_look(7, 3),
+        queues.needs_look(15, 3),
     ]
 }
 
 #[test]
 fn a_write_touches_the_loads_of_all_harts_that_share_a_byte(rt: HostRuntime) {
-    let mut queues = LoadStore::new(rt.alloc()).expect(&rt, "queues");
+    let mut queues = LoadStore::new(16, rt.alloc()).expect(&rt, "queues");
     queues.add_load(1, 3);
     queues.add_load(1, 4);
-    queues.add_load(7, 3);
+    queues.add_load(15, 3);
     queues.looked(1, 3, 0x8000_0100, 4);
     queues.looked(1, 4, 0x8000_0104, 2);
-    queues.looked(7, 3, 0x8000_0103, 1);
+    queues.looked(15, 3, 0x8000_0103, 1);
     let first = needs(&queues);
     queues.touch(&Written {
         addr: 0x8000_0106,
@@ -216,7 +220,7 @@ fn a_write_touches_the_loads_of_all_harts_that_share_a_byte(rt: HostRuntime) {
         datum: 0,
     });
     let touched = needs(&queues);
-    queues.looked(7, 3, 0x8000_0103, 1);
+    queues.looked(15, 3, 0x8000_0103, 1);
     queues.squash(1, 2);
     let anew = needs(&queues);
     assert!(rt; first == [false, false, false]);

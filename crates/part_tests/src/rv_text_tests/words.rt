@@ -1,7 +1,7 @@
 //! Words of every row of the instruction table, and what another disassembler makes of them.
 //!
 //! The words were chosen by hand and at random, with the least and greatest immediates, for each of
-//! the 59 rows. The texts were made once with GNU objdump 2.40 (Debian 12,
+//! the 60 rows. The texts were made once with GNU objdump 2.40 (Debian 12,
 //! binutils-riscv64-unknown-elf), as `objdump -D -b binary -m riscv:rv32 -M numeric,no-aliases
 //! --adjust-vma=0x80000000`. Three of its habits were changed:
 //! the upper part of LUI and AUIPC to five digits and the target of a jump to eight, the amount of
@@ -182,6 +182,7 @@ ffc3f893 andi x17,x7,-4
 021e72b3 remu x5,x28,x1
 0ff0000f fence
 0330000f fence
+0000100f fence.i
 00000073 ecall
 00100073 ebreak
 100122af lr.w x5,(x2)
@@ -228,7 +229,7 @@ e07428af amomaxu.w x17,x7,(x8)
 e21fa0af amomaxu.w.rl x1,x1,(x31)
 e45ea42f amomaxu.w.aq x8,x5,(x29)
 e7d0af2f amomaxu.w.aqrl x30,x29,(x1)
-00051863 bne x10,x0,0x80000370";
+00051863 bne x10,x0,0x80000374";
 
 /// Words whose targets wrap, and one whose does not: a word, its pc, and its text.
 pub(super) static WRAPPING: [(u32, u32, &str); 5] = [

@@ -50,14 +50,14 @@ fn misaligned_comes_before_outside(rt: HostRuntime) -> Result<(), Fail> {
 fn a_write_ends_the_reservations_on_its_word(rt: HostRuntime) -> Result<(), Fail> {
     let mut memory = first_memory(rt.alloc()).ok_or("refused")?;
     memory.reserve(0, 0x8000_0100);
-    memory.reserve(7, 0x8000_0100);
+    memory.reserve(15, 0x8000_0100);
     memory.reserve(1, 0x8000_0104);
     let elsewhere = put(&mut memory, 0x8000_0108, 4, 1);
-    let first = memory.reservation(7);
+    let first = memory.reservation(15);
     let within = put(&mut memory, 0x8000_0103, 1, 1);
     let others = [
         memory.reservation(0),
-        memory.reservation(7),
+        memory.reservation(15),
         memory.reservation(1),
     ];
     let taken = [

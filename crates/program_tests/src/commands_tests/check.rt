@@ -12,7 +12,7 @@ use actors::StaticPredictor;
 use commands::{Unread, step_bytes};
 use event_text::{Over, print_trace, read_trace};
 use events::History;
-use reports::{report, status_of};
+use reports::{put_trace, report, status_of};
 use sim_inputs::read_config;
 use std::alloc::Global;
 use std::process::Abort;
@@ -143,7 +143,7 @@ fn trace_run(run: &TracedRun, alloc: Global) -> Option<Traced> {
     let stepped = step_bytes(&image, &settings, script, predict, &mut lines, alloc);
     let finished = stepped.ok()?;
     let mut sink = Over::new(Vec::new(alloc));
-    if print_trace(finished.core.history(), &mut sink).is_err() {
+    if put_trace(&finished.core, &mut sink).is_err() {
         return None;
     }
     let account = finished.core.account();
@@ -176,7 +176,10 @@ fn checked<R: Threads + Wait + Sync>(
 
 /// Whether a trace has the events that the lines of the asks give, and no more.
 fn has_their_events(lines: &[u8], trace: &[u8]) -> bool {
-    let Some(mut rest) = text_of(trace).strip_prefix("smt-trace 1\n") else {
+    let Some((_, behind)) = text_of(trace).split_once('\n') else {
+        return false;
+    };
+    let Some((_, mut rest)) = behind.split_once('\n') else {
         return false;
     };
     for line in text_of(lines).split_inclusive('\n') {
@@ -201,8 +204,11 @@ fn is_read_back(text: &[u8], alloc: Global) -> bool {
     for event in trace.events() {
         let _ = history.push(*event);
     }
+    let Some(header) = trace.header() else {
+        return false;
+    };
     let mut sink = Over::new(Vec::new(alloc));
-    print_trace(&history, &mut sink).is_ok() && sink.into_inner().as_slice() == text
+    print_trace(header, &history, &mut sink).is_ok() && sink.into_inner().as_slice() == text
 }
 
 /// Asserts that a run's trace is that of its asks, is read back, and is accepted with its report.

@@ -53,10 +53,10 @@ fn what_is_accepted_is_told(rt: HostRuntime) {
     explains(&rt, TWO, &image, (0, ACCEPTED, ""), rt.alloc());
 }
 
-/// What is said of nine harts, and of an image without a byte.
+/// What is said of seventeen harts, and of an image without a byte.
 const REFUSED: &str = "config refused
 line 1, column 1: key `harts`
-expected: a whole number from 1 to 8
+expected: a whole number from 1 to 16
 usually: it is beyond these bounds, stands in quotation marks or has a fraction
 the image without a configuration:
 image refused 1
@@ -68,5 +68,5 @@ usually: an empty file, or another one than the linked program
 #[test]
 fn what_is_refused_is_told(rt: HostRuntime) {
     let expected = (2, REFUSED, "smtsim: config refused\n");
-    explains(&rt, b"harts = 9\n", b"", expected, rt.alloc());
+    explains(&rt, b"harts = 17\n", b"", expected, rt.alloc());
 }

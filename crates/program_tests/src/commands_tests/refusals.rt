@@ -53,7 +53,7 @@ macro_rules! refusal {
 
 const ONE_UNIT: File = Ok(SINGLE);
 
-const NINE_HARTS: File = Ok(b"harts = 9");
+const MANY_HARTS: File = Ok(b"harts = 17");
 
 const FETCH: File = Ok(b"F0");
 
@@ -122,10 +122,10 @@ static REFUSED: [Refusal; 22] = [
         "smtsim: image refused 1\n",
         2
     ),
-    refusal!(false, NINE_HARTS, CUT, FETCH, "smtsim: config refused\n", 2),
+    refusal!(false, MANY_HARTS, CUT, FETCH, "smtsim: config refused\n", 2),
     refusal!(
         false,
-        NINE_HARTS,
+        MANY_HARTS,
         NO_IMAGE,
         FETCH,
         "smtsim: config refused\n",
@@ -133,7 +133,7 @@ static REFUSED: [Refusal; 22] = [
     ),
     refusal!(
         false,
-        NINE_HARTS,
+        MANY_HARTS,
         LARGE_IMAGE,
         TOO_LARGE,
         "smtsim: config refused\n",
@@ -155,7 +155,7 @@ static REFUSED: [Refusal; 22] = [
     refusal!(true, NOTHING, LARGE_IMAGE, NOTHING, "smtsim: memory\n", 5),
     refusal!(
         true,
-        NINE_HARTS,
+        MANY_HARTS,
         NO_IMAGE,
         NOTHING,
         "smtsim: config refused\n",

@@ -5,6 +5,7 @@ use sim_inputs::{ConfigRefused, Settings, read_config};
 use smt_model::Role;
 use std::alloc::Global;
 use std::process::Abort;
+use std::test::Fail;
 
 static EVERY_ROLE: [Role; 6] = [
     Role::Fetch,
@@ -80,10 +81,10 @@ fn settings_can_be_had_without_a_configuration(rt: HostRuntime) {
 #[test]
 fn each_key_is_read(rt: HostRuntime) {
     let text =
-        b"# sizes\nharts = 8\nextra = 256\nqueue = 64\nram = 8192\nlimit = 1000\nturns = 5\nactors = [\"mem\", \"alu\", \"alu\"]\n";
+        b"# sizes\nharts = 16\nextra = 528\nqueue = 64\nram = 8192\nlimit = 1000\nturns = 5\nactors = [\"mem\", \"alu\", \"alu\"]\n";
     let sizes = Sizes {
-        harts: 8,
-        extra: 256,
+        harts: 16,
+        extra: 528,
         queue: 64,
         ram: 8192,
         limit: 1000,
@@ -119,7 +120,7 @@ fn a_configuration_that_is_cut_is_refused(rt: HostRuntime) {
 #[test]
 fn a_number_may_be_the_first_or_the_last_of_its_range(rt: HostRuntime) {
     let texts =
-        "harts = 1|harts = 8|extra = 1|extra = 256|queue = 4|queue = 64|ram = 4096|ram = 16777216|\
+        "harts = 1|harts = 16|extra = 1|extra = 528|queue = 4|queue = 64|ram = 4096|ram = 16777216|\
 limit = 0|limit = 16777216|turns = 0|turns = 1000000000000000000|actors = [\"alu\"]";
     each_is(&rt, None, texts, 13, rt.alloc());
     let turns = Sizes {
@@ -140,20 +141,29 @@ limit = 0|limit = 16777216|turns = 0|turns = 1000000000000000000|actors = [\"alu
 #[test]
 fn a_number_out_of_its_range_is_refused(rt: HostRuntime) {
     let texts =
-        "harts = 0|harts = 9|harts = 17|extra = 0|extra = 257|extra = 529|queue = 3|queue = 65|ram = 0|ram = 4095|\
+        "harts = 0|harts = 17|extra = 0|extra = 529|queue = 3|queue = 65|ram = 0|ram = 4095|\
 ram = 4097|ram = 16781312|limit = 16777217|limit = -1|turns = 1000000000000000001|turns = -1";
-    each_is(&rt, REFUSED, texts, 16, rt.alloc());
+    each_is(&rt, REFUSED, texts, 14, rt.alloc());
 }
 
+/// A configuration of `MOST_ACTORS` actors, and what follows the last of them.
+const MOST_ACTORS_HEAD: &str = "actors = [\
+\"mul\",\"mul\",\"mul\",\"mul\",\"mul\",\"mul\",\"mul\",\"mul\",\
+\"mul\",\"mul\",\"mul\",\"mul\",\"mul\",\"mul\",\"mul\",\"mul\",\
+\"mul\",\"mul\",\"mul\",\"mul\",\"mul\",\"mul\",\"mul\",\"mul\",\
+\"mul\",\"mul\",\"mul\",\"mul\",\"mul\",\"mul\",\"mul\",\"mul\"";
+
 #[test]
-fn actors_are_1_to_16_known_roles(rt: HostRuntime) {
-    let sixteen =
-        b"actors = [\"mul\",\"mul\",\"mul\",\"mul\",\"mul\",\"mul\",\"mul\",\"mul\",\"mul\",\"mul\",\"mul\",\"mul\",\"mul\",\"mul\",\"mul\",\"mul\"]";
-    assert!(rt; says(sixteen, DEFAULTS, &[Role::Mul; 16], rt.alloc()));
+fn actors_are_1_to_32_known_roles(rt: HostRuntime) -> Result<(), Fail> {
+    let most = format!(in rt.alloc(); "{MOST_ACTORS_HEAD}]")?;
+    assert!(rt; says(most.as_bytes(), DEFAULTS, &[Role::Mul; 32], rt.alloc()));
+    let more = format!(in rt.alloc(); "{MOST_ACTORS_HEAD}, \"mul\"]")?;
+    each_is(&rt, REFUSED, more.as_str(), 1, rt.alloc());
     let texts =
-        "actors = [\"mul\",\"mul\",\"mul\",\"mul\",\"mul\",\"mul\",\"mul\",\"mul\",\"mul\",\"mul\",\"mul\",\"mul\",\"mul\",\"mul\",\"mul\",\"mul\",\"mul\"]|\
-actors = []|actors = [\"alu\", \"add\"]|actors = [\"Alu\"]|actors = [\"\"]|actors = [3]|actors = [[\"alu\"]]|actors = 6|actors = \"alu\"";
-    each_is(&rt, REFUSED, texts, 9, rt.alloc());
+        "actors = []|actors = [\"alu\", \"add\"]|actors = [\"Alu\"]|actors = [\"\"]|actors = [3]|\
+actors = [[\"alu\"]]|actors = 6|actors = \"alu\"";
+    each_is(&rt, REFUSED, texts, 8, rt.alloc());
+    Ok(())
 }
 
 #[test]

@@ -12,11 +12,11 @@ use std::test::Fail;
 const COLUMNS: usize = 80;
 
 /// The words that ask for help, and what it tells; a bar stands between two of those.
-static HELPS: [(&str, &str); 12] = [
+static HELPS: [(&str, &str); 13] = [
     (
         "smtsim --help",
         "Usage: smtsim <COMMAND>|step|run|check|plain|schedule|script|list|chart|\
-explain|outcomes|litmus|harts|extra|queue|ram|limit|turns|actors",
+explain|outcomes|litmus|migrate|harts|extra|queue|ram|limit|turns|actors",
     ),
     (
         "smtsim step --help",
@@ -31,7 +31,7 @@ explain|outcomes|litmus|harts|extra|queue|ram|limit|turns|actors",
     (
         "smtsim check --help",
         "Usage: smtsim check [OPTIONS] <IMAGE> <TRACE>|--config <FILE>|--counts|--json|--records|\
---why|smt-trace 1|\
+--why|smt-trace 2|config harts extra queue role role ..|smt-trace 1|\
 F actor hart number pc word predicted|T actor number value next address data out",
     ),
     (
@@ -45,7 +45,7 @@ F actor hart number pc word predicted|T actor number value next address data out
     ),
     (
         "smtsim script --help",
-        "Usage: smtsim script [OPTIONS] <IMAGE> <TRACE>|--config <FILE>|smt-trace 1",
+        "Usage: smtsim script [OPTIONS] <IMAGE> <TRACE>|--config <FILE>|smt-trace 2|smt-trace 1",
     ),
     (
         "smtsim explain --help",
@@ -70,6 +70,10 @@ h0=1 & a0@1=2",
         "smtsim chart --help",
         "Usage: smtsim chart [OPTIONS] <IMAGE> <TRACE>|--config <FILE>|--from <N>|--to <N>|--hart <N>|\
 --width <N>|--svg <FILE>|--kanata <FILE>",
+    ),
+    (
+        "smtsim migrate --help",
+        "Usage: smtsim migrate [OPTIONS] <TRACE> <OUT>|--config <FILE>|version 1|version 2",
     ),
 ];
 

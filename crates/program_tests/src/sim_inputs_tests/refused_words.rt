@@ -85,6 +85,11 @@ smtsim litmus --states 4294967296 a
 smtsim litmus --image i --svg s a
 smtsim litmus --watch x7@0 a
 smtsim litmus - --config -
+smtsim migrate
+smtsim migrate t
+smtsim migrate a t o
+smtsim migrate --records t o
+smtsim migrate - o --config -
 smtsim list
 smtsim list first.elf first.script
 smtsim list --records first.elf
@@ -97,7 +102,7 @@ smtsim chart --from 5 --to 4 a t
 smtsim chart --from 16777216 a t
 smtsim chart --from 01 a t
 smtsim chart --to x a t
-smtsim chart --hart 8 a t
+smtsim chart --hart 16 a t
 smtsim chart --width 0 a t
 smtsim chart --width 10001 a t
 smtsim chart --svg p --kanata q a t";
@@ -119,6 +124,6 @@ fn other_words_are_refused(rt: HostRuntime) {
         holds(&rt, text, are_refused(text, rt.alloc()) == Ok(true));
         rows = rows.wrapping_add(1);
     }
-    assert!(rt; rows == 95);
+    assert!(rt; rows == 100);
     assert!(rt; is_refusal(read_words(&[], rt.alloc())));
 }

@@ -1,9 +1,7 @@
 ghost use Rattle.std.specs.Prelude.{◌≡◌};
-ghost use Rattle.sim_inputs.specs.Configuration.{role_name};
 ghost use Rattle.sim_inputs.specs.Explained.{name_of, default_of, least_of, greatest_of};
 
 use numbers::sizes::{FEWEST_QUEUED, MOST_EVENTS, MOST_EXTRA, MOST_HARTS, MOST_QUEUED};
-use smt_model::Role;
 
 /// The keys that a configuration may have.
 pub const KNOWN_KEYS: [&str; 7] = ["harts", "extra", "queue", "ram", "limit", "turns", "actors"];
@@ -104,19 +102,5 @@ impl NumberKey {
             NumberKey::Limit => u64::from(MOST_EVENTS),
             NumberKey::Turns => 1_000_000_000_000_000_000,
         }
-    }
-}
-
-/// The name of a role.
-pub fn role_name(role: Role) -> &'static str
-    ensures { result.now ≡ role_name role }
-{
-    match role {
-        Role::Fetch => "fetch",
-        Role::Front => "front",
-        Role::Retire => "retire",
-        Role::Alu => "alu",
-        Role::Mul => "mul",
-        Role::Mem => "mem",
     }
 }

@@ -8,8 +8,8 @@ pub returns-clause-refused : goal.returns-clause-refused
 returns-clause-refused g c =
     let followed = c.in_ok-checked.ensures in
     IfErr-weaker c.report_core.result _ _
-    (λ reason is. report_refusal c.args.settings.now c.args.image.now c.args.trace.now _ _ _ reason
-    c.in_ok-trace.ensures.trace c.events.ensures followed.whole followed.accepted followed.shown is)
+    (λ reason is. report_refusal c.args.settings.now c.args.image.now c.args.trace.now _ _ reason
+    c.in_ok-trace.ensures.trace followed.whole followed.accepted followed.shown is)
     c.report_core.ensures.refused
 
 pub returns-clause-ended : goal.returns-clause-ended
@@ -17,6 +17,6 @@ returns-clause-ended g c =
     let followed = c.in_ok-checked.ensures in
     let reported = rw c.core.ensures at c.report_core.ensures.reported in
     IfOk-weaker c.report_core.result _ _
-    (λ status reported. comes_to c.args.settings.now c.args.image.now c.args.trace.now c.args.wanted _ _ _ _ _ status
-    c.in_ok-trace.ensures.trace c.events.ensures followed.whole followed.accepted followed.shown reported)
+    (λ status reported. comes_to c.args.settings.now c.args.image.now c.args.trace.now c.args.wanted _ _ _ _ status
+    c.in_ok-trace.ensures.trace followed.whole followed.accepted followed.shown reported)
     reported

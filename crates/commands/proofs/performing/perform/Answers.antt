@@ -2,7 +2,7 @@
 use Rattle.std.proofs.Common.{sym, ◌∙◌}
 use Rattle.std.proofs.lemmas.Bool.{true≢false}
 use mathlib.Core.Logic.{inl}
-use Rattle.commands.specs.Inputs.{as_read}
+use Rattle.commands.specs.{Inputs.as_read, Written.IsWritten}
 use Rattle.commands.proofs.OfLine.{known_refusal, unset_refusal, refused_harts, was_read, status_says}
 use Rattle.commands.proofs.performing.perform.Goals as goal
 
@@ -11,7 +11,9 @@ returns-in-Ok g c =
     let has = c.in-Ok.ensures in
     let inputs = c.args.inputs.now in
     let says = status_says c.args.line.now.command (as_read inputs.config) (as_read inputs.image)
-    (as_read inputs.second) _ _ _ _ has.ended in
+    (as_read inputs.second)
+    (IsWritten g.S.EndFiles.begins g.S.Sink.written g.S.Sink.has_failed c.args.trace.now c.perform_line.new.trace)
+    _ _ _ has.ended in
     record {
       known = inl says;
       unset = was_read inputs.config _ _ _ has.unset;

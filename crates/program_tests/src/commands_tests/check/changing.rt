@@ -124,14 +124,17 @@ static CHANGES: [Change; 6] = [
     ),
 ];
 
+/// How many lines stand before those of the events in a trace of version 2.
+const HEAD: usize = 2;
+
 /// The trace with the change's lines in it.
 fn changed(trace: &str, change: &Change, alloc: Global) -> Option<Vec<u8>> {
     let mut text = Vec::new(alloc);
     for (number, line) in trace.split_inclusive('\n').enumerate() {
-        if number == change.places[0].wrapping_add(1) {
+        if number == change.places[0].wrapping_add(HEAD) {
             text.extend_from_slice(change.lines[0].as_bytes()).ok()?;
             text.push(b'\n').ok()?;
-        } else if number == change.places[1].wrapping_add(1) {
+        } else if number == change.places[1].wrapping_add(HEAD) {
             text.extend_from_slice(change.lines[1].as_bytes()).ok()?;
             text.push(b'\n').ok()?;
         } else {

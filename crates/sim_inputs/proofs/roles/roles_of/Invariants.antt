@@ -1,6 +1,6 @@
 use Rattle.std.proofs.Common.{◌≡◌, map, take, length}
 use Rattle.toml.specs.{Data.string, View.view}
-use Rattle.sim_inputs.specs.Configuration.{role_name}
+use Rattle.events.specs.Roles.{role_name}
 use Rattle.sim_inputs.proofs.roles.roles_of.Given as goal
 
 abbrev pub invariant-loop-name : goal.invariant-loop-name

@@ -2,7 +2,7 @@ use Rattle.std.proofs.Common.{Some, ◌∙◌, arith, rules}
 use Rattle.smt_model.specs.Reservations.{reservation_after_write}
 use Rattle.shared_memory.proofs.Ending.{one_more}
 use Rattle.std.proofs.lemmas.Grind.{common_steps}
-use Rattle.shared_memory.proofs.reservations.end_on_word.Goals as goal
+use Rattle.shared_memory.proofs.reservations.end_below.Goals as goal
 
 pub loop-hart-preserved : goal.loop-hart-preserved
 loop-hart-preserved c = (
