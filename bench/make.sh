@@ -9,3 +9,7 @@ for name in loop increment atomic waiting chain; do
     riscv64-unknown-elf-ld -m elf32lriscv -z max-page-size=4 -T ../examples/list/link.ld --strip-all -o "$name.elf" "$object"
     chmod 644 "$name.elf"
 done
+riscv64-unknown-elf-as -march=rv32ima -mabi=ilp32 -o "$object" patching.s
+riscv64-unknown-elf-ld -m elf32lriscv -z max-page-size=4 --no-warn-rwx-segments -T ../examples/selfmodifying/link.ld --strip-all \
+    -o patching.elf "$object"
+chmod 644 patching.elf

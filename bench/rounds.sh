@@ -1,7 +1,7 @@
 # Read by run.sh and count.sh, with root set: the loops, and the scripts that fill a history with them.
 # shellcheck disable=SC2034  # loops is for those that read this file.
 smtsim=${SMTSIM:-$root/smtsim}
-loops=${LOOPS:-loop increment atomic}
+loops=${LOOPS:-loop increment atomic patching}
 work=$(mktemp -d)
 trap 'rm -rf "$work"' EXIT
 : >"$work/empty"
@@ -15,6 +15,7 @@ units() {
     loop) echo "U3*$((6 * $2)) U4*$((2 * $2))" ;;
     increment) echo "U5*$2 U3*$2 U5*$((2 * $2)) U3*$((3 * $2)) U5*$2" ;;
     atomic) echo "U3*$((6 * $2)) U5*$((2 * $2))" ;;
+    patching) echo "U5*$((6 * $2)) U3*$((2 * $2))" ;;
     esac
 }
 

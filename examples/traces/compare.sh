@@ -1,6 +1,6 @@
 #!/bin/sh
 # compare.sh [PROGRAM]: checks every trace, and compares what is said with what is kept (said.out); the run of the overtaken load has to
-# write its trace, and those of version 1 have to become those of version 2. No output and status 0 where all agree. PROGRAM is the simulator, without it the one of this repository.
+# write its trace, and those of version 1 have to become those of version 3. No output and status 0 where all agree. PROGRAM is the simulator, without it the one of this repository.
 set -eu
 LC_ALL=C
 export LC_ALL

@@ -49,7 +49,7 @@ def by_model(words):
         settings = inputs.read_config(program.read_file(line["config"]) if line["config"] else b"")
         events = [text[5:] for text in out if text.startswith("done ")]
         with open(name, "wb") as file:
-            file.write(traces.text_of([*traces.heads_of(settings, 2), *events]))
+            file.write(traces.text_of([*traces.heads_of(settings, 3), *events]))
     print_lines(out, err)
     return status
 

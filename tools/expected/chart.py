@@ -12,14 +12,14 @@ import sys
 
 import judge
 from instructions import spelled
-from judge_inputs import Complete, Decode, Drop, Fetch, Issue, Refused, Rename, Retire
+from judge_inputs import Complete, Decode, Drop, Fetch, Issue, Refetch, Refused, Rename, Retire
 from judge_words import op_of_word
 
-LETTERS = {Fetch: "F", Decode: "D", Rename: "R", Issue: "I", Complete: "C", Drop: "X", Retire: "T"}
+LETTERS = {Fetch: "F", Decode: "D", Rename: "R", Issue: "I", Complete: "C", Drop: "X", Retire: "T", Refetch: "G"}
 
 
 class Row:
-    """An instruction: its fetch, the letters under its events, and what squashed it."""
+    """An instruction: its fetch, the letters under its events, and what squashed it, which may be its own refetch."""
 
     def __init__(self, history, fetch):
         self.fetch, self.number, self.hart = fetch, fetch.seq, fetch.hart
@@ -110,16 +110,17 @@ def kanata(history, rows, first, last, hart):
                 told = f"number {row.number} of hart {row.hart}"
                 told += "" if row.by is None else f", squashed by number {row.by}"
                 told += ", replayed" if row.replayed else ""
+                told += ", refetched" if "G" in row.at else ""
                 lines = [f"I\t{id}\t{row.number}\t{row.hart}", f"L\t{id}\t0\t{row.fetch.pc:08x}: {row.text}"]
                 lines += [f"L\t{id}\t1\t{told}", f"S\t{id}\t0\tF"]
-            else:
+            elif letter != "G":
                 lines = [f"E\t{id}\t0\t{stages[id]}"]
                 if letter in "XT":
                     lines.append(f"R\t{id}\t{left}\t{int(letter == 'X')}")
                     left += 1
                 else:
                     lines.append(f"S\t{id}\t0\t{letter}")
-            stages[id] = letter
+            stages[id] = stages[id] if letter == "G" else letter
             if letter == "I":
                 for register in dict.fromkeys((row.op.first, row.op.second)):
                     other = waited_for(rows, row, register)

@@ -93,7 +93,7 @@ class Core:
         if not self.has(actor) or h is None:
             return None
         hart = self.harts[h]
-        word, pc = self.image.word(hart.pc), hart.pc
+        word, pc = self.word_now(hart.pc), hart.pc
         guess = pc + 4 & MASK if word is None else predicted(word, pc)
         f = Flying(self.fetches, h, pc, word, guess)
         hart.flying.append(f)
@@ -199,6 +199,7 @@ class Core:
         )
 
     def retire(self, actor, h):
+        """Retires the oldest of a hart; or fetches it again, where its word is no longer the one there."""
         if not self.has(actor, h):
             return None
         hart = self.harts[h]
@@ -206,6 +207,9 @@ class Core:
         if not flight or flight[0].stage != "completed":
             return None
         f = flight[0]
+        if self.word_now(f.pc) != f.word:
+            self.squash_from(f.number, hart, f.pc)
+            return self.made(f"G {actor} {f.number}")
         value, write = self.effect(f, hart)
         goes_on = f.done["next"][0] == "p"
         if f.register is not None and goes_on:
@@ -231,11 +235,14 @@ class Core:
         return self.made(f"T {actor} {f.number} {fields}")
 
     def squash_after(self, f, pc):
-        hart = self.harts[f.hart]
+        self.squash_from(f.number + 1, self.harts[f.hart], pc)
+
+    def squash_from(self, number, hart, pc):
+        """Squashes what a hart has on its way from a number on, and sends it to a pc, if any."""
         for x in hart.flying:
-            if x.number > f.number:
+            if x.number >= number:
                 x.stage = "squashed"
-        hart.flying = [x for x in hart.flying if x.number <= f.number]
+        hart.flying = [x for x in hart.flying if x.number < number]
         if pc is not None:
             hart.pc = pc
 
@@ -251,12 +258,19 @@ class Core:
         image = self.image
         if c.addr % n:
             c.next = ("s", 6 if writes else 4)
-        elif not image.in_ram(c.addr, n) or (writes and image.touches_code(c.addr, n)):
+        elif not image.in_ram(c.addr, n) or (writes and image.touches_fixed_code(c.addr, n)):
             c.next = ("s", 7 if writes else 5)
         return c
 
     def byte(self, address):
-        return self.written.get(address, self.image.byte(address))
+        found = self.written.get(address)
+        return self.image.byte(address) if found is None else found
+
+    def word_now(self, pc):
+        """The word that memory has at a pc, as far as there is code; None where there is none."""
+        if not self.image.has_word(pc):
+            return None
+        return int.from_bytes(bytes(self.byte(pc + k) for k in range(4)), "little")
 
     def loaded(self, i, address, first=None):
         """What a load reads of memory; `first` is the load that looks first, over the older stores

@@ -12,7 +12,7 @@ import json
 import sys
 
 import judge
-from judge_inputs import Complete, Decode, Drop, Fetch, Issue, Refused, Rename, Retire
+from judge_inputs import Complete, Decode, Drop, Fetch, Issue, Refetch, Refused, Rename, Retire
 from judge_words import op_of_word
 
 KINDS = {
@@ -32,6 +32,8 @@ def squash_reason(history, s):
         if history.squashes(n, s):
             if isinstance(e, Complete):
                 return "mispredicted"
+            if isinstance(e, Refetch):
+                return "refetched"
             return {"e": "ended", "s": "stopped", "p": "replayed"}[e.effect.next[0]]
     return None
 
@@ -53,8 +55,9 @@ def numbers(history):
     fetched = [e.seq for e in history.events if isinstance(e, Fetch)]
     found["mispredicted"] = sum(is_mispredicted(history, s) for s in fetched)
     found["replayed"] = sum(is_replayed(history, s) for s in fetched)
+    found["refetched"] = sum(isinstance(e, Refetch) for e in history.events)
     reasons = [squash_reason(history, s) for s in fetched]
-    for reason in ("mispredicted", "replayed", "ended", "stopped"):
+    for reason in ("mispredicted", "replayed", "refetched", "ended", "stopped"):
         found[f"squashed-{reason}"] = reasons.count(reason)
     retired = [(f.hart, op_of_word(f.word).unit) for f, _ in history.records()]
     for hart in range(history.harts):

@@ -4,17 +4,19 @@
 
 The trace is judged first, by the second judge. Then the first event is told that a core would decide otherwise: a fetch
 that doesn't predict what the static predictor does, or a rename that doesn't take the least free register. Else a line
-stands for each event: its letter and actor, and behind a point the hart of a decode, a rename and a retirement.
+stands for each event: its letter and actor, and behind a point the hart of a decode, a rename and a retirement; a
+refetch is asked for as a retirement is.
 """
 
 import sys
 
 from instructions import predicted
 from judge import judged, read
-from judge_inputs import Complete, Decode, Drop, Fetch, Issue, Refused, Rename, Retire
+from judge_inputs import Complete, Decode, Drop, Fetch, Issue, Refetch, Refused, Rename, Retire
 from judge_rules import Rules
 
-LETTERS = {Fetch: "F", Decode: "D", Rename: "R", Issue: "I", Complete: "C", Drop: "C", Retire: "T"}
+LETTERS = {Fetch: "F", Decode: "D", Rename: "R", Issue: "I", Complete: "C", Drop: "C", Retire: "T",
+           Refetch: "T"}
 
 
 def decided_otherwise(history, n):
@@ -39,7 +41,7 @@ def lines(image, settings, events):
             raise Refused(otherwise, 4)
     harts = {e.seq: e.hart for e in events if isinstance(e, Fetch)}
     for e in events:
-        named = f".{harts[e.seq]}" if isinstance(e, (Decode, Rename, Retire)) else ""
+        named = f".{harts[e.seq]}" if isinstance(e, (Decode, Rename, Retire, Refetch)) else ""
         yield f"{LETTERS[type(e)]}{e.actor}{named}"
 
 

@@ -9,14 +9,17 @@ X, W, R = 1, 2, 4
 class Image:
     def __init__(self, ram, entry, segments):
         self.ram, self.entry, self.segments = ram, entry, segments  # (address, bytes, flags) each
-        self.code, self.code_bytes = next((a, b) for a, b, f in segments if f & X)
+        self.code, self.code_bytes, flags = next((a, b, f) for a, b, f in segments if f & X)
+        self.is_writable = bool(flags & W)
+
+    def has_word(self, pc):
+        """There is a word of the code at a pc, whatever memory has there."""
+        return pc % 4 == 0 and self.code <= pc and pc + 4 <= self.code + len(self.code_bytes)
 
     def word(self, pc):
-        """The word of the code at a pc, None where there is none."""
+        """The word that the image has at a pc, None where there is none."""
         at = pc - self.code
-        if pc % 4 or at < 0 or at + 4 > len(self.code_bytes):
-            return None
-        return int.from_bytes(self.code_bytes[at : at + 4], "little")
+        return int.from_bytes(self.code_bytes[at : at + 4], "little") if self.has_word(pc) else None
 
     def byte(self, address):
         for start, data, _ in self.segments:
@@ -27,7 +30,10 @@ class Image:
     def in_ram(self, address, n):
         return BASE <= address and address + n <= BASE + self.ram
 
-    def touches_code(self, address, n):
+    def touches_fixed_code(self, address, n):
+        """One of the bytes is of code that may not be written."""
+        if self.is_writable:
+            return False
         return address < self.code + len(self.code_bytes) and self.code < address + n
 
 
@@ -67,10 +73,10 @@ def load(file, ram):
     spans = sorted((at, at + size) for _, at, _, size, _ in loadable)
     if any(left[1] > right[0] for left, right in zip(spans, spans[1:])):
         return 14
-    code = [(at, size, flags) for _, at, _, size, flags in loadable if flags & X]
-    if len(code) != 1 or code[0][2] & W:
+    code = [(at, size) for _, at, _, size, flags in loadable if flags & X]
+    if len(code) != 1:
         return 15
-    at, size, _ = code[0]
+    at, size = code[0]
     if at % 4 or size % 4:
         return 16
     entry = word(24)

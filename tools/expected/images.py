@@ -5,6 +5,7 @@ What is wrong with a wrong one is in its name.
 
 import os
 
+import code_images
 import memory_images
 from image import BASE, R, W, X, build
 
@@ -204,7 +205,7 @@ MORE = {
 def main():
     os.makedirs(FOLDER, exist_ok=True)
     programs = PROGRAMS | memory_images.PROGRAMS
-    files = {name: build(words) for name, words in programs.items()} | MORE
+    files = {name: build(words) for name, words in programs.items()} | MORE | code_images.IMAGES
     for name, data in files.items():
         with open(f"{FOLDER}/{name}.elf", "wb") as file:
             file.write(data)

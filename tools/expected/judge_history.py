@@ -6,7 +6,7 @@ answer is a filter or a fold over the list of events, of which the first n count
 clause for one event more, as there; what it said after each event is remembered.
 """
 
-from judge_inputs import Complete, Decode, Drop, Fetch, Issue, Rename, Retire
+from judge_inputs import Complete, Decode, Drop, Fetch, Issue, Refetch, Rename, Retire
 from judge_words import NO_WORD, op_of_word, read_value
 
 # The fates of an instruction, by how far along it is.
@@ -110,24 +110,25 @@ class History:
 
     @fold(None)
     def squasher(self, e, past, before):
-        """The newest event's instruction, where that squashes the younger ones of its hart."""
+        """The newest event's instruction, where that squashes the younger ones of its hart; or itself too."""
         if isinstance(e, Complete):
             return e.seq if self.mispredicts(past, e.seq, e.outcome.next) else None
         if isinstance(e, Retire):
             return e.seq if self.squashes_at_retirement(past, e.seq, e.effect) else None
-        return None
+        return e.seq if isinstance(e, Refetch) else None
 
     def squashes(self, past, t):
         """The event behind these squashes instruction t."""
         s = self.squasher(past + 1)
-        if s is None or not s < t:
+        first_kept = isinstance(self.events[past], Retire | Complete)
+        if s is None or t < s + first_kept:
             return False
         f = self.fetching(past, s)
         return f is not None and self.is_of(past, f.hart, t)
 
     def fate_by(self, e, s):
-        """What an event says of an instruction's fate; a drop says nothing."""
-        if e.seq != s or isinstance(e, Drop):
+        """What an event says of an instruction's fate; a drop and a refetch say nothing."""
+        if e.seq != s or isinstance(e, Drop | Refetch):
             return None
         if isinstance(e, Retire):
             return HALTED if is_last(e.effect.next) else RETIRED
@@ -248,6 +249,9 @@ class History:
             return before
         return written_byte(e.effect.write, address, before)
 
+    def word_now(self, n, pc):
+        return self.image.word_now(lambda address: self.byte_at(n, address), pc)
+
     @fold(None)
     def reserved(self, e, past, before, h):
         if not isinstance(e, Retire) or is_last(e.effect.next):
@@ -322,6 +326,8 @@ class History:
         s = self.squasher(past + 1)
         if s is None or not self.is_of(past, h, s):
             return before
+        if isinstance(e, Refetch):
+            return self.fetching(past, s).pc
         sent = (e.outcome if isinstance(e, Complete) else e.effect).next
         return before if is_last(sent) else sent[1]
 

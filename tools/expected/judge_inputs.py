@@ -38,6 +38,7 @@ class Image:
         self.ram, self.entry, self.segments = ram, entry, segments
         code = next(s for s in segments if s.flags % 2 == 1)
         self.code_start, self.code_end = code.address, code.address + len(code.data)
+        self.code_writable = code.flags // 2 % 2 == 1
 
     def byte(self, address):
         """The byte that memory holds at the start."""
@@ -46,17 +47,17 @@ class Image:
                 return s.data[address - s.address]
         return 0
 
-    def code_word(self, pc):
-        """The instruction word at a pc, None where there is none."""
+    def word_now(self, byte, pc):
+        """The instruction word at a pc where memory has these bytes, None where there is none."""
         if pc % 4 != 0 or pc < self.code_start or pc + 4 > self.code_end:
             return None
-        return sum(self.byte(pc + i) << 8 * i for i in range(4))
+        return sum(byte(pc + i) << 8 * i for i in range(4))
 
     def in_ram(self, address, n):
         return RAM_START <= address and address + n <= RAM_START + self.ram
 
-    def touches_code(self, address, n):
-        return max(address, self.code_start) < min(address + n, self.code_end)
+    def touches_fixed_code(self, address, n):
+        return not self.code_writable and max(address, self.code_start) < min(address + n, self.code_end)
 
 
 class Header(NamedTuple):
@@ -100,7 +101,7 @@ def checks_of_headers(loadable, size, entry, ram):
         g.address + g.in_memory <= h.address or h.address + h.in_memory <= g.address
         for g, h in combinations(loadable, 2)
     )
-    yield len(code) == 1 and code[0].flags // 2 % 2 == 0
+    yield len(code) == 1
     yield code[0].address % 4 == 0 and code[0].in_memory % 4 == 0
     yield entry % 4 == 0 and code[0].address <= entry < code[0].address + code[0].in_memory
 
@@ -222,6 +223,11 @@ class Retire(NamedTuple):
     effect: Effect
 
 
+class Refetch(NamedTuple):
+    actor: int
+    seq: int
+
+
 class Broken(Exception):
     """The rule that a line breaks."""
 
@@ -275,12 +281,13 @@ WORD, BYTE = hexadecimal(8), hexadecimal(2)
 VALUES = (optional(WORD), next_field, optional(WORD), optional(WORD), optional(BYTE))
 
 
-def kinds_within(spelled):
+def kinds_within(spelled, refetches=False):
     """The kinds of events by their letters, and the readers of their fields, in a version's ranges."""
     actor, hart, register = (decimal(range(most + 1)) for most in spelled)
     seq = decimal(range(MOST_EVENTS))
     head = (actor, seq)
-    return {
+    last = {b"G": (Refetch, head)} if refetches else {}
+    return last | {
         b"F": (Fetch, (actor, hart, seq, WORD, optional(WORD), WORD)),
         b"D": (Decode, head),
         b"R": (Rename, (*head, optional(register))),
@@ -296,7 +303,11 @@ def kinds_within(spelled):
     }
 
 
-KINDS = {b"smt-trace 1": kinds_within(FIRST), b"smt-trace 2": kinds_within(SECOND)}
+KINDS = {
+    b"smt-trace 1": kinds_within(FIRST),
+    b"smt-trace 2": kinds_within(SECOND),
+    b"smt-trace 3": kinds_within(SECOND, refetches=True),
+}
 
 
 def event_of(line, kinds):
@@ -311,7 +322,7 @@ def event_of(line, kinds):
 
 
 class TraceCore(NamedTuple):
-    """The core that a trace of version 2 names."""
+    """The core that a trace of version 2 or 3 names."""
 
     harts: int
     extra: int
@@ -352,7 +363,7 @@ def trace_of(text):
     """The trace of a text; Refused with the first line that is wrong, and its rule."""
     *lines, behind = text.split(b"\n")
     kinds, core, events = None, None, []
-    has_core = lines[:1] == [b"smt-trace 2"]
+    has_core = lines[:1] in ([b"smt-trace 2"], [b"smt-trace 3"])
     for place, line in enumerate(lines):
         try:
             if place == 0:
@@ -370,18 +381,19 @@ def trace_of(text):
     return Trace(core, events)
 
 
-# ---- Version 2 of a text of version 1
+# ---- Version 3 of a text of an older version
 
 
-def head_of(settings):
-    """The two lines before the events of a trace of version 2."""
+def core_line(settings):
+    """The second line of a trace of version 3."""
     sizes = f"{settings.harts} {settings.extra} {settings.queue}"
-    return f"smt-trace 2\nconfig {sizes} {' '.join(settings.actors)}\n".encode()
+    return f"config {sizes} {' '.join(settings.actors)}\n".encode()
 
 
 def migrated(settings, text):
-    """The text of version 2 of the events of a text of version 1; Refused for one of version 2."""
-    if text.split(b"\n")[0] == b"smt-trace 2":
+    """The text of version 3 of a text of version 1 or 2, which names its core itself; Refused for one of version 3."""
+    first, _, behind = text.partition(b"\n")
+    if first == b"smt-trace 3":
         raise Refused("trace version refused", 4)
     trace_of(text)
-    return head_of(settings) + text[len(b"smt-trace 1\n") :]
+    return b"smt-trace 3\n" + (core_line(settings) if first == b"smt-trace 1" else b"") + behind

@@ -6,7 +6,7 @@ that fails is the refusal, and an event for which none fails is allowed.
 
 from judge_history import COMPLETED, IN_DECODE, IN_RENAME, RENAMED, SQUASHED
 from judge_history import History, first, is_last, read
-from judge_inputs import Complete, Decode, Drop, Effect, Fetch, Issue, Outcome, Rename, Retire
+from judge_inputs import Complete, Decode, Drop, Effect, Fetch, Issue, Outcome, Refetch, Rename, Retire
 from judge_words import WRITTEN, computed, fault, op_of_word
 
 
@@ -65,7 +65,7 @@ class Rules(History):
         yield self.choice(n) == e.hart
         yield e.seq == self.fetches(n)
         yield e.pc == self.fetch_pc(n, e.hart)
-        yield e.word == self.image.code_word(e.pc)
+        yield e.word == self.word_now(n, e.pc)
 
     def decode_rules(self, n, e, f):
         yield self.fate(n, e.seq) == IN_DECODE
@@ -104,6 +104,16 @@ class Rules(History):
         yield self.fate(n, e.seq) == COMPLETED
         yield first(self.flight(n, f.hart)) == e.seq
         yield e.effect == self.effect_now(n, f)
+        yield self.is_fresh(n, f)
+
+    def refetch_rules(self, n, e, f):
+        yield self.fate(n, e.seq) == COMPLETED
+        yield first(self.flight(n, f.hart)) == e.seq
+        yield not self.is_fresh(n, f)
+
+    def is_fresh(self, n, f):
+        """The word at its pc now is the one that was fetched."""
+        return f.word == self.word_now(n, f.pc)
 
     def refused(self, n):
         """The first rule that the event behind the first n breaks, None where it is allowed."""
@@ -120,5 +130,5 @@ class Rules(History):
 RULES = {
     Fetch: Rules.fetch_rules, Decode: Rules.decode_rules, Rename: Rules.rename_rules,
     Issue: Rules.issue_rules, Complete: Rules.complete_rules, Drop: Rules.drop_rules,
-    Retire: Rules.retire_rules,
+    Retire: Rules.retire_rules, Refetch: Rules.refetch_rules,
 }

@@ -227,7 +227,7 @@ def fault(image, op, address):
         return 4 if reads else 6
     if not image.in_ram(address, op.size):
         return 5 if reads else 7
-    return 7 if not reads and image.touches_code(address, op.size) else None
+    return 7 if not reads and image.touches_fixed_code(address, op.size) else None
 
 
 def read_value(op, number):

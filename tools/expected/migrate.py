@@ -1,4 +1,4 @@
-"""What `smtsim migrate` does, as docs/FORMATS.md says it: version 2 of a trace of version 1.
+"""What `smtsim migrate` does, as docs/FORMATS.md says it: version 3 of a trace of version 1 or 2.
 
     python3 tools/expected/migrate.py TRACE OUT [--config FILE]
 

@@ -2,8 +2,10 @@
 
     python3 tools/expected/outcomes_compare.py PROGRAM [COUNT] [SEED]
 
-Small programs of two or three harts: loads, stores, LR, SC, AMO, branches, output, ends and stops. What
-is printed has to be the same, but for the number of states; and each order that is asked for has to end
+Small programs of two or three harts: loads, stores, LR, SC, AMO, branches, output, ends and stops; one in
+three also writes its own code. What is printed has to be the same, but for the number of states; that one too where the code is writable and
+nothing is watched, since then no steps are made at once, and only a hart that goes on has registers that
+matter. Each order that is asked for has to end
 as its outcome says, on the plain machine. Programs of more than 20,000 states are left out. Prints how
 many agree, and ends with status 1 where one doesn't.
 """
@@ -16,8 +18,9 @@ import tempfile
 
 import every_order
 import image
+from outcomes import frozen, thawed
 from plain import Plain
-from random_runs import branch
+from random_words import branch
 
 MOST = 20000
 # auipc x8,0; addi x9,x8,256: where the words begin that all harts load and store.
@@ -64,6 +67,24 @@ def some_program(r):
     return TO_MEMORY + words + [EXIT, ECALL]
 
 
+def some_program_that_writes_code(r):
+    """A program that puts its last word, or a part of it, in the place of others; its code is writable."""
+    words, count = [], r.randint(2, 5)
+    for k in range(count):
+        words += some_instruction(r, count - k) if r.random() < 0.6 else [None]
+    words += [] if None in words else [None]
+    first = len(TO_MEMORY) + 1
+    last = first + len(words) + 2
+    stock = some_instruction(r, 2)[:1] if r.random() < 0.9 else [r.getrandbits(32)]
+    for k, word in enumerate(words):
+        if word is None:
+            size, place = r.choice((2, 2, 2, 1, 0)), 4 * r.randrange(first, last)
+            at = place + (r.choice((0, 2)) if size < 2 else 0)
+            words[k] = (at >> 5) << 25 | 7 << 20 | 8 << 15 | size << 12 | (at & 31) << 7 | 0x23
+    load = 4 * last << 20 | 8 << 15 | 2 << 12 | 7 << 7 | 0x03
+    return [*TO_MEMORY, load, *words, EXIT, ECALL, *stock]
+
+
 def some_watch(r, harts):
     parts = [f"{r.choice(('x5', 't0', 'x6', 'a0'))}@{r.randrange(harts)}" for _ in range(r.randrange(3))]
     parts += [f"{r.choice(SHARED):08x}:4" for _ in range(r.randrange(2))]
@@ -81,7 +102,10 @@ def some_condition(r, harts):
 def inputs_of(seed, k):
     r = random.Random(f"outcomes {seed} {k}")
     harts = r.choice((2, 2, 2, 3))
-    file = image.build(some_program(r))
+    if r.random() < 1 / 3:
+        file = image.build(some_program_that_writes_code(r), flags=image.R | image.W | image.X)
+    else:
+        file = image.build(some_program(r))
     watch = some_watch(r, harts)
     return harts, file, watch, some_condition(r, harts) if r.random() < 0.5 else None
 
@@ -103,6 +127,29 @@ def ends_so(made, harts, order, wanted, watch, exists):
     return not machine.going() and every_order.line(found, registers, words) == wanted
 
 
+def plain_states(made, harts):
+    """How many states there are, but for the registers of harts that don't go on."""
+
+    def state(machine):
+        machine.memory = {at: byte for at, byte in machine.memory.items() if byte != made.byte(at)}
+        stands = zip(machine.registers, machine.statuses)
+        machine.registers = [numbers if status == ("going",) else [0] * 32 for numbers, status in stands]
+        return frozen(machine)
+
+    start = state(Plain(made, harts))
+    seen, waiting = {start}, [start]
+    while waiting:
+        here = waiting.pop()
+        for hart in thawed(made, here).going():
+            machine = thawed(made, here)
+            machine.step(hart)
+            there = state(machine)
+            if there not in seen:
+                seen.add(there)
+                waiting.append(there)
+    return len(seen)
+
+
 def agrees(program, folder, seed, k):
     """Whether the program says the same of program k; None where it has too many states."""
     harts, file, watch, exists = inputs_of(seed, k)
@@ -121,6 +168,9 @@ def agrees(program, folder, seed, k):
     found = [text for text in done.stdout.splitlines() if not text.startswith("states ")]
     if (found, done.stderr, done.returncode) != (wanted, "", 0):
         return False
+    if made.is_writable and not watch and exists is None:
+        if f"states {plain_states(made, harts)}" not in done.stdout.splitlines():
+            return False
     count = next(n for n, text in enumerate(wanted) if text.startswith("outcomes "))
     for place in random.Random(k).sample(range(count), min(count, 2)):
         subprocess.run([*line, "--outcome", str(place + 1), "--witness", "order"], cwd=folder, capture_output=True, check=False)

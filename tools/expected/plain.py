@@ -42,12 +42,12 @@ class Plain:
             return 6 if writes else 4
         if not self.image.in_ram(address, n):
             return 7 if writes else 5
-        return 7 if writes and self.image.touches_code(address, n) else None
+        return 7 if writes and self.image.touches_fixed_code(address, n) else None
 
     def step(self, h):
         """Makes the next instruction of hart h, and gives its record."""
         pc, numbers = self.pcs[h], self.registers[h]
-        word = self.image.word(pc)
+        word = self.read(pc, 4) if self.image.has_word(pc) else None
         i = NO_WORD if word is None else decode(word)
         c = compute(i, pc, numbers[i.rs1], numbers[i.rs2])
         n, value, write = SIZES.get(i.name, 4), c.value, None

@@ -1,15 +1,18 @@
 """Random configurations, images, scripts and orders, from a seed.
 
-    python3 tools/expected/random_runs.py write FOLDER [COUNT] [SEED] [wide]
+    python3 tools/expected/random_runs.py write FOLDER [COUNT] [SEED] [wide|code]
         the inputs, and what the model here prints for them
-    python3 tools/expected/random_runs.py compare PROGRAM [COUNT] [SEED] [wide]
+    python3 tools/expected/random_runs.py compare PROGRAM [COUNT] [SEED] [wide|code]
         a built program beside the model
-    python3 tools/expected/random_runs.py compare PROGRAM=OTHER [COUNT] [SEED] [wide]
+    python3 tools/expected/random_runs.py compare PROGRAM=OTHER [COUNT] [SEED] [wide|code]
         two built programs beside each other
 
-With `wide` all cores have 9 to 16 harts and 17 to 32 actors. Run K of a seed is the same whatever
-COUNT is. `compare` prints the runs that differ and leaves their inputs in a folder that it names; it
-ends with status 1 where there is one.
+With `wide` all cores have 9 to 16 harts and 17 to 32 actors. With `code` all programs write their own
+code (code_runs.py), and more is compared: the history of the run, written as a trace, has to be the
+model's, the program's `check` has to accept it with the same report, and its `plain` has to print the
+same records in the order of retirement. Run K of a seed is the same whatever COUNT is. `compare`
+prints the runs that differ and leaves their inputs in a folder that it names; it ends with status 1
+where there is one.
 """
 
 import os
@@ -18,98 +21,14 @@ import subprocess
 import sys
 import tempfile
 
+import code_runs
 import image
+import inputs
 import limits
 import program
-from instructions import ILLEGAL, decode
 from limits import ROLES
 from plain import Plain
-
-
-def some_word(r, kinds=100):
-    """A word of code: mostly arithmetic on few registers, so that sources are in flight; some of
-    everything else, unless only the first `kinds` of a hundred kinds are wanted."""
-    rd, rs1, rs2 = (r.choice((0, 5, 6, 7, 10, 11, 17)) for _ in range(3))
-    fields = rs2 << 20 | rs1 << 15 | rd << 7
-    kind = r.randrange(kinds)
-    if kind < 30:
-        immediate = r.choice((0, 1, 2, 5, 93, 0x7FF, 0x800, 0xFFF, r.randrange(4096)))
-        return immediate << 20 | rs1 << 15 | rd << 7 | r.choice((0, 2, 3, 4, 6, 7)) << 12 | 0x13
-    if kind < 45:
-        return fields | r.choice((0, 0, 32)) << 25 | r.randrange(8) << 12 | 0x33
-    if kind < 57:
-        return fields | 1 << 25 | r.randrange(8) << 12 | 0x33
-    if kind < 60:
-        return r.choice((0, 32)) << 25 | fields | r.choice((1, 5)) << 12 | 0x13
-    if kind < 66:
-        return r.randrange(1 << 20) << 12 | rd << 7 | r.choice((0x37, 0x17))
-    if kind < 78:
-        to = r.choice((-12, -8, -4, 4, 8, 8, 12, 16, 2))
-        return branch(r.choice((0, 1, 4, 5, 6, 7)), rs1, rs2, to)
-    if kind < 83:
-        return jump(rd, r.choice((-8, -4, 4, 8, 12, 6)))
-    if kind < 86:
-        return r.choice((0, 4, 1, 0x800)) << 20 | rs1 << 15 | rd << 7 | 0x67
-    if kind < 91:
-        return r.choice((0x05D00893, 0x00100893, 0x00000513, 0x00100513))
-    if kind < 95:
-        return 0x00000073
-    if kind < 96:
-        return r.choice((0x00100073, 0x0FF0000F, 0, 0xFFFFFFFF))
-    if kind < 99:
-        rest = r.choice((0x03, 0x23, 0x2F, 0x1000002F, 0x1800002F))
-        return fields | r.choice((0, 1, 2)) << 12 | rest
-    return r.randrange(1 << 32)
-
-
-# auipc x8,0; addi x9,x8,256: where the words begin that all harts load and store.
-TO_MEMORY = [0x00000417, 0x10040493]
-
-
-def some_access(r):
-    """A word that loads, stores or is an atomic: of two words that all harts share, as x9 has their
-    address; now and then misaligned, of the code, or far away."""
-    rd, rs2 = r.choice((0, 5, 6, 7, 10, 11, 17)), r.choice((0, 5, 6, 7, 10, 11))
-    base = 9 if r.random() < 0.99 else r.choice((0, 8, 10))
-    kind, place = r.randrange(100), r.choice((0, 0, 4, 4, 1, 2, 3, 6))
-    size = r.choice((0, 1, 2, 2))
-    offset = place if r.random() < 0.02 else place >> size << size
-    if kind < 40:
-        extends = r.choice((0, 4)) if size < 2 else 0
-        return offset << 20 | base << 15 | (size | extends) << 12 | rd << 7 | 0x03
-    if kind < 75:
-        return rs2 << 20 | base << 15 | size << 12 | offset << 7 | 0x23
-    if kind < 84:
-        return base << 15 | rd << 7 | 0x1000202F
-    fields = rs2 << 20 | base << 15 | rd << 7 | r.randrange(4) << 25 | 0x202F
-    row = 3 if kind < 92 else r.choice((0, 1, 4, 8, 12, 16, 20, 24, 28))
-    return row << 27 | fields
-
-
-def some_code(r):
-    """The words of a program. Every second one has many words that touch memory, few jumps and no
-    illegal words, and begins again behind its last word."""
-    if r.random() < 0.5:
-        return [some_word(r) for _ in range(r.choice((1, 3, 6, 12, 24)))]
-    count, share, kinds = r.choice((6, 12, 24, 40)), r.choice((0.5, 0.8)), r.choice((60, 60, 90))
-    words = []
-    while len(words) < count:
-        word = some_access(r) if r.random() < share else some_word(r, kinds)
-        words += [] if decode(word) is ILLEGAL else [word]
-    return TO_MEMORY + words + [jump(0, -4 * count)]
-
-
-def branch(op, rs1, rs2, to):
-    to &= 0x1FFF
-    high = (to >> 12) << 6 | to >> 5 & 63
-    low = (to >> 1 & 15) << 1 | to >> 11 & 1
-    return high << 25 | rs2 << 20 | rs1 << 15 | op << 12 | low << 7 | 0x63
-
-
-def jump(rd, to):
-    to &= 0x1FFFFF
-    high = (to >> 20) << 19 | (to >> 1 & 1023) << 9 | (to >> 11 & 1) << 8 | to >> 12 & 255
-    return high << 12 | rd << 7 | 0x6F
+from random_words import TO_MEMORY, some_code
 
 
 def some_config(r, wide=False):
@@ -194,23 +113,47 @@ def some_order(r, made, harts):
     return r.choice((" ", "\n", "  ")).join(map(str, words)) + r.choice(("", "\n", " "))
 
 
-def inputs_of(seed, k, wide=False):
+def config_text(config):
+    return "".join(f"{key} = {value}\n".replace("'", '"') for key, value in config.items()).encode()
+
+
+def some_options(r):
+    return [option for option in ("--records", "--show", "--looks") if r.random() < 0.6]
+
+
+def inputs_that_write_code(r):
+    """The files of a run whose program writes its own code, and its words."""
+    config = some_config(r)
+    if r.random() < 0.8:
+        config |= {"harts": r.choice((1, 1, 2, 2, 3, 4)), "extra": r.choice((8, 64)), "limit": 1000000}
+    config["actors"] = with_memory_units(r, config["actors"])
+    # Different rounds, so that what is fetched is now far ahead of what retires, and now near.
+    parts = [some_script(r, config, 0.9) for _ in range(r.choice((1, 2, 4, 8)))]
+    files = {
+        "image.elf": code_runs.some_image(r),
+        "config.toml": config_text(config),
+        "script": " ".join(parts).encode(),
+    }
+    return files, ["step", "image.elf", "script", "--config", "config.toml", *some_options(r)]
+
+
+def inputs_of(seed, k, kind=None):
     """The files of run k: name and bytes; and the words."""
     r = random.Random(f"{seed} {k}")
-    config = some_config(r, wide)
+    if kind == "code":
+        return inputs_that_write_code(r)
+    config = some_config(r, kind == "wide")
     words = some_code(r)
     uses_memory = words[:2] == TO_MEMORY
     if uses_memory:
         config["actors"] = with_memory_units(r, config["actors"])
     entry = image.BASE + 4 * r.randrange(len(words)) if r.random() < 0.1 else image.BASE
-    text = "".join(f"{key} = {value}\n".replace("'", '"') for key, value in config.items())
     files = {
         "image.elf": image.build(words, entry=entry),
-        "config.toml": text.encode(),
+        "config.toml": config_text(config),
         "script": some_script(r, config, 0.8 if uses_memory else 0.4).encode(),
     }
-    line = ["step", "image.elf", "script", "--config", "config.toml"]
-    line += [option for option in ("--records", "--show", "--looks") if r.random() < 0.6]
+    line = ["step", "image.elf", "script", "--config", "config.toml", *some_options(r)]
     if r.random() < 0.02:
         line = ["list", "image.elf"]
     elif r.random() < 0.25:
@@ -221,8 +164,8 @@ def inputs_of(seed, k, wide=False):
     return files, line
 
 
-def prepare(folder, seed, k, wide):
-    files, line = inputs_of(seed, k, wide)
+def prepare(folder, seed, k, kind):
+    files, line = inputs_of(seed, k, kind)
     os.makedirs(folder, exist_ok=True)
     for name, data in files.items():
         with open(f"{folder}/{name}", "wb") as file:
@@ -246,10 +189,33 @@ def by_program(name, folder, line):
     return done.stdout, done.stderr, done.returncode
 
 
-def write(folder, count, seed, wide):
+def histories_agree(name, place, asked):
+    """Whether the history of a run of the core is the model's, judged as it was made, and its records are
+    those of the plain machine in the order of retirement."""
+    settings = inputs.read_config(program.read_file(f"{place}/config.toml"))
+    image_and_config = [f"{place}/image.elf", "--config", f"{place}/config.toml"]
+    out, _, status = program.run(["step", image_and_config[0], f"{place}/script", *image_and_config[1:], "--records"])
+    events = [text[5:] for text in out if text.startswith("done ")]
+    report = "".join(f"{text}\n" for text in out if not text.startswith(("done ", "idle", "full", "none")))
+    roles = " ".join(settings["actors"])
+    head = f"smt-trace 3\nconfig {settings['harts']} {settings['extra']} {settings['queue']} {roles}\n"
+    wanted = head + "".join(f"{text}\n" for text in events)
+    by_program(name, place, [*asked, "--trace", "trace"])
+    with open(f"{place}/trace", encoding="ascii") as file:
+        found = file.read()
+    checked = by_program(name, place, ["check", "image.elf", "trace", "--config", "config.toml", "--records"])
+    records = [text for text in report.splitlines() if text[:2].strip().isdigit()]
+    with open(f"{place}/order", "w", encoding="ascii") as file:
+        file.write(" ".join(text.split()[0] for text in records))
+    plain = by_program(name, place, ["plain", "image.elf", "order", "--config", "config.toml", "--records"])
+    replayed = [text for text in plain[0].splitlines() if text[:2].strip().isdigit()]
+    return found == wanted and checked == (report, "", status) and replayed == records and plain[2] == status
+
+
+def write(folder, count, seed, kind):
     for k in range(count):
         place = f"{folder}/{k}"
-        line = prepare(place, seed, k, wide)
+        line = prepare(place, seed, k, kind)
         out, err, status = by_model(place, line)
         words = " ".join(line)
         texts = {"words": f"{words}\n", "stdout": out, "stderr": err, "status": f"{status}\n"}
@@ -258,37 +224,42 @@ def write(folder, count, seed, wide):
                 file.write(text)
 
 
-def compare(names, count, seed, wide):
+def compare(names, count, seed, kind):
     first, _, second = names.partition("=")
     folder = tempfile.mkdtemp(prefix="random_runs.")
-    differing, endings = [], {}
+    differing, endings, refetches = [], {}, 0
     for k in range(count):
         place = f"{folder}/{k}"
-        line = prepare(place, seed, k, wide)
+        line = prepare(place, seed, k, kind)
         found = by_program(first, place, line)
         wanted = by_program(second, place, line) if second else by_model(place, line)
         endings[found[2]] = endings.get(found[2], 0) + 1
-        if found != wanted:
+        refetches += wanted[0].count("\ndone G ")
+        same = found == wanted
+        if same and kind == "code" and not second and line[0] == "step":
+            same = histories_agree(first, place, line)
+        if not same:
             differing.append(k)
             print(f"run {k} of seed {seed} differs: {place}")
         else:
             for name in os.listdir(place):
                 os.remove(f"{place}/{name}")
             os.rmdir(place)
-    print(f"{count} runs, {len(differing)} differ; exit statuses {dict(sorted(endings.items()))}")
+    told = f"{count} runs, {len(differing)} differ; exit statuses {dict(sorted(endings.items()))}"
+    print(f"{told}; {refetches} refetches")
     return 1 if differing else 0
 
 
 def main(words):
-    wide = words[-1:] == ["wide"]
-    words = words[:-1] if wide else words
+    kind = words[-1] if words[-1:] in (["wide"], ["code"]) else None
+    words = words[:-1] if kind else words
     if len(words) < 2 or words[0] not in ("write", "compare"):
         print(__doc__, file=sys.stderr)
         return 2
     count, seed = int(words[2]) if len(words) > 2 else 1000, int(words[3]) if len(words) > 3 else 1
     if words[0] == "compare":
-        return compare(words[1], count, seed, wide)
-    write(words[1], count, seed, wide)
+        return compare(words[1], count, seed, kind)
+    write(words[1], count, seed, kind)
     return 0
 
 

@@ -1,8 +1,9 @@
 """Holds the core model against the plain machine: what the core retires has to be a run of it, in
 the order of retirement.
 
-    python3 tools/expected/sequential.py [COUNT] [SEED]
-        the core model of that many random runs (random_runs.py)
+    python3 tools/expected/sequential.py [COUNT] [SEED] [code]
+        the core model of that many random runs (random_runs.py), with `code` of programs that write
+        their own code
 """
 
 import sys
@@ -35,9 +36,9 @@ def disagreements(machine):
     return said + (["output"] if machine.output != plain.output else [])
 
 
-def core_of(seed, k):
+def core_of(seed, k, kind):
     """The core of random run k, behind its script; None where the run asks no core."""
-    files, line = random_runs.inputs_of(seed, k)
+    files, line = random_runs.inputs_of(seed, k, kind)
     if line[0] != "step":
         return None
     settings = inputs.read_config(files["config.toml"])
@@ -48,10 +49,12 @@ def core_of(seed, k):
 
 
 def main(words):
+    kind = "code" if words[-1:] == ["code"] else None
+    words = words[:-1] if kind else words
     count, seed = int(words[0]) if words else 1000, int(words[1]) if len(words) > 1 else 1
     retired, wrong = 0, 0
     for k in range(count):
-        machine = core_of(seed, k)
+        machine = core_of(seed, k, kind)
         if machine is None:
             continue
         retired += len(machine.records)

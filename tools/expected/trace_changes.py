@@ -1,5 +1,5 @@
 """Changes of a trace, for traces.py: of one line, or of where it stands; or one event more; or of the lines before the
-events, of a trace of version 2."""
+events, of a trace of version 2 or 3."""
 
 import core
 import limits
@@ -66,7 +66,7 @@ def with_other_field(r, line):
     return " ".join((letter, *fields))
 
 
-HEADS = ("smt-trace 1", "smt-trace 3", "smt-trace 2 ", "smt-trace 02", "config", "")
+HEADS = ("smt-trace 1", "smt-trace 2", "smt-trace 3", "smt-trace 4", "smt-trace 3 ", "smt-trace 03", "config", "")
 NUMBERS = ("0", "00", "01", "1", "2", "4", "16", "17", "32", "64", "65", "528", "529", "1024", "-1", "-", "", "alu")
 
 
@@ -108,7 +108,7 @@ def other_head(r, lines):
 def with_other_letter(r, line, lines):
     """Another kind of event of the same actor and instruction, with fields to fit it; now and then
     without."""
-    letter, head = r.choice("DRICXT" if r.random() < 0.95 else "FZ"), " ".join(line.split(" ")[1:3])
+    letter, head = r.choice("DRICXTG" if r.random() < 0.95 else "FZ"), " ".join(line.split(" ")[1:3])
     if r.random() < 0.1:
         return letter + line[1:]
     like = [other for other in lines if other[0] == letter and letter in "RCT"]
@@ -116,9 +116,23 @@ def with_other_letter(r, line, lines):
     return " ".join((letter, head, *rest))
 
 
+def with_other_way_out(line, lines):
+    """A refetch in place of a retirement, or a retirement with the fields of its completion in place of a refetch."""
+    _, actor, number = line.split(" ")[:3]
+    if line[0] == "T":
+        return f"G {actor} {number}"
+    done = next(other.split(" ") for other in lines if other[0] == "C" and other.split(" ")[2] == number)
+    return f"T {actor} {number} {done[3]} {done[4]} - - {done[7]}"
+
+
 def changed(r, lines, machine):
     """The lines of a trace's events with one change, and the place of the first that it touches."""
-    results = [k for k, line in enumerate(lines) if line[0] in "CT"]
+    letter = "G" if any(line[0] == "G" for line in lines) else "T"
+    leaving = [k for k, line in enumerate(lines) if line[0] == letter]
+    if leaving and r.random() < 0.08:
+        place = r.choice(leaving)
+        return [*lines[:place], with_other_way_out(lines[place], lines), *lines[place + 1 :]], place
+    results = [k for k, line in enumerate(lines) if line[0] in "CTG"]
     places = results if results and r.random() < 0.4 else range(len(lines))
     place, lines, way = r.choice(places), list(lines), r.random()
     if way < 0.5:
@@ -164,6 +178,7 @@ def next_ones(r, machine):
             done = f.done or {"next": ("p", f.pc + 4 & core.MASK), "value": None}
             ended = f"{core.digits(done['value'])} {core.next_text(done['next'])}"
             yield f"T {actor} {f.number} {ended} - - -"
+            yield f"G {actor} {f.number}"
     for actor, f in list(machine.jobs.items()):
         yield f"X {actor} {f.number}"
         yield f"C {actor} {f.number} - p{f.pc + 4 & core.MASK:08x} - - -"

@@ -10,9 +10,11 @@ The model of the core here makes the history of a random program, configuration 
 of them what the rules leave open (where a fetch goes on, which free register is taken) is decided
 at random. Half of the traces stay as they are: the second judge (judge.py) has to print the model's
 report on them, and by its definitions as many loads look again as the model says. In the other half
-one line is changed, moved, doubled, taken out or put behind. Some of the traces are of version 1;
-those of version 2 have a configuration of other sizes beside them, and in some of the changed ones the
-lines before the events are changed. The judge and the model, which makes one event of the trace after
+one line is changed, moved, doubled, taken out or put behind. One program in three writes its own code,
+and behind each event of an unchanged trace exactly one of a retirement and a refetch has to be allowed
+of an instruction that has completed and is the oldest of its hart. Some of the traces are of version 1
+or 2; those of versions 2 and 3 have a configuration of other sizes beside them, and in some of the
+changed ones the lines before the events are changed. The judge and the model, which makes one event of the trace after
 the other while it can, have to refuse the same event; the rule is the judge's alone. `PROGRAM check`
 has to print what the judge prints, byte for byte, with the same status, and `PROGRAM migrate` has to
 write what the judge's reader does. What differs is left in FOLDER and told, and the exit status is
@@ -28,6 +30,7 @@ import shlex
 import subprocess
 import sys
 
+import code_runs
 import core
 import fill
 import image
@@ -35,9 +38,11 @@ import inputs
 import judge
 import judge_history
 import judge_inputs
+import judge_rules
 import limits
 import program
 import random_runs
+import random_words
 from trace_changes import changed, one_more, other_head
 
 MOST_LINES = (20, 60, 100, 160, 320)
@@ -96,7 +101,7 @@ class FollowingCore(core.Core):
         if letter in "CX":
             return actor in self.jobs and self.complete(actor) == line
         self.wanted = int(fields[1]) if letter == "R" and fields[1] != "-" else None
-        ask = {"D": self.decode, "R": self.rename, "T": self.retire}[letter]
+        ask = {"D": self.decode, "R": self.rename, "T": self.retire, "G": self.retire}[letter]
         owners = (f.hart for hart in self.harts for f in hart.flying if f.number == int(fields[0]))
         return any(ask(actor, h) == line for h in owners)
 
@@ -127,33 +132,36 @@ def filling(r, config):
     for h in range(config["harts"]):
         a_round += [f"{letter}0.{h}*{r.choice((3, 8))}" for letter in "DR"]
     a_round += [r.choice(("", "I0", "U0*4 U1*4", "U0 U1*8", "U0*8 U1*8", "T0.0"))]
-    return random_runs.TO_MEMORY + words, " ".join(a_round * r.choice((3, 12, 12)))
+    return random_words.TO_MEMORY + words, " ".join(a_round * r.choice((3, 12, 12)))
 
 
 def sharing(r, config):
     """A program and a script of harts that share words, and retire in turns of their own: loads are
     overtaken, and reservations end."""
     config.update(harts=r.choice((2, 2, 3)), queue=64, extra=64, actors=["mem", "alu", "mul"])
-    words = [random_runs.some_access(r) for _ in range(r.choice((4, 8, 20)))]
-    words += [random_runs.some_word(r, 60) for _ in range(r.choice((0, 2)))]
+    words = [random_words.some_access(r) for _ in range(r.choice((4, 8, 20)))]
+    words += [random_words.some_word(r, 60) for _ in range(r.choice((0, 2)))]
     if r.random() < 0.5:  # lr.w x5,(x9); sc.w x7,x10,(x9)
         words = [0x1004A2AF, *words[: r.choice((0, 2, 4))], 0x18A4A3AF, *words]
-    words += [random_runs.jump(0, -4 * len(words))]
+    words += [random_words.jump(0, -4 * len(words))]
     asks = [f"F0*{r.randint(8, 16)}"]
     for _ in range(12):
         asks += [f"F0*{r.randint(1, 4)}"]
         asks += [f"{x}0.{h}*4" for h in range(config["harts"]) for x in "DR"]
         asks += ["U1*8 U2*2", f"U0*{r.randint(1, 6)}"]
         asks += [f"T0.{r.randrange(config['harts'])}*{r.randint(1, 6)}"]
-    return random_runs.TO_MEMORY + words, " ".join(asks)
+    return random_words.TO_MEMORY + words, " ".join(asks)
 
 
 def text_of(lines):
     return "".join(f"{line}\n" for line in lines).encode()
 
 
-def version_for(settings):
-    """The first version that a trace of a core may have: in the first there are no more harts and actors."""
+def version_for(settings, lines=()):
+    """The first version that a trace of a core may have: in the first there are no more harts and actors, and in the
+    first two no refetches."""
+    if any(line[0] == "G" for line in lines):
+        return 3
     return 2 if settings["harts"] > limits.FIRST.hart + 1 or len(settings["actors"]) > limits.FIRST.actor + 1 else 1
 
 
@@ -162,7 +170,7 @@ def heads_of(settings, version):
     if version == 1:
         return ["smt-trace 1"]
     sizes = " ".join(str(settings[key]) for key in ("harts", "extra", "queue"))
-    return ["smt-trace 2", f"config {sizes} {' '.join(settings['actors'])}"]
+    return [f"smt-trace {version}", f"config {sizes} {' '.join(settings['actors'])}"]
 
 
 def config_text(config):
@@ -170,7 +178,7 @@ def config_text(config):
 
 
 def beside(r, config):
-    """A configuration of another core beside a trace of version 2, with the same memory."""
+    """A configuration of another core beside a trace that names its core, with the same memory."""
     other = random_runs.some_config(r)
     return {**other, "ram": config["ram"]} if r.random() < 0.7 else config
 
@@ -179,29 +187,36 @@ def made(seed, k):
     """The files of trace k, what the model reports, how many loads it has look again, and the first
     event that was changed, if any."""
     r = random.Random(f"trace {seed} {k}")
-    config, words = random_runs.some_config(r), random_runs.some_code(r)
+    config, words = random_runs.some_config(r), random_words.some_code(r)
     del config["limit"]
-    if words[:2] == random_runs.TO_MEMORY:
+    writes_code = r.random() < 0.35
+    if words[:2] == random_words.TO_MEMORY or writes_code:
         config["actors"] = random_runs.with_memory_units(r, config["actors"])
-    script, way = random_runs.some_script(r, config, 0.7), r.random()
-    if way < 0.1:
+    if writes_code:
+        config |= {"harts": r.choice((1, 1, 2, 3)), "extra": 64} if r.random() < 0.8 else {}
+    script, way = random_runs.some_script(r, config, 0.9 if writes_code else 0.7), r.random()
+    if writes_code:
+        way = 1
+        script += " " + random_runs.some_script(r, config, 1)
+    elif way < 0.1:
         words, script = filling(r, config)
     elif way < 0.4:
         words, script = sharing(r, config)
-    file = image.build(words, entry=image.BASE)
+    file = code_runs.some_image(r) if writes_code else image.build(words, entry=image.BASE)
     settings = {**inputs.DEFAULTS, **config}
     machine = OpenCore(image.load(file, settings["ram"]), settings, r, r.choice((0, 0, 0.1, 0.3)))
     most = r.choice(MOST_LINES if way >= 0.4 else (200, 320))
     lines = history_of(machine, inputs.read_script(script.encode()), most)
     report, looked = list(program.report(machine, True)), program.looked(machine)
     place = None
-    version = r.choice((version_for(settings), 2))
+    least = version_for(settings, lines)
+    version = r.choice([version for version in (1, 2, 3, 3) if version >= least])
     heads = heads_of(settings, version)
-    if k % 2 and version == 2 and r.random() < 0.3:
+    if k % 2 and version > 1 and r.random() < 0.3:
         heads, place = other_head(r, heads), BEFORE
     elif k % 2 and lines:
         lines, place = one_more(r, lines, machine) if way < 0.1 else changed(r, lines, machine)
-    config = beside(r, config) if version == 2 else config
+    config = beside(r, config) if version > 1 else config
     files = {"image.elf": file, "config.toml": config_text(config), "trace": text_of([*heads, *lines])}
     status = program.exit_status([hart.status for hart in machine.harts])
     return files, (text_of(report).decode(), "", status), looked, place
@@ -245,15 +260,16 @@ def migrated_by_program(name, folder):
         return said, file.read()
 
 
-def is_second(files):
-    return files["trace"].startswith(b"smt-trace 2\n")
+def names_core(files):
+    """The trace is of a version whose second line names the core."""
+    return files["trace"].startswith((b"smt-trace 2\n", b"smt-trace 3\n"))
 
 
 def first_not_followed(files):
     """The place of the first event that the model's core doesn't make; None where it makes all."""
     settings = inputs.read_config(files["config.toml"])
     lines = files["trace"].decode().split("\n")[1:-1]
-    if is_second(files):
+    if names_core(files):
         _, harts, extra, queue, *actors = lines.pop(0).split(" ")
         settings |= {"harts": int(harts), "extra": int(extra), "queue": int(queue), "actors": actors}
     machine = FollowingCore(image.load(files["image.elf"], settings["ram"]), settings)
@@ -265,7 +281,7 @@ def is_refused_early(files, said, place):
     words = said.split()
     if words[1:2] == ["event"]:
         return int(words[2]) < place
-    return words[1:3] == ["trace", "line"] and int(words[3]) < place + 2 + is_second(files)
+    return words[1:3] == ["trace", "line"] and int(words[3]) < place + 2 + names_core(files)
 
 
 def way_of(place):
@@ -282,7 +298,7 @@ def kind_of(files, found):
         return "accepted"
     if words[1] == "trace":
         return f"line refused {words[-1]}"
-    line = files["trace"].split(b"\n")[int(words[2]) + 1 + is_second(files)]
+    line = files["trace"].split(b"\n")[int(words[2]) + 1 + names_core(files)]
     return f"{line[:1].decode()} refused rule {words[-1]}"
 
 
@@ -293,12 +309,32 @@ def write(folder, files):
             file.write(data)
 
 
-def looked_by_judge(files):
+def history_by_judge(files):
     settings = judge_inputs.settings_of(files["config.toml"])
     found = judge_inputs.image_of(files["image.elf"], settings.ram)
     told = judge_inputs.trace_of(files["trace"])
-    history, n = judge_history.History(told.settings(settings), found, told.events), len(told.events)
+    return judge_rules.Rules(told.settings(settings), found, told.events)
+
+
+def looked_by_judge(files):
+    history = history_by_judge(files)
+    n = len(history.events)
     return f"looks {history.looks(n)} of {history.loads(n)} loads"
+
+
+def has_one_way_out(history):
+    """Of each oldest instruction of a hart that has completed, behind each of the events, exactly one of a
+    retirement and a refetch is allowed."""
+    for n in range(len(history.events) + 1):
+        for h in range(history.harts):
+            s = judge_history.first(history.flight(n, h))
+            if s is None or history.fate(n, s) != judge_history.COMPLETED:
+                continue
+            retire = judge_inputs.Retire(0, s, history.effect_now(n, history.fetching(n, s)))
+            ways = (retire, judge_inputs.Refetch(0, s))
+            if sum(all(history.rules(n, e)) for e in ways) != 1:
+                return False
+    return True
 
 
 def differences(folder, name, files, report, looked, place, found):
@@ -307,6 +343,8 @@ def differences(folder, name, files, report, looked, place, found):
         yield "the judge and the model say otherwise"
     if place is None and looked_by_judge(files) != looked:
         yield "the judge and the model count other looks"
+    if place is None and not has_one_way_out(history_by_judge(files)):
+        yield "a completed instruction has not just one way out"
     if place is not None and is_refused_early(files, found[1], place):
         yield "the judge refuses what stands before the change"
     words = found[1].split()
@@ -348,7 +386,7 @@ def told_by_run(name):
     printed = [text for line in sections["stdout"] for text in repeated(line)]
     lines = [text[5:] for text in printed if text.startswith("done ")]
     report = text_of(printed[printed.index(f"events {len(lines)}") :]).decode()
-    heads = heads_of(settings, version_for(settings))
+    heads = heads_of(settings, version_for(settings, lines))
     files = {"image.elf": found, "config.toml": config, "trace": text_of([*heads, *lines])}
     return files, (report, "", int(head["status"]))
 
@@ -379,7 +417,7 @@ def main(words):
     for k in range(count):
         files, report, looked, place = made(seed, k)
         found = by_judge(files)
-        events += files["trace"].count(b"\n") - 1 - is_second(files)
+        events += files["trace"].count(b"\n") - 1 - names_core(files)
         said[f"{way_of(place)}: {kind_of(files, found)}"] += 1
         differing = list(differences(f"{folder}/now", name, files, report, looked, place, found))
         if differing:

@@ -141,9 +141,21 @@ def by_litmus(line):
 # ---- How a case is made
 
 
+def some_kind(r):
+    """Which kind of run random_runs makes: one in three has a program that writes its own code."""
+    return "code" if r.random() < 0.35 else None
+
+
 def some_asks(r):
     """A script, an order or a listing, as random_runs makes them; now and then rounds."""
-    files, line = random_runs.inputs_of(r.getrandbits(64), 0)
+    files, line = random_runs.inputs_of(r.getrandbits(64), 0, some_kind(r))
+    if line[0] == "step" and r.random() < 0.2:
+        settings = inputs.read_config(files["config.toml"])
+        made = image.load(files["image.elf"], settings["ram"])
+        del files["script"]
+        files["order"] = random_runs.some_order(r, made, settings["harts"]).encode()
+        line = ["plain", "image.elf", "order", "--config", "config.toml", *line[5:]]
+        line = [word for word in line if word not in ("--show", "--looks")]
     if line[0] == "plain" and r.random() < 0.4:
         del files["order"]
         rounds = ["--rounds", str(r.choice((1, 2, 7, 1000))), "--steps", str(r.choice((0, 1, 50, 2000)))]
@@ -154,26 +166,28 @@ def some_asks(r):
 
 def some_script(r):
     while True:
-        files, line = random_runs.inputs_of(r.getrandbits(64), 0)
+        files, line = random_runs.inputs_of(r.getrandbits(64), 0, some_kind(r))
         if line[0] == "step":
             return files
 
 
 def some_trace(r):
-    """The files of a trace of either version: of a legal history, or with one change."""
+    """The files of a trace of one of the versions: of a legal history, or with one change. With refetches it is of the
+    last, but now and then."""
     files = some_script(r)
     settings = inputs.read_config(files["config.toml"])
     made = image.load(files["image.elf"], settings["ram"])
     machine = traces.OpenCore(made, settings, r, r.choice((0, 0, 0.2)))
     lines = traces.history_of(machine, inputs.read_script(files["script"]), r.choice(traces.MOST_LINES))
-    heads = traces.heads_of(settings, r.choice((1, 2)))
+    least = traces.version_for(settings, lines) if r.random() < 0.9 else 1
+    heads = traces.heads_of(settings, r.choice([version for version in (1, 2, 3, 3) if version >= least]))
     if len(heads) > 1 and r.random() < 0.2:
         heads = other_head(r, heads)
     elif lines and r.random() < 0.4:
         lines, _ = changed(r, lines, machine)
     del files["script"]
     files["trace"] = traces.text_of([*heads, *lines])
-    if heads[0] == "smt-trace 2":
+    if len(heads) > 1:
         files["config.toml"] = traces.config_text(traces.beside(r, settings))
     return files
 

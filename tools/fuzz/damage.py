@@ -7,7 +7,7 @@ NUMBERS = (0, 1, 2, 3, 4, 5, 7, 8, 32, 51, 52, 53, 84, 256, 4095, 4096, 65535, 6
 NUMBERS += (2**31 - 1, 2**31, 2**31 + 256, 2**32 - 1)
 WORDS = (b"", b"-", b"0", b"00", b"-1", b"16", b"256", b"4294967296", b"F0*100001")
 WORDS += (b"15", b"17", b"32", b"33", b"504", b"528", b"529", b"1024", b"config", b"smt-trace 1")
-WORDS += (b"smt-trace 2\nconfig", b"alu", b"fetch", b"F31", b"F32", b"D0.15", b"D0.16")
+WORDS += (b"smt-trace 2", b"smt-trace 3\nconfig", b"G", b"T", b"alu", b"fetch", b"F31", b"F32", b"D0.15", b"D0.16")
 WORDS += (b"Z", b"\xff", b"\xc3\xa9", b"[", b"= 1")
 LITMUS_WORDS = rb"""
 ; | = : , ( ) [ ] { } ~ /\ \/ - (* *) " %

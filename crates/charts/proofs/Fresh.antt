@@ -1,16 +1,17 @@
 -- Of an instruction that isn't fetched yet a history says nothing; and an event is of one that is.
-use Rattle.std.specs.Prelude.{◌≡◌, ℕ, ◌<◌, ◌≤◌, Bool, false, ◌==◌, ◌&&◌, nat_lt, List, [], ◌∷◌, Option}
+use Rattle.std.specs.Prelude.{◌≡◌, ℕ, ◌<◌, ◌≤◌, Bool, true, false, ◌==◌, ◌&&◌, nat_lt, nat_le, List, [], ◌∷◌, Option}
 use Rattle.std.specs.Prelude.{Some, None}
 use Rattle.std.proofs.Common.{refl, ◌∙◌, arith}
 use Rattle.std.proofs.{Math.Bool.and-false, lemmas.Bool.Decides.nat_tests}
 use Rattle.events.specs.{Event.seq_of, declared.event.Event.Event, declared.kind.EventKind.EventKind}
-use Rattle.events.specs.declared.event.Event.TheVariants.{Fetch, Decode, Rename, Issue, Complete, Drop, Retire}
+use Rattle.events.specs.declared.event.Event.TheVariants.{Fetch, Decode, Rename, Issue, Complete}
+use Rattle.events.specs.declared.event.Event.TheVariants.{Drop, Retire, Refetch}
 use Rattle.smt_model.specs.{Basics.holds_of, Setup.Setup, Rules.is_legal, Rules.refused}
 use Rattle.smt_model.specs.Fates.{Fetched, fetching, fetches, same_hart, is_of, mispredicts}
 use Rattle.smt_model.specs.Fates.{squashes_at_retirement, completion}
 use Rattle.smt_model.proofs.Fates.{Sound.sound, Numbers.known_below, Numbers.fetching-none}
 use Rattle.smt_model.proofs.Fates.Moves.{fetch_number, decode_was, rename_was, issue_was, complete_was, drop_was}
-use Rattle.smt_model.proofs.Fates.Moves.{retire_was}
+use Rattle.smt_model.proofs.Fates.Moves.{retire_was, refetch_was}
 use Rattle.charts.specs.Rows.{place, squash, squash_of, looked_twice}
 use Rattle.charts.proofs.Keeping.{kept}
 use Rattle.charts.proofs.Moving.{FetchesNone}
@@ -31,6 +32,8 @@ under setup past legal (Drop actor seq) ok none =
     let was = drop_was setup past actor seq ok in known_below setup past legal seq (omega arith)
 under setup past legal (Retire actor seq effect) ok none =
     let was = retire_was setup past actor seq effect ok in known_below setup past legal seq (omega arith)
+under setup past legal (Refetch actor seq) ok none =
+    let was = refetch_was setup past actor seq ok in known_below setup past legal seq (omega arith)
 
 -- The number of an event is below those that aren't given behind it.
 seq_below : (setup : Setup) (past : List Event) → is_legal setup past → (e : Event) → refused setup past e ≡ None
@@ -49,6 +52,8 @@ seq_below setup past legal (Drop actor seq) ok s above =
     let less = under setup past legal (Drop actor seq) ok tt in grind (arith, nat_tests)
 seq_below setup past legal (Retire actor seq effect) ok s above =
     let less = under setup past legal (Retire actor seq effect) ok tt in grind (arith, nat_tests)
+seq_below setup past legal (Refetch actor seq) ok s above =
+    let less = under setup past legal (Refetch actor seq) ok tt in grind (arith, nat_tests)
 
 fetches_rise : (e : Event) (past : List Event) → fetches past ≤ fetches (e ∷ past)
 fetches_rise (Fetch actor hart seq pc word predicted) past = omega arith
@@ -58,6 +63,7 @@ fetches_rise (Issue actor seq) past = omega arith
 fetches_rise (Complete actor seq outcome) past = omega arith
 fetches_rise (Drop actor seq) past = omega arith
 fetches_rise (Retire actor seq effect) past = omega arith
+fetches_rise (Refetch actor seq) past = omega arith
 
 of_none : (past : List Event) (o : Option Fetched) (t : ℕ) → fetching past t ≡ None
     → holds_of (λ (f : Fetched). is_of past f.hart t) o ≡ false
@@ -82,6 +88,8 @@ unsquashed (Drop actor seq) past s none = refl
 unsquashed (Retire actor seq effect) past s none =
     rw (spared (squashes_at_retirement past seq effect) (nat_lt seq s) (same_hart past seq s)
     (hartless past seq s none)) refl
+unsquashed (Refetch actor seq) past s none =
+    rw (spared true (nat_le seq s) (same_hart past seq s) (hartless past seq s none)) refl
 
 pub record IsFresh (past : List Event) (s : ℕ) : Type 0 where
   pub places : (kind : EventKind) → place kind past s ≡ None

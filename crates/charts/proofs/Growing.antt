@@ -6,7 +6,8 @@ use Rattle.std.proofs.{lemmas.Bool.Decides.nat_tests, lemmas.Bool.cases_lt, lemm
 use Rattle.std.proofs.{lemmas.List.take_more, lemmas.List.take-append-drop, lemmas.List.length_push}
 use Rattle.std.proofs.lemmas.List.{get_or_append_left, get_or_push, length-reverse, length-take-le}
 use Rattle.events.specs.{Event.seq_of, declared.event.Event.Event}
-use Rattle.events.specs.declared.event.Event.TheVariants.{Fetch, Decode, Rename, Issue, Complete, Drop, Retire}
+use Rattle.events.specs.declared.event.Event.TheVariants.{Fetch, Decode, Rename, Issue, Complete}
+use Rattle.events.specs.declared.event.Event.TheVariants.{Drop, Retire, Refetch}
 use Rattle.events.specs.declared.kind.EventKind.TheVariants as kinds
 use Rattle.smt_model.specs.{Setup.Setup, Rules.is_legal, Fates.fetches}
 use Rattle.smt_model.proofs.Fates.Moves.{fetch_number}
@@ -45,6 +46,7 @@ same_count (Issue actor seq) past none = refl
 same_count (Complete actor seq outcome) past none = refl
 same_count (Drop actor seq) past none = refl
 same_count (Retire actor seq effect) past none = refl
+same_count (Refetch actor seq) past none = refl
 
 pub known_row : (setup : Setup) (e : Event) (past : List Event) (rows : List Row) → is_legal setup (e ∷ past)
     → FetchesNone e → AreRows past rows → seq_of e < length rows
@@ -78,6 +80,7 @@ first_row hart pc word predicted place = record {
   completed = None;
   dropped = None;
   retired = None;
+  refetched = None;
   squashed = None;
   value = None;
   replayed = false;
@@ -102,6 +105,7 @@ new_row setup past actor hart seq pc word predicted legal =
       completed = none.places kinds.Complete;
       dropped = none.places kinds.Drop;
       retired = none.places kinds.Retire;
+      refetched = none.places kinds.Refetch;
       squashed = or_none _ ∙ none.squashed;
       value = ap value_of none.completion;
       replayed = none.replayed;
@@ -154,6 +158,7 @@ fetches_none (Issue actor seq) not = tt
 fetches_none (Complete actor seq outcome) not = tt
 fetches_none (Drop actor seq) not = tt
 fetches_none (Retire actor seq effect) not = tt
+fetches_none (Refetch actor seq) not = tt
 
 legal_next : (setup : Setup) (events : List Event) (i : ℕ) (d : Event) → i < length events
     → is_legal setup (reverse events) → is_legal setup (get_or events i d ∷ reverse (take i events))

@@ -1,12 +1,13 @@
 -- An event of another instruction leaves what a row says, but for a squash; and what each event says of its own.
-use Rattle.std.specs.Prelude.{◌≡◌, ℕ, Bool, true, false, not, ◌==◌, ◌&&◌, nat_lt, List, [], ◌∷◌, Option}
+use Rattle.std.specs.Prelude.{◌≡◌, ℕ, Bool, true, false, not, ◌==◌, ◌&&◌, nat_lt, nat_le, List, [], ◌∷◌, Option}
 use Rattle.std.specs.Prelude.{Some, None, is_some}
-use Rattle.std.proofs.Common.{refl, sym, ap, ◌∙◌, arith}
-use Rattle.std.proofs.{Math.Bool.and-false}
+use Rattle.std.proofs.Common.{refl, sym, ap, ◌∙◌, arith, inl, inr}
+use Rattle.std.proofs.{Math.Bool.and-false, lemmas.Bool.cases_Bool, lemmas.Bool.Decides.nat_tests}
 use Rattle.events.specs.{Event.seq_of, Kind.event_kind, Kind.letter_of}
 use Rattle.events.specs.{declared.effect.Outcome.Outcome, declared.effect.Effect.Effect, declared.effect.Next.Next}
 use Rattle.events.specs.{declared.event.Event.Event, declared.kind.EventKind.EventKind}
-use Rattle.events.specs.declared.event.Event.TheVariants.{Fetch, Decode, Rename, Issue, Complete, Drop, Retire}
+use Rattle.events.specs.declared.event.Event.TheVariants.{Fetch, Decode, Rename, Issue, Complete}
+use Rattle.events.specs.declared.event.Event.TheVariants.{Drop, Retire, Refetch}
 use Rattle.events.specs.declared.kind.EventKind.TheVariants as kinds
 use Rattle.smt_model.specs.{Basics.or_else, Basics.holds_of, Basics.same_number, Nexts.redirect_pc}
 use Rattle.smt_model.specs.Fates.{fetching, completion, squashes, is_replayed, mispredicts, same_hart}
@@ -63,6 +64,8 @@ kept (Retire actor seq effect) past s other = record {
   places = place_kept (Retire actor seq effect) past s other;
   replayed = rw other refl;
 }
+kept (Refetch actor seq) past s other =
+    record { instruction = refl; completion = refl; places = place_kept (Refetch actor seq) past s other; replayed = refl }
 
 -- The row of another instruction, which the event may squash.
 pub other_row : (e : Event) (past : List Event) (s : ℕ) (row : Row) → (seq_of e == s) ≡ false → IsRow past s row
@@ -78,6 +81,7 @@ other_row e past s row other was =
       completed = same.places kinds.Complete ∙ was.completed;
       dropped = same.places kinds.Drop ∙ was.dropped;
       retired = same.places kinds.Retire ∙ was.retired;
+      refetched = same.places kinds.Refetch ∙ was.refetched;
       squashed = ap (λ o. or_else o (squash_of e past s)) was.squashed;
       value = ap value_of same.completion ∙ was.value;
       replayed = same.replayed ∙ was.replayed;
@@ -94,6 +98,7 @@ completed_is (Issue actor seq ∷ past) s = completed_is past s
 completed_is (Complete actor seq outcome ∷ past) s = grind (arith, completed_is past s)
 completed_is (Drop actor seq ∷ past) s = completed_is past s
 completed_is (Retire actor seq effect ∷ past) s = completed_is past s
+completed_is (Refetch actor seq ∷ past) s = completed_is past s
 
 differs : (o : Option Outcome) (value : Option ℕ)
     → holds_of (λ (x : Outcome). not (same_number x.value value)) o
@@ -127,18 +132,28 @@ and_assoc : (a b c : Bool) → (a && (b && c)) ≡ ((a && b) && c)
 and_assoc true b c = refl
 and_assoc false b c = refl
 
--- An event squashes an instruction as the code tests it.
-pub squashes_is : (e : Event) (past : List Event) (t : ℕ) (own row : Row) → IsRow past (seq_of e) own
-    → IsRow past t row
+-- Of another instruction, not older is younger.
+younger_is : (n t : ℕ) → (n == t) ≡ false → nat_le n t ≡ nat_lt n t
+younger_is n t other =
+    elim (cases_Bool (nat_lt n t)) [
+      | inl less ↦ let no_less : nat_le n t ≡ true = grind (arith, nat_tests) in no_less ∙ sym less
+      | inr above ↦ let no : nat_le n t ≡ false = grind (arith, nat_tests) in no ∙ sym above
+    ]
+
+-- An event squashes another instruction than its own as the code tests it.
+pub squashes_is : (e : Event) (past : List Event) (t : ℕ) (own row : Row) → (seq_of e == t) ≡ false
+    → IsRow past (seq_of e) own → IsRow past t row
     → squashes e past t ≡ ((cuts e own && nat_lt (seq_of e) t) && (row.hart == own.hart))
-squashes_is (Fetch actor hart seq pc word predicted) past t own row was is = refl
-squashes_is (Decode actor seq) past t own row was is = refl
-squashes_is (Rename actor seq phys) past t own row was is = refl
-squashes_is (Issue actor seq) past t own row was is = refl
-squashes_is (Complete actor seq outcome) past t own row was is =
+squashes_is (Fetch actor hart seq pc word predicted) past t own row other was is = refl
+squashes_is (Decode actor seq) past t own row other was is = refl
+squashes_is (Rename actor seq phys) past t own row other was is = refl
+squashes_is (Issue actor seq) past t own row other was is = refl
+squashes_is (Complete actor seq outcome) past t own row other was is =
     rw (mispredicts_is past seq own outcome.next was, same_hart_is past seq t own row was is)
     (and_assoc (is_some (redirect_pc outcome.next own.predicted)) (nat_lt seq t) (row.hart == own.hart))
-squashes_is (Drop actor seq) past t own row was is = refl
-squashes_is (Retire actor seq effect) past t own row was is =
+squashes_is (Drop actor seq) past t own row other was is = refl
+squashes_is (Retire actor seq effect) past t own row other was is =
     rw (retires_is past seq own effect was, same_hart_is past seq t own row was is)
     (and_assoc (cuts (Retire 0 seq effect) own) (nat_lt seq t) (row.hart == own.hart))
+squashes_is (Refetch actor seq) past t own row other was is =
+    rw (younger_is seq t other, same_hart_is past seq t own row was is) refl

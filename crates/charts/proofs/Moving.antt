@@ -1,17 +1,19 @@
 -- The row of each instruction behind an event, from its row before.
-use Rattle.std.specs.Prelude.{◌≡◌, ℕ, Bool, true, false, ◌==◌, ◌&&◌, nat_lt, if◌then◌else◌, List, ◌∷◌, length, Option, Some, None}
+use Rattle.std.specs.Prelude.{◌≡◌, ℕ, Bool, true, false, ◌==◌, ◌&&◌, nat_lt, nat_le}
+use Rattle.std.specs.Prelude.{if◌then◌else◌, List, ◌∷◌, length, Option, Some, None}
 use Rattle.std.proofs.Common.{refl, sym, ap, subst, ◌∙◌, arith, inl, inr}
 use Rattle.std.proofs.{Math.Bool.and-false, lemmas.Bool.Decides.nat_tests, lemmas.Bool.cases_Bool}
 use Rattle.events.specs.{Event.seq_of}
 use Rattle.events.specs.{declared.effect.Outcome.Outcome, declared.effect.Effect.Effect}
 use Rattle.events.specs.{declared.event.Event.Event}
-use Rattle.events.specs.declared.event.Event.TheVariants.{Fetch, Decode, Rename, Issue, Complete, Drop, Retire}
+use Rattle.events.specs.declared.event.Event.TheVariants.{Fetch, Decode, Rename, Issue, Complete}
+use Rattle.events.specs.declared.event.Event.TheVariants.{Drop, Retire, Refetch}
 use Rattle.smt_model.specs.{Basics.or_else, Fates.squashes, Fates.mispredicts, Fates.same_hart}
 use Rattle.smt_model.specs.{Fates.squashes_at_retirement}
 use Rattle.charts.specs.{declared.row.Row.Row, declared.row.Squash.Squash}
 use Rattle.charts.specs.Rows.{IsRow, squash, squash_of}
 use Rattle.charts.specs.Moves.{cuts, cut, moved, row_after}
-use Rattle.charts.proofs.Keeping.{or_none, other_row, replay_is, squashes_is}
+use Rattle.charts.proofs.Keeping.{or_none, other_row, replay_is, same_hart_is, squashes_is}
 
 itself : (n : ℕ) → (n == n) ≡ true
 itself n = grind (arith, nat_tests)
@@ -22,22 +24,27 @@ not_below n = grind (arith, nat_tests)
 spared : (m s : Bool) (n : ℕ) → (m && (nat_lt n n && s)) ≡ false
 spared m s n = rw (not_below n) (and-false m)
 
--- An event doesn't squash its own instruction.
-unsquashed : (e : Event) (past : List Event) → squash_of e past (seq_of e) ≡ None
-unsquashed (Fetch actor hart seq pc word predicted) past = refl
-unsquashed (Decode actor seq) past = refl
-unsquashed (Rename actor seq phys) past = refl
-unsquashed (Issue actor seq) past = refl
-unsquashed (Complete actor seq outcome) past =
-    rw (spared (mispredicts past seq outcome.next) (same_hart past seq seq) seq) refl
-unsquashed (Drop actor seq) past = refl
-unsquashed (Retire actor seq effect) past =
-    rw (spared (squashes_at_retirement past seq effect) (same_hart past seq seq) seq) refl
+-- But for a refetch, an event doesn't squash its own instruction.
+abbrev SparesItself : Event → Type 0
+SparesItself (Refetch actor seq) = ⊥
+SparesItself _ = Unit {0}
 
-squash_kept : (e : Event) (past : List Event) (row : Row) → IsRow past (seq_of e) row
+unsquashed : (e : Event) (past : List Event) → SparesItself e → squash_of e past (seq_of e) ≡ None
+unsquashed (Fetch actor hart seq pc word predicted) past spares = refl
+unsquashed (Decode actor seq) past spares = refl
+unsquashed (Rename actor seq phys) past spares = refl
+unsquashed (Issue actor seq) past spares = refl
+unsquashed (Complete actor seq outcome) past spares =
+    rw (spared (mispredicts past seq outcome.next) (same_hart past seq seq) seq) refl
+unsquashed (Drop actor seq) past spares = refl
+unsquashed (Retire actor seq effect) past spares =
+    rw (spared (squashes_at_retirement past seq effect) (same_hart past seq seq) seq) refl
+unsquashed (Refetch actor seq) past spares = absurd spares
+
+squash_kept : (e : Event) (past : List Event) (row : Row) → SparesItself e → IsRow past (seq_of e) row
     → squash (e ∷ past) (seq_of e) ≡ row.squashed
-squash_kept e past row was =
-    ap (λ o. or_else (squash past (seq_of e)) o) (unsquashed e past) ∙ (or_none (squash past (seq_of e)) ∙ was.squashed)
+squash_kept e past row spares was =
+    ap (λ o. or_else (squash past (seq_of e)) o) (unsquashed e past spares) ∙ (or_none (squash past (seq_of e)) ∙ was.squashed)
 
 -- ---- The event's own instruction
 
@@ -52,7 +59,8 @@ own-Decode past actor seq row was = record {
   completed = was.completed;
   dropped = was.dropped;
   retired = was.retired;
-  squashed = squash_kept (Decode actor seq) past row was;
+  refetched = was.refetched;
+  squashed = squash_kept (Decode actor seq) past row tt was;
   value = was.value;
   replayed = was.replayed;
 }
@@ -68,7 +76,8 @@ own-Rename past actor seq phys row was = record {
   completed = was.completed;
   dropped = was.dropped;
   retired = was.retired;
-  squashed = squash_kept (Rename actor seq phys) past row was;
+  refetched = was.refetched;
+  squashed = squash_kept (Rename actor seq phys) past row tt was;
   value = was.value;
   replayed = was.replayed;
 }
@@ -84,7 +93,8 @@ own-Issue past actor seq row was = record {
   completed = was.completed;
   dropped = was.dropped;
   retired = was.retired;
-  squashed = squash_kept (Issue actor seq) past row was;
+  refetched = was.refetched;
+  squashed = squash_kept (Issue actor seq) past row tt was;
   value = was.value;
   replayed = was.replayed;
 }
@@ -100,7 +110,8 @@ own-Complete past actor seq outcome row was = record {
   completed = rw (itself seq) refl;
   dropped = was.dropped;
   retired = was.retired;
-  squashed = squash_kept (Complete actor seq outcome) past row was;
+  refetched = was.refetched;
+  squashed = squash_kept (Complete actor seq outcome) past row tt was;
   value = rw (itself seq) refl;
   replayed = was.replayed;
 }
@@ -116,7 +127,8 @@ own-Drop past actor seq row was = record {
   completed = was.completed;
   dropped = rw (itself seq) refl;
   retired = was.retired;
-  squashed = squash_kept (Drop actor seq) past row was;
+  refetched = was.refetched;
+  squashed = squash_kept (Drop actor seq) past row tt was;
   value = was.value;
   replayed = was.replayed;
 }
@@ -132,10 +144,35 @@ own-Retire past actor seq effect row was = record {
   completed = was.completed;
   dropped = was.dropped;
   retired = rw (itself seq) refl;
-  squashed = squash_kept (Retire actor seq effect) past row was;
+  refetched = was.refetched;
+  squashed = squash_kept (Retire actor seq effect) past row tt was;
   value = was.value;
   replayed = rw (itself seq) (replay_is past seq row effect was);
 }
+
+-- A refetch squashes its own instruction.
+not_above : (n : ℕ) → nat_le n n ≡ true
+not_above n = grind (arith, nat_tests)
+
+own-Refetch : (past : List Event) (actor seq : ℕ) (row : Row) → IsRow past seq row
+    → IsRow (Refetch actor seq ∷ past) seq (moved (Refetch actor seq) (length past) row)
+own-Refetch past actor seq row was =
+    let mine : same_hart past seq seq ≡ true =
+    same_hart_is past seq seq row row was was ∙ itself row.hart in
+    record {
+      instruction = was.instruction;
+      fetched = was.fetched;
+      decoded = was.decoded;
+      renamed = was.renamed;
+      issued = was.issued;
+      completed = was.completed;
+      dropped = was.dropped;
+      retired = was.retired;
+      refetched = rw (itself seq) refl;
+      squashed = rw (not_above seq, mine, was.squashed) refl;
+      value = was.value;
+      replayed = was.replayed;
+    }
 
 -- The event fetches no instruction.
 abbrev pub FetchesNone : Event → Type 0
@@ -151,6 +188,7 @@ own_row (Issue actor seq) past row none was = own-Issue past actor seq row was
 own_row (Complete actor seq outcome) past row none was = own-Complete past actor seq outcome row was
 own_row (Drop actor seq) past row none was = own-Drop past actor seq row was
 own_row (Retire actor seq effect) past row none was = own-Retire past actor seq effect row was
+own_row (Refetch actor seq) past row none was = own-Refetch past actor seq row was
 
 -- ---- Any instruction
 
@@ -173,7 +211,7 @@ any_other : (e : Event) (past : List Event) (k : ℕ) (own row : Row) → IsRow 
 any_other e past k own row was is other =
     rw other (subst (IsRow (e ∷ past) k)
     (cut_as row (record { place = length past; by = seq_of e }) own.hart (cuts e own && nat_lt (seq_of e) k)
-    (squashes e past k) (squashes_is e past k own row was is)) (other_row e past k row other is))
+    (squashes e past k) (squashes_is e past k own row other was is)) (other_row e past k row other is))
 
 any_own : (e : Event) (past : List Event) (k : ℕ) (own row : Row) → FetchesNone e → seq_of e ≡ k → IsRow past k row
     → IsRow (e ∷ past) k (row_after e (length past) own k row)

@@ -1,15 +1,17 @@
 -- A history squashes an instruction exactly where its fate says so.
-use Rattle.std.specs.Prelude.{◌≡◌, ◌≢◌, ℕ, ◌<◌, ◌≤◌, Bool, true, false, ◌==◌, ◌&&◌, nat_lt, if◌then◌else◌, List, []}
+use Rattle.std.specs.Prelude.{◌≡◌, ◌≢◌, ℕ, ◌<◌, ◌≤◌, Bool, true, false, ◌==◌, ◌&&◌, nat_lt}
+use Rattle.std.specs.Prelude.{nat_le, if◌then◌else◌, List, []}
 use Rattle.std.specs.Prelude.{◌∷◌, Option, Some, None, is_some}
 use Rattle.std.proofs.Common.{refl, sym, ap, ◌∙◌, arith, inl, inr}
 use Rattle.std.proofs.{lemmas.Bool.Decides.nat_tests, lemmas.Bool.cases_Bool, lemmas.Bool.cases_eq}
-use Rattle.events.specs.{Event.seq_of, declared.event.Event.Event, declared.effect.Effect.Effect}
-use Rattle.events.specs.declared.event.Event.TheVariants.{Fetch, Decode, Rename, Issue, Complete, Drop, Retire}
+use Rattle.events.specs.{declared.event.Event.Event, declared.effect.Effect.Effect}
+use Rattle.events.specs.declared.event.Event.TheVariants.{Fetch, Decode, Rename, Issue, Complete}
+use Rattle.events.specs.declared.event.Event.TheVariants.{Drop, Retire, Refetch}
 use Rattle.smt_model.specs.{Basics.or_else, Setup.Setup, Rules.is_legal, Rules.refused}
 use Rattle.smt_model.specs.Fates.{Fate, Squashed, fate, fate_by, stage, is, squashes, same_hart, is_of, mispredicts}
 use Rattle.smt_model.specs.Fates.{next_fate, squashes_at_retirement, retired_as, InDecode, InRename, Renamed, Issued}
 use Rattle.smt_model.specs.Fates.{Completed}
-use Rattle.smt_model.proofs.Fates.Moves.{complete_was, retire_was, stage-squashed, stage-retired_as}
+use Rattle.smt_model.proofs.Fates.Moves.{complete_was, retire_was, refetch_was, stage-squashed, stage-retired_as}
 use Rattle.smt_model.proofs.Fates.Numbers.{IsFetched, tested, same_hart-at, known}
 use Rattle.smt_model.proofs.Fates.Sound.{sound, moved}
 use Rattle.smt_laws.proofs.Fates.Order.{in_order}
@@ -32,12 +34,10 @@ in_pipeline setup past legal q s less same four five lives =
     let order = in_order setup past legal h q s older.of_hart of_s less lives in
     (known setup past legal h s of_s, grind (arith, nat_tests, order))
 
-pub record Squashing (past : List Event) (e : Event) (s : ℕ) : Type 0 where
-  pub older : seq_of e < s
-  pub same : same_hart past (seq_of e) s ≡ true
-  pub four : 4 ≤ stage (fate past (seq_of e))
-  pub five : stage (fate past (seq_of e)) ≤ 5
-  pub tells : fate_by e s ≡ None
+-- The event says nothing of what it squashes, and where that wasn't squashed before it is in the pipeline.
+record IsSquashing (past : List Event) (e : Event) (s : ℕ) : Type 0 where
+  inside : stage (fate past s) ≢ 8 → (1 ≤ stage (fate past s)) × (stage (fate past s) ≤ 5)
+  tells : fate_by e s ≡ None
 
 cut_by : (m n h : Bool) → (m && (n && h)) ≡ true → (n ≡ true) × (h ≡ true)
 cut_by true true true is = (refl, refl)
@@ -45,8 +45,20 @@ cut_by true true false is = absurd (grind arith)
 cut_by true false h is = absurd (grind arith)
 cut_by false n h is = absurd (grind arith)
 
+-- A younger one than an instruction that is issued or completed, or a completed one itself.
+from_itself : (setup : Setup) (past : List Event) → is_legal setup past → (q s : ℕ) → q ≤ s
+    → same_hart past q s ≡ true → stage (fate past q) ≡ 5 → stage (fate past s) ≢ 8
+    → (1 ≤ stage (fate past s)) × (stage (fate past s) ≤ 5)
+from_itself setup past legal q s above same five lives =
+    elim (cases_eq q s) [
+      | inl here ↦ let at : stage (fate past s) ≡ 5 = rw here at five in (omega arith, omega arith)
+      | inr other ↦
+          in_pipeline setup past legal q s (omega (arith, above, other)) same (omega (arith, five)) (omega (arith, five))
+          lives
+    ]
+
 squashing : (setup : Setup) (past : List Event) → is_legal setup past → (e : Event) → refused setup past e ≡ None
-    → (s : ℕ) → squashes e past s ≡ true → Squashing past e s
+    → (s : ℕ) → squashes e past s ≡ true → IsSquashing past e s
 squashing setup past legal (Fetch actor hart seq pc word predicted) ok s cut = absurd (grind arith)
 squashing setup past legal (Decode actor seq) ok s cut = absurd (grind arith)
 squashing setup past legal (Rename actor seq phys) ok s cut = absurd (grind arith)
@@ -56,14 +68,25 @@ squashing setup past legal (Complete actor seq outcome) ok s cut =
     let both = cut_by (mispredicts past seq outcome.next) (nat_lt seq s) (same_hart past seq s) cut in
     let less : seq < s = grind (arith, nat_tests, both.0) in
     let other : (seq == s) ≡ false = grind (arith, nat_tests) in
-    record { older = less; same = both.1; four = omega arith; five = omega arith; tells = rw other refl }
+    record {
+      inside = λ lives. in_pipeline setup past legal seq s less both.1 (omega arith) (omega arith) lives;
+      tells = rw other refl;
+    }
 squashing setup past legal (Drop actor seq) ok s cut = absurd (grind arith)
 squashing setup past legal (Retire actor seq effect) ok s cut =
     let was = retire_was setup past actor seq effect ok in
     let both = cut_by (squashes_at_retirement past seq effect) (nat_lt seq s) (same_hart past seq s) cut in
     let less : seq < s = grind (arith, nat_tests, both.0) in
     let other : (seq == s) ≡ false = grind (arith, nat_tests) in
-    record { older = less; same = both.1; four = omega arith; five = omega arith; tells = rw other refl }
+    record {
+      inside = λ lives. in_pipeline setup past legal seq s less both.1 (omega arith) (omega arith) lives;
+      tells = rw other refl;
+    }
+squashing setup past legal (Refetch actor seq) ok s cut =
+    let was = refetch_was setup past actor seq ok in
+    let both = cut_by true (nat_le seq s) (same_hart past seq s) cut in
+    let above : seq ≤ s = grind (arith, nat_tests, both.0) in
+    record { inside = λ lives. from_itself setup past legal seq s above both.1 was lives; tells = refl }
 
 -- What an event squashes is squashed behind it.
 squashed_now : (setup : Setup) (past : List Event) → is_legal setup past → (e : Event)
@@ -73,8 +96,7 @@ squashed_now setup past legal e ok s cut =
     elim (cases_eq (stage (fate past s)) 8) [
       | inl gone ↦ let move = moved setup past legal e ok s in grind (arith, nat_tests, move)
       | inr lives ↦
-          let inside = in_pipeline setup past legal (seq_of e) s by.older by.same by.four by.five lives in
-          stage-squashed e past s by.tells cut inside.0 inside.1
+          let inside = by.inside lives in stage-squashed e past s by.tells cut inside.0 inside.1
     ]
 
 -- What an event says of its own instruction is never that it is squashed.
@@ -99,6 +121,7 @@ own_fate (Complete actor seq outcome) s new told = one_fate (seq == s) Completed
 own_fate (Drop actor seq) s new told = absurd (cc)
 own_fate (Retire actor seq effect) s new told =
     one_fate (seq == s) (retired_as effect.next) new told (retired_never effect)
+own_fate (Refetch actor seq) s new told = absurd (cc)
 
 kept_fate : (told : Option Fate) (old : Fate) → ((new : Fate) → told ≡ Some new → is new Squashed ≡ false)
     → is (next_fate told false old) Squashed ≡ is old Squashed

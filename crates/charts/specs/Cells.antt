@@ -14,6 +14,7 @@ place_of kinds.Issue row = row.issued
 place_of kinds.Complete row = row.completed
 place_of kinds.Drop row = row.dropped
 place_of kinds.Retire row = row.retired
+place_of kinds.Refetch row = row.refetched
 
 -- No event of the instruction is at this place.
 abbrev pub HasNone : Row → ℕ → Type 0

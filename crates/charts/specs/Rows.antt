@@ -21,7 +21,8 @@ place kind [] s = None
 place kind (e ∷ past) s = if is_event kind e s then Some (length past) else place kind past s
 
 -- The place of the first event that squashed instruction s, and the instruction which that event is
--- of: a mispredicted one, one that ended or stopped its hart, or a load that was replayed.
+-- of: a mispredicted one, one that ended or stopped its hart, a load that was replayed, or one that
+-- is fetched again, which may be s itself.
 abbrev pub squash_of : Event → List Event → ℕ → Option Squash
 squash_of e past s =
     if squashes e past s then Some (record { place = length past; by = seq_of e }) else None
@@ -57,6 +58,7 @@ pub record IsRow (past : List Event) (s : ℕ) (row : Row) : Type 0 where
   pub completed : place kinds.Complete past s ≡ row.completed
   pub dropped : place kinds.Drop past s ≡ row.dropped
   pub retired : place kinds.Retire past s ≡ row.retired
+  pub refetched : place kinds.Refetch past s ≡ row.refetched
   pub squashed : squash past s ≡ row.squashed
   pub value : value_of (completion past s) ≡ row.value
   pub replayed : looked_twice past s ≡ row.replayed

@@ -79,6 +79,9 @@ impl Row {
         if self.retired == here {
             return Some(EventKind::Retire);
         }
+        if self.refetched == here {
+            return Some(EventKind::Refetch);
+        }
         None
     }
 

@@ -101,7 +101,8 @@ pub(crate) fn id_of(ids: &[Option<u32>], seq: usize) -> Option<u32> {
     }
 }
 
-/// Ends the instructions that the event at this place squashed, all of them younger than its own.
+/// Ends the instructions that the event at this place squashed: its own, which is fetched again,
+/// and younger ones.
 fn write_squashes<W: Write>(
     rows: &[Row],
     ids: &[Option<u32>],

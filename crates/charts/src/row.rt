@@ -1,5 +1,5 @@
 ghost use Rattle.std.specs.Prelude.{◌≡◌, false};
-ghost use Rattle.charts.specs.Moves.{is_replay, moved, cuts, cut};
+ghost use Rattle.charts.specs.Moves.{is_replay, moved, cuts, cut, gone};
 ghost use Rattle.smt_model.specs.Nexts.{is_last, redirect_pc};
 ghost use Rattle.std.specs.Prelude.{is_some};
 
@@ -33,6 +33,8 @@ pub struct Row {
     /// Where a unit handed it back that was squashed before.
     pub dropped: Option<u32>,
     pub retired: Option<u32>,
+    /// Where its word wasn't the one at its pc any more: there it was squashed.
+    pub refetched: Option<u32>,
     pub squashed: Option<Squash>,
     /// The number that its completion gave: for a load, that of its first look.
     pub value: Option<u32>,
@@ -55,6 +57,7 @@ impl Row {
           completed = None;
           dropped = None;
           retired = None;
+          refetched = None;
           squashed = None;
           value = None;
           replayed = false;
@@ -72,6 +75,7 @@ impl Row {
             completed: None,
             dropped: None,
             retired: None,
+            refetched: None,
             squashed: None,
             value: None,
             replayed: false,
@@ -97,19 +101,24 @@ impl Row {
                 row.retired = Some(place);
                 row.replayed = self.is_replay(effect);
             }
+            Event::Refetch { seq, .. } => {
+                row.refetched = Some(place);
+                row = row.gone(Squash { place, by: seq });
+            }
         }
         row
     }
 
     /// Whether an event of its instruction squashes all younger ones of its hart: a completion that
-    /// finds another pc than the predicted one, and a retirement that ends or stops the hart, or is
-    /// of a load with another number now.
+    /// finds another pc than the predicted one, a retirement that ends or stops the hart, or is of
+    /// a load with another number now, and a refetch.
     pub(crate) fn cuts(self, event: &Event) -> bool
         ensures { result ≡ cuts event.now self }
     {
         match *event {
             Event::Complete { outcome, .. } => is_mispredicted(outcome.next, self.predicted),
             Event::Retire { effect, .. } => is_last(effect.next) || self.is_replay(effect),
+            Event::Refetch { .. } => true,
             _ => false,
         }
     }
@@ -118,8 +127,18 @@ impl Row {
     pub(crate) fn cut(self, hart: u8, by: Squash) -> Row
         ensures { result ≡ cut hart by self }
     {
+        if self.hart == hart {
+            return self.gone(by);
+        }
+        self
+    }
+
+    /// The row behind a squash of its instruction.
+    fn gone(self, by: Squash) -> Row
+        ensures { result ≡ gone by self }
+    {
         let mut row = self;
-        if row.hart == hart && row.squashed.is_none() {
+        if row.squashed.is_none() {
             row.squashed = Some(by);
         }
         row

@@ -3,7 +3,7 @@ use Rattle.std.specs.Prelude.{◌≡◌, ℕ, Bool, true, false, List, [], Optio
 use Rattle.elf_image.specs.Image.{ProgramImage}
 use Rattle.events.specs.{declared.event.Event.Event}
 use Rattle.event_text.specs.{declared.head.TraceHead.TraceHead, Contents.TraceContent}
-use Rattle.event_text.specs.declared.head.TraceHead.TheVariants.{First, Second}
+use Rattle.event_text.specs.declared.head.TraceHead.TheVariants.{First, Later}
 use Rattle.event_text.specs.Trace.{trace_text, AreWithin, IsHead, IsRefusedAt}
 use Rattle.smt_model.specs.{Rules.is_legal, Setup.Setup, Setup.is_accepted}
 use Rattle.core_state.specs.{Setup.setup_of, View.CoreView}
@@ -23,11 +23,11 @@ pub record IsTraceOf (text : List ℕ) (trace : TraceContent) : Type 0 where
   pub is_text : text ≡ trace_text trace.head trace.events
   pub in_range : AreWithin trace.head trace.events
 
--- The core that a trace is of. A trace of version 2 says its sizes itself, and the settings only how much
--- memory there is; one of version 1 doesn't, and they are the settings'.
+-- The core that a trace is of. A trace of a later version says its sizes itself, and the settings
+-- only how much memory there is; one of version 1 doesn't, and they are the settings'.
 abbrev pub setup_by : Settings → ProgramImage → TraceHead → Setup
 setup_by settings image First = setup_of image settings.config
-setup_by settings image (Second sizes) = record {
+setup_by settings image (Later version sizes) = record {
   image = image;
   harts = sizes.harts;
   extra = sizes.extra;

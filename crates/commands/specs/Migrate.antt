@@ -1,4 +1,5 @@
--- The command `migrate`: the trace of version 2 that has the events of one of version 1. (This project's own choice.)
+-- The command `migrate`: the trace of version 3 that has the events of an older one. (This
+-- project's own choice.)
 use Rattle.std.specs.Prelude.{◌≡◌, ℕ, List}
 use Rattle.smt_model.specs.{declared.config.Config.Config}
 use Rattle.event_text.specs.{Core.CoreSizes}

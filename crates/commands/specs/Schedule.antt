@@ -27,7 +27,7 @@ HasNoSchedule settings image order because = OfOrder order
     (λ harts. IsScheduleRefusedFor (setup_of image settings.config) settings.limit harts because)
 
 -- When each refusal comes: all words of the order are looked at first, then the sizes, each step of
--- the plain machine, the units that its instructions need, and the limit. The output is refused only
+-- the plain machine, the units that are needed, and the limit. The output is refused only
 -- where there is a schedule. Of memory nothing is said.
 abbrev pub IsScheduleRefusal : Settings → ProgramImage → List ℕ → Refused → Type 0
 IsScheduleRefusal settings image order reason.Config = HasNoSchedule settings image order why.Config

@@ -69,7 +69,7 @@ pub(crate) fn config_by(settings: &Settings, head: &TraceHead) -> Config
 {
     match head {
         TraceHead::First => settings.config.copied(),
-        TraceHead::Second(header) => Config {
+        TraceHead::Later(_, header) => Config {
             harts: header.harts(),
             extra: header.extra(),
             queue: header.queue(),

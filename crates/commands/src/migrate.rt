@@ -1,4 +1,4 @@
-//! The command `migrate`: the trace of version 2 that has the events of one of version 1.
+//! The command `migrate`: the trace of version 3 that has the events of an older one.
 
 ghost use Rattle.std.specs.Prelude.{◌≡◌, IfOk, IfErr, OnOk, false};
 ghost use Rattle.event_text.specs.{Core.AreCoreSizes, Refusals.IsMigrated, Sinking.HasPut};
@@ -11,12 +11,13 @@ use sim_inputs::Settings;
 use smt_model::Config;
 use std::alloc::Global;
 
-/// Puts the trace of version 2 that has the events of a trace of version 1 into `file`; it says that
-/// they are of a core of these settings. Answers the exit status, 0.
+/// Puts the trace of version 3 that has the events of an older one into `file`; it says that they
+/// are of the core of which that says so, or else of one of these settings. Answers the exit
+/// status, 0.
 ///
-/// Refused are, in this order, a text that names version 2, and the first line of the trace that breaks
-/// a rule; then nothing is put. So it is where there isn't enough memory: the whole trace is made
-/// before any of it is put. `Output` is answered where `file` failed.
+/// Refused are, in this order, a text that names version 3, and the first line of the trace that
+/// breaks a rule; then nothing is put. So it is where there isn't enough memory: the whole trace is
+/// made before any of it is put. `Output` is answered where `file` failed.
 #[inline(never)]
 pub fn perform_migrate<S: Sink>(
     text: &[u8],
@@ -35,7 +36,7 @@ pub fn perform_migrate<S: Sink>(
     put_text(new.as_slice(), file)
 }
 
-/// The text of the trace of version 2.
+/// The text of the trace of version 3.
 fn migrated(text: &[u8], settings: &Settings, alloc: Global) -> Result<Vec<u8>, Refused>
     requires { AreCoreSizes (sizes_by settings.now.config) }
     ensures migrated { IfOk result

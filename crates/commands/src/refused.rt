@@ -34,7 +34,7 @@ pub enum Refused {
     /// 1 to 6, the first that it breaks.
     #[error("trace line {line} refused {rule}")]
     Trace { line: usize, rule: u8 },
-    /// The trace that was to be migrated has version 2 already.
+    /// The trace that was to be migrated has version 3 already.
     #[error("trace version refused")]
     Version,
     /// This event of the trace, from 0, is the first that isn't allowed, and the rule the first

@@ -17,9 +17,9 @@ use std::io::Write;
 /// text says. Answers the exit status, 0.
 ///
 /// Refused are, in this order, the first word of the order that is no number, sizes that aren't a
-/// core's, the first step that the plain machine doesn't make, the first instruction for which
-/// there's no unit, and a limit below the events that it may take; then nothing is printed.
-/// `Output` is answered where `out` failed.
+/// core's, the first step that the plain machine doesn't make, a unit that is needed and isn't there,
+/// and a limit below the events that it may take; then nothing is printed. `Output` is answered where
+/// `out` failed.
 ///
 /// What `step_bytes` finishes by this script, of the same image and settings, retires the order: that
 /// is the law `printed_schedules_are_retired` of `retiring`.
@@ -44,12 +44,12 @@ pub fn perform_schedule<W: Write>(
 }
 
 /// The schedule of an order, for the core of an image and some settings.
-pub(crate) fn schedule_of<'a>(
+pub(crate) fn schedule_of(
     image: &Image,
     settings: &Settings,
-    order: &'a [u8],
+    order: &[u8],
     alloc: Global,
-) -> Result<Schedule<'a>, Refused>
+) -> Result<Schedule, Refused>
     ensures scheduled { IfOk result
         (IsScheduleOf (setup_of image.now settings.now.config) settings.now.limit order.now) }
     ensures refused { IfErr result

@@ -1,19 +1,18 @@
 -- The state in which a hart has come to rest is alike to the one that is kept of it.
-use Rattle.std.proofs.Common.{◌≡◌, ◌≢◌, ℕ, ◌<◌, Bool, true, false, List, length}
-use Rattle.std.proofs.Common.{refl, sym, ap, ◌∙◌, true≢false, arith, inl, inr}
+use Rattle.std.proofs.Common.{◌≡◌, ◌≢◌, ℕ, ◌<◌, ◌≤◌, Bool, true, false}
+use Rattle.std.proofs.Common.{refl, sym, ap, ◌∙◌, arith, inl, inr}
 use Rattle.std.specs.Prelude.{◌==◌, ◌&&◌, ◌||◌, if◌then◌else◌, nat_lt, slice_index}
 use Rattle.std.proofs.lemmas.Bool.{cases_lt, Decides.nat_tests}
-use Rattle.std.proofs.lemmas.List.{get_or_past}
 use Rattle.smt_model.specs.{Setup.first_number, declared.config.Status.TheVariants.Going}
 use Rattle.smt_model.specs.Plain.{Plain, is_going_status, read_register}
 use Rattle.outcome_laws.specs.Live.{AreAlike, matters}
 use Rattle.live_registers.specs.Table.{live_of}
-use Rattle.live_registers.specs.declared.table.LiveTable.{LiveTable}
 use Rattle.sc_machine.specs.{Harts.HartAgrees, declared.hart.Hart.Hart}
 use Rattle.condensed_machine.specs.{Settling.HartsStay, Resting.IsRested, Resting.is_watched, Resting.is_kept}
 use Rattle.condensed_machine.specs.{Machine.Program, Decoded.Decoded, Decoded.full, Decoded.hart_at}
 use Rattle.condensed_machine.specs.{Decoded.register_of, Decoded.pc_of, Decoded.status_of}
 use Rattle.condensed_machine.specs.{Executing.SharedAgrees}
+use Rattle.condensed_machine.proofs.Instructions.{both, second_no}
 
 -- Hart h of s is y, but for registers that nobody reads again.
 pub record IsKeptAs (p : Program) (s : Plain) (h : ℕ) (y : Hart) : Type 0 where
@@ -34,24 +33,42 @@ alike_by_harts p s d kept shared = record {
   registers = λ h r some matter. (kept h).registers r some matter;
 }
 
--- No register beyond the last matters.
-either_below : (w l : Bool) (r : ℕ) → (w ≡ true → r < 32) → (l ≡ true → r < 32) → (w || l) ≡ true → r < 32
-either_below true l r first second either = first refl
-either_below false l r first second either = second either
+-- ---- The registers of a hart in a state
 
-live_below : (going : Bool) (table : LiveTable) (pc r : ℕ) → (going && live_of table pc r) ≡ true → r < 32
-live_below true table pc r live = grind (arith, nat_tests)
-live_below false table pc r live = absurd (grind arith)
+abbrev register_by : Program → ℕ → Hart → ℕ → Bool → ℕ
+register_by p h x r there = if there then slice_index x.registers r else first_number p.harts h r
 
-watched_below : (watched : List Bool) (r : ℕ) → length watched ≡ 32 → is_watched watched r ≡ true → r < 32
-watched_below watched r room is =
-    elim (cases_lt r (length watched)) [
-      | inl inside ↦ omega arith
-      | inr beyond ↦ absurd (true≢false (sym is ∙ get_or_past watched r false beyond))
-    ]
+pub register_in : (p : Program) (h : ℕ) (x : Hart) (r : ℕ) → nat_lt h p.harts ≡ true → r < 32
+    → register_of p h x r ≡ slice_index x.registers r
+register_in p h x r there below =
+    let small : nat_lt r 32 ≡ true = grind (arith, nat_tests) in
+    ap (register_by p h x r) (both (nat_lt h p.harts) (nat_lt r 32) there small)
+
+pub register_beyond : (p : Program) (h : ℕ) (x : Hart) (r : ℕ) → 32 ≤ r
+    → register_of p h x r ≡ first_number p.harts h r
+register_beyond p h x r past =
+    let large : nat_lt r 32 ≡ false = grind (arith, nat_tests) in
+    ap (register_by p h x r) (second_no (nat_lt h p.harts) (nat_lt r 32) large)
+
+pub register_absent : (p : Program) (h : ℕ) (x : Hart) (r : ℕ) → nat_lt h p.harts ≡ false
+    → register_of p h x r ≡ first_number p.harts h r
+register_absent p h x r absent =
+    ap (λ b. register_by p h x r (b && nat_lt r 32)) absent
+
+-- No register beyond the last was ever written.
+abbrev pub IsFirstBeyond : Program → Plain → Type 0
+IsFirstBeyond p s = (g r : ℕ) → 32 ≤ r → s.registers g r ≡ first_number p.harts g r
+
+pub full_beyond : (p : Program) (d : Decoded) → IsFirstBeyond p (full p d)
+full_beyond p d g r past = register_beyond p g (hart_at d.harts g) r past
+
+pub still_beyond : (p : Program) (h : ℕ) (s t : Plain) → HartsStay h s t → IsFirstBeyond p s → IsFirstBeyond p t
+still_beyond p h s t stay first g r past = stay.beyond g r past ∙ first g r past
+
+-- ---- A hart that has come to rest
 
 module _ (p : Program) (s : Plain) (h : ℕ) (x y : Hart) (there : nat_lt h p.harts ≡ true) (is : HartAgrees s h x)
-    (rested : IsRested p.live p.watched x y) (room : length p.watched ≡ 32) where
+    (rested : IsRested p.live p.watched x y) (first : IsFirstBeyond p s) where
   register_rested : (r : ℕ) → r ≢ 0 → r < 32
       → matters (is_watched p.watched) (live_of p.live) s h r ≡ true → s.registers h r ≡ slice_index y.registers r
   register_rested r some below matter =
@@ -64,18 +81,14 @@ module _ (p : Program) (s : Plain) (h : ℕ) (x y : Hart) (there : nat_lt h p.ha
       let kept = ap (λ b. if b then slice_index x.registers r else 0) test in
       sym held ∙ sym (is.registers r below) ∙ sym (rested.registers r some_one below ∙ kept)
 
-  register_below : (r : ℕ) → matters (is_watched p.watched) (live_of p.live) s h r ≡ true → r < 32
-  register_below r matter =
-      either_below (is_watched p.watched r) (is_going_status (s.statuses h) && live_of p.live (s.pcs h) r) r
-      (watched_below p.watched r room) (live_below (is_going_status (s.statuses h)) p.live (s.pcs h) r) matter
-
   pub rests_as : IsKeptAs p s h y
   rests_as = record {
     pc = sym (ap (λ b. if b then y.pc else p.image.entry) there ∙ rested.pc ∙ is.pc);
     status = sym (ap (λ b. if b then y.status else Going) there ∙ rested.status ∙ is.status);
-    registers = λ r some matter.
-        register_rested r some (register_below r matter) matter
-        ∙ sym (ap (λ b. if b then slice_index y.registers r else first_number p.harts h r) there);
+    registers = λ r some matter. elim (cases_lt r 32) [
+      | inl below ↦ register_rested r some below matter ∙ sym (register_in p h y r there below)
+      | inr past ↦ first h r past ∙ sym (register_beyond p h y r past)
+    ];
   }
 
 -- A hart that has stayed.

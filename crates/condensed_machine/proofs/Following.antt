@@ -9,7 +9,12 @@ use Rattle.condensed_machine.specs.Settling.{HartsStay, OthersStay, GoesOn}
 
 pub none_stays : (h : ℕ) (s : Plain) → OthersStay h s s
 none_stays h s = record {
-  harts = record { registers = λ g r apart. refl; pcs = λ g apart. refl; statuses = λ g apart. refl };
+  harts = record {
+    registers = λ g r apart. refl;
+    pcs = λ g apart. refl;
+    statuses = λ g apart. refl;
+    beyond = λ g r past. refl;
+  };
   reserved = λ g. refl;
   bytes = λ a. refl;
   output = refl;
@@ -20,6 +25,7 @@ harts_stay h s t u first second = record {
   registers = λ g r apart. second.registers g r apart ∙ first.registers g r apart;
   pcs = λ g apart. second.pcs g apart ∙ first.pcs g apart;
   statuses = λ g apart. second.statuses g apart ∙ first.statuses g apart;
+  beyond = λ g r past. second.beyond g r past ∙ first.beyond g r past;
 }
 
 pub then_stay : (h : ℕ) (s t u : Plain) → OthersStay h s t → OthersStay h t u → OthersStay h s u

@@ -1,25 +1,29 @@
 -- What one instruction of a hart comes to in a state in which it is hart h.
 use Rattle.std.proofs.Common.{◌≡◌, ℕ, ◌<◌, Bool, true, false, refl, sym, ap, subst, ◌∙◌, arith}
-use Rattle.std.specs.Prelude.{◌&&◌, ◌==◌, nat_lt, slice_index}
+use Rattle.std.specs.Prelude.{◌&&◌, ◌==◌, ◌≤◌, not, nat_lt, if◌then◌else◌, slice_index}
 use Rattle.std.proofs.{lemmas.Bool.Decides.nat_tests, Math.Path.fun_ext}
+use Rattle.elf_image.specs.Image.{code_writable, word_now}
+use Rattle.rv_instr.specs.{Decode.op_of_word, Table.OpInRange}
 use Rattle.smt_model.specs.Words.{Op, Effect}
 use Rattle.smt_model.specs.{Setup.Setup, Exec.Computed, Nexts.pc_after, Kinds.destination, Bytes.byte_after}
 use Rattle.smt_model.specs.{Bytes.read, Effects.effect_of, Reservations.holds_word}
 use Rattle.smt_model.specs.Plain.{Plain, after, op_at_pc, computes, effect_at, is_going_status, status_after}
-use Rattle.smt_model.specs.Plain.{output_after}
+use Rattle.smt_model.specs.Plain.{output_after, register_after, word_at_pc}
+use Rattle.rv_instr.specs.Registers.{op_rd}
+use Rattle.rv_instr.proofs.DecodedLemmas.{op_of_word_in_range, op_rd_below}
 use Rattle.outcome_laws.specs.{Paths.can_step, Paths.stepped, Local.is_local, Local.is_local_of}
 use Rattle.outcome_laws.proofs.Local.{IsQuiet, local_step}
 use Rattle.sc_machine.specs.{Harts.HartAgrees, Harts.register_written, declared.hart.Hart.Hart}
 use Rattle.sc_machine.proofs.Harts.{own_hart}
-use Rattle.sc_machine.specs.Here.{op_here, computed_here}
+use Rattle.sc_machine.specs.Here.{computed_here}
 use Rattle.shared_memory.specs.Contents.{Contents}
 use Rattle.changed_memory.specs.Shared.{Shared, byte_at, reserved_at}
 use Rattle.condensed_machine.specs.Settling.{HartsStay, OthersStay, GoesOn}
 use Rattle.condensed_machine.specs.Executing.{SharedAgrees, IsExecuted}
 use Rattle.condensed_machine.specs.declared.executed.Executed.{Executed}
-use Rattle.condensed_machine.proofs.Finding.{op_same, computed_same}
+use Rattle.condensed_machine.proofs.Finding.{below, computed_same, shared_same}
 
-both : (a b : Bool) → a ≡ true → b ≡ true → (a && b) ≡ true
+pub both : (a b : Bool) → a ≡ true → b ≡ true → (a && b) ≡ true
 both a b first second = rw (first, second) refl
 
 pub can_go : (setup : Setup) (s : Plain) (h : ℕ) (x : Hart) → h < setup.harts → HartAgrees s h x
@@ -32,7 +36,7 @@ either_no : (a b c : Bool) → b ≡ false → ((a && b) && c) ≡ false
 either_no true b c off = rw off refl
 either_no false b c off = refl
 
-second_no : (a b : Bool) → b ≡ false → (a && b) ≡ false
+pub second_no : (a b : Bool) → b ≡ false → (a && b) ≡ false
 second_no true b off = off
 second_no false b off = refl
 
@@ -47,7 +51,15 @@ pub stands_at : (setup : Setup) (s : Plain) (h : ℕ) (op : Op) (c : Computed) �
     → c ≡ computes setup s h → is_local_of op c ≡ false → (can_step setup h s && is_local setup h s) ≡ false
 stands_at setup s h op c of_op of_computed seen =
     second_no (can_step setup h s) (is_local setup h s)
-    (ap (λ o. is_local_of o (computes setup s h)) (sym of_op) ∙ ap (is_local_of op) (sym of_computed) ∙ seen)
+    (second_no (not (code_writable setup.image)) (is_local_of (op_at_pc setup s h) (computes setup s h))
+    (ap (λ o. is_local_of o (computes setup s h)) (sym of_op) ∙ ap (is_local_of op) (sym of_computed) ∙ seen))
+
+-- Where the code may be written no step is local.
+pub stands_written : (setup : Setup) (s : Plain) (h : ℕ) → code_writable setup.image ≡ true
+    → (can_step setup h s && is_local setup h s) ≡ false
+stands_written setup s h writable =
+    second_no (can_step setup h s) (is_local setup h s)
+    (ap (λ b. not b && is_local_of (op_at_pc setup s h) (computes setup s h)) writable)
 
 -- The state behind an instruction, told by what was executed.
 pub after_same : (setup : Setup) (s : Plain) (h : ℕ) (op : Op) (addr : ℕ) (e : Effect) → op ≡ op_at_pc setup s h
@@ -56,18 +68,31 @@ after_same setup s h op addr e of_op of_addr of_effect =
     ap (λ o. after s h o addr e) of_op ∙ ap (λ a. after s h (op_at_pc setup s h) a e) of_addr
     ∙ ap (after s h (op_at_pc setup s h) (computes setup s h).addr) of_effect
 
+-- An instruction writes none but the registers that there are.
+destination_below : (op : Op) → OpInRange op → destination op < 32
+unfolding destination
+destination_below op in_range = below (op_rd op) (op_rd_below op in_range)
+
+pub written_below : (setup : Setup) (s : Plain) (h : ℕ) → destination (op_at_pc setup s h) < 32
+written_below setup s h = destination_below (op_at_pc setup s h) (op_of_word_in_range (word_at_pc setup s h))
+
 -- Any instruction changes its own hart alone.
-pub harts_after : (s : Plain) (h : ℕ) (op : Op) (addr : ℕ) (e : Effect) → HartsStay h s (after s h op addr e)
-harts_after s h op addr e = record {
+pub harts_after : (s : Plain) (h : ℕ) (op : Op) (addr : ℕ) (e : Effect) → destination op < 32
+    → HartsStay h s (after s h op addr e)
+harts_after s h op addr e small = record {
   registers = λ g r apart. rw apart refl;
   pcs = λ g apart. rw apart refl;
   statuses = λ g apart. rw apart refl;
+  beyond = λ g r past.
+      let other : (r == destination op) ≡ false = grind (arith, nat_tests) in
+      ap (λ b. if b then register_after e.value (s.registers g r) else s.registers g r)
+      (second_no (g == h) (r == destination op) other);
 }
 
-quiet_stays : (s : Plain) (h : ℕ) (op : Op) (addr : ℕ) (e : Effect) → IsQuiet op addr e
+quiet_stays : (s : Plain) (h : ℕ) (op : Op) (addr : ℕ) (e : Effect) → destination op < 32 → IsQuiet op addr e
     → OthersStay h s (after s h op addr e)
-quiet_stays s h op addr e quiet = record {
-  harts = harts_after s h op addr e;
+quiet_stays s h op addr e small quiet = record {
+  harts = harts_after s h op addr e small;
   reserved = λ g. quiet.reserved (g == h) (s.reserved g);
   bytes = λ a. ap (λ w. byte_after w a (s.bytes a)) quiet.write;
   output = ap (λ out. output_after out s.output) quiet.out;
@@ -97,33 +122,35 @@ module _ (setup : Setup) (s : Plain) (h : ℕ) (op : Op) (c : Computed) (e : Eff
       (holds_word (s.reserved h) d.addr)) of_computed
 
   -- A local step.
-  pub goes_by_one : (x y : Hart) → h < setup.harts → HartAgrees s h x → is_going_status x.status ≡ true
-      → is_local_of op c ≡ true → ((now : ℕ) (held : Bool) → e ≡ effect_of op c now held) → HasAdvanced op e x y
+  pub goes_by_one : (x y : Hart) → code_writable setup.image ≡ false → h < setup.harts → HartAgrees s h x
+      → is_going_status x.status ≡ true → is_local_of op c ≡ true → ((now : ℕ) (held : Bool) → e ≡ effect_of op c now held) → HasAdvanced op e x y
       → GoesOn setup h 1 s y
-  goes_by_one x y inside is going local effect advanced =
+  goes_by_one x y fixed inside is going local effect advanced =
       let same = after_same setup s h op c.addr e of_op (ap (λ (d : Computed). d.addr) of_computed)
       (effect_same (effect (read op s.bytes c.addr) (holds_word (s.reserved h) c.addr))) in
       let here : is_local setup h s ≡ true =
-      ap (λ o. is_local_of o (computes setup s h)) (sym of_op) ∙ ap (is_local_of op) (sym of_computed) ∙ local in
+      ap (λ b. not b && is_local_of (op_at_pc setup s h) (computes setup s h)) fixed
+      ∙ ap (λ o. is_local_of o (computes setup s h)) (sym of_op) ∙ ap (is_local_of op) (sym of_computed) ∙ local in
       let quiet : IsQuiet op c.addr e =
       subst (IsQuiet op c.addr) (sym (effect 0 false)) ((local_step op c local).quiet c.addr 0 false) in
       record {
         there = stepped setup h s;
         local = (can_go setup s h x inside is going, here, refl);
         agrees = hart_behind setup s h op c.addr e x y is advanced same;
-        others = subst (OthersStay h s) same (quiet_stays s h op c.addr e quiet);
+        others = subst (OthersStay h s) same (quiet_stays s h op c.addr e
+            (subst (λ o. destination o < 32) (sym of_op) (written_below setup s h)) quiet);
       }
 
 -- What was executed, on memory as the image has it with what has changed since.
 pub is_executed : (setup : Setup) (s : Plain) (h : ℕ) (m : Contents) (x : Hart) (shared : Shared) (op : Op)
     (c : Computed) (addr : ℕ) (e : Effect) → m.image ≡ setup.image → HartAgrees s h x → SharedAgrees m.image s shared
-    → op ≡ op_here m x
-    → c ≡ computed_here m x (op_here m x) → addr ≡ c.addr
+    → op ≡ op_of_word (word_now m.image (byte_at m.image shared) x.pc) → OpInRange op
+    → c ≡ computed_here m x op → addr ≡ c.addr
     → e ≡ effect_of op c (read op (byte_at m.image shared) c.addr) (holds_word (reserved_at shared h) c.addr)
     → IsExecuted setup s h (record { op = op; addr = addr; effect = e })
-is_executed setup s h m x shared op c addr e image is agrees found computed at effect =
-    let of_op = found ∙ op_same setup s m h x image is in
-    let of_computed = computed ∙ computed_same setup s m h x image is in
+is_executed setup s h m x shared op c addr e image is agrees found in_range computed at effect =
+    let of_op = shared_same setup s m h x image is shared op agrees found in
+    let of_computed = computed ∙ computed_same setup s m h x image is op in_range of_op in
     let bytes : byte_at m.image shared ≡ s.bytes = fun_ext agrees.bytes in
     record {
       op = of_op;

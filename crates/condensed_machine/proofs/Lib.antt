@@ -1,4 +1,5 @@
 pub mod Finding
+pub mod Coded
 pub mod Following
 pub mod Instructions
 pub mod Alike

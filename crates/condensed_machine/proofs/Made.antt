@@ -9,7 +9,7 @@ use Rattle.smt_model.specs.{Setup.Setup, Plain.is_going_status}
 use Rattle.outcome_laws.specs.{Paths.can_step, Paths.stepped}
 use Rattle.sc_machine.specs.declared.hart.Hart.{Hart}
 use Rattle.changed_memory.specs.Shared.{Shared}
-use Rattle.condensed_machine.specs.Machine.{Program, IsSound, Machine, Grows, InEachSetup}
+use Rattle.condensed_machine.specs.Machine.{Program, IsSound, Machine, Grows, HasCode, InEachSetup}
 use Rattle.condensed_machine.specs.Decoded.{Decoded, decoded, full, hart_at, hart_in, no_shared, numbers_of}
 use Rattle.condensed_machine.specs.Decoded.{Knows}
 use Rattle.condensed_machine.specs.Executing.{IsExecuted, IsBehind, ComesToRest, InEachState, SharedAfter}
@@ -24,6 +24,7 @@ use Rattle.condensed_machine.proofs.Numbers.{own_number, other_number}
 -- learned of that.
 pub record HasDone (m n : Machine) (s t : State) (h steps : ℕ) (x : Hart) (common : Shared) : Type 0 where
   pub zero : slice_index x.registers 0 ≡ 0
+  pub code : HasCode m.program.image common
   pub going : is_going_status x.status ≡ true
   pub done : Executed
   pub behind : Hart
@@ -87,8 +88,8 @@ module _ (m n : Machine) (s t : State) (h steps : ℕ) (sound : IsSound m.progra
       let there : h < setup.harts = omega (arith, harts) in (
         can_go setup (full m.program (decoded m s)) h (hart_in m s h) there
             (hart_is m.program (decoded m s) h inside moved.zero) moved.going,
-        settles_by m.program (decoded m s) (decoded n t) h steps moved.done moved.moved sound inside moved.zero next
-            setup image harts,
+        settles_by m.program (decoded m s) (decoded n t) h steps moved.done moved.moved sound inside moved.zero
+            moved.code next setup image harts,
       )
 
   pub made : InEachSetup n.program (λ setup. MakesStep setup n s h (record { state = t; way = steps }))

@@ -3,18 +3,21 @@ use Rattle.std.proofs.Common.{◌≡◌, ◌≢◌, ℕ, ◌<◌, true, false, r
 use Rattle.std.specs.Prelude.{◌==◌, if◌then◌else◌, nat_lt, slice_index}
 use Rattle.std.proofs.lemmas.Bool.{cases_eq, Decides.nat_tests}
 use Rattle.smt_model.specs.{declared.config.Status.TheVariants.Going}
-use Rattle.smt_model.specs.{Setup.Setup, Setup.first_number, Bytes.byte_after, Reservations.reservation_after}
+use Rattle.smt_model.specs.{Setup.Setup, Kinds.destination, Bytes.byte_after, Reservations.reservation_after}
 use Rattle.smt_model.specs.Plain.{Plain, after, output_after}
-use Rattle.outcome_laws.specs.{Paths.stepped}
+use Rattle.outcome_laws.specs.{Paths.stepped, Paths.HasItsCode}
+use Rattle.outcome_laws.proofs.Holding.{has_next}
 use Rattle.sc_machine.specs.{Harts.HartAgrees, declared.hart.Hart.Hart}
 use Rattle.changed_memory.specs.Shared.{Shared}
 use Rattle.condensed_machine.specs.{Settling.HartsStay, Settling.OthersStay, Settling.GoesOn}
-use Rattle.condensed_machine.specs.{Machine.Program, Machine.IsSound, Steps.SettlesBy}
+use Rattle.condensed_machine.specs.{Machine.Program, Machine.IsSound, Machine.HasCode, Steps.SettlesBy}
 use Rattle.condensed_machine.specs.Decoded.{Decoded, full, hart_at, register_of}
 use Rattle.condensed_machine.specs.Executing.{SharedAgrees, SharedAfter, IsExecuted, IsBehind, ComesToRest, InEachState}
 use Rattle.condensed_machine.specs.declared.executed.Executed.{Executed}
-use Rattle.condensed_machine.proofs.Alike.{IsKeptAs, alike_by_harts, rests_as, stays_as, full_as}
-use Rattle.condensed_machine.proofs.Instructions.{after_same, harts_after}
+use Rattle.condensed_machine.proofs.Coded.{code_in}
+use Rattle.condensed_machine.proofs.Alike.{IsKeptAs, alike_by_harts, register_in, full_beyond, still_beyond}
+use Rattle.condensed_machine.proofs.Alike.{rests_as, stays_as, full_as}
+use Rattle.condensed_machine.proofs.Instructions.{after_same, harts_after, written_below}
 
 inside_test : (h harts : ℕ) → h < harts → nat_lt h harts ≡ true
 inside_test h harts inside = grind (arith, nat_tests)
@@ -28,7 +31,7 @@ hart_is p d h inside zero =
     record {
       registers = λ r below.
           register_reads r (slice_index x.registers r) (register_of p h x r) (zero_there r zero)
-          (sym (ap (λ b. if b then slice_index x.registers r else first_number p.harts h r) there));
+          (sym (register_in p h x r there below));
       pc = sym (ap (λ b. if b then x.pc else p.image.entry) there);
       status = sym (ap (λ b. if b then x.status else Going) there);
     }
@@ -72,7 +75,7 @@ pub record IsNext (p : Program) (d e : Decoded) (h : ℕ) (done : Executed) (ste
   pub shared : SharedAfter p.image h done d.shared e.shared
 
 module _ (p : Program) (d e : Decoded) (h steps : ℕ) (done : Executed) (y : Hart) (sound : IsSound p)
-    (inside : h < p.harts) (zero : slice_index (hart_at d.harts h).registers 0 ≡ 0)
+    (inside : h < p.harts) (zero : slice_index (hart_at d.harts h).registers 0 ≡ 0) (code : HasCode p.image d.shared)
     (next : IsNext p d e h done steps y) (setup : Setup) (image : setup.image ≡ p.image)
     (harts : setup.harts ≡ p.harts) where
   abbrev behind : Plain
@@ -87,9 +90,12 @@ module _ (p : Program) (d e : Decoded) (h steps : ℕ) (done : Executed) (y : Ha
   same : after (full p d) h done.op done.addr done.effect ≡ behind
   same = after_same setup (full p d) h done.op done.addr done.effect executed.op executed.addr executed.effect
 
+  holds : HasItsCode setup behind
+  holds = has_next setup h (full p d) (code_in setup p.image (full p d) d.shared image (shared_is p d) code)
+
   goes : GoesOn setup h steps behind next.rests.moved
   goes =
-      next.rests.settles.leads setup h behind image there
+      next.rests.settles.leads setup h behind image there holds
       (next.is_behind setup (full p d) image there (hart_is p d h inside zero) (shared_is p d))
 
   shared : SharedAgrees p.image goes.there e.shared
@@ -99,7 +105,8 @@ module _ (p : Program) (d e : Decoded) (h steps : ℕ) (done : Executed) (y : Ha
       (shared_behind setup p (full p d) h done d.shared e.shared (shared_is p d) next.shared))
 
   stayed : HartsStay h (full p d) behind
-  stayed = subst (HartsStay h (full p d)) same (harts_after (full p d) h done.op done.addr done.effect)
+  stayed = subst (HartsStay h (full p d)) same (harts_after (full p d) h done.op done.addr done.effect
+      (subst (λ o. destination o < 32) (sym executed.op) (written_below setup (full p d) h)))
 
   kept : (g : ℕ) → IsKeptAs p goes.there g (hart_at e.harts g)
   kept g = elim (cases_eq g h) [
@@ -107,7 +114,8 @@ module _ (p : Program) (d e : Decoded) (h steps : ℕ) (done : Executed) (y : Ha
         subst (λ k. IsKeptAs p goes.there k (hart_at e.harts k)) (sym own)
         (subst (IsKeptAs p goes.there h) (sym next.own)
         (rests_as p goes.there h next.rests.moved y (inside_test h p.harts inside) goes.agrees next.rests.rested
-        sound.registers))
+        (still_beyond p h behind goes.there goes.others.harts
+        (still_beyond p h (full p d) behind stayed (full_beyond p d)))))
     | inr other ↦
         let apart : (g == h) ≡ false = grind (arith, nat_tests) in
         subst (IsKeptAs p goes.there g) (sym (next.others g other))

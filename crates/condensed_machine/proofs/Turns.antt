@@ -8,6 +8,7 @@ use Rattle.std.proofs.lemmas.Option.{slice_get_within}
 use Rattle.smt_model.specs.{declared.config.Status.TheVariants.Going}
 use Rattle.smt_model.specs.{Setup.Setup, Setup.first_number, Plain.Plain, Plain.start}
 use Rattle.outcome_laws.specs.Search.{IsLocalPath}
+use Rattle.outcome_laws.proofs.Holding.{has_local, paths_keep_code}
 use Rattle.sc_machine.specs.{Harts.HartAgrees, Harts.IsFirst, declared.hart.Hart.Hart}
 use Rattle.elf_image.specs.Image.{byte_in}
 use Rattle.changed_memory.specs.Shared.{Shared, changed, reserved_at}
@@ -16,7 +17,8 @@ use Rattle.condensed_machine.specs.{Tables.HasNumber, Steps.SettlesBy, Steps.tur
 use Rattle.condensed_machine.specs.{Machine.Program, Machine.IsSound, Executing.SharedAgrees}
 use Rattle.condensed_machine.specs.Beginning.{HaveBegun}
 use Rattle.condensed_machine.specs.Decoded.{Decoded, full, hart_at}
-use Rattle.condensed_machine.proofs.Alike.{IsKeptAs, alike_by_harts, rests_as}
+use Rattle.condensed_machine.proofs.Alike.{IsKeptAs, IsFirstBeyond, alike_by_harts, register_absent}
+use Rattle.condensed_machine.proofs.Alike.{still_beyond, rests_as}
 use Rattle.condensed_machine.proofs.Following.{paths_join, agrees_still}
 
 first_reads : (r n : ℕ) → (r ≡ 0 → n ≡ 0) → n ≡ (if r == 0 then 0 else n)
@@ -41,6 +43,7 @@ module _ (p : Program) (table : List Hart) (ways numbers : List ℕ) (setup : Se
     local : IsLocalPath setup (turns ways h) (start setup) there
     settled : (g : ℕ) → g < h → IsSettledAs p there table g (slice_index numbers g)
     registers : (g r : ℕ) → h ≤ g → there.registers g r ≡ first_number p.harts g r
+    beyond : IsFirstBeyond p there
     pcs : (g : ℕ) → h ≤ g → there.pcs g ≡ p.image.entry
     statuses : (g : ℕ) → h ≤ g → there.statuses g ≡ Going
     reserved : (g : ℕ) → there.reserved g ≡ (start setup).reserved g
@@ -53,6 +56,7 @@ module _ (p : Program) (table : List Hart) (ways numbers : List ℕ) (setup : Se
     local = refl;
     settled = λ g below. absurd (omega arith);
     registers = λ g r above. ap (λ n. first_number n g r) harts;
+    beyond = λ g r past. ap (λ n. first_number n g r) harts;
     pcs = λ g above. ap (λ i. i.entry) image;
     statuses = λ g above. refl;
     reserved = λ g. refl;
@@ -85,7 +89,9 @@ module _ (p : Program) (table : List Hart) (ways numbers : List ℕ) (setup : Se
       let own = begun h inside in
       let there : h < setup.harts = omega (arith, harts) in
       let goes : GoesOn setup h (slice_index ways h) now.there own.rests.moved =
-      own.rests.settles.leads setup h now.there image there (first_agrees h now own.first own.is_first) in
+      own.rests.settles.leads setup h now.there image there
+      (has_local setup (turns ways h) (start setup) now.there (paths_keep_code setup).0 now.local)
+      (first_agrees h now own.first own.is_first) in
       record {
         there = goes.there;
         local = paths_join setup (turns ways h) (replicate (slice_index ways h) h) (start setup) now.there goes.there
@@ -109,6 +115,7 @@ module _ (p : Program) (table : List Hart) (ways numbers : List ℕ) (setup : Se
         registers = λ g r above.
             let apart : (g == h) ≡ false = grind (arith, nat_tests) in
             goes.others.harts.registers g r apart ∙ now.registers g r (omega arith);
+        beyond = still_beyond p h now.there goes.there goes.others.harts now.beyond;
         pcs = λ g above.
             let apart : (g == h) ≡ false = grind (arith, nat_tests) in
             goes.others.harts.pcs g apart ∙ now.pcs g (omega arith);
@@ -136,7 +143,7 @@ module _ (p : Program) (table : List Hart) (ways numbers : List ℕ) (setup : Se
           let here = end.settled h inside in
           let test : nat_lt h p.harts ≡ true = grind (arith, nat_tests) in
           subst (IsKeptAs p end.there h) (sym (is h here.hart inside here.has))
-          (rests_as p end.there h here.moved here.hart test here.agrees here.rested sound.registers)
+          (rests_as p end.there h here.moved here.hart test here.agrees here.rested end.beyond)
       | inr beyond ↦
           let test : nat_lt h p.harts ≡ false = grind (arith, nat_tests) in
           let x = hart_at d.harts h in
@@ -145,7 +152,7 @@ module _ (p : Program) (table : List Hart) (ways numbers : List ℕ) (setup : Se
             status = end.statuses h beyond ∙ sym (ap (λ b. if b then x.status else Going) test);
             registers = λ r some matter.
                 end.registers h r beyond
-                ∙ sym (ap (λ b. if b then slice_index x.registers r else first_number p.harts h r) test);
+                ∙ sym (register_absent p h x r test);
           }
     ]
 

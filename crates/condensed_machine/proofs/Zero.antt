@@ -52,6 +52,6 @@ zero_rests p x y steps rests zero =
     let none : Shared = record { changes = []; reserved = []; output = [] } in
     let inside : 0 < 1 = omega arith in
     let goes =
-    rests.settles.leads (some_setup p.image 0) 0 (some_state p.image x none) refl inside
+    rests.settles.leads (some_setup p.image 0) 0 (some_state p.image x none) refl inside (λ fixed pc. refl)
     (some_agrees p.image x none 0 zero) in
     rests.rested.zero ∙ goes.agrees.registers 0 (omega arith)

@@ -1,5 +1,6 @@
 -- What the numbers of a state stand for.
-use Rattle.std.specs.Prelude.{◌≡◌, ℕ, ◌<◌, nat_lt, if◌then◌else◌, List, [], map, length, slice_index, slice_index_or}
+use Rattle.std.specs.Prelude.{◌≡◌, ℕ, ◌<◌, ◌&&◌, nat_lt, if◌then◌else◌, List, [], map, length}
+use Rattle.std.specs.Prelude.{slice_index, slice_index_or}
 use Rattle.numbers.specs.Sizes.{most_harts}
 use Rattle.smt_model.specs.{Plain.Plain, Setup.first_number, declared.config.Status.Status}
 use Rattle.smt_model.specs.{declared.config.Status.TheVariants.Going}
@@ -42,9 +43,11 @@ decoded m s = record {
 abbrev pub hart_in : Machine → State → ℕ → Hart
 hart_in m s h = hart_at (decoded m s).harts h
 
--- What hart h has, which is x where it is there. One that isn't there stands as at the start.
+-- What hart h has, which is x where it is there. One that isn't there stands as at the start, and so does a
+-- register that isn't there.
 abbrev pub register_of : Program → ℕ → Hart → ℕ → ℕ
-register_of p h x r = if nat_lt h p.harts then slice_index x.registers r else first_number p.harts h r
+register_of p h x r =
+    if nat_lt h p.harts && nat_lt r 32 then slice_index x.registers r else first_number p.harts h r
 
 abbrev pub pc_of : Program → ℕ → Hart → ℕ
 pc_of p h x = if nat_lt h p.harts then x.pc else p.image.entry

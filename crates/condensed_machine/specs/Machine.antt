@@ -1,13 +1,14 @@
 -- What a machine has that numbers the parts of its states.
-use Rattle.std.specs.Prelude.{◌≡◌, ℕ, ◌<◌, ◌≤◌, Bool, List, length, Some, slice_index, slice_get}
+use Rattle.std.specs.Prelude.{◌≡◌, ℕ, ◌<◌, ◌≤◌, Bool, false, List, length, Some, slice_index, slice_get}
 use Rattle.numbers.specs.Sizes.{most_harts}
-use Rattle.elf_image.specs.Image.{ProgramImage}
+use Rattle.elf_image.specs.Image.{ProgramImage, code_writable}
 use Rattle.smt_model.specs.{Setup.Setup}
+use Rattle.smt_laws.specs.Code.{HoldsItsCode}
 use Rattle.outcome_laws.specs.Live.{IsLiveTable}
 use Rattle.live_registers.specs.Table.{live_of}
 use Rattle.live_registers.specs.declared.table.LiveTable.{LiveTable}
 use Rattle.sc_machine.specs.declared.hart.Hart.{Hart}
-use Rattle.changed_memory.specs.Shared.{Shared}
+use Rattle.changed_memory.specs.Shared.{Shared, byte_at}
 
 -- What is searched: an image, how many harts run it, which registers are wanted of each at its end, by their
 -- numbers, and which registers may be read yet at each pc.
@@ -36,6 +37,13 @@ pub record Machine : Type 0 where
 -- x0 stands as 0 in each hart.
 abbrev pub HaveZero : List Hart → Type 0
 HaveZero xs = (n : ℕ) (x : Hart) → slice_get xs n ≡ Some x → slice_index x.registers 0 ≡ 0
+
+-- In shared parts code that may not be written is what the image has.
+abbrev pub HasCode : ProgramImage → Shared → Type 0
+HasCode image x = code_writable image ≡ false → HoldsItsCode image (byte_at image x)
+
+abbrev pub HaveCode : ProgramImage → List Shared → Type 0
+HaveCode image xs = (n : ℕ) (x : Shared) → slice_get xs n ≡ Some x → HasCode image x
 
 -- What is old keeps its place.
 abbrev pub Keeps : {A : Type 0} → List A → List A → Type 0

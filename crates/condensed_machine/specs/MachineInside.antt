@@ -1,5 +1,5 @@
 -- How the machine keeps its parts.
-use Rattle.condensed_machine.specs.Machine.{Machine, IsSound, HaveZero}
+use Rattle.condensed_machine.specs.Machine.{Machine, IsSound, HaveZero, HaveCode}
 use Rattle.condensed_machine.specs.declared.machine.CondensedMachine.TheInside.{Inside}
 
 -- What callers see of a machine.
@@ -11,7 +11,8 @@ machine_of a = record {
   shared_states = a.shared_states.keys;
 }
 
--- The program is sound, and x0 is 0 in each hart.
+-- The program is sound, x0 is 0 in each hart, and code that may not be written is what the image has.
 pub record IsMachine (a : Inside) : Type 0 where
   pub sound : IsSound a.program
   pub zero : HaveZero a.hart_states.keys
+  pub code : HaveCode a.program.image a.shared_states.keys

@@ -3,17 +3,18 @@ use Rattle.std.specs.Prelude.{◌≡◌, ℕ, ◌<◌, ◌≤◌, ◌==◌, ◌&
 use Rattle.elf_image.specs.Image.{ProgramImage}
 use Rattle.smt_model.specs.{Setup.Setup, Plain.Plain}
 use Rattle.sc_machine.specs.{Harts.HartAgrees, declared.hart.Hart.Hart}
-use Rattle.outcome_laws.specs.{Paths.can_step, Local.is_local, Search.IsLocalPath}
+use Rattle.outcome_laws.specs.{Paths.can_step, Paths.HasItsCode, Local.is_local, Search.IsLocalPath}
 
 -- How many local steps are followed at once.
 abbrev pub most_local_steps : ℕ
 most_local_steps = 1000
 
--- From s to t no hart has changed but hart h.
+-- From s to t no hart has changed but hart h, and no register beyond the last.
 pub record HartsStay (h : ℕ) (s t : Plain) : Type 0 where
   pub registers : (g r : ℕ) → (g == h) ≡ false → t.registers g r ≡ s.registers g r
   pub pcs : (g : ℕ) → (g == h) ≡ false → t.pcs g ≡ s.pcs g
   pub statuses : (g : ℕ) → (g == h) ≡ false → t.statuses g ≡ s.statuses g
+  pub beyond : (g r : ℕ) → 32 ≤ r → t.registers g r ≡ s.registers g r
 
 -- From s to t nothing has changed but hart h.
 pub record OthersStay (h : ℕ) (s t : Plain) : Type 0 where
@@ -32,12 +33,12 @@ pub record GoesOn (setup : Setup) (h steps : ℕ) (s : Plain) (y : Hart) : Type 
 -- Whichever hart x is, in whatever state, so many local steps make y of it.
 abbrev pub LeadsLocally : ProgramImage → Hart → ℕ → Hart → Type 0
 LeadsLocally image x steps y = (setup : Setup) (h : ℕ) (s : Plain) → setup.image ≡ image → h < setup.harts
-    → HartAgrees s h x → GoesOn setup h steps s y
+    → HasItsCode setup s → HartAgrees s h x → GoesOn setup h steps s y
 
 -- Whichever hart x is, in whatever state, it doesn't go or its next step isn't local.
 abbrev pub StandsStill : ProgramImage → Hart → Type 0
-StandsStill image x = (setup : Setup) (h : ℕ) (s : Plain) → setup.image ≡ image → HartAgrees s h x
-    → (can_step setup h s && is_local setup h s) ≡ false
+StandsStill image x = (setup : Setup) (h : ℕ) (s : Plain) → setup.image ≡ image → HasItsCode setup s
+    → HartAgrees s h x → (can_step setup h s && is_local setup h s) ≡ false
 
 -- One local step makes y of x, where one was made; else there is none, and y is x.
 abbrev pub StepsLocally : ProgramImage → Hart → Bool → Hart → Type 0

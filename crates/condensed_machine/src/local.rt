@@ -1,6 +1,7 @@
 //! Steps that no other hart sees, and that see none: what such a step does needs no memory.
 
-ghost use Rattle.std.specs.Prelude.{◌≡◌, ℕ, Bool, true, IfSome, is_some};
+ghost use Rattle.std.specs.Prelude.{◌≡◌, ℕ, Bool, true, false, IfSome, is_some};
+ghost use Rattle.elf_image.specs.Image.{byte_in, code_writable};
 ghost use Rattle.decoded_code.specs.Code.{IsCodeOf};
 ghost use Rattle.outcome_laws.specs.Local.{is_local_of};
 ghost use Rattle.smt_model.specs.Effects.{effect_of};
@@ -10,7 +11,7 @@ use decoded_code::Code;
 use events::Effect;
 use rv_execute::{Computed, effect_of, is_last, last_effect};
 use rv_instr::Op;
-use sc_machine::{Hart, NextInstruction, next_instruction};
+use sc_machine::{Hart, compute};
 use shared_memory::Memory;
 
 /// The effect of an instruction that ends or stops its hart, or neither touches memory nor puts a byte out:
@@ -30,18 +31,17 @@ fn local_effect(op: Op, computed: Computed) -> Option<Effect>
 }
 
 /// Makes the next step of a hart where the hart goes and the step is local. Answers whether it was made.
+/// The code is what the image has, as it may not be written.
 pub(crate) fn step_locally(start: &Memory, code: &Code, hart: &mut Hart) -> bool
-    requires { IsCodeOf start.now.image code.now }
+    requires code { IsCodeOf start.now.image (byte_in start.now.image) code.now }
+    requires fixed { code_writable start.now.image ≡ false }
     ensures { StepsLocally start.now.image hart.old result hart.new }
 {
     if !hart.is_going() {
         return false;
     }
-    let NextInstruction {
-        word: _,
-        op,
-        computed,
-    } = next_instruction(start, code, hart);
+    let op = code.op_at(hart.pc);
+    let computed = compute(start, op, hart);
     match local_effect(op, computed) {
         None => false,
         Some(effect) => {

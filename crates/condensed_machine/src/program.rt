@@ -1,10 +1,14 @@
 //! What is searched: a program, how many harts run it, and which of their registers matter.
 
 ghost use Rattle.std.specs.Prelude.{◌≡◌, ℕ, ◌<◌, ◌≤◌, IfOk, IfSome};
+ghost use Rattle.elf_image.specs.Image.{word_now};
+ghost use Rattle.rv_instr.specs.Decode.{op_of_word};
+ghost use Rattle.rv_instr.specs.Table.{OpInRange};
+ghost use Rattle.changed_memory.specs.Shared.{byte_at};
 ghost use Rattle.numbers.specs.Sizes.{most_harts};
 ghost use Rattle.shared_memory.specs.Contents.{CanWrite, IsStart};
 ghost use Rattle.sc_machine.specs.Harts.{IsFirst};
-ghost use Rattle.condensed_machine.specs.Machine.{IsSound};
+ghost use Rattle.condensed_machine.specs.Machine.{HasCode, IsSound};
 ghost use Rattle.condensed_machine.specs.Executing.{InEachState, IsExecuted, IsBehind, ComesToRest};
 
 use crate::executed::Executed;
@@ -14,7 +18,9 @@ use changed_memory::SharedState;
 use decoded_code::Code;
 use elf_image::Image;
 use live_registers::LiveTable;
-use sc_machine::{Hart, NextInstruction, next_instruction};
+use rv_decode::decode_op;
+use rv_instr::Op;
+use sc_machine::{Hart, compute};
 use shared_memory::Memory;
 use std::alloc::{AllocError, Global};
 use std::marker::Model;
@@ -22,7 +28,10 @@ use std::marker::Model;
 /// A program to be searched.
 #[derive(Drop)]
 pub(crate) struct Program {
+    /// The code as the image has it.
     code: Code,
+    /// Whether the code may be written: then what lies at a pc is up to what the harts share.
+    writable: bool,
     /// Memory as the image has it.
     start: Memory,
     live: LiveTable,
@@ -58,10 +67,12 @@ impl Program {
         ensures sound { IfOk result IsSound }
     {
         let code = Code::new(image, alloc)?;
-        let live = LiveTable::of(&code, alloc)?;
+        let live = LiveTable::of(image, &code, alloc)?;
+        let _ram = image.ram();
         Ok(Program {
             start: Memory::new(image, alloc)?,
             code,
+            writable: image.code_writable(),
             live,
             watched,
             harts,
@@ -95,22 +106,36 @@ impl Program {
 
     /// Makes the next instruction of a hart, whatever it is, on what the harts share. Answers what it was.
     pub(crate) fn execute(&self, shared: &SharedState, hart: u8, state: &mut Hart) -> Executed
-        requires { hart < most_harts }
+        requires hart { hart < most_harts }
+        requires code { HasCode self.now.image shared.now }
         ensures executed { InEachState self.now hart state.old shared.now
             (λ setup s. IsExecuted setup s hart result) }
         ensures behind { InEachState self.now hart state.old shared.now
             (λ setup s. IsBehind setup s hart state.new) }
         ensures allowed { IfSome result.effect.write (CanWrite self.now.image) }
     {
-        let NextInstruction {
-            word: _,
-            op,
-            computed,
-        } = next_instruction(&self.start, &self.code, state);
+        let op = self.op_at(shared, state.pc);
+        let computed = compute(&self.start, op, state);
         let addr = computed.addr;
         let effect = shared.effect(&self.start, hart, op, computed);
         state.advance(op.destination(), effect);
         Executed { op, addr, effect }
+    }
+
+    /// What lies at a pc where the harts share this: what the image has there, unless the code may be written.
+    fn op_at(&self, shared: &SharedState, pc: u32) -> Op
+        requires { HasCode self.now.image shared.now }
+        ensures value { result
+            ≡ op_of_word (word_now self.now.image (byte_at self.now.image shared.now) pc) }
+        ensures in_range { OpInRange result }
+    {
+        if !self.writable {
+            return self.code.op_at(pc);
+        }
+        match self.code.at(pc) {
+            Some(_) => decode_op(Some(shared.word(&self.start, pc))),
+            None => Op::NoWord,
+        }
     }
 
     /// Follows a hart's local steps, and puts 0 into the registers that nobody reads again. Answers how many
@@ -118,7 +143,7 @@ impl Program {
     pub(crate) fn come_to_rest(&self, state: &mut Hart) -> u16
         ensures { ComesToRest self.now state.old result state.new }
     {
-        let steps = settle(&self.start, &self.code, state);
+        let steps = settle(&self.start, &self.code, self.writable, state);
         rest(&self.live, &self.watched, state);
         steps
     }

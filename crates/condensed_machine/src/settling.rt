@@ -1,6 +1,7 @@
 //! How a hart follows its local steps, which may go first in any order that leads to an end.
 
 ghost use Rattle.std.specs.Prelude.{◌≡◌};
+ghost use Rattle.elf_image.specs.Image.{byte_in, code_writable};
 ghost use Rattle.decoded_code.specs.Code.{IsCodeOf};
 ghost use Rattle.condensed_machine.specs.Settling.{SettlesAs};
 
@@ -13,11 +14,16 @@ use shared_memory::Memory;
 /// they are cut off is no matter, as a state may be kept after any of them.
 const MOST_LOCAL_STEPS: u16 = 1_000;
 
-/// Follows a hart's local steps. Answers how many there were.
-pub(crate) fn settle(start: &Memory, code: &Code, hart: &mut Hart) -> u16
-    requires { IsCodeOf start.now.image code.now }
+/// Follows a hart's local steps. Answers how many there were: none where the code may be written, as any
+/// step may find what another hart has written there.
+pub(crate) fn settle(start: &Memory, code: &Code, writable: bool, hart: &mut Hart) -> u16
+    requires code { IsCodeOf start.now.image (byte_in start.now.image) code.now }
+    requires writable { writable ≡ code_writable start.now.image }
     ensures { SettlesAs start.now.image hart.old result hart.new }
 {
+    if writable {
+        return 0;
+    }
     for steps in 0..MOST_LOCAL_STEPS {
         if !step_locally(start, code, hart) {
             return steps;

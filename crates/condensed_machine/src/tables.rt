@@ -3,7 +3,8 @@
 ghost use Rattle.std.specs.Prelude.{◌≡◌, ℕ, ◌<◌, Some, IfOk, IfSome, slice_index, slice_get, length};
 ghost use Rattle.numbers.specs.Sizes.{most_harts};
 ghost use Rattle.shared_memory.specs.Contents.{CanWrite, IsStart};
-ghost use Rattle.condensed_machine.specs.Machine.{HaveZero, Keeps};
+ghost use Rattle.elf_image.specs.Image.{ProgramImage};
+ghost use Rattle.condensed_machine.specs.Machine.{HasCode, HaveCode, HaveZero, Keeps};
 ghost use Rattle.condensed_machine.specs.Decoded.{shared_at};
 ghost use Rattle.condensed_machine.specs.Tables.{HasNumber, IsSharedAfter};
 
@@ -43,6 +44,7 @@ pub(crate) fn number_shared(
     ensures kept { Keeps shared.old.keys shared.new.keys }
     ensures number { IfOk result (λ number. IsSharedAfter start.now.image hart executed
         (shared_at shared.old.keys before) shared.new.keys number) }
+    ensures code { HaveCode start.now.image shared.old.keys → HaveCode start.now.image shared.new.keys }
 {
     let Executed { op, addr, effect } = executed;
     if keeps_shared(op, effect) {
@@ -62,6 +64,8 @@ pub(crate) fn number_of_shared(
 ) -> Result<u32, AllocError>
     ensures kept { Keeps shared.old.keys shared.new.keys }
     ensures number { IfOk result (HasNumber shared.new.keys wanted.now) }
+    ensures code { (image : ProgramImage) → HaveCode image shared.old.keys → HasCode image wanted.now
+        → HaveCode image shared.new.keys }
 {
     if let Some(place) = shared.get_index_of(wanted) {
         return number_of(place);
@@ -74,6 +78,8 @@ pub(crate) fn number_of_shared(
 fn number_new(shared: &mut IndexSet<SharedState>, new: SharedState) -> Result<u32, AllocError>
     ensures kept { Keeps shared.old.keys shared.new.keys }
     ensures number { IfOk result (HasNumber shared.new.keys new) }
+    ensures code { (image : ProgramImage) → HaveCode image shared.old.keys → HasCode image new
+        → HaveCode image shared.new.keys }
 {
     let (place, _) = shared.insert_full(new)?;
     number_of(place)

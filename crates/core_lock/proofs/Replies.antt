@@ -28,6 +28,7 @@ for_fetch k past (event.Issue actor seq) h = h
 for_fetch k past (event.Complete actor seq outcome) h = h
 for_fetch k past (event.Drop actor seq) h = h
 for_fetch k past (event.Retire actor seq effect) h = h
+for_fetch k past (event.Refetch actor seq) h = h
 
 for_decode : (k h : ℕ) (past : List Event) (e : Event) → answers (AskDecode k h) past e ≡ true
     → is_event_for k (asked.Decode h) e ≡ true
@@ -38,6 +39,7 @@ for_decode k h past (event.Issue actor seq) yes_it_is = yes_it_is
 for_decode k h past (event.Complete actor seq outcome) yes_it_is = yes_it_is
 for_decode k h past (event.Drop actor seq) yes_it_is = yes_it_is
 for_decode k h past (event.Retire actor seq effect) yes_it_is = yes_it_is
+for_decode k h past (event.Refetch actor seq) yes_it_is = yes_it_is
 
 for_rename : (k h : ℕ) (past : List Event) (e : Event) → answers (AskRename k h) past e ≡ true
     → is_event_for k (asked.Rename h) e ≡ true
@@ -48,6 +50,7 @@ for_rename k h past (event.Issue actor seq) yes_it_is = yes_it_is
 for_rename k h past (event.Complete actor seq outcome) yes_it_is = yes_it_is
 for_rename k h past (event.Drop actor seq) yes_it_is = yes_it_is
 for_rename k h past (event.Retire actor seq effect) yes_it_is = yes_it_is
+for_rename k h past (event.Refetch actor seq) yes_it_is = yes_it_is
 
 for_issue : (k : ℕ) (past : List Event) (e : Event) → answers (AskIssue k) past e ≡ true
     → is_event_for k asked.Issue e ≡ true
@@ -58,6 +61,7 @@ for_issue k past (event.Issue actor seq) h = h
 for_issue k past (event.Complete actor seq outcome) h = h
 for_issue k past (event.Drop actor seq) h = h
 for_issue k past (event.Retire actor seq effect) h = h
+for_issue k past (event.Refetch actor seq) h = h
 
 for_complete : (k : ℕ) (past : List Event) (e : Event) → answers (AskComplete k) past e ≡ true
     → is_event_for k asked.Complete e ≡ true
@@ -68,6 +72,7 @@ for_complete k past (event.Issue actor seq) h = h
 for_complete k past (event.Complete actor seq outcome) h = h
 for_complete k past (event.Drop actor seq) h = h
 for_complete k past (event.Retire actor seq effect) h = h
+for_complete k past (event.Refetch actor seq) h = h
 
 for_retire : (k h : ℕ) (past : List Event) (e : Event) → answers (AskRetire k h) past e ≡ true
     → is_event_for k (asked.Retire h) e ≡ true
@@ -78,6 +83,7 @@ for_retire k h past (event.Issue actor seq) yes_it_is = yes_it_is
 for_retire k h past (event.Complete actor seq outcome) yes_it_is = yes_it_is
 for_retire k h past (event.Drop actor seq) yes_it_is = yes_it_is
 for_retire k h past (event.Retire actor seq effect) yes_it_is = (and_parts (actor == k) (is_of past h seq) yes_it_is).0
+for_retire k h past (event.Refetch actor seq) yes_it_is = (and_parts (actor == k) (is_of past h seq) yes_it_is).0
 
 -- A plain ask, as the core and as the lock name it.
 record IsSameAsk (k : ℕ) (ask : CoreAsk) (asked : Asked) : Type 0 where
@@ -136,6 +142,7 @@ by_actor k asked.Issue (event.Issue actor seq) h = grind (arith, nat_tests)
 by_actor k asked.Complete (event.Complete actor seq outcome) h = grind (arith, nat_tests)
 by_actor k asked.Complete (event.Drop actor seq) h = grind (arith, nat_tests)
 by_actor k (asked.Retire g) (event.Retire actor seq effect) h = grind (arith, nat_tests)
+by_actor k (asked.Retire g) (event.Refetch actor seq) h = grind (arith, nat_tests)
 by_actor k _ _ h = absurd (false≢true h)
 
 -- The event, where there is one, is this actor's.

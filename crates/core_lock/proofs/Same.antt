@@ -6,7 +6,7 @@ use Rattle.events.specs.{declared.effect.Next.Next, declared.effect.Next.TheVari
 use Rattle.events.specs.{declared.effect.Next.TheVariants.Ended, declared.effect.Next.TheVariants.Stopped}
 use Rattle.events.specs.{declared.effect.Written.Written, declared.effect.Outcome.Outcome}
 use Rattle.events.specs.{declared.effect.Effect.Effect, declared.event.Event.Event}
-use Rattle.events.specs.declared.event.Event.TheVariants.{Fetch, Decode, Rename, Issue, Complete, Drop, Retire}
+use Rattle.events.specs.declared.event.Event.TheVariants.{Fetch, Decode, Rename, Issue, Complete, Drop, Retire, Refetch}
 use Rattle.events.specs.contracts.effect.NextPartialEq.TheImpl as next
 use Rattle.events.specs.contracts.effect.WrittenPartialEq.TheImpl as written
 use Rattle.events.specs.contracts.effect.OutcomePartialEq.TheImpl as outcome
@@ -124,6 +124,7 @@ event_same (Complete k seq x) (Complete l seq' y) h =
 event_same (Drop k seq) (Drop l seq') h = grind (arith, nat_tests)
 event_same (Retire k seq x) (Retire l seq' y) h =
     three_same (λ x y z. Retire x y z) effect.eq-value.it effect_same k l seq seq' x y h
+event_same (Refetch k seq) (Refetch l seq') h = grind (arith, nat_tests)
 event_same _ _ h = absurd (false≢true h)
 
 -- ---- What is alike is equal
@@ -171,6 +172,7 @@ event_self (Issue k seq) = both _ _ (nat_self k) (nat_self seq)
 event_self (Complete k seq x) = both _ _ (nat_self k) (both _ _ (nat_self seq) (outcome_self x))
 event_self (Drop k seq) = both _ _ (nat_self k) (nat_self seq)
 event_self (Retire k seq x) = both _ _ (nat_self k) (both _ _ (nat_self seq) (effect_self x))
+event_self (Refetch k seq) = both _ _ (nat_self k) (nat_self seq)
 
 -- ---- Events that may be missing
 

@@ -93,7 +93,7 @@ grown_by None core = core
 grown_by (Some e) core = grown e core
 
 -- The event is of the kind that was asked for, and by this actor. A job that is handed back is
--- completed or dropped.
+-- completed or dropped, and a retirement may turn out a refetch.
 abbrev pub is_event_for : ℕ → Asked → Event → Bool
 is_event_for k asked.Fetch (event.Fetch actor hart seq pc word predicted) = actor == k
 is_event_for k (asked.Decode hart) (event.Decode actor seq) = actor == k
@@ -102,6 +102,7 @@ is_event_for k asked.Issue (event.Issue actor seq) = actor == k
 is_event_for k asked.Complete (event.Complete actor seq outcome) = actor == k
 is_event_for k asked.Complete (event.Drop actor seq) = actor == k
 is_event_for k (asked.Retire hart) (event.Retire actor seq effect) = actor == k
+is_event_for k (asked.Retire hart) (event.Refetch actor seq) = actor == k
 is_event_for k _ _ = false
 
 abbrev pub is_issue : Asked → Bool

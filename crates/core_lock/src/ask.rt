@@ -16,7 +16,7 @@ pub enum Ask {
     Issue,
     /// Take back a job that was worked.
     Complete(Done),
-    /// Retire this hart's oldest instruction in flight.
+    /// Retire this hart's oldest instruction in flight, or fetch it again.
     Retire(u8),
 }
 

@@ -8,3 +8,4 @@ pub mod Rename
 pub mod Issue
 pub mod Complete
 pub mod Retire
+pub mod Refetch

@@ -1,5 +1,6 @@
 -- What the tests of the rules ask, in the words of the code.
-use Rattle.std.specs.Prelude.{◌≡◌, ℕ, Bool, not, ◌||◌, ◌&&◌, nat_lt, if◌then◌else◌, List, Option, Some, None}
+use Rattle.std.specs.Prelude.{◌≡◌, ℕ, Bool, not, ◌||◌, ◌&&◌, nat_lt, if◌then◌else◌, List, [], ◌∷◌}
+use Rattle.std.specs.Prelude.{Option, Some, None}
 use Rattle.std.specs.Prelude.{is_some, is_none}
 use Rattle.events.specs.{declared.event.Event.Event, declared.effect.Outcome.Outcome}
 use Rattle.rv_instr.specs.declared.op.UnitKind.{UnitKind}
@@ -7,7 +8,9 @@ use Rattle.exec_units.specs.Job.{JobView}
 use Rattle.issue_queue.specs.declared.entry.Entry.{Entry}
 use Rattle.retire_squash.specs.{declared.active.Active.Active, declared.active.Stage.Stage}
 use Rattle.retire_squash.specs.declared.active.Stage.TheVariants as stage
-use Rattle.smt_model.specs.{Basics.holds_of, Jobs.job, Jobs.unit_of_actor, Picture.Picture}
+use Rattle.smt_model.specs.{Basics.holds_of, Jobs.is_actor, Jobs.job, Jobs.unit_of_actor}
+use Rattle.smt_model.specs.{Fates.Completed, Fates.fate, Fates.is, Flights.flight, Picture.Picture}
+use Rattle.smt_model.specs.{Rules.is_first, Rules.of_fetched}
 use Rattle.smt_model.specs.{Registers.is_unclaimed, Setup.Setup, Setup.registers_of}
 use Rattle.core_parts.specs.{Agree.IsEntry, Agree.IsOpenJob, Place.InActiveList}
 use Rattle.core_parts.specs.{declared.slot.OpenJob.OpenJob}
@@ -41,3 +44,11 @@ open_view x = record { seq = x.seq; op = x.op; pc = x.pc; first = x.first; secon
 abbrev pub outcome_at : Stage → Option Outcome
 outcome_at (stage.Completed outcome) = Some outcome
 outcome_at _ = None
+
+-- The rules that a retirement and a refetch have in common: the instruction is completed and the
+-- oldest of its hart.
+abbrev pub rules_of_oldest : Setup → List Event → ℕ → ℕ → List (ℕ × Bool)
+rules_of_oldest setup past actor seq =
+    (1, is_actor setup actor)
+    ∷ (2, is (fate past seq) Completed)
+    ∷ (3, of_fetched past seq (λ f. is_first seq (flight past f.hart))) ∷ []

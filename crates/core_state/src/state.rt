@@ -8,10 +8,12 @@ ghost use Rattle.core_parts.specs.Agree.{IsActive, IsEntry};
 ghost use Rattle.core_state.specs.View.{CoreView, grown};
 ghost use Rattle.core_state.specs.Answers.{AllowsNone, CanFetch, fetched_at, TakesLeast, IsJobOf};
 ghost use Rattle.core_state.specs.Answers.{IsStrange};
+ghost use Rattle.elf_image.specs.Image.{word_now};
 ghost use Rattle.smt_model.specs.Account.{records};
 ghost use Rattle.smt_model.specs.Asks.{answers, AskFetch, AskDecode, AskRename, AskIssue};
 ghost use Rattle.smt_model.specs.Asks.{AskComplete, AskRetire};
-ghost use Rattle.smt_model.specs.Memory.{output};
+ghost use Rattle.smt_model.specs.Basics.{same_number};
+ghost use Rattle.smt_model.specs.Memory.{byte_at, output};
 ghost use Rattle.smt_model.specs.Picture.{picture};
 ghost use Rattle.smt_model.specs.Rules.{refused};
 ghost use Rattle.smt_model.specs.Jobs.{is_actor};
@@ -46,7 +48,7 @@ use std::marker::Model;
 /// The state of a core, and the history of its events.
 pub struct State {
     image: Image,
-    /// The image's code, decoded.
+    /// The code, decoded: what memory has there now.
     code: Code,
     config: Config,
     parts: Parts,
@@ -297,8 +299,9 @@ impl State {
         Some(self.finish(actor, &job, &active, outcome))
     }
 
-    /// Retires hart `hart`'s oldest instruction in flight. None where there is none, it isn't
-    /// completed, or there is no such actor or hart, and then nothing changes.
+    /// Retires hart `hart`'s oldest instruction in flight, or fetches it again, where memory has
+    /// another word there now. None where there is none, it isn't completed, or there is no such actor
+    /// or hart, and then nothing changes.
     #[inline(always)]
     pub fn retire(&mut self, actor: u8, hart: u8) -> Option<Event>
         requires { length self.old.past < self.old.limit }
@@ -314,6 +317,9 @@ impl State {
             return None;
         }
         let (active, outcome) = next_to_retire(&self.parts, hart)?;
+        if !self.is_fresh(&active) {
+            return Some(self.write_refetch(actor, hart, &active));
+        }
         let effect = effect(
             &self.parts.memory,
             &self.parts.accesses,
@@ -323,6 +329,15 @@ impl State {
             outcome,
         );
         Some(self.write_retire(actor, hart, &active, effect))
+    }
+
+    /// Whether the word of an instruction is the one that memory has at its pc now.
+    #[inline(always)]
+    fn is_fresh(&self, active: &Active) -> bool
+        ensures { result ≡ same_number active.now.word
+            (word_now self.now.setup.image (byte_at self.now.setup self.now.past) active.now.pc) }
+    {
+        active.word == self.code.word_at(active.pc)
     }
 
     /// Whether the core has this actor.

@@ -9,7 +9,8 @@ use Rattle.retire_squash.specs.declared.active.Stage.TheVariants as stage
 use Rattle.smt_model.specs.{declared.config.Status.Status, Basics.first, Basics.same_number}
 use Rattle.smt_model.specs.{Words.Pc, Fates.Completed, Nexts.is_last, Picture.Picture}
 use Rattle.smt_model.specs.{Kinds.destination, Kinds.kind_of, Kinds.is_loading, Plain.status_after}
-use Rattle.smt_model.specs.Steps.{IsRetire, IsReplay, IsHalt, IsEnd, op_in, renamed_map}
+use Rattle.smt_model.specs.Steps.{IsRetire, IsReplay, IsLeave, IsSquash, IsEnd, IsRefetch, op_in}
+use Rattle.smt_model.specs.Steps.{renamed_map}
 use Rattle.core_parts.specs.{Agree.IsActive, declared.hart.HartState.HartState}
 
 -- x is the oldest of hart h's flight, and has completed with this outcome.
@@ -62,13 +63,24 @@ pub record Ends (p q : Picture) (h : ℕ) (x : Active) (status : Status) : Type 
   pub stands : status ≡ status_after effect.next (p.status h)
   pub step : IsEnd p q h x.seq effect
 
--- It retires and its hart stands like this, before all younger ones are squashed: the hart's map
--- still has its register.
-pub record Leaves (p q : Picture) (h : ℕ) (x : Active) (status : Status) : Type 0 where
+-- It doesn't retire: its hart is fetched from its pc again.
+pub record Refetches (p q : Picture) (h : ℕ) (x : Active) : Type 0 where
   pub is_oldest : IsOldestActive p h x
-  pub effect : Effect
-  pub stands : status ≡ status_after effect.next (p.status h)
-  pub step : IsHalt p q h x.seq effect
+  pub step : IsRefetch p q h x.seq x.pc
+
+-- It leaves and commits nothing, and all younger ones are squashed; its hart stands like this and
+-- is fetched from this pc.
+pub record Abandons (p q : Picture) (h : ℕ) (x : Active) (status : Status) (pc : ℕ) : Type 0 where
+  pub is_oldest : IsOldestActive p h x
+  pub middle : Picture
+  pub leave : IsLeave p middle h x.seq status pc
+  pub squash : IsSquash middle q h x.seq
+
+-- It has left like this, before all younger ones are squashed: the hart's map still has its
+-- register.
+pub record Leaves (p q : Picture) (h : ℕ) (x : Active) (status : Status) (pc : ℕ) : Type 0 where
+  pub is_oldest : IsOldestActive p h x
+  pub step : IsLeave p q h x.seq status pc
   pub mapped : (r : ℕ) → 0 < r → r < 32 → q.mapped h r ≡ p.mapped h r
 
 -- It retires with this effect: its hart goes on where it was, or behind a load that is replayed, or
@@ -102,12 +114,13 @@ pub record HasCommitted (old new : HartState) (rd : ℕ) (phys : Option ℕ) (pc
   pub fetch_pc : new.fetch_pc ≡ pc
   pub status : new.status ≡ old.status
 
--- A hart has lost its oldest instruction, number n, and stands like this. No map of a younger one
--- is kept: all of them go with it.
-abbrev pub HasLeft : HartState → HartState → ℕ → Status → Type 0
-HasLeft old new n status = new
+-- A hart has lost its oldest instruction, number n, stands like this and is fetched from this pc.
+-- No map of a younger one is kept: all of them go with it.
+abbrev pub HasLeft : HartState → HartState → ℕ → Status → ℕ → Type 0
+HasLeft old new n status pc = new
     ≡ record old {
       active = drop 1 old.active;
       maps = record old.maps { kept = released_after n old.maps.kept };
+      fetch_pc = pc;
       status = status;
     }

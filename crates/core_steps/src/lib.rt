@@ -26,4 +26,4 @@ pub use fetch::{choose, fetch_slot};
 pub use issue::{issue_entry, next_to_issue, unit_of};
 pub use point::FetchPoint;
 pub use rename::{next_to_rename, rename_oldest};
-pub use retire::{next_to_retire, retire_oldest};
+pub use retire::{next_to_retire, refetch_oldest, retire_oldest};

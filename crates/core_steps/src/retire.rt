@@ -5,7 +5,8 @@ ghost use Rattle.shared_memory.specs.Contents.{CanWrite};
 ghost use Rattle.core_steps.specs.Accesses.{address_at};
 ghost use Rattle.core_parts.specs.Agree.{PartsAgree, KeepsSizes, From};
 ghost use Rattle.core_steps.specs.Retirement.{CanRetire, NoneCanRetire, Retires};
-ghost use Rattle.core_steps.specs.Retirement.{Commits, Replays, Ends, Leaves, HasCommitted, HasLeft};
+ghost use Rattle.core_steps.specs.Retirement.{Commits, Replays, Ends, Refetches, Abandons, Leaves};
+ghost use Rattle.core_steps.specs.Retirement.{HasCommitted, HasLeft};
 ghost use Rattle.core_steps.specs.Retirement.{first_value, is_replay};
 
 use crate::accesses::{remove_access, touch_accesses};
@@ -123,8 +124,20 @@ fn commit(parts: &mut Parts, hart: u8, active: &Active, effect: Effect, pc: u32)
     fill_register(parts, active.phys, effect.value);
 }
 
-/// Nothing is committed and memory stays: its own register becomes free, and all younger ones
-/// are squashed.
+/// Hart `hart`'s oldest instruction in flight, `active`, doesn't retire, since memory has another
+/// word there now: it and all younger ones leave, and the hart is fetched from its pc again.
+#[inline(never)]
+pub fn refetch_oldest(parts: &mut Parts, hart: u8, active: &Active)
+    requires step { From parts.old hart (λ p q. Refetches p q hart active.now) }
+    ensures agrees { (p q : Picture) → PartsAgree p parts.old → Refetches p q hart active.now
+        → PartsAgree q parts.new }
+    ensures sizes { KeepsSizes parts.old parts.new }
+{
+    let status = parts.harts[usize::from(hart)].status;
+    abandon(parts, hart, active, status, active.pc);
+}
+
+/// It ends or stops its hart, which is fetched no more.
 #[inline(never)]
 fn halt(parts: &mut Parts, hart: u8, active: &Active, status: Status)
     requires step { From parts.old hart (λ p q. Ends p q hart active.now status) }
@@ -132,19 +145,31 @@ fn halt(parts: &mut Parts, hart: u8, active: &Active, status: Status)
         → PartsAgree q parts.new }
     ensures sizes { KeepsSizes parts.old parts.new }
 {
-    leave(parts, hart, active, status);
+    let on = parts.harts[usize::from(hart)].fetch_pc;
+    abandon(parts, hart, active, status, on);
+}
+
+/// Nothing is committed and memory stays: its own register becomes free, and all younger ones
+/// are squashed. From now on the hart stands like this and is fetched from `pc`.
+fn abandon(parts: &mut Parts, hart: u8, active: &Active, status: Status, pc: u32)
+    requires step { From parts.old hart (λ p q. Abandons p q hart active.now status pc) }
+    ensures agrees { (p q : Picture) → PartsAgree p parts.old
+        → Abandons p q hart active.now status pc → PartsAgree q parts.new }
+    ensures sizes { KeepsSizes parts.old parts.new }
+{
+    leave(parts, hart, active, status, pc);
     parts.squash(hart, active.seq, false);
 }
 
-/// Hart `hart` loses its oldest instruction, whose register becomes free, and stands like this
-/// from now on.
-fn leave(parts: &mut Parts, hart: u8, active: &Active, status: Status)
-    requires step { From parts.old hart (λ p q. Leaves p q hart active.now status) }
-    ensures agrees { (p q : Picture) → PartsAgree p parts.old → Leaves p q hart active.now status
-        → PartsAgree q parts.new }
+/// Hart `hart` loses its oldest instruction, whose register becomes free. From now on it stands
+/// like this and is fetched from `pc`.
+fn leave(parts: &mut Parts, hart: u8, active: &Active, status: Status, pc: u32)
+    requires step { From parts.old hart (λ p q. Leaves p q hart active.now status pc) }
+    ensures agrees { (p q : Picture) → PartsAgree p parts.old
+        → Leaves p q hart active.now status pc → PartsAgree q parts.new }
     ensures sizes { KeepsSizes parts.old parts.new }
 {
-    leave_flight(&mut parts.harts[usize::from(hart)], active.seq, status);
+    leave_flight(&mut parts.harts[usize::from(hart)], active.seq, status, pc);
     give_back(&mut parts.free, active.phys);
     remove_access(&mut parts.accesses, hart, active.op);
 }
@@ -162,13 +187,14 @@ fn commit_oldest(state: &mut HartState, rd: Reg, phys: Option<Phys>, pc: u32) ->
     Some(state.maps.commit(rd, phys))
 }
 
-/// A hart's oldest instruction, of number `seq`, leaves, and it stands like this from now on. No map
-/// of a younger one is kept, since all of them are squashed next.
-fn leave_flight(state: &mut HartState, seq: Seq, status: Status)
+/// A hart's oldest instruction, of number `seq`, leaves; from now on the hart stands like this and
+/// is fetched from `pc`. No map of a younger one is kept, since all of them are squashed next.
+fn leave_flight(state: &mut HartState, seq: Seq, status: Status, pc: u32)
     requires { 0 < length state.old.active }
-    ensures { HasLeft state.old state.new seq status }
+    ensures { HasLeft state.old state.new seq status pc }
 {
     state.active.pop();
     state.maps.release_after(seq);
+    state.fetch_pc = pc;
     state.status = status;
 }

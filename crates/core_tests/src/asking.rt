@@ -1,7 +1,7 @@
 //! Sizes of cores, and the asks of a run with the events that they should make.
 
 use arrayvec::ArrayVec;
-use event_text::{SECOND_RANGES, read_event_within};
+use event_text::{THIRD_RANGES, read_event_within};
 use events::Event;
 use smt_core::{Answer, CompleteAnswer, Config, Core, Done, IssueAnswer, Predict, Role, work};
 use std::alloc::Global;
@@ -76,7 +76,7 @@ pub fn make<P: Predict>(core: &mut Core, predictor: &mut P, step: Step) -> Optio
 /// Whether an event came, and is printed as this line: each line is read as one event alone.
 fn is_line(event: Option<Event>, line: &str) -> bool {
     match event {
-        Some(event) => read_event_within(line.as_bytes(), SECOND_RANGES) == Ok(event),
+        Some(event) => read_event_within(line.as_bytes(), THIRD_RANGES) == Ok(event),
         None => false,
     }
 }

@@ -35,12 +35,16 @@ fn rows() -> [LiveRow; 12] {
     ]
 }
 
-/// Whether a register of a program is live at a pc, where there is memory for the answer.
-fn is_live(words: &[u32], pc: u32, register: u8, alloc: Global) -> Option<bool> {
-    let file = file_of(words, 0, alloc).ok()?;
+/// Whether a register of a program, whose segment has these flags, is live at a pc, where there is memory for the
+/// answer.
+fn is_live(words: &[u32], flags: u8, pc: u32, register: u8, alloc: Global) -> Option<bool> {
+    let mut file = file_of(words, 0, alloc).ok()?;
+    if let Some(byte) = file.get_mut(76) {
+        *byte = flags;
+    }
     let image = image_of(file.as_slice(), 65536, alloc)?;
     let code = Code::new(&image, alloc).ok()?;
-    let table = LiveTable::of(&code, alloc).ok()?;
+    let table = LiveTable::of(&image, &code, alloc).ok()?;
     if register < 32 {
         Some(table.is_live(pc, register))
     } else {
@@ -51,7 +55,16 @@ fn is_live(words: &[u32], pc: u32, register: u8, alloc: Global) -> Option<bool> 
 #[test]
 fn a_register_is_live_where_it_may_be_read_before_it_is_written(rt: HostRuntime) {
     for (words, pc, register, live) in &rows() {
-        let found = is_live(words, *pc, *register, rt.alloc());
+        let found = is_live(words, 5, *pc, *register, rt.alloc());
         holds(&rt, "live", found == Some(*live));
     }
+}
+
+// Another hart may write any instruction, and a jump may lead anywhere.
+#[test]
+fn all_are_live_where_the_code_may_be_written(rt: HostRuntime) {
+    let unread = is_live(&EXIT, 7, 0x8000_0008, 5, rt.alloc());
+    holds(&rt, "unread", unread == Some(true));
+    let behind = is_live(&EXIT, 7, 0x8000_000c, 10, rt.alloc());
+    holds(&rt, "behind", behind == Some(true));
 }

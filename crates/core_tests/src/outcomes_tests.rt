@@ -217,3 +217,88 @@ fn ten_harts_that_store(rt: HostRuntime) {
         Err(_) => holds(&rt, "found", false),
     }
 }
+
+/// Hart 0 copies the last word over the sixth one, which hart 1 comes to: `auipc x6,0`, `bne x10,x0,16`,
+/// `lw x5,28(x6)`, `sw x5,20(x6)`, `ebreak`, for hart 1 `addi x10,x0,5`, `ebreak`, and the word `addi x10,x0,9`.
+static WRITTEN: [u32; 8] = [
+    0x0000_0317,
+    0x0005_1863,
+    0x01c3_2283,
+    0x0053_2a23,
+    0x0010_0073,
+    0x0050_0513,
+    0x0010_0073,
+    0x0090_0513,
+];
+
+/// x10 of hart 1, and the sixth word.
+fn watching_written() -> Watch {
+    let mut registers = ArrayVec::new();
+    registers.push(WatchedRegister {
+        hart: 1,
+        register: 10,
+    });
+    let mut words = ArrayVec::new();
+    words.push(0x8000_0014);
+    Watch { registers, words }
+}
+
+/// The outcomes of that program, whose segment has these flags.
+fn written(flags: u8, alloc: Global) -> Option<Outcomes> {
+    let mut file = file_of(&WRITTEN, 0, alloc).ok()?;
+    if let Some(byte) = file.get_mut(76) {
+        *byte = flags;
+    }
+    let image = image_of(file.as_slice(), 65536, alloc)?;
+    find_outcomes(&image, 2, &watching_written(), 100, &(), alloc).ok()
+}
+
+/// Whether in an outcome the store was made, both harts were stopped by EBREAK, and x10 of hart 1 is this.
+fn is_written(found: &Outcomes, index: usize, number: u32) -> bool {
+    match found.outcome(index) {
+        None => false,
+        Some(outcome) => {
+            outcome.statuses.as_slice() == [Status::Stopped(3), Status::Stopped(3)].as_slice()
+                && outcome.registers.as_slice() == [number].as_slice()
+                && outcome.words.as_slice() == [0x0090_0513].as_slice()
+        }
+    }
+}
+
+// By hand: hart 1 executes the sixth word before hart 0 has written it, or behind that.
+#[test]
+fn a_hart_writes_an_instruction_of_another(rt: HostRuntime) {
+    match written(7, rt.alloc()) {
+        Some(found) => {
+            holds(&rt, "two", found.count() == 2);
+            holds(&rt, "before", is_written(&found, 0, 5));
+            holds(&rt, "behind", is_written(&found, 1, 9));
+            holds(&rt, "stuck", matches!(found.stuck(rt.alloc()), Ok(None)));
+        }
+        None => holds(&rt, "found", false),
+    }
+}
+
+// The store stops hart 0 with cause 7, so the sixth word stays.
+#[test]
+fn code_that_may_not_be_written_has_one_outcome(rt: HostRuntime) {
+    match written(5, rt.alloc()) {
+        Some(found) => {
+            holds(&rt, "one", found.count() == 1);
+            holds(&rt, "stays", has_stayed(&found));
+        }
+        None => holds(&rt, "found", false),
+    }
+}
+
+/// Whether in the first outcome the store has stopped hart 0, and the sixth word is as it was.
+fn has_stayed(found: &Outcomes) -> bool {
+    match found.outcome(0) {
+        None => false,
+        Some(outcome) => {
+            outcome.statuses.as_slice() == [Status::Stopped(7), Status::Stopped(3)].as_slice()
+                && outcome.registers.as_slice() == [5].as_slice()
+                && outcome.words.as_slice() == [0x0050_0513].as_slice()
+        }
+    }
+}

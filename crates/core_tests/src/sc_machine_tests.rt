@@ -6,7 +6,7 @@ use shared_memory::{AccessKind, Memory};
 use smt_core::Status;
 use std::alloc::Global;
 use std::test::Fail;
-use test_files::{EXIT_WITH_5, file_of, image_of};
+use test_files::{EXIT_WITH_5, PATCHED, file_of, image_of, writable_file_of};
 
 /// The machine of a program's file, with 8192 bytes of RAM.
 fn machine_of(alloc: Global, file: &[u8], harts: u8, room: usize) -> Option<Plain> {
@@ -149,6 +149,33 @@ fn memory_is_read_and_written_in_order(rt: HostRuntime) -> Result<(), Fail> {
     let registers = [0x8000_1000, 0xffff_ff80, 0xffff_ff80, 0x8000, 0x7f80, 0, 1];
     assert!(rt; seen == Some((Status::Stopped(4), 0x8000_0018, registers)));
     assert!(rt; word == Some(0x7f80));
+    Ok(())
+}
+
+#[test]
+fn a_word_is_executed_as_it_stands_in_memory(rt: HostRuntime) -> Result<(), Fail> {
+    let file = writable_file_of(&PATCHED, rt.alloc())?;
+    let mut machine = machine_of(rt.alloc(), &file, 1, 0).ok_or("refused")?;
+    let before = machine.run(&[0, 0, 0, 0]);
+    let patched = fields_of(machine.step(0));
+    let after = machine.run(&[0, 0]);
+    let seen = seen(&machine, 0);
+    let behind = effect(Some(9), Next::Pc(0x8000_0014));
+    assert!(rt; before == Ok(()) && after == Ok(()));
+    assert!(rt; patched == Ok((0, 0x8000_0010, Some(0x0090_0513), behind)));
+    let registers = [0x0090_0513, 0x8000_0000, 0, 0, 0, 9, 1];
+    assert!(rt; seen == Some((Status::Ended(9), 0x8000_0018, registers)));
+    Ok(())
+}
+
+#[test]
+fn code_that_may_not_be_written_stops_the_store(rt: HostRuntime) -> Result<(), Fail> {
+    let mut machine = machine(rt.alloc(), &PATCHED, 1, 0).ok_or("refused")?;
+    let ran = machine.run(&[0, 0, 0]);
+    let seen = seen(&machine, 0);
+    let registers = [0x0090_0513, 0x8000_0000, 0, 0, 0, 0, 1];
+    assert!(rt; ran == Ok(()));
+    assert!(rt; seen == Some((Status::Stopped(7), 0x8000_0008, registers)));
     Ok(())
 }
 

@@ -1,8 +1,10 @@
 //! The asks of a core: how a program runs to its end, what is answered where nothing can be done,
-//! what is predicted (`predicting`), and events that are followed (`following`).
+//! what is predicted (`predicting`), events that are followed (`following`), and code that is written
+//! (`refetching`).
 
 mod following;
 mod predicting;
+mod refetching;
 
 use crate::asking::{AnswerKind, config, issue, kind_of};
 use crate::first_program::{End, FIRST_END, end_of, ended_core, first_core, first_image};

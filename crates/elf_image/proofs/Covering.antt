@@ -4,7 +4,7 @@ use Rattle.std.proofs.Common.{sym, ◌∙◌, ap, subst, refl, arith, cond, Some
 use Rattle.std.specs.Prelude.{All, AllPairs, find, slice_index}
 use Rattle.std.proofs.{lemmas.Bool.Decides.nat_tests, lemmas.List.Elements.All-head, lemmas.List.Elements.All-tail}
 use Rattle.elf_image.specs.Image.{ProgramSegment, ProgramImage, IsWellFormed, byte_in, covers, segment_byte, byte_among}
-use Rattle.elf_image.specs.Image.{code_segment, word_in, is_code_segment}
+use Rattle.elf_image.specs.Image.{code_segment, word_in, word_of, is_code_segment}
 use Rattle.elf_image.specs.Layout.{word_at}
 use Rattle.std.specs.Option.{option_map_or}
 
@@ -100,7 +100,7 @@ code_byte image s pc k addr ok code low is high =
 -- a word of the code is read from the code's bytes
 pub word_read : (image : ProgramImage) (s : ProgramSegment) (pc : ℕ) → IsWellFormed image → code_segment image ≡ Some s
     → s.address ≤ pc → pc + 4 ≤ s.address + length s.bytes → word_at s.bytes (pc - s.address) ≡ word_in image pc
-unfolding word_at word_in
+unfolding word_at word_of
 word_read image s pc ok code low high =
     let first = code_byte image s pc 0 pc ok code low (omega arith) (omega arith) in
     let second = code_byte image s pc 1 (pc + 1) ok code low refl (omega arith) in

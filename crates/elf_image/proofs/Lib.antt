@@ -6,3 +6,4 @@ pub mod Written
 pub mod WrittenFields
 pub mod Rising
 pub mod RoundTrip
+pub mod Words

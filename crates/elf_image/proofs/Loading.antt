@@ -19,9 +19,9 @@ use Rattle.elf_image.specs.declared.refusal.LoadRefused.TheVariants.{WrongMemory
 use Rattle.elf_image.specs.declared.refusal.LoadRefused.TheVariants.{SegmentsOverlap, WrongCodeSegment, MisalignedCode}
 use Rattle.elf_image.specs.declared.refusal.LoadRefused.TheVariants.{WrongEntry}
 use Rattle.elf_image.specs.Image.{ProgramSegment, IsRamSize, IsWellFormed, ram_start, is_code_segment}
-use Rattle.elf_image.specs.Image.{is_writable_segment, code_segment, code_start, code_size, covers, segment_byte}
+use Rattle.elf_image.specs.Image.{code_segment, code_start, code_size, covers, segment_byte}
 use Rattle.elf_image.specs.Image.{byte_among, byte_in}
-use Rattle.elf_image.specs.Checks.{Passes, AreApart, is_executable, is_writable}
+use Rattle.elf_image.specs.Checks.{Passes, AreApart, is_executable}
 use Rattle.elf_image.specs.Loaded.{segment_of, image_from, IsOutside, IsImageOf}
 use Rattle.elf_image.proofs.Covering.{EndsBefore, found_at, covers_from, covers_low, covers_high, byte_covered}
 use Rattle.elf_image.proofs.Covering.{byte_zero}
@@ -37,7 +37,6 @@ pub record Good (file : List ℕ) (ram : ℕ) (h : ProgramHeader) : Type 0 where
   pub sized : h.file_size ≤ h.memory_size
   pub low : ram_start ≤ h.address
   pub high : h.address + h.memory_size ≤ ram_start + ram
-  pub read_only : is_executable h && is_writable h ≡ false
   pub aligned : IsTrue (is_executable h) → (h.address % 4 ≡ 0) × (h.memory_size % 4 ≡ 0)
   pub entry : IsTrue (is_executable h) → (h.address ≤ entry_of file) × (entry_of file < h.address + h.memory_size)
 
@@ -49,7 +48,6 @@ are_good file ram ok k d below = record {
   sized = (ok WrongMemorySize k d below).1;
   low = (ok SegmentOutsideRam k d below).0;
   high = (ok SegmentOutsideRam k d below).1;
-  read_only = (ok WrongCodeSegment).1 k d below;
   aligned = ok MisalignedCode k d below;
   entry = (ok WrongEntry).1 k d below;
 }
@@ -62,14 +60,8 @@ length_segment file h inside less = simp (length-append, length-take, length-dro
 low_bit : (n : ℕ) → n % 8 % 2 ≡ n % 2
 low_bit n = omega arith
 
-next_bit : (n : ℕ) → n % 8 / 2 % 2 ≡ n / 2 % 2
-next_bit n = omega arith
-
 pub same_code : (file : List ℕ) (h : ProgramHeader) → is_code_segment (segment_of file h) ≡ is_executable h
 same_code file h = ap (λ (n : ℕ). n == 1) (low_bit h.flags)
-
-same_writable : (file : List ℕ) (h : ProgramHeader) → is_writable_segment (segment_of file h) ≡ is_writable h
-same_writable file h = ap (λ (n : ℕ). n == 1) (next_bit h.flags)
 
 count_by-map : {X Y : Type 0} (p : Y → Bool) (q : X → Bool) (f : X → Y) → ((x : X) → p (f x) ≡ q x) → (xs : List X)
     → count_by p (map f xs) ≡ count_by q xs
@@ -145,7 +137,7 @@ module _ (file : List ℕ) (ram : ℕ) (order : List ProgramHeader) (ok : (check
   one =
       count_by-map is_code_segment is_executable (segment_of file) (same_code file) order
       ∙ sum_by-IsPermutation (λ (h : ProgramHeader). cond (is_executable h) 1 0) (loadable file) order all
-      ∙ (ok WrongCodeSegment).0
+      ∙ ok WrongCodeSegment
 
   -- what is so of the code
   pub record IsCode (s : ProgramSegment) : Type 0 where
@@ -201,8 +193,6 @@ module _ (file : List ℕ) (ram : ℕ) (order : List ProgramHeader) (ok : (check
         rising = rising_segments;
         flags = each (λ t. t.flags < 8) (λ h g. omega arith);
         one_code = one;
-        read_only = each (λ t. is_code_segment t && is_writable_segment t ≡ false)
-            (λ h g. rw (same_code file h, same_writable file h) g.read_only);
         code_within = rw (start, sized_code) (facts.low, facts.high);
         code_aligned = rw (start, sized_code) facts.aligned;
         entry_aligned = (ok WrongEntry).0;

@@ -20,9 +20,9 @@ use Rattle.elf_image.specs.declared.refusal.LoadRefused.TheVariants.{SegmentsOve
 use Rattle.elf_image.specs.declared.refusal.LoadRefused.TheVariants.{WrongEntry, OutOfMemory}
 use Rattle.elf_image.proofs.Covering.{EndsBefore, pairs_tail}
 use Rattle.elf_image.specs.Image.{ProgramSegment, ProgramImage, IsWellFormed, ram_start, is_code_segment}
-use Rattle.elf_image.specs.Image.{is_writable_segment, code_segment, code_start, code_size}
+use Rattle.elf_image.specs.Image.{code_segment, code_start, code_size}
 use Rattle.elf_image.specs.Layout.{half_at, word_at, entry_of, table_offset, table_count, loadable, loadable_from}
-use Rattle.elf_image.specs.Checks.{Passes, AreApart, is_executable, is_writable}
+use Rattle.elf_image.specs.Checks.{Passes, AreApart, is_executable}
 use Rattle.elf_image.proofs.{Loading.find_counted}
 use Rattle.elf_image.proofs.Rising.{AreRising, same_order}
 use Rattle.elf_image.proofs.WrittenFields.{header_of, headers_of, Fits, magic, class, order, version, file_version}
@@ -332,11 +332,7 @@ module _ (image : ProgramImage) (ok : IsWellFormed image) where
   passes SegmentsOverlap =
       subst (AllPairs AreApart) (sym loadable_written)
       (headers_pairs AreApart EndsBefore (λ s t p q before. inl before) image.segments table_end ok.rising)
-  passes WrongCodeSegment = (
-    rw loadable_written (count-headers_of image.segments table_end ∙ ok.one_code),
-    each (λ h. is_executable h && is_writable h ≡ false) (λ s. is_code_segment s && is_writable_segment s ≡ false)
-        (λ s offset read_only. read_only) ok.read_only,
-  )
+  passes WrongCodeSegment = rw loadable_written (count-headers_of image.segments table_end ∙ ok.one_code)
   passes MisalignedCode =
       each (λ h. IsTrue (is_executable h) → (h.address % 4 ≡ 0) × (h.memory_size % 4 ≡ 0))
       (λ s. is_code_segment s ≡ true → IsAligned s)

@@ -1,8 +1,7 @@
 -- The checks that a file passes before it is loaded, and which refusal a file gets.
 -- [ELF32 for the fields; the profile, its order and its bounds are this project's own choice]
-use Rattle.std.specs.Prelude.{◌≡◌, ℕ, ◌+◌, ◌*◌, ◌/◌, ◌%◌, ◌<◌, ◌≤◌, ◌⊎◌, Bool, ◌==◌, IsTrue, List}
-use Rattle.std.specs.Prelude.{[], ◌∷◌, length, take, slice_index, All, AllPairs, count_by, false}
-use Rattle.std.specs.Prelude.{◌&&◌}
+use Rattle.std.specs.Prelude.{◌≡◌, ℕ, ◌+◌, ◌*◌, ◌%◌, ◌<◌, ◌≤◌, ◌⊎◌, Bool, ◌==◌, IsTrue, List}
+use Rattle.std.specs.Prelude.{[], ◌∷◌, length, take, slice_index, All, AllPairs, count_by}
 use Rattle.elf_image.specs.{declared.program_header.ProgramHeader.ProgramHeader}
 use Rattle.elf_image.specs.{declared.refusal.LoadRefused.LoadRefused, Refusal.reason_number}
 use Rattle.elf_image.specs.Image.{ram_start}
@@ -21,12 +20,9 @@ use Rattle.elf_image.specs.declared.refusal.LoadRefused.TheVariants.{MisalignedC
 use Rattle.elf_image.specs.declared.refusal.LoadRefused.TheVariants.{OutOfMemory}
 use Rattle.elf_image.specs.Layout.{half_at, word_at, entry_of, table_offset, table_count, loadable}
 
--- The segment's flags have X, the lowest bit, and W, the next.
+-- The segment's flags have X, the lowest bit.
 abbrev pub is_executable : ProgramHeader → Bool
 is_executable header = header.flags % 2 == 1
-
-abbrev pub is_writable : ProgramHeader → Bool
-is_writable header = header.flags / 2 % 2 == 1
 
 -- No address is in both segments.
 abbrev pub AreApart : ProgramHeader → ProgramHeader → Type 0
@@ -51,8 +47,7 @@ Passes file ram SegmentOutsideRam =
     All (λ h. (ram_start ≤ h.address) × (h.address + h.memory_size ≤ ram_start + ram))
     (loadable file)
 Passes file ram SegmentsOverlap = AllPairs AreApart (loadable file)
-Passes file ram WrongCodeSegment = (count_by is_executable (loadable file) ≡ 1)
-    × All (λ h. is_executable h && is_writable h ≡ false) (loadable file)
+Passes file ram WrongCodeSegment = count_by is_executable (loadable file) ≡ 1
 Passes file ram MisalignedCode =
     All (λ h. IsTrue (is_executable h) → (h.address % 4 ≡ 0) × (h.memory_size % 4 ≡ 0))
     (loadable file)

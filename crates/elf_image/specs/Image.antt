@@ -78,12 +78,19 @@ abbrev pub touches_code : ProgramImage → ℕ → ℕ → Bool
 touches_code image addr n =
     nat_lt (max addr (code_start image)) (min (addr + n) (code_start image + code_size image))
 
--- The four bytes from the address as a number, the lowest first. [RISC-V Unprivileged ISA,
--- little-endian memory]
-unfoldable pub word_in : ProgramImage → ℕ → ℕ
-word_in image addr =
-    byte_in image addr + 2 ^ 8 * byte_in image (addr + 1) + 2 ^ 16 * byte_in image (addr + 2)
-    + 2 ^ 24 * byte_in image (addr + 3)
+-- The code may be written: the segment that may be executed has flag W.
+unfoldable pub code_writable : ProgramImage → Bool
+code_writable image = option_map_or is_writable_segment (code_segment image) false
+
+-- The four bytes from the address as a number, the lowest first, where memory holds these bytes.
+-- [RISC-V Unprivileged ISA, little-endian memory]
+unfoldable pub word_of : (ℕ → ℕ) → ℕ → ℕ
+word_of bytes addr =
+    bytes addr + 2 ^ 8 * bytes (addr + 1) + 2 ^ 16 * bytes (addr + 2) + 2 ^ 24 * bytes (addr + 3)
+
+-- That number at the start.
+abbrev pub word_in : ProgramImage → ℕ → ℕ
+word_in image addr = word_of (byte_in image) addr
 
 -- There is an instruction word at the pc: it is a multiple of 4 and all four bytes are part of the
 -- code.
@@ -91,9 +98,13 @@ abbrev pub has_code_word : ProgramImage → ℕ → Bool
 has_code_word image pc = pc % 4 == 0 && nat_le (code_start image) pc
     && nat_le (pc + 4) (code_start image + code_size image)
 
--- The instruction word at the pc, where there is one.
-unfoldable pub code_word : ProgramImage → ℕ → Option ℕ
-code_word image pc = if has_code_word image pc then Some (word_in image pc) else None
+-- The instruction word at the pc, where there is one and memory holds these bytes.
+unfoldable pub word_now : ProgramImage → (ℕ → ℕ) → ℕ → Option ℕ
+word_now image bytes pc = if has_code_word image pc then Some (word_of bytes pc) else None
+
+-- The one that the image has there.
+abbrev pub code_word : ProgramImage → ℕ → Option ℕ
+code_word image pc = word_now image (byte_in image) pc
 
 -- What is so of every image that was loaded.
 pub record IsWellFormed (image : ProgramImage) : Type 0 where
@@ -107,9 +118,8 @@ pub record IsWellFormed (image : ProgramImage) : Type 0 where
   -- each ends where the next begins or before it
   pub rising : AllPairs (λ s t. s.address + length s.bytes ≤ t.address) image.segments
   pub flags : All (λ s. s.flags < 8) image.segments
-  -- one segment may be executed, and it may not be written
+  -- one segment may be executed
   pub one_code : count_by is_code_segment image.segments ≡ 1
-  pub read_only : All (λ s. is_code_segment s && is_writable_segment s ≡ false) image.segments
   pub code_within : (ram_start ≤ code_start image)
       × (code_start image + code_size image ≤ ram_start + image.ram)
   pub code_aligned : (code_start image % 4 ≡ 0) × (code_size image % 4 ≡ 0)

@@ -1,9 +1,9 @@
 //! The checks of the segments: each is made over all loadable segments before the next.
 
-ghost use Rattle.std.specs.Prelude.{◌≡◌, ◌+◌, ◌%◌, ◌<◌, ◌≤◌, ◌↔◌, ◌&&◌, false, length, IsTrue, All};
+ghost use Rattle.std.specs.Prelude.{◌≡◌, ◌+◌, ◌%◌, ◌<◌, ◌≤◌, ◌↔◌, length, IsTrue, All};
 ghost use Rattle.std.specs.Prelude.{AllPairs, count_by, IfErr, OnOk};
 ghost use Rattle.elf_image.specs.Image.{ram_start};
-ghost use Rattle.elf_image.specs.Checks.{is_executable, is_writable, AreApart, Passes};
+ghost use Rattle.elf_image.specs.Checks.{is_executable, AreApart, Passes};
 ghost use Rattle.elf_image.specs.Checks.{IsLoadRefusal};
 ghost use Rattle.elf_image.specs.Layout.{entry_of, loadable};
 ghost use Rattle.elf_image.specs.Refusal.{reason_number};
@@ -59,7 +59,7 @@ pub(crate) fn check_code(
     ensures refused { IfErr result (λ reason. IsLoadRefusal file.now ram reason) }
     ensures passes { OnOk result ((check : Refusal) → Passes file.now ram check) }
 {
-    if !one_is_executable(headers) || !code_is_read_only(headers) {
+    if !one_is_executable(headers) {
         return Err(LoadRefused::WrongCodeSegment);
     }
     if !code_is_aligned(headers) {
@@ -120,15 +120,6 @@ fn one_is_executable(headers: &[ProgramHeader]) -> bool
     ensures { IsTrue result ↔ (count_by is_executable headers.now ≡ 1) }
 {
     headers.iter().filter(|h| h.is_executable()).count() == 1
-}
-
-/// Whether no executable segment is writable.
-fn code_is_read_only(headers: &[ProgramHeader]) -> bool
-    ensures { IsTrue result ↔ All (λ h. is_executable h && is_writable h ≡ false) headers.now }
-{
-    headers
-        .iter()
-        .all(|h| !(h.is_executable() && h.is_writable()))
 }
 
 /// Whether an executable segment's address and size are multiples of 4.

@@ -4,7 +4,7 @@ ghost use Rattle.std.specs.Prelude.{◌≡◌, ◌+◌, ◌%◌, ◌^◌, ◌<�
 ghost use Rattle.std.specs.Prelude.{IfSome, IfOk, length};
 ghost use Rattle.elf_image.specs.Image.{IsWellFormed, ram_start, in_ram, byte_in, code_segment};
 ghost use Rattle.elf_image.specs.Image.{code_start, code_size, in_code, word_in, has_code_word};
-ghost use Rattle.elf_image.specs.Image.{code_word};
+ghost use Rattle.elf_image.specs.Image.{code_word, code_writable};
 
 use crate::fields::read_word;
 use crate::ram_size::{RAM_START, RamSize};
@@ -73,6 +73,14 @@ impl Image {
         (code.address(), code.bytes().len() as u32)
     }
 
+    /// Whether the code may be written: its segment has flag W.
+    #[tactic(auto, unfolding(crate::specs::Image::code_writable))]
+    pub fn code_writable(&self) -> bool
+        ensures { result ≡ code_writable self.now }
+    {
+        self.code_segment().is_writable()
+    }
+
     /// The byte at an address at the start: 0 in RAM outside the segments, None outside RAM.
     #[tactic(auto, unfolding(crate::specs::Image::byte_in))]
     pub fn byte(&self, addr: u32) -> Option<u8>
@@ -88,7 +96,7 @@ impl Image {
     /// The instruction word at a pc, the lowest byte first (RISC-V Unprivileged ISA, "Base
     /// Instruction-Length Encoding"). None where the pc isn't a multiple of 4 or one of the four
     /// bytes isn't part of the code.
-    #[tactic(auto, unfolding(crate::specs::Image::code_word))]
+    #[tactic(auto, unfolding(crate::specs::Image::word_now))]
     pub fn code_word(&self, pc: u32) -> Option<u32>
         ensures { result ≡ code_word self.now pc }
     {

@@ -67,20 +67,13 @@ pub(crate) fn read_loadable(
 
 impl ProgramHeader {
     ghost use Rattle.std.specs.Prelude.{◌↔◌, IsTrue};
-    ghost use Rattle.elf_image.specs.Checks.{is_executable, is_writable, AreApart};
+    ghost use Rattle.elf_image.specs.Checks.{is_executable, AreApart};
 
     /// Whether the flags have X.
     pub(crate) fn is_executable(&self) -> bool
         ensures { result ≡ is_executable self.now }
     {
         self.flags % 2 == 1
-    }
-
-    /// Whether the flags have W.
-    pub(crate) fn is_writable(&self) -> bool
-        ensures { result ≡ is_writable self.now }
-    {
-        self.flags / 2 % 2 == 1
     }
 
     /// Whether no address in memory is in both segments.

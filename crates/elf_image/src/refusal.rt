@@ -27,7 +27,7 @@ pub enum LoadRefused {
     WrongMemorySize,
     SegmentOutsideRam,
     SegmentsOverlap,
-    /// Not exactly one segment is executable, or that one is writable.
+    /// Not exactly one segment is executable.
     WrongCodeSegment,
     MisalignedCode,
     WrongEntry,
@@ -79,8 +79,7 @@ impl LoadRefused {
             LoadRefused::WrongMemorySize => "a segment's memory size is 0 or below its file size",
             LoadRefused::SegmentOutsideRam => "a segment is not wholly in RAM",
             LoadRefused::SegmentsOverlap => "two segments overlap",
-            LoadRefused::WrongCodeSegment =>
-                "there is not one executable segment that is read-only",
+            LoadRefused::WrongCodeSegment => "there is not exactly one executable segment",
             LoadRefused::MisalignedCode => "the code's address or size is not a multiple of 4",
             LoadRefused::WrongEntry => "the entry is not a multiple of 4 in the code",
             LoadRefused::OutOfMemory => "out of memory",

@@ -2,7 +2,8 @@
 
 ghost use Rattle.std.specs.Prelude.{◌≡◌, ◌+◌, ◌<◌, ◌≤◌, ◌↔◌, length, map, find, option_copied, All};
 ghost use Rattle.std.specs.Prelude.{IsTrue, IfOk, IfSome};
-ghost use Rattle.elf_image.specs.Image.{is_code_segment, covers, segment_byte, byte_among};
+ghost use Rattle.elf_image.specs.Image.{is_code_segment, is_writable_segment, covers, segment_byte};
+ghost use Rattle.elf_image.specs.Image.{byte_among};
 
 use std::alloc::AllocError;
 use std::marker::Model;
@@ -74,6 +75,13 @@ impl Segment {
         ensures { result ≡ is_code_segment self.now }
     {
         self.flags % 2 == 1
+    }
+
+    /// Whether the segment may be written.
+    pub(crate) fn is_writable(&self) -> bool
+        ensures { result ≡ is_writable_segment self.now }
+    {
+        self.flags / 2 % 2 == 1
     }
 
     /// Whether the address is one of the segment's.

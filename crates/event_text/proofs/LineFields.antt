@@ -13,7 +13,8 @@ use Rattle.events.specs.declared.kind.EventKind.TheVariants as kind
 use Rattle.events.specs.{declared.effect.Effect.Effect, declared.effect.Outcome.Outcome}
 use Rattle.events.specs.{Width.IsWidth}
 use Rattle.events.specs.Range.{IsEffect, IsNext, IsOutcome}
-use Rattle.events.specs.declared.event.Event.TheVariants.{Fetch, Decode, Rename, Issue, Complete, Drop, Retire}
+use Rattle.events.specs.declared.event.Event.TheVariants.{Fetch, Decode, Rename, Issue, Complete}
+use Rattle.events.specs.declared.event.Event.TheVariants.{Drop, Retire, Refetch}
 use Rattle.event_text.specs.{declared.ranges.Ranges.Ranges}
 use Rattle.event_text.specs.Line.{address_text, datum_text, line_of, next_text}
 use Rattle.event_text.specs.Ranges.{HasActorAndNumber, IsEventWithin}
@@ -46,6 +47,7 @@ fields_of (Issue actor seq) = decimal actor ∷ decimal seq ∷ []
 fields_of (Complete actor seq outcome) = decimal actor ∷ decimal seq ∷ outcome_fields outcome
 fields_of (Drop actor seq) = decimal actor ∷ decimal seq ∷ []
 fields_of (Retire actor seq effect) = decimal actor ∷ decimal seq ∷ effect_fields effect
+fields_of (Refetch actor seq) = decimal actor ∷ decimal seq ∷ []
 
 step_joined : (letter : ℕ) (actor seq fields : List ℕ) →
     ((letter ∷ []) ++ (32 ∷ actor) ++ (32 ∷ seq)) ++ fields ≡ letter ∷ 32 ∷ (actor ++ 32 ∷ (seq ++ fields))
@@ -74,6 +76,7 @@ line_of-joined (Drop actor seq) = simp append_assoc
 line_of-joined (Retire actor seq e) =
     seven_joined 84 (decimal actor) (decimal seq) (optional (hex 8) e.value) (next_text e.next) (address_text e.write)
     (datum_text e.write) (optional (hex 2) e.out)
+line_of-joined (Refetch actor seq) = simp append_assoc
 
 -- A byte that stands in no field: no digit, no letter of what comes next, and no dash.
 pub record IsApart (byte : ℕ) : Type 0 where
@@ -176,6 +179,7 @@ module _ (byte : ℕ) (apart : IsApart byte) where
         moved_lacks actor seq (outcome_fields o) within.0 (outcome_lacks o within.1)
     fields_lack (Drop actor seq) within = moved_lacks actor seq [] within tt
     fields_lack (Retire actor seq e) within = moved_lacks actor seq (effect_fields e) within.0 (effect_lacks e within.1)
+    fields_lack (Refetch actor seq) within = moved_lacks actor seq [] within.0 tt
 
 letter_lacks : (k : EventKind) → Lacks 10 (letter_of k ∷ 32 ∷ [])
 letter_lacks kind.Fetch = refl
@@ -185,6 +189,7 @@ letter_lacks kind.Issue = refl
 letter_lacks kind.Complete = refl
 letter_lacks kind.Drop = refl
 letter_lacks kind.Retire = refl
+letter_lacks kind.Refetch = refl
 
 -- so a line has no newline
 pub line_lacks : (ranges : Ranges) → AreSmall ranges → (e : Event) → IsEventWithin ranges e → Lacks 10 (line_of e)

@@ -6,13 +6,14 @@ use Rattle.text_fields.specs.{Reading.decimal_field, Spelling.hex}
 use Rattle.text_fields.specs.{Spelling.optional}
 use Rattle.events.specs.{declared.effect.Effect.Effect, declared.effect.Outcome.Outcome}
 use Rattle.events.specs.{declared.effect.Written.Written, declared.event.Event.Event, Kind.fields_after}
-use Rattle.events.specs.declared.event.Event.TheVariants.{Fetch, Decode, Rename, Issue, Complete, Drop, Retire}
+use Rattle.events.specs.declared.event.Event.TheVariants.{Fetch, Decode, Rename, Issue, Complete}
+use Rattle.events.specs.declared.event.Event.TheVariants.{Drop, Retire, Refetch}
 use Rattle.events.specs.declared.kind.EventKind.{EventKind}
 use Rattle.events.specs.declared.kind.EventKind.TheVariants as kind
 use Rattle.events.specs.{Range.IsEffect, Range.IsNext, Range.IsOutcome, Range.IsWord, Range.IsWritten}
 use Rattle.event_text.specs.{declared.ranges.Ranges.Ranges, Line.address_text, Line.datum_text, Line.next_text}
 use Rattle.event_text.specs.Reading.{complete_of, decode_of, drop_of, effect_of, event_fields, fetch_of, issue_of}
-use Rattle.event_text.specs.Reading.{outcome_of, rename_of, retire_of, written_of}
+use Rattle.event_text.specs.Reading.{outcome_of, refetch_of, rename_of, retire_of, written_of}
 use Rattle.event_text.proofs.{LineFields.at_most_four, LineFields.effect_fields, LineFields.outcome_fields}
 use Rattle.event_text.proofs.{Joining.joined, Small.AreSmall}
 use Rattle.event_text.proofs.FieldLaws.{IsSized, next, number, optional_byte, optional_number, optional_sized}
@@ -230,6 +231,7 @@ module _ (ranges : Ranges) where
   BehindActor kind.Drop actor = Made (Alone decimal IsSeq) (λ seq. Ok (Drop actor seq))
   BehindActor kind.Retire actor =
       Before decimal IsSeq (λ seq. Made SpellsEffect (λ effect. Ok (Retire actor seq effect)))
+  BehindActor kind.Refetch actor = Made (Alone decimal IsSeq) (λ seq. Ok (Refetch actor seq))
 
   abbrev pub EventParts : EventKind → Event → List ℕ → Type 0
   EventParts k = Before decimal (λ n. n ≤ ranges.actor) (λ actor. BehindActor k actor)
@@ -247,7 +249,7 @@ module _ (ranges : Ranges) where
 
   pub event_reading : (k : EventKind)
       → IsReading (AreSmall ranges) (fields_after k) (event_fields ranges k) (EventParts k)
-  unfolding event_fields decode_of rename_of issue_of complete_of drop_of retire_of
+  unfolding event_fields decode_of rename_of issue_of complete_of drop_of retire_of refetch_of
   event_reading kind.Fetch = before 5 _ actor_first (λ actor. fetch_reading actor)
   event_reading kind.Decode = before 1 _ actor_first (λ actor. made _ (alone seq_first))
   event_reading kind.Rename = before 2 _ actor_first (λ actor. before 1 _ seq_first (λ seq.
@@ -256,3 +258,4 @@ module _ (ranges : Ranges) where
   event_reading kind.Complete = before 6 _ actor_first (λ actor. before 5 _ seq_first (λ seq. made _ outcome_reading))
   event_reading kind.Drop = before 1 _ actor_first (λ actor. made _ (alone seq_first))
   event_reading kind.Retire = before 6 _ actor_first (λ actor. before 5 _ seq_first (λ seq. made _ effect_reading))
+  event_reading kind.Refetch = before 1 _ actor_first (λ actor. made _ (alone seq_first))

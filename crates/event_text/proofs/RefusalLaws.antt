@@ -6,10 +6,11 @@ use Rattle.std.specs.Prelude.{IfErr, IfOk, IsErrAnd, MatchBool}
 use Rattle.text_fields.specs.Splitting.{field, field_count, rest}
 use Rattle.events.specs.{declared.event.Event.Event}
 use Rattle.event_text.specs.{declared.head.TraceHead.TraceHead, declared.ranges.Ranges.Ranges, declared.read.Rule.Rule}
-use Rattle.event_text.specs.declared.head.TraceHead.TheVariants.{First, Second}
+use Rattle.event_text.specs.{declared.head.LaterVersion.LaterVersion}
+use Rattle.event_text.specs.declared.head.TraceHead.TheVariants.{First, Later}
 use Rattle.event_text.specs.{Core.AreCoreSizes, Core.CoreSizes, Ranges.ranges_of}
 use Rattle.event_text.specs.{Reading.event_within, Reading.rule_number}
-use Rattle.event_text.specs.Heads.{config_line, config_of, ended, first_header, head_count, head_lines, second_header}
+use Rattle.event_text.specs.Heads.{config_line, config_of, ended, first_header, head_count, head_lines, later_header}
 use Rattle.event_text.specs.Trace.{AreWithin, Breaks, BreaksConfig, BreaksEvent, BreaksHeader, event_lines, IsHead}
 use Rattle.event_text.specs.Trace.{IsRefusedAsConfig, IsRefusedAt, IsRefusedBehind, trace_text}
 use Rattle.event_text.specs.{declared.trace.reading.TraceRefused.TraceRefused, Contents.TraceContent, Refusals.Gives}
@@ -17,11 +18,24 @@ use Rattle.event_text.specs.Refusals.{IsRefusedFor}
 use Rattle.event_text.specs.declared.trace.reading.TraceRefused.TheVariants.{Line, Memory}
 use Rattle.event_text.proofs.{ConfigLaws.config_back, ConfigLaws.config_lacks}
 use Rattle.event_text.proofs.{LineEnds.first_found, LineEnds.more_found, LineEnds.not_one}
-use Rattle.event_text.proofs.{LineEnds.rest_found, Small.small_of}
-use Rattle.event_text.proofs.TraceLaws.{behind_second, first_is, other_version, same_texts, same_trace, second_parts}
+use Rattle.event_text.proofs.{Small.small_of}
+use Rattle.event_text.proofs.TraceLaws.{behind_later, behind_named, first_is, header_lacks, later_is, later_parts}
+use Rattle.event_text.proofs.TraceLaws.{named_is, other_version, same_texts, same_trace}
 use Rattle.event_text.proofs.TraceLaws.{stops-broken, stops-nil, trace_text-cons, trace_text-parts}
 
 -- a text that begins as a trace isn't refused at its first line, nor at the line of its core
+right_name : (version : LaterVersion) (behind : List ℕ) (rule : ℕ)
+    → Breaks BreaksHeader (ended (later_header version) ++ behind) rule → ⊥
+unfolding Breaks
+right_name version behind rule breaks =
+    let own =
+    rw (
+      not_one (ended (later_header version) ++ behind)
+          (more_found (later_header version) behind (header_lacks version)),
+      named_is version behind,
+    ) at breaks in
+    own.1 version refl
+
 right_version : (head : TraceHead) (behind : List ℕ) (rule : ℕ) → Breaks BreaksHeader (head_lines head ++ behind) rule
     → ⊥
 unfolding Breaks
@@ -32,25 +46,8 @@ right_version First behind rule breaks =
       first_found first_header behind refl,
     ) at breaks in
     own.0 refl
-right_version (Second sizes) behind rule breaks =
-    let text = ended (config_line sizes) ++ behind in
-    let own =
-    rw (
-      second_parts sizes behind,
-      not_one (ended second_header ++ text) (more_found second_header text refl),
-      first_found second_header text refl,
-    ) at breaks in
-    own.1 refl
-
-named_second : (behind : List ℕ) (rule : ℕ) → Breaks BreaksHeader (ended second_header ++ behind) rule → ⊥
-unfolding Breaks
-named_second behind rule breaks =
-    let own =
-    rw (
-      not_one (ended second_header ++ behind) (more_found second_header behind refl),
-      first_found second_header behind refl,
-    ) at breaks in
-    own.1 refl
+right_version (Later version sizes) behind rule breaks =
+    right_name version (ended (config_line sizes) ++ behind) rule (rw later_parts at breaks)
 
 broken_config : (sizes : CoreSizes) (text : List ℕ) (rule : ℕ) → AreCoreSizes sizes
     → Breaks BreaksConfig (ended (config_line sizes) ++ text) rule → ⊥
@@ -66,10 +63,12 @@ broken_config sizes text rule are breaks =
 right_config : (head : TraceHead) (text : List ℕ) (rule : ℕ) → IsHead head
     → IsRefusedAsConfig (head_lines head ++ text) rule → ⊥
 right_config First text rule is refused =
-    other_version (sym (first_is text) ∙ ap (field 10) refused.parts ∙ first_found second_header refused.behind refl)
-right_config (Second sizes) text rule is refused =
+    other_version refused.version
+    (sym (first_is text) ∙ ap (field 10) refused.parts ∙ named_is refused.version refused.behind)
+right_config (Later version sizes) text rule is refused =
     let same : ended (config_line sizes) ++ text ≡ refused.behind =
-    sym (behind_second sizes text) ∙ ap (rest 10) refused.parts ∙ rest_found second_header refused.behind refl in
+    sym (behind_later version sizes text) ∙ ap (rest 10) refused.parts
+    ∙ behind_named refused.version refused.behind in
     broken_config sizes text rule is (rw (← same) at refused.breaks)
 
 pub not_refused : (head : TraceHead) (es : List Event) (line rule : ℕ) → IsHead head → AreWithin head es
@@ -134,8 +133,8 @@ behind_once text line rule line' rule' first second =
 config_once : (text : List ℕ) (r s : ℕ) → IsRefusedAsConfig text r → IsRefusedAsConfig text s → r ≡ s
 config_once text r s first second =
     let same : first.behind ≡ second.behind =
-    sym (rest_found second_header first.behind refl) ∙ ap (rest 10) (sym first.parts ∙ second.parts)
-    ∙ rest_found second_header second.behind refl in
+    sym (behind_named first.version first.behind) ∙ ap (rest 10) (sym first.parts ∙ second.parts)
+    ∙ behind_named second.version second.behind in
     breaks_config_once first.behind r s first.breaks (rw (← same) at second.breaks)
 
 -- not at its first line and at a later one
@@ -154,11 +153,11 @@ pub refused_once : (text : List ℕ) (line rule line' rule' : ℕ) → IsRefused
 refused_once text line rule line' rule' (inl first) (inl second) =
     (first.0 ∙ sym second.0, breaks_header_once text rule rule' first.1 second.1)
 refused_once text line rule line' rule' (inl first) (inr (inl second)) =
-    absurd (named_second second.1.behind rule (rw second.1.parts at first.1))
+    absurd (right_name second.1.version second.1.behind rule (rw second.1.parts at first.1))
 refused_once text line rule line' rule' (inl first) (inr (inr second)) =
     absurd (not_both text line' rule rule' first.1 second)
 refused_once text line rule line' rule' (inr (inl first)) (inl second) =
-    absurd (named_second first.1.behind rule' (rw first.1.parts at second.1))
+    absurd (right_name first.1.version first.1.behind rule' (rw first.1.parts at second.1))
 refused_once text line rule line' rule' (inr (inl first)) (inr (inl second)) =
     (first.0 ∙ sym second.0, config_once text rule rule' first.1 second.1)
 refused_once text line rule line' rule' (inr (inl first)) (inr (inr second)) =
@@ -185,14 +184,11 @@ not_ended text cut = inl (refl, rw cut refl)
 pub other_answer : (test said : Bool) → test ≡ said → said ≡ true → test ≡ false → ⊥
 other_answer test said same passes fails = absurd (grind (arith, same, passes, fails))
 
-pub other_refusal : (test said : Bool) → test ≡ said → said ≡ false → test ≡ true → ⊥
-other_refusal test said same fails passes = absurd (grind (arith, same, fails, passes))
-
 pub unnamed : (text line : List ℕ) → line ≡ field 10 text → (field_count 10 text == 1) ≡ false
-    → (line ≡ first_header → ⊥) → (line ≡ second_header → ⊥) → IsRefusedAt text 1 1
+    → (line ≡ first_header → ⊥) → ((version : LaterVersion) → line ≡ later_header version → ⊥) → IsRefusedAt text 1 1
 unfolding Breaks
-unnamed text line is ended_is not_first not_second =
-    inl (refl, rw ended_is (rw is at not_first, rw is at not_second, refl))
+unnamed text line is ended_is not_first not_later =
+    inl (refl, rw ended_is (rw is at not_first, rw is at not_later, refl))
 
 -- a line of an event that breaks a rule, behind lines of events
 pub refused_behind : (head : TraceHead) (es : List Event) (lines behind : List ℕ) (line rule : ℕ) → IsHead head

@@ -1,17 +1,19 @@
 -- A trace's text is that of how it begins and of its events alone.
 
 use Rattle.std.proofs.Common.{◌≡◌, ℕ, List, [], ◌∷◌, ◌++◌, length, Ok}
-use Rattle.std.proofs.Common.{refl, sym, ◌∙◌, ap, arith, append_assoc, append-nil, length-append, get_or}
+use Rattle.std.proofs.Common.{refl, sym, subst, ◌∙◌, ap, arith, append_assoc, append-nil, length-append, get_or}
 use Rattle.std.specs.Prelude.{All}
 use Rattle.std.proofs.lemmas.List.{flat_map_more}
 use Rattle.std.proofs.lemmas.List.Elements.{All-head, All-tail}
-use Rattle.text_fields.specs.Splitting.{field, rest}
+use Rattle.text_fields.specs.Splitting.{field, Lacks, rest}
 use Rattle.events.specs.{declared.event.Event.Event}
 use Rattle.event_text.specs.{declared.head.TraceHead.TraceHead, declared.ranges.Ranges.Ranges}
-use Rattle.event_text.specs.declared.head.TraceHead.TheVariants.{First, Second}
+use Rattle.event_text.specs.{declared.head.LaterVersion.LaterVersion}
+use Rattle.event_text.specs.declared.head.LaterVersion.TheVariants.{Second, Third}
+use Rattle.event_text.specs.declared.head.TraceHead.TheVariants.{First, Later}
 use Rattle.event_text.specs.{Core.AreCoreSizes, Core.CoreSizes, Line.line_of, Ranges.IsEventWithin, Ranges.ranges_of}
-use Rattle.event_text.specs.{Ranges.second_ranges, Reading.event_within}
-use Rattle.event_text.specs.Heads.{config_line, config_of, ended, first_header, head_lines, second_header}
+use Rattle.event_text.specs.{Reading.event_within}
+use Rattle.event_text.specs.Heads.{config_line, config_of, ended, first_header, head_lines, later_header}
 use Rattle.event_text.specs.Trace.{AreWithin, Breaks, BreaksEvent, event_lines, IsHead}
 use Rattle.event_text.specs.Trace.{trace_text}
 use Rattle.event_text.proofs.{ConfigLaws.config_back, ConfigLaws.config_lacks, LineLaws.event_within-line_of}
@@ -134,31 +136,54 @@ module _ (ranges : Ranges) (small : AreSmall ranges) where
       (cc (here, others.0), others.1)
 
 -- the lines that say how a trace begins, before other text
-pub second_parts : (sizes : CoreSizes) (text : List ℕ)
-    → head_lines (Second sizes) ++ text ≡ ended second_header ++ (ended (config_line sizes) ++ text)
-second_parts sizes text = append_assoc (ended second_header) (ended (config_line sizes)) text
+pub header_lacks : (version : LaterVersion) → Lacks 10 (later_header version)
+header_lacks Second = refl
+header_lacks Third = refl
+
+pub later_parts : (version : LaterVersion) (sizes : CoreSizes) (text : List ℕ)
+    → head_lines (Later version sizes) ++ text ≡ ended (later_header version) ++ (ended (config_line sizes) ++ text)
+later_parts version sizes text = append_assoc (ended (later_header version)) (ended (config_line sizes)) text
 
 pub first_is : (text : List ℕ) → field 10 (head_lines First ++ text) ≡ first_header
 first_is text = first_found first_header text refl
 
-pub second_is : (sizes : CoreSizes) (text : List ℕ) → field 10 (head_lines (Second sizes) ++ text) ≡ second_header
-second_is sizes text =
-    ap (field 10) (second_parts sizes text) ∙ first_found second_header (ended (config_line sizes) ++ text) refl
+-- a later version is named in the first line, whatever stands behind it
+pub named_is : (version : LaterVersion) (text : List ℕ)
+    → field 10 (ended (later_header version) ++ text) ≡ later_header version
+named_is version text = first_found (later_header version) text (header_lacks version)
 
-pub behind_second : (sizes : CoreSizes) (text : List ℕ)
-    → rest 10 (head_lines (Second sizes) ++ text) ≡ ended (config_line sizes) ++ text
-behind_second sizes text =
-    ap (rest 10) (second_parts sizes text) ∙ rest_found second_header (ended (config_line sizes) ++ text) refl
+pub behind_named : (version : LaterVersion) (text : List ℕ) → rest 10 (ended (later_header version) ++ text) ≡ text
+behind_named version text = rest_found (later_header version) text (header_lacks version)
 
-pub other_version : first_header ≡ second_header → ⊥
-other_version is =
-    let digits : ◌≡◌ {A = ℕ} 49 50 = ap (λ line. get_or line 10 0) is in omega (arith, digits)
+pub later_is : (version : LaterVersion) (sizes : CoreSizes) (text : List ℕ)
+    → field 10 (head_lines (Later version sizes) ++ text) ≡ later_header version
+later_is version sizes text =
+    ap (field 10) (later_parts version sizes text) ∙ named_is version (ended (config_line sizes) ++ text)
+
+pub behind_later : (version : LaterVersion) (sizes : CoreSizes) (text : List ℕ)
+    → rest 10 (head_lines (Later version sizes) ++ text) ≡ ended (config_line sizes) ++ text
+behind_later version sizes text =
+    ap (rest 10) (later_parts version sizes text) ∙ behind_named version (ended (config_line sizes) ++ text)
+
+-- each version has a name of its own
+abbrev digit_of : List ℕ → ℕ
+digit_of line = get_or line 10 0
+
+pub other_version : (version : LaterVersion) → first_header ≡ later_header version → ⊥
+other_version Second is = let digits : ◌≡◌ {A = ℕ} 49 50 = ap digit_of is in omega (arith, digits)
+other_version Third is = let digits : ◌≡◌ {A = ℕ} 49 51 = ap digit_of is in omega (arith, digits)
+
+pub same_version : (a b : LaterVersion) → later_header a ≡ later_header b → a ≡ b
+same_version Second Second is = refl
+same_version Second Third is = let digits : ◌≡◌ {A = ℕ} 50 51 = ap digit_of is in absurd (omega (arith, digits))
+same_version Third Second is = let digits : ◌≡◌ {A = ℕ} 51 50 = ap digit_of is in absurd (omega (arith, digits))
+same_version Third Third is = refl
 
 -- two texts that begin so are of one version and one core, and the same stands behind
-module _ (a b : CoreSizes) (left right : List ℕ) (first : AreCoreSizes a) (second : AreCoreSizes b)
-    (same : head_lines (Second a) ++ left ≡ head_lines (Second b) ++ right) where
+module _ (v w : LaterVersion) (a b : CoreSizes) (left right : List ℕ) (first : AreCoreSizes a) (second : AreCoreSizes b)
+    (same : head_lines (Later v a) ++ left ≡ head_lines (Later w b) ++ right) where
   same_behind : ended (config_line a) ++ left ≡ ended (config_line b) ++ right
-  same_behind = sym (behind_second a left) ∙ ap (rest 10) same ∙ behind_second b right
+  same_behind = sym (behind_later v a left) ∙ ap (rest 10) same ∙ behind_later w b right
 
   same_config : config_line a ≡ config_line b
   same_config =
@@ -169,6 +194,11 @@ module _ (a b : CoreSizes) (left right : List ℕ) (first : AreCoreSizes a) (sec
   same_sizes =
       let read : config_of (config_line b) ≡ Ok a = ap config_of (sym same_config) ∙ config_back a first in
       let again = config_back b second in cc
+
+  same_head : Later v a ≡ Later w b
+  same_head =
+      let names = sym (later_is v a left) ∙ ap (field 10) same ∙ later_is w b right in
+      rw (same_version v w names, same_sizes) refl
 
   same_lines_behind : left ≡ right
   same_lines_behind =
@@ -193,20 +223,20 @@ same_parts First First es fs r s is is' first second end end' same =
     ∙ rest_found first_header (event_lines fs ++ s) refl in
     let both = same_lines (ranges_of First) (small_of First) es fs r s first second end end' lines in
     record { heads = refl; events = both.0; ends = both.1 }
-same_parts First (Second y) es fs r s is is' first second end end' same =
-    absurd (other_version
-    (sym (first_is (event_lines es ++ r)) ∙ ap (field 10) same ∙ second_is y (event_lines fs ++ s)))
-same_parts (Second x) First es fs r s is is' first second end end' same =
-    absurd (other_version
-    (sym (first_is (event_lines fs ++ s)) ∙ ap (field 10) (sym same) ∙ second_is x (event_lines es ++ r)))
-same_parts (Second x) (Second y) es fs r s is is' first second end end' same =
-    let lines = same_lines_behind x y (event_lines es ++ r) (event_lines fs ++ s) is is' same in
-    let both = same_lines second_ranges (small_of (Second x)) es fs r s first second end end' lines in
-    record {
-      heads = ap Second (same_sizes x y (event_lines es ++ r) (event_lines fs ++ s) is is' same);
-      events = both.0;
-      ends = both.1;
-    }
+same_parts First (Later w y) es fs r s is is' first second end end' same =
+    absurd (other_version w
+    (sym (first_is (event_lines es ++ r)) ∙ ap (field 10) same ∙ later_is w y (event_lines fs ++ s)))
+same_parts (Later v x) First es fs r s is is' first second end end' same =
+    absurd (other_version v
+    (sym (first_is (event_lines fs ++ s)) ∙ ap (field 10) (sym same) ∙ later_is v x (event_lines es ++ r)))
+same_parts (Later v x) (Later w y) es fs r s is is' first second end end' same =
+    let head = same_head v w x y (event_lines es ++ r) (event_lines fs ++ s) is is' same in
+    let lines = same_lines_behind v w x y (event_lines es ++ r) (event_lines fs ++ s) is is' same in
+    let both =
+    same_lines (ranges_of (Later v x)) (small_of (Later v x)) es fs r s first
+    (subst (λ (h : TraceHead). AreWithin h fs) (sym head) second) end
+    (subst (λ (h : TraceHead). StopsAs h s) (sym head) end') lines in
+    record { heads = head; events = both.0; ends = both.1 }
 
 pub same_texts : (a b : TraceHead) (es fs : List Event) (r s : List ℕ) → IsHead a → IsHead b → AreWithin a es
     → AreWithin b fs → StopsAs a r → StopsAs b s → trace_text a es ++ r ≡ trace_text b fs ++ s → AreSame a b es fs r s

@@ -1,4 +1,4 @@
--- What a trace of version 2 says of its core. (This project's own choice.)
+-- What a trace of version 2 or 3 says of its core. (This project's own choice.)
 
 use Rattle.std.specs.Prelude.{◌≡◌, ℕ, true, List, length}
 use Rattle.numbers.specs.Sizes.{are_core_sizes}

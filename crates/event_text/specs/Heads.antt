@@ -2,7 +2,8 @@
 -- (This project's own choice.)
 
 use Rattle.std.specs.Prelude.{ℕ, ◌+◌, ◌-◌, zero, suc, ◌||◌, nat_lt, nat_le, if◌then◌else◌, List, [], ◌∷◌, ◌++◌}
-use Rattle.std.specs.Prelude.{flat_map, codes, Option, None, Some, Result, Ok, Err}
+use Rattle.std.specs.Prelude.{flat_map, codes, Bool, true, false}
+use Rattle.std.specs.Prelude.{Option, None, Some, Result, Ok, Err}
 use Rattle.std.specs.{Fmt.decimal, Str.bytes_eq}
 use Rattle.numbers.specs.Sizes.{most_harts, most_extra, fewest_queued, most_queued, most_actors}
 use Rattle.text_fields.specs.{declared.read.FieldError.FieldError}
@@ -14,7 +15,9 @@ use Rattle.event_text.specs.{Line.after_space, Reading.first_field, Reading.othe
 use Rattle.event_text.specs.{Core.CoreSizes, declared.head.TraceHead.TraceHead, declared.read.Rule.Rule}
 use Rattle.event_text.specs.{declared.read.Rule.TheVariants.FirstField, declared.read.Rule.TheVariants.FieldCount}
 use Rattle.event_text.specs.{declared.read.Rule.TheVariants.Field}
-use Rattle.event_text.specs.declared.head.TraceHead.TheVariants.{First, Second}
+use Rattle.event_text.specs.{declared.head.LaterVersion.LaterVersion}
+use Rattle.event_text.specs.declared.head.LaterVersion.TheVariants.{Second, Third}
+use Rattle.event_text.specs.declared.head.TraceHead.TheVariants.{First, Later}
 
 -- a line, with the newline that ends it
 abbrev pub ended : List ℕ → List ℕ
@@ -24,8 +27,9 @@ ended line = line ++ 10 ∷ []
 abbrev pub first_header : List ℕ
 first_header = codes "smt-trace 1"
 
-abbrev pub second_header : List ℕ
-second_header = codes "smt-trace 2"
+abbrev pub later_header : LaterVersion → List ℕ
+later_header Second = codes "smt-trace 2"
+later_header Third = codes "smt-trace 3"
 
 -- `config`, harts, extra registers, entries, and the name of each role
 abbrev pub config_line : CoreSizes → List ℕ
@@ -36,11 +40,21 @@ config_line sizes =
 -- the lines before those of the events, and how many they are
 abbrev pub head_lines : TraceHead → List ℕ
 head_lines First = ended first_header
-head_lines (Second sizes) = ended second_header ++ ended (config_line sizes)
+head_lines (Later version sizes) = ended (later_header version) ++ ended (config_line sizes)
 
 abbrev pub head_count : TraceHead → ℕ
 head_count First = 1
-head_count (Second sizes) = 2
+head_count (Later version sizes) = 2
+
+-- what a trace says of its core, which one of version 1 doesn't
+abbrev pub told_core : TraceHead → Option CoreSizes
+told_core First = None
+told_core (Later version sizes) = Some sizes
+
+-- how a trace of version 3 begins up to a line of its core that is there, or with that of this core
+abbrev pub newest_head : Bool → CoreSizes → List ℕ
+newest_head true sizes = ended (later_header Third)
+newest_head false sizes = head_lines (Later Third sizes)
 
 -- how the line of a core is read: a number of at least `least` and at most `most`
 unfoldable pub size_field : ℕ → ℕ → List ℕ → Result ℕ FieldError

@@ -11,7 +11,7 @@ use Rattle.events.specs.{declared.effect.Next.TheVariants.Stopped, declared.effe
 use Rattle.events.specs.{declared.effect.Record.Record, declared.effect.Written.Written}
 use Rattle.events.specs.{declared.event.Event.Event}
 use Rattle.events.specs.declared.event.Event.TheVariants.{Fetch, Decode, Rename, Issue, Complete}
-use Rattle.events.specs.declared.event.Event.TheVariants.{Drop, Retire}
+use Rattle.events.specs.declared.event.Event.TheVariants.{Drop, Retire, Refetch}
 
 -- a field, after the space that parts it from what stands before
 abbrev pub after_space : List ℕ → List ℕ
@@ -62,6 +62,7 @@ line_of (Issue actor seq) = step_text (codes "I") actor seq
 line_of (Complete actor seq outcome) = step_text (codes "C") actor seq ++ outcome_text outcome
 line_of (Drop actor seq) = step_text (codes "X") actor seq
 line_of (Retire actor seq effect) = step_text (codes "T") actor seq ++ effect_text effect
+line_of (Refetch actor seq) = step_text (codes "G") actor seq
 
 -- hart pc word value next waddr wdata out
 abbrev pub record_text_of : Record → List ℕ

@@ -2,7 +2,7 @@
 -- in their order, the fields from left to right. (This project's own choice.)
 
 use Rattle.std.specs.Prelude.{ℕ, ◌/◌, ◌||◌, ◌==◌, if◌then◌else◌, List, length, drop, slice_index}
-use Rattle.std.specs.Prelude.{Option, None, Some, Result, Ok, Err}
+use Rattle.std.specs.Prelude.{Bool, true, Option, None, Some, Result, Ok, Err}
 use Rattle.text_fields.specs.{declared.read.FieldError.FieldError}
 use Rattle.text_fields.specs.{declared.read.FieldError.TheVariants.Misspelled}
 use Rattle.text_fields.specs.{declared.read.FieldError.TheVariants.OutOfRange}
@@ -19,7 +19,7 @@ use Rattle.event_text.specs.{declared.read.Rule.Rule, declared.read.Rule.TheVari
 use Rattle.event_text.specs.{declared.read.Rule.TheVariants.FieldCount}
 use Rattle.event_text.specs.{declared.read.Rule.TheVariants.Field}
 use Rattle.events.specs.declared.event.Event.TheVariants.{Fetch, Decode, Rename, Issue, Complete}
-use Rattle.events.specs.declared.event.Event.TheVariants.{Drop, Retire}
+use Rattle.events.specs.declared.event.Event.TheVariants.{Drop, Retire, Refetch}
 use Rattle.events.specs.declared.kind.EventKind.TheVariants as kind
 
 -- the number of a rule that a line breaks
@@ -150,6 +150,11 @@ retire_of ranges actor fields = do
   effect ← effect_of (others fields)
   Ok (Retire actor seq effect)
 
+unfoldable pub refetch_of : Ranges → ℕ → List ℕ → Result Event FieldError
+refetch_of ranges actor fields = do
+  seq ← decimal_field ranges.seq fields
+  Ok (Refetch actor seq)
+
 abbrev pub behind_actor : Ranges → EventKind → ℕ → List ℕ → Result Event FieldError
 behind_actor ranges kind.Fetch actor fields = fetch_of ranges actor fields
 behind_actor ranges kind.Decode actor fields = decode_of ranges actor fields
@@ -158,6 +163,7 @@ behind_actor ranges kind.Issue actor fields = issue_of ranges actor fields
 behind_actor ranges kind.Complete actor fields = complete_of ranges actor fields
 behind_actor ranges kind.Drop actor fields = drop_of ranges actor fields
 behind_actor ranges kind.Retire actor fields = retire_of ranges actor fields
+behind_actor ranges kind.Refetch actor fields = refetch_of ranges actor fields
 
 -- the fields after the letter of a kind
 unfoldable pub event_fields : Ranges → EventKind → List ℕ → Result Event FieldError
@@ -165,9 +171,19 @@ event_fields ranges kind fields = do
   actor ← decimal_field ranges.actor (first_field fields)
   behind_actor ranges kind actor (others fields)
 
--- the kind that a field names: a letter alone
-abbrev pub kind_named : List ℕ → Option EventKind
-kind_named text = if length text == 1 then kind_of_letter (slice_index text 0) else None
+-- a version has events of this kind
+abbrev pub has_kind : Ranges → EventKind → Bool
+has_kind ranges kind.Refetch = ranges.refetches
+has_kind ranges _ = true
+
+abbrev pub kind_among : Ranges → Option EventKind → Option EventKind
+kind_among ranges None = None
+kind_among ranges (Some kind) = if has_kind ranges kind then Some kind else None
+
+-- the kind that a field names: a letter alone, of a kind that the version has
+abbrev pub kind_named : Ranges → List ℕ → Option EventKind
+kind_named ranges text =
+    if length text == 1 then kind_among ranges (kind_of_letter (slice_index text 0)) else None
 
 -- a refused field breaks a rule of the line
 abbrev pub of_fields : Result Event FieldError → Result Event Rule
@@ -183,4 +199,4 @@ event_as ranges (Some kind) fields =
 
 -- the event of a line without its newline, of a version of the format that has these ranges
 unfoldable pub event_within : Ranges → List ℕ → Result Event Rule
-event_within ranges line = event_as ranges (kind_named (first_field line)) (others line)
+event_within ranges line = event_as ranges (kind_named ranges (first_field line)) (others line)

@@ -6,9 +6,11 @@ use Rattle.std.specs.Prelude.{MatchBool, IsErrAnd}
 use Rattle.text_fields.specs.Splitting.{field, field_count}
 use Rattle.events.specs.{declared.event.Event.Event}
 use Rattle.event_text.specs.{declared.head.TraceHead.TraceHead, declared.ranges.Ranges.Ranges}
-use Rattle.event_text.specs.declared.head.TraceHead.TheVariants.{First, Second}
+use Rattle.event_text.specs.{declared.head.LaterVersion.LaterVersion}
+use Rattle.event_text.specs.declared.head.TraceHead.TheVariants.{First, Later}
 use Rattle.event_text.specs.Core.{AreCoreSizes}
-use Rattle.event_text.specs.Heads.{config_of, ended, first_header, head_count, head_lines, second_header}
+use Rattle.event_text.specs.Heads.{config_of, ended, first_header, head_count}
+use Rattle.event_text.specs.Heads.{head_lines, later_header}
 use Rattle.event_text.specs.{Line.line_of, Ranges.IsEventWithin, Ranges.ranges_of}
 use Rattle.event_text.specs.Reading.{event_within, rule_number}
 
@@ -23,7 +25,7 @@ trace_text head events = head_lines head ++ event_lines events
 -- a trace may begin so: what it says of its core are sizes of one
 abbrev pub IsHead : TraceHead → Type 0
 IsHead First = Unit {0}
-IsHead (Second sizes) = AreCoreSizes sizes
+IsHead (Later version sizes) = AreCoreSizes sizes
 
 -- the events are within the ranges of the version
 abbrev pub AreWithin : TraceHead → List Event → Type 0
@@ -36,9 +38,10 @@ Breaks OwnRule text rule =
 
 -- the rule of the first line: it names a version
 abbrev pub BreaksHeader : List ℕ → ℕ → Type 0
-BreaksHeader line rule = (line ≢ first_header) × (line ≢ second_header) × (rule ≡ 1)
+BreaksHeader line rule =
+    (line ≢ first_header) × ((version : LaterVersion) → line ≢ later_header version) × (rule ≡ 1)
 
--- the rules of the second line of version 2: it says of what core the trace is
+-- the rules of the second line of a later version: it says of what core the trace is
 abbrev pub BreaksConfig : List ℕ → ℕ → Type 0
 BreaksConfig line rule = IsErrAnd (config_of line) (λ broken. rule ≡ rule_number broken)
 
@@ -46,10 +49,11 @@ BreaksConfig line rule = IsErrAnd (config_of line) (λ broken. rule ≡ rule_num
 abbrev pub BreaksEvent : Ranges → List ℕ → ℕ → Type 0
 BreaksEvent ranges line rule = IsErrAnd (event_within ranges line) (λ broken. rule ≡ rule_number broken)
 
--- Behind the line that names version 2 stands no line of a core.
+-- Behind the line that names a later version stands no line of a core.
 pub record IsRefusedAsConfig (text : List ℕ) (rule : ℕ) : Type 0 where
+  pub version : LaterVersion
   pub behind : List ℕ
-  pub parts : text ≡ ended second_header ++ behind
+  pub parts : text ≡ ended (later_header version) ++ behind
   pub breaks : Breaks BreaksConfig behind rule
 
 -- Behind the lines of some events stands another line, which breaks a rule.

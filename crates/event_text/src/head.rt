@@ -1,17 +1,18 @@
-//! How a trace begins: its version, and of what core a trace of version 2 says that it is.
+//! How a trace begins: its version, and of what core a trace of version 2 or 3 says that it is.
 
-ghost use Rattle.std.specs.Prelude.{◌≡◌, ◌≤◌, length, false, IfSome, IfNone};
+ghost use Rattle.std.specs.Prelude.{◌≡◌, ◌≢◌, ◌≤◌, length, false, IfSome, IfNone};
+ghost use Rattle.event_text.specs.declared.head.LaterVersion.{LaterVersion as AnyVersion};
 ghost use Rattle.numbers.specs.Sizes.{are_core_sizes, most_actors};
 ghost use Rattle.event_text.specs.Core.{AreCoreSizes};
-ghost use Rattle.event_text.specs.Heads.{head_count};
+ghost use Rattle.event_text.specs.Heads.{head_count, later_header};
 
 use arrayvec::ArrayVec;
 use events::Role;
 use numbers::sizes::{MOST_ACTORS, are_core_sizes};
 use std::marker::Model;
 
-/// What a trace of version 2 says of its core: harts, extra registers, entries of the issue queue,
-/// and the role of each actor. A core may have these sizes.
+/// What a trace of a later version says of its core: harts, extra registers, entries of the issue
+/// queue, and the role of each actor. A core may have these sizes.
 #[derive(Drop)]
 pub struct TraceHeader {
     harts: u8,
@@ -98,13 +99,37 @@ fn copy_of(roles: &[Role]) -> ArrayVec<Role, MOST_ACTORS>
     copy
 }
 
+/// A version whose traces say of what core they are.
+#[derive(Clone, Copy, Debug, PartialEq, Eq, Drop)]
+pub enum LaterVersion {
+    Second,
+    /// It has lines of refetches too.
+    Third,
+}
+
+impl LaterVersion {
+    /// The one that a line without its newline names.
+    pub(crate) fn named(line: &[u8]) -> Option<LaterVersion>
+        ensures some { IfSome result (λ version. line.now ≡ later_header version) }
+        ensures none { IfNone result ((version : AnyVersion) → line.now ≢ later_header version) }
+    {
+        if line == b"smt-trace 2".as_slice() {
+            return Some(LaterVersion::Second);
+        }
+        if line == b"smt-trace 3".as_slice() {
+            return Some(LaterVersion::Third);
+        }
+        None
+    }
+}
+
 /// How a trace begins.
 #[derive(Drop)]
 pub enum TraceHead {
     /// A trace of version 1, which doesn't say of what core it is.
     First,
-    /// A trace of version 2 of such a core.
-    Second(TraceHeader),
+    /// A trace of a later version, of such a core.
+    Later(LaterVersion, TraceHeader),
 }
 
 impl TraceHead {
@@ -114,7 +139,7 @@ impl TraceHead {
     {
         match self {
             TraceHead::First => 1,
-            TraceHead::Second(_) => 2,
+            TraceHead::Later(_, _) => 2,
         }
     }
 }

@@ -5,7 +5,9 @@
 ghost use Rattle.std.specs.Prelude.{◌≡◌, ℕ, List, Ok};
 ghost use Rattle.events.specs.declared.event.Event.{Event};
 ghost use Rattle.event_text.specs.declared.head.TraceHead.{TraceHead};
-ghost use Rattle.event_text.specs.declared.head.TraceHead.TheVariants.{First};
+ghost use Rattle.event_text.specs.declared.head.LaterVersion.TheVariants.{Third};
+ghost use Rattle.event_text.specs.declared.head.TraceHead.TheVariants.{First, Later};
+ghost use Rattle.event_text.specs.Core.{CoreSizes};
 ghost use Rattle.event_text.specs.Line.{line_of};
 ghost use Rattle.event_text.specs.Ranges.{ranges_of, IsEventWithin};
 ghost use Rattle.event_text.specs.Reading.{event_within};
@@ -33,9 +35,12 @@ pub fn trace_law()
         → IsRefusedAt text line' rule' → (line ≡ line') × (rule ≡ rule') }
 {}
 
-/// What is within the ranges of version 1 is within those of each version, so that the events of a trace
-/// of version 1 may stand behind any other beginning.
+/// What is within the ranges of version 1 is within those of each version, and what is within those
+/// of some version is within those of version 3: so the events of a trace of version 1 may stand
+/// behind any other beginning, and those of each trace behind the beginning of a newest one.
 pub fn migration_law()
-    ensures { (head : TraceHead) (events : List Event) → AreWithin First events
+    ensures first { (head : TraceHead) (events : List Event) → AreWithin First events
         → AreWithin head events }
+    ensures newest { (head : TraceHead) (sizes : CoreSizes) (events : List Event)
+        → AreWithin head events → AreWithin (Later Third sizes) events }
 {}

@@ -268,6 +268,7 @@ pub fn push_event<const N: usize>(line: &mut ArrayString<N>, event: &Event)
         } => push_complete(line, *actor, *seq, outcome),
         Event::Drop { actor, seq } => push_step(line, b'X', *actor, *seq),
         Event::Retire { actor, seq, effect } => push_retire(line, *actor, *seq, effect),
+        Event::Refetch { actor, seq } => push_step(line, b'G', *actor, *seq),
     }
 }
 

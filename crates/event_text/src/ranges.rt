@@ -1,20 +1,21 @@
-//! The ranges of the numbers in the lines of a trace.
+//! The ranges of the numbers in the lines of a trace, and whether it has lines of refetches.
 
 ghost use Rattle.std.specs.Prelude.{◌≡◌};
 ghost use Rattle.event_text.specs.Ranges.{ranges_of};
 
-use crate::head::TraceHead;
+use crate::head::{LaterVersion, TraceHead};
 use events::{Phys, Seq};
 use numbers::sizes::{MOST_ACTORS, MOST_EVENTS, MOST_EXTRA, MOST_HARTS, RENAMED_REGISTERS};
 
 /// The greatest number of an actor, of a hart, of an instruction and of a physical register that a
-/// version of the trace format has.
+/// version of the trace format has, and whether it has lines of refetches.
 #[derive(Clone, Copy, Debug, PartialEq, Eq, Drop)]
 pub struct Ranges {
     pub actor: u8,
     pub hart: u8,
     pub seq: Seq,
     pub phys: Phys,
+    pub refetches: bool,
 }
 
 /// Those of version 1, for ever. `first_ranges` in `specs/Ranges`.
@@ -23,14 +24,22 @@ pub const FIRST_RANGES: Ranges = Ranges {
     hart: 7,
     seq: 16_777_215,
     phys: 503,
+    refetches: false,
 };
 
-/// Those of version 2: what a core of the greatest size has. `second_ranges` in `specs/Ranges`.
+/// Those of version 2: what a core of the greatest size has. `later_ranges` in `specs/Ranges`.
 pub const SECOND_RANGES: Ranges = Ranges {
     actor: (MOST_ACTORS - 1) as u8,
     hart: MOST_HARTS - 1,
     seq: MOST_EVENTS - 1,
     phys: RENAMED_REGISTERS * MOST_HARTS as u16 + MOST_EXTRA - 1,
+    refetches: false,
+};
+
+/// Those of version 3: the same, and the lines of refetches.
+pub const THIRD_RANGES: Ranges = Ranges {
+    refetches: true,
+    ..SECOND_RANGES
 };
 
 impl TraceHead {
@@ -40,7 +49,8 @@ impl TraceHead {
     {
         match self {
             TraceHead::First => FIRST_RANGES,
-            TraceHead::Second(_) => SECOND_RANGES,
+            TraceHead::Later(LaterVersion::Second, _) => SECOND_RANGES,
+            TraceHead::Later(LaterVersion::Third, _) => THIRD_RANGES,
         }
     }
 }

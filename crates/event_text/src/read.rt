@@ -6,7 +6,8 @@ ghost use Rattle.events.specs.Kind.{fields_after};
 ghost use Rattle.event_text.specs.declared.read.Rule.TheVariants.{FieldCount};
 ghost use Rattle.event_text.specs.Reading.{rule_number, outcome_of, effect_of, fetch_of};
 ghost use Rattle.event_text.specs.Reading.{rename_of, complete_of, retire_of, decode_of, issue_of};
-ghost use Rattle.event_text.specs.Reading.{drop_of, behind_actor, event_fields, kind_named};
+ghost use Rattle.event_text.specs.Reading.{drop_of, refetch_of, behind_actor, event_fields};
+ghost use Rattle.event_text.specs.Reading.{kind_named};
 ghost use Rattle.event_text.specs.Reading.{event_within, of_fields};
 
 use crate::fields::{first_next, first_optional_sized, read_optional_byte, read_phys, written};
@@ -163,6 +164,14 @@ fn read_retire(actor: u8, fields: &[u8], ranges: Ranges) -> Result<Event, FieldE
     Ok(Event::Retire { actor, seq, effect })
 }
 
+#[tactic(auto, unfolding(crate::specs::Reading::refetch_of))]
+fn read_refetch(actor: u8, fields: &[u8], ranges: Ranges) -> Result<Event, FieldError>
+    ensures { result ≡ refetch_of ranges actor fields.now }
+{
+    let seq = read_decimal(fields, ranges.seq)?;
+    Ok(Event::Refetch { actor, seq })
+}
+
 // The event of a kind and an actor.
 fn read_behind_actor(
     kind: EventKind,
@@ -180,6 +189,7 @@ fn read_behind_actor(
         EventKind::Complete => read_complete(actor, fields, ranges),
         EventKind::Drop => read_drop(actor, fields, ranges),
         EventKind::Retire => read_retire(actor, fields, ranges),
+        EventKind::Refetch => read_refetch(actor, fields, ranges),
     }
 }
 
@@ -191,13 +201,16 @@ fn read_fields(kind: EventKind, fields: &[u8], ranges: Ranges) -> Result<Event, 
     read_behind_actor(kind, actor as u8, fields, ranges)
 }
 
-fn kind_named(text: &[u8]) -> Option<EventKind>
-    ensures { result ≡ kind_named text.now }
+fn kind_named(text: &[u8], ranges: Ranges) -> Option<EventKind>
+    ensures { result ≡ kind_named ranges text.now }
 {
     if text.len() != 1 {
         return None;
     }
-    EventKind::from_letter(text[0])
+    match EventKind::from_letter(text[0]) {
+        Some(EventKind::Refetch) if !ranges.refetches => None,
+        named => named,
+    }
 }
 
 /// The event of a line without its newline, in a version of the trace format that has these ranges,
@@ -207,7 +220,7 @@ pub fn read_event_within(line: &[u8], ranges: Ranges) -> Result<Event, Rule>
     ensures { result ≡ event_within ranges line.now }
 {
     let (letter, fields) = split_field(line, b' ');
-    let Some(kind) = kind_named(letter) else {
+    let Some(kind) = kind_named(letter, ranges) else {
         return Err(Rule::FirstField);
     };
     match read_fields(kind, fields, ranges) {

@@ -1,12 +1,13 @@
-//! The text of a trace: read here, printed into a sink, and migrated from version 1 to version 2.
+//! The text of a trace: read here, printed into a sink, and migrated to the newest version.
 
 mod config;
 mod migrating;
 mod printing;
 mod reading;
 
-ghost use Rattle.std.specs.Prelude.{◌≡◌, IfSome, IfNone};
-ghost use Rattle.event_text.specs.declared.head.TraceHead.TheVariants.{First, Second};
+ghost use Rattle.std.specs.Prelude.{◌≡◌, Some, IfSome, IfNone};
+ghost use Rattle.event_text.specs.declared.head.TraceHead.TheVariants.{First};
+ghost use Rattle.event_text.specs.Heads.{told_core};
 
 use crate::head::{TraceHead, TraceHeader};
 pub use config::read_config_line;
@@ -41,12 +42,12 @@ impl Trace {
 
     /// What it says of its core, which one of version 1 doesn't.
     pub fn header(&self) -> Option<&TraceHeader>
-        ensures some { IfSome result (λ header. self.now.head ≡ Second header.now) }
+        ensures some { IfSome result (λ header. told_core self.now.head ≡ Some header.now) }
         ensures none { IfNone result (self.now.head ≡ First) }
     {
         match &self.head {
             TraceHead::First => None,
-            TraceHead::Second(header) => Some(header),
+            TraceHead::Later(_, header) => Some(header),
         }
     }
 

@@ -10,7 +10,7 @@ use Rattle.events.specs.{declared.event.Event.Event}
 use Rattle.events.specs.declared.event.Event.TheVariants as event
 use Rattle.events.specs.{declared.history.packed.Packed.Packed}
 use Rattle.events.specs.declared.history.packed.Packed.TheVariants.{Fetch, Decode, Rename, Issue}
-use Rattle.events.specs.declared.history.packed.Packed.TheVariants.{Complete, Drop, Retire}
+use Rattle.events.specs.declared.history.packed.Packed.TheVariants.{Complete, Drop, Retire, Refetch}
 use Rattle.events.specs.{declared.history.packed.PackedEffect.PackedEffect}
 use Rattle.events.specs.{declared.history.packed.PackedOutcome.PackedOutcome}
 use Rattle.events.specs.{declared.history.packed.NextKind.NextKind}
@@ -57,3 +57,4 @@ event_in (Issue actor seq) = event.Issue actor seq
 event_in (Complete actor seq outcome) = event.Complete actor seq (outcome_in outcome)
 event_in (Drop actor seq) = event.Drop actor seq
 event_in (Retire actor seq effect) = event.Retire actor seq (effect_in effect)
+event_in (Refetch actor seq) = event.Refetch actor seq

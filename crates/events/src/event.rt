@@ -43,6 +43,12 @@ pub enum Event {
         seq: Seq,
         effect: Effect,
     },
+    /// The word at the pc of a hart's oldest instruction isn't the one that was fetched: it is
+    /// squashed with all younger ones, and the hart fetches there again.
+    Refetch {
+        actor: u8,
+        seq: Seq,
+    },
 }
 
 // A list of ten million events is to have room in half a gigabyte; a history's is smaller.
@@ -64,6 +70,7 @@ impl Event {
             Event::Complete { .. } => EventKind::Complete,
             Event::Drop { .. } => EventKind::Drop,
             Event::Retire { .. } => EventKind::Retire,
+            Event::Refetch { .. } => EventKind::Refetch,
         }
     }
 
@@ -78,7 +85,8 @@ impl Event {
             | Event::Issue { actor, .. }
             | Event::Complete { actor, .. }
             | Event::Drop { actor, .. }
-            | Event::Retire { actor, .. } => actor,
+            | Event::Retire { actor, .. }
+            | Event::Refetch { actor, .. } => actor,
         }
     }
 
@@ -93,7 +101,8 @@ impl Event {
             | Event::Issue { seq, .. }
             | Event::Complete { seq, .. }
             | Event::Drop { seq, .. }
-            | Event::Retire { seq, .. } => seq,
+            | Event::Retire { seq, .. }
+            | Event::Refetch { seq, .. } => seq,
         }
     }
 }

@@ -12,6 +12,7 @@ pub enum EventKind {
     Complete,
     Drop,
     Retire,
+    Refetch,
 }
 
 impl EventKind {
@@ -27,6 +28,7 @@ impl EventKind {
             EventKind::Complete => b'C',
             EventKind::Drop => b'X',
             EventKind::Retire => b'T',
+            EventKind::Refetch => b'G',
         }
     }
 
@@ -44,6 +46,7 @@ impl EventKind {
             b'C' => EventKind::Complete,
             b'X' => EventKind::Drop,
             b'T' => EventKind::Retire,
+            b'G' => EventKind::Refetch,
             _ => return None,
         })
     }
@@ -54,7 +57,7 @@ impl EventKind {
     {
         match self {
             EventKind::Fetch => 6,
-            EventKind::Decode | EventKind::Issue | EventKind::Drop => 2,
+            EventKind::Decode | EventKind::Issue | EventKind::Drop | EventKind::Refetch => 2,
             EventKind::Rename => 3,
             EventKind::Complete | EventKind::Retire => 7,
         }

@@ -6,10 +6,11 @@ use events::{Effect, Event, History, Next, Outcome, Written};
 use numbers::Seq;
 use retire_squash::{Active, Stage};
 use rv_instr::{Instr, LoadOp, Op};
+use shared_memory::{AccessKind, Memory};
 use std::io;
 use std::io::Write;
 
-/// Why an event squashes the younger instructions of its hart.
+/// Why an event squashes instructions of its hart.
 #[derive(Clone, Copy, PartialEq, Eq, Drop)]
 pub(crate) enum Cause {
     /// It goes on elsewhere than here.
@@ -19,6 +20,13 @@ pub(crate) enum Cause {
     /// A load whose value was this as it completed, and is another as it retires; the retired write
     /// that was the last to touch its bytes.
     Replayed {
+        was: Option<u32>,
+        is: Option<u32>,
+        writer: Option<Writer>,
+    },
+    /// It is fetched again: the word at its pc was this, and is another; the retired write that was
+    /// the last to touch it.
+    Refetched {
         was: Option<u32>,
         is: Option<u32>,
         writer: Option<Writer>,
@@ -35,17 +43,31 @@ pub(crate) struct Writer {
 }
 
 /// Why this event squashes, if it does: `active` is how its instruction stands before it, and
-/// `made` are the events, of which `before` came before it.
+/// `memory` what memory holds then; `made` are the events, of which `before` came before it.
 pub(crate) fn cause_of(
     event: &Event,
     active: &Active,
+    memory: &Memory,
     made: &History,
     before: usize,
 ) -> Option<Cause> {
     match *event {
         Event::Complete { outcome, .. } => misprediction(outcome, active.predicted),
         Event::Retire { effect, .. } => retirement(effect, active, made, before),
+        Event::Refetch { .. } => Some(Cause::Refetched {
+            was: active.word,
+            is: word_at(memory, active.pc),
+            writer: writer_of(active.pc, 4, made, before),
+        }),
         _ => None,
+    }
+}
+
+/// The word that memory has at an address, where a load has no fault there.
+fn word_at(memory: &Memory, addr: u32) -> Option<u32> {
+    match memory.fault(addr, 4, AccessKind::Load) {
+        None => Some(memory.read(addr, 4)),
+        Some(_) => None,
     }
 }
 
@@ -151,19 +173,23 @@ pub(crate) fn write_cause<W: Write>(cause: Cause, out: &mut W) -> io::Result<()>
         Cause::Mispredicted { predicted } => {
             write!(out, "mispredicted: predicted {predicted:08x}")
         }
-        Cause::Replayed { was, is, writer } => write_replay(was, is, writer, out),
+        Cause::Replayed { was, is, writer } => write_change("replayed", was, is, writer, out),
+        Cause::Refetched { was, is, writer } => write_change("refetched", was, is, writer, out),
         Cause::HartEnded => out.write_all(b"hart ended"),
         Cause::HartStopped => out.write_all(b"hart stopped"),
     }
 }
 
-fn write_replay<W: Write>(
+/// What was first seen, what is seen now, and who wrote it.
+fn write_change<W: Write>(
+    name: &str,
     was: Option<u32>,
     is: Option<u32>,
     writer: Option<Writer>,
     out: &mut W,
 ) -> io::Result<()> {
-    write_value("replayed: was ", was, out)?;
+    out.write_all(name.as_bytes())?;
+    write_value(": was ", was, out)?;
     write_value(", is ", is, out)?;
     match writer {
         Some(writer) => write_writer(writer, out),

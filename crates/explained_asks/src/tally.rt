@@ -9,7 +9,7 @@ use std::io;
 use std::io::Write;
 
 /// How many are told apart.
-const KINDS: usize = 26;
+const KINDS: usize = 27;
 
 /// What is told apart, in the order in which it is written.
 fn names() -> [&'static str; KINDS] {
@@ -38,6 +38,7 @@ fn names() -> [&'static str; KINDS] {
         "nothing ready for the unit",
         "squash: mispredicted",
         "squash: replayed",
+        "squash: refetched",
         "squash: hart ended",
         "squash: hart stopped",
     ]
@@ -66,7 +67,7 @@ impl Tally {
     }
 
     fn count(&mut self, place: usize)
-        requires { place < 26 }
+        requires { place < 27 }
     {
         self.counts[place] = self.counts[place].saturating_add(1);
     }
@@ -89,7 +90,7 @@ fn write_count<W: Write>(count: u64, name: &str, out: &mut W) -> io::Result<()> 
 }
 
 fn place_of_reason(reason: Reason) -> usize
-    ensures { result < 26 }
+    ensures { result < 27 }
 {
     match reason {
         Reason::Full => 0,
@@ -118,12 +119,13 @@ fn place_of_reason(reason: Reason) -> usize
 }
 
 fn place_of_cause(cause: Cause) -> usize
-    ensures { result < 26 }
+    ensures { result < 27 }
 {
     match cause {
         Cause::Mispredicted { .. } => 22,
         Cause::Replayed { .. } => 23,
-        Cause::HartEnded => 24,
-        Cause::HartStopped => 25,
+        Cause::Refetched { .. } => 24,
+        Cause::HartEnded => 25,
+        Cause::HartStopped => 26,
     }
 }

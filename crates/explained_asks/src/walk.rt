@@ -63,10 +63,11 @@ impl<'a> Walk<'a> {
     }
 
     /// The hart of which an event squashes, why, and how many of its instructions there are beside
-    /// the ones that stay or retire.
+    /// the one that retires.
     fn squash_of(&self, event: &Event) -> Option<(u8, Cause, usize)> {
         let (hart, active) = self.in_flight(event.seq())?;
-        let cause = cause_of(event, &active, self.made, self.followed())?;
+        let memory = &self.core.parts().0.memory;
+        let cause = cause_of(event, &active, memory, self.made, self.followed())?;
         let leaves = matches!(event, Event::Retire { .. });
         Some((
             hart,

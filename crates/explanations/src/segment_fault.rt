@@ -52,8 +52,8 @@ fn mended(check: LoadRefused) -> &'static str {
             usually: a segment of an empty section: leave it out of the linker script\n",
         LoadRefused::SegmentsOverlap => "expected: no address in two of them\n\
             usually: two sections at one address in the linker script\n",
-        LoadRefused::WrongCodeSegment => "expected: X on one of them alone, and no W on that one\n\
-            usually: code and data in one segment: separate them by `examples/start/program.ld`\n",
+        LoadRefused::WrongCodeSegment => "expected: X on one of them alone\n\
+            usually: code in two segments: put it into one by `examples/start/program.ld`\n",
         LoadRefused::MisalignedCode =>
             "expected: an address and a size in memory that are multiples of 4\n\
             usually: no `. = ALIGN(4)` behind the code in the linker script\n",

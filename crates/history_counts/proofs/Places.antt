@@ -5,7 +5,8 @@ use Rattle.std.proofs.Common.{get_or, refl, sym, ap, ◌∙◌, arith, inl, inr,
 use Rattle.std.proofs.lemmas.{Bool.cases_Bool, Option.slice_get-get_or, List.reverse-append, List.length-reverse}
 use Rattle.std.proofs.lemmas.List.{get_or_append_left, get_or_push, length_push}
 use Rattle.events.specs.{Event.seq_of, declared.event.Event.Event}
-use Rattle.events.specs.declared.event.Event.TheVariants.{Fetch, Decode, Rename, Issue, Complete, Drop, Retire}
+use Rattle.events.specs.declared.event.Event.TheVariants.{Fetch, Decode, Rename, Issue, Complete}
+use Rattle.events.specs.declared.event.Event.TheVariants.{Drop, Retire, Refetch}
 use Rattle.events.specs.declared.kind.EventKind.TheVariants as kinds
 use Rattle.smt_model.specs.{Basics.holds_of, Basics.or_else, Nexts.redirect_pc, Fates.squashes, Fates.completion}
 use Rattle.charts.specs.Rows.{place, squash, squash_of}
@@ -68,6 +69,7 @@ inside-place (Complete actor seq outcome ∷ past) s =
     ]
 inside-place (Drop actor seq ∷ past) s = wider (Drop actor seq) past _ (inside-place past s)
 inside-place (Retire actor seq effect ∷ past) s = wider (Retire actor seq effect) past _ (inside-place past s)
+inside-place (Refetch actor seq ∷ past) s = wider (Refetch actor seq) past _ (inside-place past s)
 
 -- Where an instruction's completion goes on.
 pub completed_is : (predicted : ℕ) (past : List Event) (s : ℕ)
@@ -94,6 +96,8 @@ completed_is predicted (Drop actor seq ∷ past) s =
     ap (holds_of (goes_elsewhere predicted)) (kept (Drop actor seq) past _ (inside-place past s)) ∙ completed_is predicted past s
 completed_is predicted (Retire actor seq effect ∷ past) s =
     ap (holds_of (goes_elsewhere predicted)) (kept (Retire actor seq effect) past _ (inside-place past s)) ∙ completed_is predicted past s
+completed_is predicted (Refetch actor seq ∷ past) s =
+    ap (holds_of (goes_elsewhere predicted)) (kept (Refetch actor seq) past _ (inside-place past s)) ∙ completed_is predicted past s
 
 -- ---- Squashes
 

@@ -28,6 +28,7 @@ no_row = record {
   completed = None;
   dropped = None;
   retired = None;
+  refetched = None;
   squashed = None;
   value = None;
   replayed = false;

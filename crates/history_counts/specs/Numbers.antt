@@ -6,7 +6,7 @@ use Rattle.events.specs.{declared.kind.EventKind.EventKind, declared.effect.Next
 use Rattle.events.specs.declared.effect.Record.{Record}
 use Rattle.events.specs.declared.effect.Next.TheVariants.{Pc, Ended, Stopped}
 use Rattle.events.specs.declared.event.Event.TheVariants.{Fetch, Decode, Rename, Issue, Complete}
-use Rattle.events.specs.declared.event.Event.TheVariants.{Drop, Retire}
+use Rattle.events.specs.declared.event.Event.TheVariants.{Drop, Retire, Refetch}
 use Rattle.events.specs.declared.kind.EventKind.TheVariants as kinds
 use Rattle.rv_instr.specs.{Registers.op_unit, Registers.same_unit, Decode.op_of_word}
 use Rattle.rv_instr.specs.declared.op.UnitKind.{UnitKind}
@@ -15,7 +15,8 @@ use Rattle.smt_model.specs.Fates.{fetches, completion, mispredicts, squashes}
 use Rattle.charts.specs.Rows.{looked_twice}
 use Rattle.history_counts.specs.declared.instructions.Reason.{Reason}
 use Rattle.history_counts.specs.declared.instructions.Reason.TheVariants.{Mispredicted, Replayed}
-use Rattle.history_counts.specs.declared.instructions.Reason.TheVariants.{HartEnded, HartStopped}
+use Rattle.history_counts.specs.declared.instructions.Reason.TheVariants.{Refetched, HartEnded}
+use Rattle.history_counts.specs.declared.instructions.Reason.TheVariants.{HartStopped}
 use Rattle.history_counts.specs.declared.counts.Counts.{Counts}
 
 -- ---- Events
@@ -49,12 +50,14 @@ squasher [] s = None
 squasher (e ∷ past) s = or_else (squasher past s) (if squashes e past s then Some e else None)
 
 -- Why an event squashes: a completion squashes what was fetched on a wrong path; a retirement does
--- where it ends or stops its hart, and else is that of a load with another number now.
+-- where it ends or stops its hart, and else is that of a load with another number now; a refetch
+-- squashes its own instruction and what was fetched behind it.
 abbrev pub is_next_for : Reason → Next → Bool
 is_next_for Mispredicted next = false
 is_next_for Replayed (Pc pc) = true
 is_next_for Replayed (Ended number) = false
 is_next_for Replayed (Stopped cause) = false
+is_next_for Refetched next = false
 is_next_for HartEnded (Pc pc) = false
 is_next_for HartEnded (Ended number) = true
 is_next_for HartEnded (Stopped cause) = false
@@ -65,8 +68,16 @@ is_next_for HartStopped (Stopped cause) = true
 abbrev pub is_misprediction : Reason → Bool
 is_misprediction Mispredicted = true
 is_misprediction Replayed = false
+is_misprediction Refetched = false
 is_misprediction HartEnded = false
 is_misprediction HartStopped = false
+
+abbrev pub is_refetch : Reason → Bool
+is_refetch Mispredicted = false
+is_refetch Replayed = false
+is_refetch Refetched = true
+is_refetch HartEnded = false
+is_refetch HartStopped = false
 
 abbrev pub squashes_for : Reason → Event → Bool
 squashes_for reason (Fetch actor hart seq pc word predicted) = false
@@ -76,6 +87,7 @@ squashes_for reason (Issue actor seq) = false
 squashes_for reason (Complete actor seq outcome) = is_misprediction reason
 squashes_for reason (Drop actor seq) = false
 squashes_for reason (Retire actor seq effect) = is_next_for reason effect.next
+squashes_for reason (Refetch actor seq) = is_refetch reason
 
 -- How many instructions were squashed for a reason.
 abbrev pub is_squashed_for : Reason → List Event → ℕ → Bool
@@ -97,8 +109,10 @@ counts_of past = record {
   retired = events_of kinds.Retire past;
   mispredicted = mispredictions past;
   replayed = replays past;
+  refetched = events_of kinds.Refetch past;
   squashed_mispredicted = squashed_for Mispredicted past;
   squashed_replayed = squashed_for Replayed past;
+  squashed_refetched = squashed_for Refetched past;
   squashed_ended = squashed_for HartEnded past;
   squashed_stopped = squashed_for HartStopped past;
 }

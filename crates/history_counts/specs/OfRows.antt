@@ -3,7 +3,7 @@ use Rattle.std.specs.Prelude.{ℕ, Bool, false, List, Option, option_and_then, s
 use Rattle.std.specs.Option.{option_map}
 use Rattle.events.specs.{declared.event.Event.Event}
 use Rattle.events.specs.declared.event.Event.TheVariants.{Fetch, Decode, Rename, Issue, Complete}
-use Rattle.events.specs.declared.event.Event.TheVariants.{Drop, Retire}
+use Rattle.events.specs.declared.event.Event.TheVariants.{Drop, Retire, Refetch}
 use Rattle.smt_model.specs.{Basics.holds_of, Nexts.redirect_pc}
 use Rattle.charts.specs.{declared.row.Row.Row}
 use Rattle.history_counts.specs.declared.instructions.Reason.{Reason}
@@ -17,6 +17,7 @@ goes_elsewhere predicted (Issue actor seq) = false
 goes_elsewhere predicted (Complete actor seq outcome) = is_some (redirect_pc outcome.next predicted)
 goes_elsewhere predicted (Drop actor seq) = false
 goes_elsewhere predicted (Retire actor seq effect) = false
+goes_elsewhere predicted (Refetch actor seq) = false
 
 -- The event at which it completed goes on elsewhere than was predicted.
 abbrev pub is_mispredicted_row : List Event → Row → Bool

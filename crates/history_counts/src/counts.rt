@@ -26,10 +26,14 @@ pub struct Counts {
     pub mispredicted: usize,
     /// Loads that retired with another number than that of their first look.
     pub replayed: usize,
+    /// Instructions that were fetched again, since their word wasn't the one at their pc any more.
+    pub refetched: usize,
     /// Instructions that were squashed since an older one was mispredicted.
     pub squashed_mispredicted: usize,
     /// Since an older load was replayed.
     pub squashed_replayed: usize,
+    /// Since they or an older one were fetched again.
+    pub squashed_refetched: usize,
     /// Since an older one ended their hart.
     pub squashed_ended: usize,
     /// Since an older one stopped their hart.
@@ -74,8 +78,10 @@ fn counts_with(events: &[Event], rows: &[Row]) -> Counts
         retired: count_events(events, EventKind::Retire),
         mispredicted: count_mispredicted(events, rows),
         replayed: count_replayed(events, rows),
+        refetched: count_events(events, EventKind::Refetch),
         squashed_mispredicted: count_squashed(events, rows, Reason::Mispredicted),
         squashed_replayed: count_squashed(events, rows, Reason::Replayed),
+        squashed_refetched: count_squashed(events, rows, Reason::Refetched),
         squashed_ended: count_squashed(events, rows, Reason::HartEnded),
         squashed_stopped: count_squashed(events, rows, Reason::HartStopped),
     }

@@ -7,7 +7,7 @@ ghost use Rattle.smt_model.specs.Nexts.{redirect_pc};
 ghost use Rattle.std.specs.Prelude.{is_some};
 ghost use Rattle.charts.specs.Rows.{AreRows};
 ghost use Rattle.history_counts.specs.Numbers.{mispredictions, replays, squashed_for, squashes_for};
-ghost use Rattle.history_counts.specs.Numbers.{is_next_for, is_misprediction};
+ghost use Rattle.history_counts.specs.Numbers.{is_next_for, is_misprediction, is_refetch};
 ghost use Rattle.history_counts.specs.OfRows.{is_replayed_row, is_mispredicted_row};
 ghost use Rattle.history_counts.specs.OfRows.{is_squashed_row, goes_elsewhere};
 
@@ -21,6 +21,8 @@ pub enum Reason {
     Mispredicted,
     /// An older load of their hart retired with another number.
     Replayed,
+    /// They or an older one of their hart were fetched again.
+    Refetched,
     HartEnded,
     HartStopped,
 }
@@ -122,6 +124,7 @@ fn squashes_for(event: &Event, reason: Reason) -> bool
     match event {
         Event::Complete { .. } => is_misprediction(reason),
         Event::Retire { effect, .. } => is_next_for(effect.next, reason),
+        Event::Refetch { .. } => is_refetch(reason),
         _ => false,
     }
 }
@@ -131,7 +134,16 @@ fn is_misprediction(reason: Reason) -> bool
 {
     match reason {
         Reason::Mispredicted => true,
-        Reason::Replayed | Reason::HartEnded | Reason::HartStopped => false,
+        Reason::Replayed | Reason::Refetched | Reason::HartEnded | Reason::HartStopped => false,
+    }
+}
+
+fn is_refetch(reason: Reason) -> bool
+    ensures { result ≡ is_refetch reason }
+{
+    match reason {
+        Reason::Refetched => true,
+        Reason::Mispredicted | Reason::Replayed | Reason::HartEnded | Reason::HartStopped => false,
     }
 }
 
@@ -139,7 +151,7 @@ fn is_next_for(next: Next, reason: Reason) -> bool
     ensures { result ≡ is_next_for reason next }
 {
     match reason {
-        Reason::Mispredicted => false,
+        Reason::Mispredicted | Reason::Refetched => false,
         Reason::Replayed => matches!(next, Next::Pc(_)),
         Reason::HartEnded => matches!(next, Next::Ended(_)),
         Reason::HartStopped => matches!(next, Next::Stopped(_)),

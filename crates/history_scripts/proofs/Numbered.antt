@@ -6,7 +6,8 @@ use Rattle.std.proofs.{lemmas.Bool.cases_eq, lemmas.Bool.cases_lt, lemmas.Bool.D
 use Rattle.std.proofs.{lemmas.Option.same_Some, lemmas.Option.none-some}
 use Rattle.std.proofs.lemmas.List.{reverse-append, take_more, length_push, get_or_push, get_or_append_left}
 use Rattle.events.specs.declared.event.Event.{Event}
-use Rattle.events.specs.declared.event.Event.TheVariants.{Fetch, Decode, Rename, Issue, Complete, Drop, Retire}
+use Rattle.events.specs.declared.event.Event.TheVariants.{Fetch, Decode, Rename, Issue, Complete}
+use Rattle.events.specs.declared.event.Event.TheVariants.{Drop, Retire, Refetch}
 use Rattle.smt_model.specs.{Setup.Setup, Rules.refused, Rules.is_legal}
 use Rattle.smt_model.specs.Fates.{fetches, Fetched, fetching}
 use Rattle.smt_model.proofs.Fates.Moves.{fetch_number}
@@ -32,6 +33,7 @@ as_many (Issue actor seq ∷ past) = ap length (append-nil (harts_in past)) ∙ 
 as_many (Complete actor seq outcome ∷ past) = ap length (append-nil (harts_in past)) ∙ as_many past
 as_many (Drop actor seq ∷ past) = ap length (append-nil (harts_in past)) ∙ as_many past
 as_many (Retire actor seq effect ∷ past) = ap length (append-nil (harts_in past)) ∙ as_many past
+as_many (Refetch actor seq ∷ past) = ap length (append-nil (harts_in past)) ∙ as_many past
 
 -- ---- Under its number
 
@@ -84,6 +86,8 @@ have_harts setup (Drop actor seq ∷ past) legal =
     have_more past (Drop actor seq) refl (λ s. refl) (have_harts setup past legal.1)
 have_harts setup (Retire actor seq effect ∷ past) legal =
     have_more past (Retire actor seq effect) refl (λ s. refl) (have_harts setup past legal.1)
+have_harts setup (Refetch actor seq ∷ past) legal =
+    have_more past (Refetch actor seq) refl (λ s. refl) (have_harts setup past legal.1)
 
 -- Who has the harts of a history has those of what was before its newest event.
 pub have_before : (setup : Setup) (past : List Event) → is_legal setup past → (e : Event) → refused setup past e ≡ None

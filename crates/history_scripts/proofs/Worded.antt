@@ -8,13 +8,14 @@ use Rattle.std.proofs.lemmas.List.{map-append, reverse-append, reverse-reverse}
 use Rattle.std.proofs.lemmas.List.Concat.{flat_map-append}
 use Rattle.numbers.specs.Sizes.{most_actors, most_harts}
 use Rattle.events.specs.declared.event.Event.{Event}
-use Rattle.events.specs.declared.event.Event.TheVariants.{Fetch, Decode, Rename, Issue, Complete, Drop, Retire}
+use Rattle.events.specs.declared.event.Event.TheVariants.{Fetch, Decode, Rename, Issue, Complete}
+use Rattle.events.specs.declared.event.Event.TheVariants.{Drop, Retire, Refetch}
 use Rattle.smt_model.specs.{Setup.Setup, Setup.is_accepted, Jobs.is_actor, Rules.refused, Rules.is_legal}
 use Rattle.smt_model.specs.Fates.{fate, stage, is_of}
 use Rattle.smt_model.specs.Asks.{Ask, AskFetch, AskDecode, AskRename, AskIssue, AskComplete, AskRetire, answers}
 use Rattle.smt_model.proofs.Allowed.{fetch_allowed, decode_allowed, rename_allowed, issue_allowed, complete_allowed}
-use Rattle.smt_model.proofs.Allowed.{drop_allowed, retire_allowed}
-use Rattle.smt_model.proofs.Fates.Moves.{decode_was, rename_was, retire_was}
+use Rattle.smt_model.proofs.Allowed.{drop_allowed, retire_allowed, refetch_allowed}
+use Rattle.smt_model.proofs.Fates.Moves.{decode_was, rename_was, retire_was, refetch_was}
 use Rattle.smt_model.proofs.Fates.Numbers.{known_fetched}
 use Rattle.smt_laws.proofs.Fates.Choosing.{hart_there}
 use Rattle.scripts.specs.{declared.actions.ScriptWord.ScriptWord, Script.IsInRange}
@@ -35,6 +36,7 @@ ask_for harts (Issue actor seq) = AskIssue actor
 ask_for harts (Complete actor seq outcome) = AskComplete actor
 ask_for harts (Drop actor seq) = AskComplete actor
 ask_for harts (Retire actor seq effect) = AskRetire actor (slice_index_or harts seq 0)
+ask_for harts (Refetch actor seq) = AskRetire actor (slice_index_or harts seq 0)
 
 one_ask : (harts : List ℕ) (e : Event) → asks_of_word (word_for harts e) ≡ ask_for harts e ∷ []
 one_ask harts (Fetch actor hart seq pc word predicted) = refl
@@ -44,6 +46,7 @@ one_ask harts (Issue actor seq) = refl
 one_ask harts (Complete actor seq outcome) = refl
 one_ask harts (Drop actor seq) = refl
 one_ask harts (Retire actor seq effect) = refl
+one_ask harts (Refetch actor seq) = refl
 
 module _ (setup : Setup) (few_actors : length setup.roles ≤ most_actors) (few_harts : setup.harts ≤ most_harts)
     (harts : List ℕ) where
@@ -113,6 +116,16 @@ module _ (setup : Setup) (few_actors : length setup.roles ≤ most_actors) (few_
         suits = own actor _ mine;
         in_range = (
           actor_small actor (retire_allowed setup past actor seq effect ok).actor_is,
+          hart_small past legal (slice_index_or harts seq 0) seq mine,
+        );
+      }
+  worded past legal have (Refetch actor seq) ok =
+      let was = refetch_was setup past actor seq ok in
+      let mine = own_hart past legal have seq (omega arith) in
+      record {
+        suits = own actor _ mine;
+        in_range = (
+          actor_small actor (refetch_allowed setup past actor seq ok).actor_is,
           hart_small past legal (slice_index_or harts seq 0) seq mine,
         );
       }

@@ -3,7 +3,7 @@
 use Rattle.std.specs.Prelude.{ℕ, List, [], ◌∷◌, ◌++◌, flat_map, map, slice_index_or}
 use Rattle.events.specs.declared.event.Event.{Event}
 use Rattle.events.specs.declared.event.Event.TheVariants.{Fetch, Decode, Rename, Issue, Complete}
-use Rattle.events.specs.declared.event.Event.TheVariants.{Drop, Retire}
+use Rattle.events.specs.declared.event.Event.TheVariants.{Drop, Retire, Refetch}
 use Rattle.scripts.specs.{declared.actions.Action.Action, declared.actions.ScriptWord.ScriptWord}
 use Rattle.scripts.specs.Lines.{line_text}
 use Rattle.scripts.specs.declared.actions.Action.TheVariants as action
@@ -18,7 +18,7 @@ harts_in [] = []
 harts_in (e ∷ past) = harts_in past ++ hart_in e
 
 -- What is asked for an event: its actor's step, of its instruction's hart. A drop is asked for as a
--- completion is.
+-- completion is, and a refetch as a retirement is.
 abbrev pub action_for : List ℕ → Event → Action
 action_for harts (Fetch actor hart seq pc word predicted) = action.Fetch actor
 action_for harts (Decode actor seq) = action.Decode actor (slice_index_or harts seq 0)
@@ -27,6 +27,7 @@ action_for harts (Issue actor seq) = action.Issue actor
 action_for harts (Complete actor seq outcome) = action.Complete actor
 action_for harts (Drop actor seq) = action.Complete actor
 action_for harts (Retire actor seq effect) = action.Retire actor (slice_index_or harts seq 0)
+action_for harts (Refetch actor seq) = action.Retire actor (slice_index_or harts seq 0)
 
 abbrev pub word_for : List ℕ → Event → ScriptWord
 word_for harts e = record { action = action_for harts e; repeat = 1 }

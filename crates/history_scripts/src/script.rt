@@ -88,6 +88,10 @@ fn action_for(harts: &[u8], event: &Event) -> Action
             actor,
             hart: hart_of(harts, seq),
         },
+        Event::Refetch { actor, seq } => Action::Retire {
+            actor,
+            hart: hart_of(harts, seq),
+        },
     }
 }
 

@@ -1,12 +1,12 @@
 -- The image of a well-formed test is a well-formed image.
 use Rattle.std.proofs.Common.{◌≡◌, ℕ, ◌+◌, ◌*◌, ◌%◌, ◌≤◌, ◌<◌, List, [], ◌∷◌, ◌++◌, length, All}
-use Rattle.std.proofs.Common.{refl, sym, ap, subst, arith, IsTrue, false}
-use Rattle.std.specs.Prelude.{flat_map, AllPairs, ◌&&◌, nat_lt}
+use Rattle.std.proofs.Common.{refl, sym, ap, subst, arith, IsTrue}
+use Rattle.std.specs.Prelude.{flat_map, AllPairs, nat_lt}
 use Rattle.std.proofs.lemmas.{List.length-map, List.Elements.All-nil, List.Elements.All-cons}
 use Rattle.std.proofs.lemmas.{List.Kept.AllPairs-cons, Bool.lt-ltb}
 use Rattle.rv_instr.specs.declared.instr.Instr.{Instr}
 use Rattle.elf_image.specs.Image.{ProgramSegment, ProgramImage, IsWellFormed as IsImage, ram_start}
-use Rattle.elf_image.specs.Image.{code_segment, code_start, code_size, is_code_segment, is_writable_segment}
+use Rattle.elf_image.specs.Image.{code_segment, code_start, code_size}
 use Rattle.elf_image.specs.Written.{word_bytes}
 use Rattle.litmus_tests.specs.declared.test.{LitmusTest.LitmusTest, Location.Location}
 use Rattle.litmus_tests.specs.{WellFormed.IsWellFormed, Conditions.number_of}
@@ -85,7 +85,6 @@ with_code code some few whole = record {
   rising = one_follows (code_part code);
   flags = of_one (λ s. s.flags < 8) (code_part code) (omega arith);
   one_code = refl;
-  read_only = of_one (λ s. is_code_segment s && is_writable_segment s ≡ false) (code_part code) refl;
   code_within = (omega arith, omega arith);
   code_aligned = (refl, whole);
   entry_aligned = refl;
@@ -105,8 +104,6 @@ with_data bytes code there short some few whole = record {
   rising = two_follow (data_part bytes) (code_part code) (omega arith);
   flags = of_two (λ s. s.flags < 8) (data_part bytes) (code_part code) (omega arith) (omega arith);
   one_code = refl;
-  read_only = of_two (λ s. is_code_segment s && is_writable_segment s ≡ false) (data_part bytes)
-      (code_part code) refl refl;
   code_within = (omega arith, omega arith);
   code_aligned = (refl, whole);
   entry_aligned = refl;

@@ -8,12 +8,13 @@ use Rattle.std.proofs.lemmas.{Option.slice_get_within, Option.slice_get_cases, L
 use Rattle.std.proofs.lemmas.List.Elements.{All-contains}
 use Rattle.std.proofs.Common.{◌∙◌, refl, sym, ap, subst, inl, inr, arith}
 use Rattle.std.proofs.{lemmas.Bool.cases_Bool, lemmas.Bool.Decides.nat_tests}
-use Rattle.elf_image.specs.Image.{ProgramImage, code_word}
+use Rattle.elf_image.specs.Image.{ProgramImage, byte_in, code_word, code_writable}
 use Rattle.rv_instr.specs.{declared.op.Op.Op, Kinds.destination, Kinds.first_source, Kinds.second_source}
 use Rattle.rv_instr.specs.{declared.op.Op.TheVariants.NoWord, Decode.op_of_word, Registers.op_rs1, Registers.op_rs2}
 use Rattle.rv_instr.specs.{Table.OpInRange, Kinds.or_zero}
 use Rattle.rv_instr.proofs.DecodedLemmas.{op_rs1_below, op_rs2_below}
 use Rattle.decoded_code.specs.Code.{IsCodeOf, IsFound, found_at}
+use Rattle.decoded_code.proofs.Fetching.{found}
 use Rattle.decoded_code.specs.declared.code.{Code.Code, Fetched.Fetched}
 use Rattle.outcome_laws.specs.Live.{op_at, reads_register, may_follow, IsLiveTable}
 use Rattle.live_registers.specs.declared.table.{LiveTable.LiveTable, Row.Row}
@@ -99,16 +100,26 @@ has_row code table pc f of_code are found =
       good = subst (λ p. IsGoodRow table f.op p good.1) here (subst (λ (w : Fetched). IsGoodRow table w.op (code.start + 4 * index) good.1) word good.4);
     }
 
+or_true : (a b : Bool) → b ≡ true → (a || b) ≡ true
+or_true true b so = refl
+or_true false b so = so
+
 live_by : (table : LiveTable) (pc r : ℕ) (row : Row) → row_at table pc ≡ Some row → r < 32
     → slice_index_or row.live r false ≡ true → live_of table pc r ≡ true
 live_by table pc r row at below live =
     let within : nat_lt r 32 ≡ true = grind (arith, nat_tests) in
-    ap (live_in r) at ∙ rw (within, live) refl
+    or_true table.everywhere (live_in r (row_at table pc)) (ap (live_in r) at ∙ rw (within, live) refl)
+
+-- Where a table goes by its rows, none above 31 is live.
+live_below : (table : LiveTable) (pc r : ℕ) → table.everywhere ≡ false → live_of table pc r ≡ true → r < 32
+live_below table pc r by_rows lives =
+    let row : live_in r (row_at table pc) ≡ true = apart_or table.everywhere (live_in r (row_at table pc)) lives by_rows in
+    let test = first_and (nat_lt r 32) _ row in grind (arith, nat_tests)
 
 -- ---- The table
 
-module _ (image : ProgramImage) (code : Code) (table : LiveTable) (is : IsCodeOf image code)
-    (of_code : IsOfCode code table) (are : AreGoodBelow (length code.words.items) table code) where
+module _ (image : ProgramImage) (code : Code) (table : LiveTable) (fixed : code_writable image ≡ false)
+    (is : IsCodeOf image (byte_in image) code) (of_code : IsOfCode code table) (are : AreGoodBelow (length code.words.items) table code) where
   -- At a pc the image has no word, or an instruction of which there is a good row.
   record Finds (pc : ℕ) : Type 0 where
     op : Op
@@ -116,7 +127,7 @@ module _ (image : ProgramImage) (code : Code) (table : LiveTable) (is : IsCodeOf
     known : (op ≡ NoWord) ⊎ (OpInRange op × HasRow table op pc)
 
   finds_in : (pc : ℕ) (found : Option Fetched) → found_at code.words.items code.start pc ≡ found
-      → IsFound image pc found → Finds pc
+      → IsFound image (byte_in image) pc found → Finds pc
   finds_in pc None same none =
       record { op = NoWord; is_so = no_op (code_word image pc) none; known = inl refl }
   finds_in pc (Some f) same fetched = record {
@@ -126,7 +137,8 @@ module _ (image : ProgramImage) (code : Code) (table : LiveTable) (is : IsCodeOf
   }
 
   finds : (pc : ℕ) → Finds pc
-  finds pc = finds_in pc (found_at code.words.items code.start pc) refl (is.found pc)
+  finds pc =
+      finds_in pc (found_at code.words.items code.start pc) refl (found image (byte_in image) code is pc)
 
   positive : (r : ℕ) → r ≢ 0 → 0 < r
   positive zero some = absurd (some refl)
@@ -147,7 +159,7 @@ module _ (image : ProgramImage) (code : Code) (table : LiveTable) (is : IsCodeOf
       elim it.known [
         | inl none ↦ absurd (nowhere pc to (subst (λ o. may_follow o pc to ≡ true) none follows))
         | inr both ↦
-            let below : r < 32 = grind (arith, nat_tests) in
+            let below : r < 32 = live_below table to r of_code.by_rows lives in
             live_by table pc r both.1.row both.1.at below
             (both.1.good.stays to r (positive r some) below follows lives other)
       ]
@@ -161,11 +173,22 @@ module _ (image : ProgramImage) (code : Code) (table : LiveTable) (is : IsCodeOf
         let it = finds pc in
         stays_at pc to r some it (subst (λ o. may_follow o pc to ≡ true) it.is_so follows) lives
         (subst (λ o. (r == destination o) ≡ false) it.is_so other);
+    all = λ written pc r some. absurd (grind (arith, fixed, written));
   }
 
-pub good : (image : ProgramImage) (code : Code) (table : LiveTable) → IsCodeOf image code → IsOfCode code table
+pub good : (image : ProgramImage) (code : Code) (table : LiveTable) → code_writable image ≡ false
+    → IsCodeOf image (byte_in image) code → IsOfCode code table
     → AreGoodBelow (length code.words.items) table code → IsLiveTable image (live_of table)
-good image code table is of_code are = good_table image code table is of_code are
+good image code table fixed is of_code are = good_table image code table fixed is of_code are
+
+-- Where every register is live, none is missing.
+pub everywhere_good : (image : ProgramImage) (live : ℕ → ℕ → Bool) → ((pc r : ℕ) → live pc r ≡ true)
+    → IsLiveTable image live
+everywhere_good image live all = record {
+  reads = λ pc r some reads. all pc r;
+  stays = λ pc to r some follows lives other. all pc r;
+  all = λ written pc r some. all pc r;
+}
 
 -- ---- Every register live everywhere
 
@@ -208,7 +231,8 @@ full_below code table of_code full index below =
           (All-contains (λ (it : Row). it.live ≡ all_alike true) table.rows.items row.element full row.holds),
     )
 
-pub full_good : (image : ProgramImage) (code : Code) (table : LiveTable) → IsCodeOf image code → IsOfCode code table
+pub full_good : (image : ProgramImage) (code : Code) (table : LiveTable) → code_writable image ≡ false
+    → IsCodeOf image (byte_in image) code → IsOfCode code table
     → All (λ (row : Row). row.live ≡ all_alike true) table.rows.items → IsLiveTable image (live_of table)
-full_good image code table is of_code full =
-    good image code table is of_code (full_below code table of_code full)
+full_good image code table fixed is of_code full =
+    good image code table fixed is of_code (full_below code table of_code full)

@@ -1,5 +1,5 @@
 -- A table of live registers, a row for each word of a code. [This project's own choice]
-use Rattle.std.specs.Prelude.{◌≡◌, ℕ, ◌+◌, ◌-◌, ◌*◌, ◌/◌, ◌%◌, ◌<◌, Bool, true, false, ◌==◌, ◌&&◌, nat_le, nat_lt, if◌then◌else◌}
+use Rattle.std.specs.Prelude.{◌≡◌, ℕ, ◌+◌, ◌-◌, ◌*◌, ◌/◌, ◌%◌, ◌<◌, Bool, true, false, ◌==◌, ◌&&◌, ◌||◌, nat_le, nat_lt, if◌then◌else◌}
 use Rattle.std.specs.Prelude.{List, length, replicate, Option, Some, None}
 use Rattle.std.specs.{List.slice_get, List.slice_index_or, Option.option_map_or}
 use Rattle.rv_instr.specs.{declared.op.Op.Op, Kinds.destination}
@@ -18,15 +18,17 @@ row_at table pc =
     if nat_le table.start pc && ((pc - table.start) % 4 == 0)
     then slice_get table.rows.items ((pc - table.start) / 4) else None
 
--- Register r is live at a pc: the row there says so; where there is no word none is.
+-- Register r is live at a pc: the row there says so; where there is no word none is. Or every register
+-- is live everywhere.
 abbrev pub live_in : ℕ → Option Row → Bool
 live_in r row = nat_lt r 32 && option_map_or (λ (it : Row). slice_index_or it.live r false) row false
 
 abbrev pub live_of : LiveTable → ℕ → ℕ → Bool
-live_of table pc r = live_in r (row_at table pc)
+live_of table pc r = table.everywhere || live_in r (row_at table pc)
 
--- The table has a row for each word of the code.
+-- The table goes by its rows, and has one for each word of the code.
 pub record IsOfCode (code : Code) (table : LiveTable) : Type 0 where
+  pub by_rows : table.everywhere ≡ false
   pub start : table.start ≡ code.start
   pub rows : length table.rows.items ≡ length code.words.items
 

@@ -1,8 +1,8 @@
 //! How a table is found: from no register on, what has to be live is added, the last word first, until
 //! nothing is missing. Where that takes too long every register is live.
 
-ghost use Rattle.std.specs.Prelude.{◌≡◌, ◌<◌, IfOk, All, length};
-ghost use Rattle.elf_image.specs.Image.{ProgramImage};
+ghost use Rattle.std.specs.Prelude.{◌≡◌, ◌<◌, IfOk, All, length, false};
+ghost use Rattle.elf_image.specs.Image.{ProgramImage, byte_in, code_writable};
 ghost use Rattle.decoded_code.specs.Code.{IsCodeOf};
 ghost use Rattle.outcome_laws.specs.Live.{IsLiveTable};
 ghost use Rattle.live_registers.specs.Table.{live_of, IsOfCode, all_alike};
@@ -10,6 +10,7 @@ ghost use Rattle.live_registers.specs.Table.{live_of, IsOfCode, all_alike};
 use crate::checking::{is_good, is_needed};
 use crate::table::{LiveTable, REGISTERS, Row};
 use decoded_code::Code;
+use elf_image::Image;
 use rv_instr::Op;
 use std::alloc::{AllocError, Global};
 
@@ -18,11 +19,34 @@ use std::alloc::{AllocError, Global};
 const MOST_TURNS: usize = 64;
 
 impl LiveTable {
-    /// A table of a code, of which few registers are live. Fails only for want of memory.
-    pub fn of(code: &Code, alloc: Global) -> Result<LiveTable, AllocError>
+    /// The table of an image, whose code this is. Where the code may be written every register is live,
+    /// as another word may come to any place. Fails only for want of memory.
+    pub fn of(image: &Image, code: &Code, alloc: Global) -> Result<LiveTable, AllocError>
+        requires { IsCodeOf image.now (byte_in image.now) code.now }
+        ensures { IfOk result (λ table. IsLiveTable image.now (live_of table)) }
+    {
+        if image.code_writable() {
+            return Ok(LiveTable::everywhere(alloc));
+        }
+        LiveTable::of_words(code, alloc)
+    }
+
+    /// The table in which every register is live everywhere. It has no rows.
+    fn everywhere(alloc: Global) -> LiveTable
+        ensures { (image : ProgramImage) → IsLiveTable image (live_of result) }
+    {
+        LiveTable {
+            everywhere: true,
+            start: 0,
+            rows: Vec::new(alloc),
+        }
+    }
+
+    /// A table of a code that stays as it is, of which few registers are live.
+    fn of_words(code: &Code, alloc: Global) -> Result<LiveTable, AllocError>
         ensures of_code { IfOk result (IsOfCode code.now) }
-        ensures good { IfOk result (λ table. (image : ProgramImage) → IsCodeOf image code.now
-            → IsLiveTable image (live_of table)) }
+        ensures good { IfOk result (λ table. (image : ProgramImage) → code_writable image ≡ false
+            → IsCodeOf image (byte_in image) code.now → IsLiveTable image (live_of table)) }
     {
         let table = LiveTable::found(code, alloc)?;
         if is_good(&table, code) {
@@ -47,8 +71,8 @@ impl LiveTable {
     /// The table of a code in which every register is live everywhere.
     fn full(code: &Code, alloc: Global) -> Result<LiveTable, AllocError>
         ensures of_code { IfOk result (IsOfCode code.now) }
-        ensures good { IfOk result (λ table. (image : ProgramImage) → IsCodeOf image code.now
-            → IsLiveTable image (live_of table)) }
+        ensures good { IfOk result (λ table. (image : ProgramImage) → code_writable image ≡ false
+            → IsCodeOf image (byte_in image) code.now → IsLiveTable image (live_of table)) }
     {
         LiveTable::filled(code, true, alloc)
     }
@@ -110,6 +134,7 @@ impl LiveTable {
             rows.push(Row::all(live))?;
         }
         Ok(LiveTable {
+            everywhere: false,
             start: code.start,
             rows,
         })

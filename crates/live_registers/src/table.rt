@@ -27,6 +27,8 @@ impl Row {
 /// Which registers are live at each word of a code that begins at `start`.
 #[derive(Drop)]
 pub struct LiveTable {
+    /// Every register is live everywhere, whatever the rows say.
+    pub everywhere: bool,
     pub start: u32,
     pub rows: Vec<Row>,
 }
@@ -48,9 +50,10 @@ impl LiveTable {
         requires { register < 32 }
         ensures { result ≡ live_of self.now pc register }
     {
-        match self.row_at(pc) {
-            Some(row) => row.live[usize::from(register)],
-            None => false,
-        }
+        self.everywhere
+            || match self.row_at(pc) {
+                Some(row) => row.live[usize::from(register)],
+                None => false,
+            }
     }
 }

@@ -3,6 +3,8 @@ use Rattle.std.specs.Prelude.{◌≡◌, ◌≢◌, ℕ, ◌%◌, Bool, true, fa
 use Rattle.std.specs.Prelude.{Option, Some, None, option_map, unwrap_or}
 use Rattle.std.proofs.Common.{◌∙◌, refl, sym, ap, ap₂, subst, inl, inr, arith}
 use Rattle.std.proofs.{lemmas.Bool.cases_Bool, lemmas.Bool.Decides.nat_tests, Math.Path.fun_ext}
+use Rattle.elf_image.specs.Image.{word_now, code_writable}
+use Rattle.elf_image.proofs.Words.{word_now-same}
 use Rattle.rv_word.specs.Word.{sum_of}
 use Rattle.rv_instr.specs.{declared.op.Op.Op, declared.op.Op.TheVariants.Known, declared.op.Op.TheVariants.Illegal}
 use Rattle.rv_instr.specs.{declared.op.Op.TheVariants.NoWord, declared.instr.Instr.Instr}
@@ -12,15 +14,16 @@ use Rattle.events.specs.{declared.effect.Next.TheVariants.Pc, declared.effect.Ne
 use Rattle.events.specs.{declared.effect.Next.TheVariants.Stopped}
 use Rattle.smt_model.specs.{Setup.Setup, Nexts.is_last, Nexts.pc_after, declared.config.Status.Status}
 use Rattle.smt_model.specs.Exec.{Computed, exec, computed_of, next_pc, extended, jump_to, is_taken, call}
-use Rattle.smt_model.specs.{Faults.checked, Faults.fault, Faults.computed_on, Words.ProgramImage}
+use Rattle.smt_model.specs.{Faults.checked, Faults.fault, Faults.computed_on, Words.ProgramImage, Words.op_of_word}
 use Rattle.smt_model.specs.Kinds.{destination, first_source, second_source, writes_register}
 use Rattle.smt_model.specs.{Effects.effect_of, Bytes.read, Bytes.byte_after, Reservations.holds_word}
 use Rattle.smt_model.specs.{Reservations.reservation_after, Plain.output_after}
 use Rattle.smt_model.specs.Plain.{Plain, is_going_status, register_after, status_after, read_register}
 use Rattle.smt_model.specs.Plain.{op_at_pc, computes, effect_at}
 use Rattle.smt_laws.proofs.{Registers.Reading.effect-next, Done.value-given}
-use Rattle.outcome_laws.specs.{Paths.can_step, Paths.stepped, Local.is_local, Local.is_local_of}
-use Rattle.outcome_laws.specs.Live.{op_at, may_follow, may_follow_of, IsLiveTable, matters, AreAlike}
+use Rattle.outcome_laws.specs.{Paths.can_step, Paths.stepped, Paths.HasItsCode, Local.is_local, Local.is_local_of}
+use Rattle.outcome_laws.proofs.Holding.{op_fixed}
+use Rattle.outcome_laws.specs.Live.{reads_register, may_follow, may_follow_of, IsLiveTable, matters, AreAlike}
 use Rattle.outcome_laws.specs.Live.{StepAlike, AlikeStatesStepAlike}
 
 -- ---- Where an instruction goes on
@@ -164,9 +167,32 @@ register_by h op x registers g r =
 -- ---- What alike states find
 
 module _ (setup : Setup) (watched : ℕ → Bool) (live : ℕ → ℕ → Bool) (table : IsLiveTable setup.image live)
-    (s t : Plain) (alike : AreAlike watched live s t) where
+    (s t : Plain) (holds : HasItsCode setup s) (alike : AreAlike watched live s t) where
   same_op : (h : ℕ) → op_at_pc setup t h ≡ op_at_pc setup s h
-  same_op h = ap (op_at setup.image) (sym (alike.pcs h))
+  same_op h =
+      ap (λ pc. op_of_word (word_now setup.image t.bytes pc)) (sym (alike.pcs h))
+      ∙ ap op_of_word (word_now-same setup.image t.bytes s.bytes (λ a. sym (alike.bytes a)) (s.pcs h))
+
+  -- What the table says of the image it says of memory, or the code may be written, and all are live.
+  live_read : (h r : ℕ) → r ≢ 0 → reads_register (op_at_pc setup s h) r ≡ true → live (s.pcs h) r ≡ true
+  live_read h r some reads =
+      elim (cases_Bool (code_writable setup.image)) [
+        | inl writable ↦ table.all writable (s.pcs h) r some
+        | inr fixed ↦
+            table.reads (s.pcs h) r some
+            (subst (λ o. reads_register o r ≡ true) (op_fixed setup s holds fixed h) reads)
+      ]
+
+  live_stays : (h to r : ℕ) → r ≢ 0 → may_follow (op_at_pc setup s h) (s.pcs h) to ≡ true → live to r ≡ true
+      → (r == destination (op_at_pc setup s h)) ≡ false → live (s.pcs h) r ≡ true
+  live_stays h to r some leads lives other =
+      elim (cases_Bool (code_writable setup.image)) [
+        | inl writable ↦ table.all writable (s.pcs h) r some
+        | inr fixed ↦
+            let same = op_fixed setup s holds fixed h in
+            table.stays (s.pcs h) to r some (subst (λ o. may_follow o (s.pcs h) to ≡ true) same leads) lives
+            (subst (λ o. (r == destination o) ≡ false) same other)
+      ]
 
   can_too : (h : ℕ) → can_step setup h t ≡ can_step setup h s
   can_too h = ap (λ status. nat_lt h setup.harts && is_going_status status) (sym (alike.statuses h))
@@ -177,7 +203,8 @@ module _ (setup : Setup) (watched : ℕ → Bool) (live : ℕ → ℕ → Bool) 
   -- A register that is live at the pc of a hart that goes matters.
   live_matters : (h r : ℕ) → is_going_status (s.statuses h) ≡ true → live (s.pcs h) r ≡ true
       → matters watched live s h r ≡ true
-  live_matters h r going is = either_right (watched r) (is_going_status (s.statuses h) && live (s.pcs h) r) (grind arith)
+  live_matters h r going is =
+      either_right (watched r) (is_going_status (s.statuses h) && live (s.pcs h) r) (grind arith)
 
   same_read : (h r : ℕ) → is_going_status (s.statuses h) ≡ true → (r ≢ 0 → live (s.pcs h) r ≡ true)
       → read_register t h r ≡ read_register s h r
@@ -193,14 +220,14 @@ module _ (setup : Setup) (watched : ℕ → Bool) (live : ℕ → ℕ → Bool) 
       → read_register t h (first_source (op_at_pc setup s h)) ≡ read_register s h (first_source (op_at_pc setup s h))
   same_first h going =
       let r = first_source (op_at_pc setup s h) in
-      same_read h r going (λ some. table.reads (s.pcs h) r some (either_left (r == r) (r == second_source (op_at_pc setup s h))
+      same_read h r going (λ some. live_read h r some (either_left (r == r) (r == second_source (op_at_pc setup s h))
       (grind (arith, nat_tests))))
 
   same_second : (h : ℕ) → is_going_status (s.statuses h) ≡ true
       → read_register t h (second_source (op_at_pc setup s h)) ≡ read_register s h (second_source (op_at_pc setup s h))
   same_second h going =
       let r = second_source (op_at_pc setup s h) in
-      same_read h r going (λ some. table.reads (s.pcs h) r some (either_right (r == first_source (op_at_pc setup s h)) (r == r)
+      same_read h r going (λ some. live_read h r some (either_right (r == first_source (op_at_pc setup s h)) (r == r)
       (grind (arith, nat_tests))))
 
   same_computes : (h : ℕ) → is_going_status (s.statuses h) ≡ true → computes setup t h ≡ computes setup s h
@@ -221,7 +248,8 @@ module _ (setup : Setup) (watched : ℕ → Bool) (live : ℕ → ℕ → Bool) 
       (sym (alike.reserved h))
 
   same_local : (h : ℕ) → is_going_status (s.statuses h) ≡ true → is_local setup h t ≡ is_local setup h s
-  same_local h going = ap₂ is_local_of (same_op h) (same_computes h going)
+  same_local h going =
+      ap₂ (λ o c. not (code_writable setup.image) && is_local_of o c) (same_op h) (same_computes h going)
 
   -- ---- Registers afterwards
 
@@ -258,7 +286,7 @@ module _ (setup : Setup) (watched : ℕ → Bool) (live : ℕ → ℕ → Bool) 
             let from : c.next ≡ Pc on.to =
             sym (effect-next op c (read op s.bytes c.addr) (holds_word (s.reserved h) c.addr)) ∙ on.is_so in
             live_matters h r going
-            (table.stays (s.pcs h) on.to r some (follows setup s h on.to from) lives other)
+            (live_stays h on.to r some (follows setup s h on.to from) lives other)
       ]
 
   -- What is written is written into both; where nothing is, the hart has ended, and the register is watched.
@@ -276,7 +304,8 @@ module _ (setup : Setup) (watched : ℕ → Bool) (live : ℕ → ℕ → Bool) 
         | inl last ↦
             let stands : is_going_status (status_after x.next (s.statuses h)) ≡ false =
             rw next (last_stands c.next (s.statuses h) last) in
-            let seen : watched r ≡ true = only_watched (watched r) (is_going_status (status_after x.next (s.statuses h)))
+            let seen : watched r ≡ true =
+            only_watched (watched r) (is_going_status (status_after x.next (s.statuses h)))
             (live (pc_after x.next (s.pcs h)) r) stands now in
             ap (register_after x.value) (alike.registers h r some
             (either_left (watched r) (is_going_status (s.statuses h) && live (s.pcs h) r) seen))
@@ -347,5 +376,5 @@ module _ (setup : Setup) (watched : ℕ → Bool) (live : ℕ → ℕ → Bool) 
       }
 
 pub alike_states_step_alike : AlikeStatesStepAlike
-alike_states_step_alike setup watched live table s t alike h can =
-    step_alike setup watched live table s t alike h can
+alike_states_step_alike setup watched live table s t holds alike h can =
+    step_alike setup watched live table s t holds alike h can

@@ -3,6 +3,7 @@ use Rattle.std.specs.Prelude.{◌≡◌, ℕ, suc, Bool, true, false, not, ◌==
 use Rattle.std.specs.Prelude.{List, [], ◌∷◌, Option, Some, None, is_some}
 use Rattle.std.proofs.Common.{◌∙◌, refl, sym, ap, ap₂, subst, inl, inr, arith}
 use Rattle.std.proofs.{lemmas.Bool.cases_Bool, lemmas.Bool.Decides.nat_tests, Math.Path.fun_ext}
+use Rattle.elf_image.specs.Image.{code_writable}
 use Rattle.rv_instr.specs.declared.op.Op.{Op}
 use Rattle.events.specs.{declared.effect.Effect.Effect}
 use Rattle.smt_model.specs.{Setup.Setup, Exec.Computed, Nexts.is_last, Nexts.pc_after, declared.config.Status.Status}
@@ -11,10 +12,13 @@ use Rattle.smt_model.specs.Kinds.{touches_memory, destination, writes_register}
 use Rattle.smt_model.specs.{Effects.effect_of, Effects.effect_by, Bytes.read, Bytes.byte_after}
 use Rattle.smt_model.specs.Reservations.{holds_word, own_reservation, reservation_after}
 use Rattle.smt_model.specs.Plain.{Plain, register_after, status_after, output_after}
-use Rattle.smt_model.specs.Plain.{op_at_pc, computes, effect_at}
+use Rattle.smt_model.specs.Plain.{op_at_pc, computes, effect_at, read_register}
+use Rattle.smt_model.specs.{Faults.computed_on, Kinds.first_source, Kinds.second_source}
 use Rattle.smt_laws.proofs.{Registers.Reading.effect-next, Done.some_one}
-use Rattle.outcome_laws.specs.Paths.{can_step, stepped, path, IsEnd}
+use Rattle.outcome_laws.specs.Paths.{can_step, stepped, path, HasItsCode, IsEnd}
+use Rattle.outcome_laws.specs.{Live.op_at}
 use Rattle.outcome_laws.specs.Local.{is_local_of, is_local, LocalStepsGoFirst}
+use Rattle.outcome_laws.proofs.Holding.{first_of, has_next, op_fixed}
 
 -- ---- What a local step says
 
@@ -90,6 +94,10 @@ not_second : (a b : Bool) → (not a && not b) ≡ true → not b ≡ true
 not_second true b both = absurd (grind arith)
 not_second false b both = both
 
+second_of : (a b : Bool) → (a && b) ≡ true → b ≡ true
+second_of true b both = both
+second_of false b both = absurd (grind arith)
+
 apart_or : (a b : Bool) → (a || b) ≡ true → a ≡ false → b ≡ true
 apart_or true b either none = absurd (grind arith)
 apart_or false b either none = either
@@ -99,9 +107,11 @@ local_step op c local =
     elim (cases_Bool (is_last c.next)) [
       | inl last ↦ last_step op c last
       | inr going ↦
-          let calm_one = apart_or (is_last c.next) (not (touches_memory (kind_of op)) && not (is_some c.out)) local going in
+          let calm_one =
+          apart_or (is_last c.next) (not (touches_memory (kind_of op)) && not (is_some c.out)) local going in
           calm_step op c going
-          (calm (kind_of op) op (writes_register op) c (not_first (touches_memory (kind_of op)) (is_some c.out) calm_one)
+          (calm (kind_of op) op (writes_register op) c
+          (not_first (touches_memory (kind_of op)) (is_some c.out) calm_one)
           (none_put c.out (not_second (touches_memory (kind_of op)) (is_some c.out) calm_one)))
     ]
 
@@ -126,21 +136,44 @@ pub flipped : (h g : ℕ) → (g == h) ≡ false → (h == g) ≡ false
 flipped h g apart = grind (arith, nat_tests)
 
 -- What hart g finds once another has stepped is what it would have found: its registers and its pc.
-finds_op : (setup : Setup) (h g : ℕ) (s : Plain) → (g == h) ≡ false
-    → op_at_pc setup (stepped setup h s) g ≡ op_at_pc setup s g
-finds_op setup h g s apart = rw apart refl
+finds_op : (setup : Setup) (h g : ℕ) (s : Plain) → HasItsCode setup s → code_writable setup.image ≡ false
+    → (g == h) ≡ false → op_at_pc setup (stepped setup h s) g ≡ op_at_pc setup s g
+finds_op setup h g s holds fixed apart =
+    let same : (stepped setup h s).pcs g ≡ s.pcs g = rw apart refl in
+    op_fixed setup (stepped setup h s) (has_next setup h s holds) fixed g
+    ∙ (ap (op_at setup.image) same ∙ sym (op_fixed setup s holds fixed g))
 
-finds : (setup : Setup) (h g : ℕ) (s : Plain) → (g == h) ≡ false
-    → computes setup (stepped setup h s) g ≡ computes setup s g
-finds setup h g s apart = rw apart refl
+finds : (setup : Setup) (h g : ℕ) (s : Plain) → HasItsCode setup s → code_writable setup.image ≡ false
+    → (g == h) ≡ false → computes setup (stepped setup h s) g ≡ computes setup s g
+finds setup h g s holds fixed apart =
+    let sh = stepped setup h s in
+    ap (λ o. computed_on setup o (sh.pcs g) (read_register sh g (first_source o))
+    (read_register sh g (second_source o)))
+    (finds_op setup h g s holds fixed apart)
+    ∙ rw apart refl
 
 pub can_still : (setup : Setup) (h g : ℕ) (s : Plain) → (g == h) ≡ false
     → can_step setup g (stepped setup h s) ≡ can_step setup g s
 can_still setup h g s apart = rw apart refl
 
-pub local_still : (setup : Setup) (h g : ℕ) (s : Plain) → (g == h) ≡ false
+pub local_still : (setup : Setup) (h g : ℕ) (s : Plain) → HasItsCode setup s → (g == h) ≡ false
     → is_local setup g (stepped setup h s) ≡ is_local setup g s
-local_still setup h g s apart = ap₂ is_local_of (finds_op setup h g s apart) (finds setup h g s apart)
+local_still setup h g s holds apart =
+    elim (cases_Bool (code_writable setup.image)) [
+      | inl writable ↦ rw writable refl
+      | inr fixed ↦
+          ap₂ (λ o c. not (code_writable setup.image) && is_local_of o c) (finds_op setup h g s holds fixed apart)
+          (finds setup h g s holds fixed apart)
+    ]
+
+-- A local step is of code that may not be written.
+pub code_fixed : (setup : Setup) (h : ℕ) (s : Plain) → is_local setup h s ≡ true → code_writable setup.image ≡ false
+code_fixed setup h s local = grind arith
+
+of_local : (setup : Setup) (h : ℕ) (s : Plain) → is_local setup h s ≡ true
+    → is_local_of (op_at_pc setup s h) (computes setup s h) ≡ true
+of_local setup h s local =
+    second_of (not (code_writable setup.image)) (is_local_of (op_at_pc setup s h) (computes setup s h)) local
 
 -- Behind a local step of another hart, memory, output and reservations are the same.
 same_bytes : (setup : Setup) (h : ℕ) (s : Plain)
@@ -163,30 +196,36 @@ quiet_at : (setup : Setup) (h : ℕ) (s : Plain) → is_local setup h s ≡ true
 quiet_at setup h s local =
     let op = op_at_pc setup s h in
     let c = computes setup s h in
-    (local_step op c local).quiet c.addr (read op s.bytes c.addr) (holds_word (s.reserved h) c.addr)
+    (local_step op c (of_local setup h s local)).quiet c.addr (read op s.bytes c.addr)
+    (holds_word (s.reserved h) c.addr)
 
 abbrev effect_on : Op → Computed → (ℕ → ℕ) → Option ℕ → Effect
 effect_on op c bytes held = effect_of op c (read op bytes c.addr) (holds_word held c.addr)
 
 -- What hart g says behind a local step of hart h is what it would have said.
-says_still : (setup : Setup) (h g : ℕ) (s : Plain) → (g == h) ≡ false → is_local setup h s ≡ true
+says_still : (setup : Setup) (h g : ℕ) (s : Plain) → HasItsCode setup s → (g == h) ≡ false → is_local setup h s ≡ true
     → effect_at setup (stepped setup h s) g ≡ effect_at setup s g
-says_still setup h g s apart local =
+says_still setup h g s holds apart local =
+    let fixed = code_fixed setup h s local in
     let quiet = quiet_at setup h s local in
     let sh = stepped setup h s in
     let held : sh.reserved g ≡ s.reserved g = ap (λ (r : ℕ → Option ℕ). r g) (same_reserved setup h s quiet) in
-    ap₂ (λ op c. effect_on op c sh.bytes (sh.reserved g)) (finds_op setup h g s apart) (finds setup h g s apart)
+    ap₂ (λ op c. effect_on op c sh.bytes (sh.reserved g)) (finds_op setup h g s holds fixed apart)
+    (finds setup h g s holds fixed apart)
     ∙ ap₂ (effect_on (op_at_pc setup s g) (computes setup s g)) (same_bytes setup h s quiet) held
 
 -- What a local step says is the same behind any step of another hart.
-local_says_still : (setup : Setup) (h g : ℕ) (s : Plain) → (h == g) ≡ false → is_local setup h s ≡ true
+local_says_still : (setup : Setup) (h g : ℕ) (s : Plain) → HasItsCode setup s → (h == g) ≡ false
+    → is_local setup h s ≡ true
     → effect_at setup (stepped setup g s) h ≡ effect_at setup s h
-local_says_still setup h g s apart local =
+local_says_still setup h g s holds apart local =
+    let fixed = code_fixed setup h s local in
     let sg = stepped setup g s in
     let op = op_at_pc setup s h in
     let c = computes setup s h in
-    ap₂ (λ op c. effect_on op c sg.bytes (sg.reserved h)) (finds_op setup g h s apart) (finds setup g h s apart)
-    ∙ (local_step op c local).same (read op sg.bytes c.addr) (read op s.bytes c.addr)
+    ap₂ (λ op c. effect_on op c sg.bytes (sg.reserved h)) (finds_op setup g h s holds fixed apart)
+    (finds setup g h s holds fixed apart)
+    ∙ (local_step op c (of_local setup h s local)).same (read op sg.bytes c.addr) (read op s.bytes c.addr)
     (holds_word (sg.reserved h) c.addr) (holds_word (s.reserved h) c.addr)
 
 -- ---- Both orders
@@ -254,9 +293,11 @@ swapped h g s op oq a b x y apart quiet = record {
 }
 
 -- The same with the words of a step.
-pub commutes : (setup : Setup) (h g : ℕ) (s : Plain) → (g == h) ≡ false → is_local setup h s ≡ true
+pub commutes : (setup : Setup) (h g : ℕ) (s : Plain) → HasItsCode setup s → (g == h) ≡ false
+    → is_local setup h s ≡ true
     → stepped setup g (stepped setup h s) ≡ stepped setup h (stepped setup g s)
-commutes setup h g s apart local =
+commutes setup h g s holds apart local =
+    let fixed = code_fixed setup h s local in
     let sh = stepped setup h s in
     let sg = stepped setup g s in
     let back = flipped h g apart in
@@ -268,20 +309,18 @@ commutes setup h g s apart local =
     let y = effect_at setup s g in
     let left : stepped setup g sh ≡ step_by g oq b y sh =
     same_step g (op_at_pc setup sh g) oq (computes setup sh g).addr b (effect_at setup sh g) y sh
-    (finds_op setup h g s apart) (ap (λ (c : Computed). c.addr) (finds setup h g s apart)) (says_still setup h g s apart local) in
+    (finds_op setup h g s holds fixed apart) (ap (λ (c : Computed). c.addr) (finds setup h g s holds fixed apart))
+    (says_still setup h g s holds apart local) in
     let right : stepped setup h sg ≡ step_by h op a x sg =
     same_step h (op_at_pc setup sg h) op (computes setup sg h).addr a (effect_at setup sg h) x sg
-    (finds_op setup g h s back) (ap (λ (c : Computed). c.addr) (finds setup g h s back))
-    (local_says_still setup h g s back local) in
-    left ∙ (same_state (step_by g oq b y sh) (step_by h op a x sg) (swapped h g s op oq a b x y apart (quiet_at setup h s local))
+    (finds_op setup g h s holds fixed back) (ap (λ (c : Computed). c.addr) (finds setup g h s holds fixed back))
+    (local_says_still setup h g s holds back local) in
+    left
+    ∙ (same_state (step_by g oq b y sh) (step_by h op a x sg)
+    (swapped h g s op oq a b x y apart (quiet_at setup h s local))
     ∙ sym right)
 
 -- ---- Local steps go first
-
-pub first_of : (test : Bool) (a : Option Plain) (e : Plain) → (if test then a else None) ≡ Some e
-    → (test ≡ true) × (a ≡ Some e)
-first_of true a e leads = (refl, leads)
-first_of false a e leads = absurd (grind arith)
 
 not_at_end : (setup : Setup) (s e : Plain) (h : ℕ) → Some s ≡ Some e → IsEnd setup e → can_step setup h s ≡ true → ⊥
 not_at_end setup s e h same end can =
@@ -293,8 +332,8 @@ goes_on : (setup : Setup) (g : ℕ) (rest : List ℕ) (s e : Plain) → can_step
 goes_on setup g rest s e can leads = rw can leads
 
 pub local_steps_go_first : LocalStepsGoFirst
-local_steps_go_first setup [] s e h leads end can local = absurd (not_at_end setup s e h leads end can)
-local_steps_go_first setup (g ∷ order) s e h leads end can local =
+local_steps_go_first setup [] s e h holds leads end can local = absurd (not_at_end setup s e h leads end can)
+local_steps_go_first setup (g ∷ order) s e h holds leads end can local =
     let split = first_of (can_step setup g s) (path setup order (stepped setup g s)) e leads in
     elim (cases_Bool (g == h)) [
       | inl same ↦
@@ -306,12 +345,13 @@ local_steps_go_first setup (g ∷ order) s e h leads end can local =
           }
       | inr apart ↦
           let back = flipped h g apart in
-          let later = local_steps_go_first setup order (stepped setup g s) e h split.1 end
-          (can_still setup g h s back ∙ can) (local_still setup g h s back ∙ local) in
+          let later = local_steps_go_first setup order (stepped setup g s) e h (has_next setup g s holds) split.1 end
+          (can_still setup g h s back ∙ can) (local_still setup g h s holds back ∙ local) in
           record {
             order = g ∷ later.order;
             leads = goes_on setup g later.order (stepped setup h s) e (can_still setup h g s apart ∙ split.0)
-                (subst (λ z. path setup later.order z ≡ Some e) (sym (commutes setup h g s apart local)) later.leads);
+                (subst (λ z. path setup later.order z ≡ Some e) (sym (commutes setup h g s holds apart local))
+                later.leads);
             shorter = ap suc later.shorter;
           }
     ]

@@ -1,14 +1,15 @@
 -- Why what a search visits is enough, and is reached.
-use Rattle.std.specs.Prelude.{◌≡◌, ℕ, zero, suc, ◌≤◌, Bool, true, ◌||◌, ◌&&◌, List, [], ◌∷◌}
+use Rattle.std.specs.Prelude.{◌≡◌, ℕ, zero, suc, ◌≤◌, Bool, true, ◌||◌, ◌&&◌, nat_lt, List, [], ◌∷◌}
 use Rattle.std.specs.Prelude.{◌++◌, length, Some}
 use Rattle.std.proofs.Common.{◌∙◌, refl, sym, ap, ap₂, subst, arith}
 use Rattle.smt_model.specs.{Setup.Setup, Plain.Plain, Plain.is_going_status}
 use Rattle.smt_laws.proofs.{Done.some_one}
-use Rattle.outcome_laws.specs.Paths.{can_step, stepped, path, IsEnd}
+use Rattle.outcome_laws.specs.Paths.{can_step, stepped, path, HasItsCode, IsEnd}
 use Rattle.outcome_laws.specs.{Live.AreAlike, Live.IsLiveTable, Live.matters}
-use Rattle.outcome_laws.specs.Search.{IsLocalPath, Visited, HasWay, IsEnough, SettlesAt, HasVisited}
+use Rattle.outcome_laws.specs.Search.{IsLocalPath, Visited, HasWay, IsEnough, HasVisited}
 use Rattle.outcome_laws.specs.Search.{EveryEndIsVisited, NoEndIsReached, WhatSettlesIsReached}
-use Rattle.outcome_laws.proofs.{Local.local_steps_go_first, Local.first_of, Live.alike_states_step_alike}
+use Rattle.outcome_laws.proofs.{Local.local_steps_go_first, Live.alike_states_step_alike}
+use Rattle.outcome_laws.proofs.Holding.{first_of, has_next, has_path, has_local, has_alike}
 
 -- ---- States that are alike
 
@@ -40,25 +41,32 @@ join watched live s t u one two = record {
       one.registers h r some now ∙ two.registers h r some (matters_too watched live s t one h r ∙ now);
 }
 
+pub can_alike : (setup : Setup) (watched : ℕ → Bool) (live : ℕ → ℕ → Bool) (s t : Plain) → AreAlike watched live s t
+    → (h : ℕ) → can_step setup h s ≡ can_step setup h t
+can_alike setup watched live s t alike h =
+    ap (λ status. nat_lt h setup.harts && is_going_status status) (alike.statuses h)
+
 -- ---- Local paths
 
 -- An order with which an alike state goes the same local way.
-pub record GoesAlike (setup : Setup) (watched : ℕ → Bool) (live : ℕ → ℕ → Bool) (order : List ℕ) (u t : Plain) : Type 0 where
+pub record GoesAlike (setup : Setup) (watched : ℕ → Bool) (live : ℕ → ℕ → Bool) (order : List ℕ) (u t : Plain)
+    : Type 0 where
   pub there : Plain
   pub local : IsLocalPath setup order t there
   pub alike : AreAlike watched live u there
 
 pub goes_alike : (setup : Setup) (watched : ℕ → Bool) (live : ℕ → ℕ → Bool) → IsLiveTable setup.image live
-    → (order : List ℕ) (s t u : Plain) → AreAlike watched live s t → IsLocalPath setup order s u
+    → (order : List ℕ) (s t u : Plain) → HasItsCode setup s → AreAlike watched live s t → IsLocalPath setup order s u
     → GoesAlike setup watched live order u t
-goes_alike setup watched live table [] s t u alike same = record {
+goes_alike setup watched live table [] s t u holds alike same = record {
   there = t;
   local = refl;
   alike = subst (λ z. AreAlike watched live z t) same alike;
 }
-goes_alike setup watched live table (h ∷ order) s t u alike way =
-    let one = alike_states_step_alike setup watched live table s t alike h way.0 in
-    let rest = goes_alike setup watched live table order (stepped setup h s) (stepped setup h t) u one.alike way.2 in
+goes_alike setup watched live table (h ∷ order) s t u holds alike way =
+    let one = alike_states_step_alike setup watched live table s t holds alike h way.0 in
+    let rest = goes_alike setup watched live table order (stepped setup h s) (stepped setup h t) u
+    (has_next setup h s holds) one.alike way.2 in
     record {
       there = rest.there;
       local = (one.can ∙ way.0, one.local ∙ way.1, rest.local);
@@ -71,16 +79,18 @@ record IsLeft (setup : Setup) (here e : Plain) (most : ℕ) : Type 0 where
   leads : path setup order here ≡ Some e
   short : length order ≤ most
 
-left_after : (setup : Setup) (order way : List ℕ) (s u e : Plain) → path setup way s ≡ Some e → IsEnd setup e
+left_after : (setup : Setup) (order way : List ℕ) (s u e : Plain) → HasItsCode setup s → path setup way s ≡ Some e
+    → IsEnd setup e
     → IsLocalPath setup order s u → IsLeft setup u e (length way)
-left_after setup [] way s u e leads end same = record {
+left_after setup [] way s u e holds leads end same = record {
   order = way;
   leads = subst (λ z. path setup way z ≡ Some e) same leads;
   short = omega arith;
 }
-left_after setup (h ∷ order) way s u e leads end local =
-    let one = local_steps_go_first setup way s e h leads end local.0 local.1 in
-    let rest = left_after setup order one.order (stepped setup h s) u e one.leads end local.2 in
+left_after setup (h ∷ order) way s u e holds leads end local =
+    let one = local_steps_go_first setup way s e h holds leads end local.0 local.1 in
+    let rest = left_after setup order one.order (stepped setup h s) u e (has_next setup h s holds) one.leads end
+    local.2 in
     let shorter = one.shorter in
     let short = rest.short in
     record { order = rest.order; leads = rest.leads; short = omega arith }
@@ -99,24 +109,30 @@ further_way visited p h n s edge on = record {
 
 module _ (setup : Setup) (watched : ℕ → Bool) (live : ℕ → ℕ → Bool) (table : IsLiveTable setup.image live)
     (visited : Visited) (enough : IsEnough setup watched live visited) where
-  visits : (most : ℕ) (order : List ℕ) (s e a : Plain) (p : ℕ) → length order ≤ most → path setup order s ≡ Some e
+  visits : (most : ℕ) (order : List ℕ) (s e a : Plain) (p : ℕ) → HasItsCode setup s → length order ≤ most
+      → path setup order s ≡ Some e
       → IsEnd setup e → visited.at p ≡ Some a → AreAlike watched live s a → HasVisited watched live visited p e
-  visits most [] s e a p short leads end here alike = record {
+  visits most [] s e a p holds short leads end here alike = record {
     state = a;
     reached = record { place = p; way = []; leads = refl; at = here };
     alike = subst (λ z. AreAlike watched live z a) (some_one s e leads) alike;
   }
-  visits zero (h ∷ order) s e a p short leads end here alike = absurd (omega arith)
-  visits (suc most) (h ∷ order) s e a p short leads end here alike =
+  visits zero (h ∷ order) s e a p holds short leads end here alike = absurd (omega arith)
+  visits (suc most) (h ∷ order) s e a p holds short leads end here alike =
       let split = first_of (can_step setup h s) (path setup order (stepped setup h s)) e leads in
-      let one = alike_states_step_alike setup watched live table s a alike h split.0 in
+      let one = alike_states_step_alike setup watched live table s a holds alike h split.0 in
+      let holds_next = has_next setup h s holds in
       let on = enough p h a here (one.can ∙ split.0) in
       let settles = on.settles in
       let same = goes_alike setup watched live table settles.order (stepped setup h a) (stepped setup h s) settles.there
+      (has_next setup h a (has_alike setup watched live s a alike holds))
       (flip watched live (stepped setup h s) (stepped setup h a) one.alike) settles.local in
-      let left = left_after setup settles.order order (stepped setup h s) same.there e split.1 end same.local in
+      let left = left_after setup settles.order order (stepped setup h s) same.there e holds_next split.1 end
+      same.local in
       let fits = left.short in
-      let rest = visits most left.order same.there e on.state on.place_after (omega arith) left.leads end on.at
+      let rest = visits most left.order same.there e on.state on.place_after
+      (has_local setup settles.order (stepped setup h s) same.there holds_next same.local) (omega arith) left.leads end
+      on.at
       (join watched live same.there settles.there on.state
       (flip watched live settles.there same.there same.alike) settles.alike) in
       record {
@@ -126,21 +142,20 @@ module _ (setup : Setup) (watched : ℕ → Bool) (live : ℕ → ℕ → Bool) 
       }
 
 pub every_end_is_visited : EveryEndIsVisited
-every_end_is_visited setup watched live table visited enough from s bound order e leads end =
+every_end_is_visited setup watched live table visited enough from s holds bound order e leads end =
     let begins = bound.settles in
-    let left = left_after setup begins.order order s begins.there e leads end begins.local in
+    let left = left_after setup begins.order order s begins.there e holds leads end begins.local in
     visits setup watched live table visited enough (length left.order) left.order begins.there e bound.state from
-    (omega arith) left.leads end bound.at begins.alike
+    (has_local setup begins.order s begins.there holds begins.local) (omega arith) left.leads end bound.at begins.alike
 
 -- An end that is alike to a state in which some hart can step is none.
 pub no_end_is_reached : NoEndIsReached
-no_end_is_reached setup watched live table visited enough from s bound none order e leads end =
-    let found = every_end_is_visited setup watched live table visited enough from s bound order e leads end in
+no_end_is_reached setup watched live table visited enough from s holds bound none order e leads end =
+    let found = every_end_is_visited setup watched live table visited enough from s holds bound order e leads end in
     let goes = none found.state found.reached in
     let h = goes.0 in
     let can = goes.1 in
-    let one = alike_states_step_alike setup watched live table found.state e (flip watched live e found.state found.alike) h can in
-    let still : can_step setup h e ≡ true = one.can ∙ can in
+    let still : can_step setup h e ≡ true = can_alike setup watched live e found.state found.alike h ∙ can in
     let over = end h in
     absurd (grind arith)
 
@@ -159,12 +174,14 @@ local_leads setup [] s u same = ap Some same
 local_leads setup (h ∷ order) s u way = rw way.0 (local_leads setup order (stepped setup h s) u way.2)
 
 pub what_settles_is_reached : WhatSettlesIsReached
-what_settles_is_reached setup watched live table from order s t h reached can settles =
+what_settles_is_reached setup watched live table from order s t h holds reached can settles =
     let z = reached.state in
-    let one = alike_states_step_alike setup watched live table s z (flip watched live z s reached.alike) h can in
+    let holds_s = has_alike setup watched live z s reached.alike (has_path setup order from z holds reached.leads) in
+    let back = flip watched live z s reached.alike in
+    let one = alike_states_step_alike setup watched live table s z holds_s back h can in
     let can_z : can_step setup h z ≡ true = one.can ∙ can in
     let same = goes_alike setup watched live table settles.order (stepped setup h s) (stepped setup h z) settles.there
-    one.alike settles.local in
+    (has_next setup h s holds_s) one.alike settles.local in
     let last : path setup (h ∷ settles.order) z ≡ Some same.there =
     rw can_z (local_leads setup settles.order (stepped setup h z) same.there same.local) in
     record {

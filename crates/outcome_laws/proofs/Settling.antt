@@ -4,13 +4,14 @@ use Rattle.std.proofs.Common.{◌∙◌, refl, sym, ap, subst, inl, inr, arith}
 use Rattle.std.proofs.{lemmas.Bool.cases_Bool, lemmas.Bool.Decides.nat_tests}
 use Rattle.smt_model.specs.{Setup.Setup, Plain.Plain}
 use Rattle.smt_laws.proofs.{Done.some_one}
-use Rattle.outcome_laws.specs.Paths.{can_step, stepped, path, IsEnd}
+use Rattle.outcome_laws.specs.Paths.{can_step, stepped, path, HasItsCode, IsEnd}
 use Rattle.outcome_laws.specs.{Local.is_local, Live.AreAlike, Live.IsLiveTable}
-use Rattle.outcome_laws.specs.Search.{IsLocalPath, Settles, Visited, IsWay, HasWay, IsEnough, SettlesAt}
+use Rattle.outcome_laws.specs.Search.{IsLocalPath, Settles, Visited, IsWay, HasWay, IsEnough}
 use Rattle.outcome_laws.specs.Search.{CanEnd, EachCanEnd}
-use Rattle.outcome_laws.proofs.Local.{first_of, flipped, can_still, local_still, commutes}
+use Rattle.outcome_laws.proofs.Holding.{first_of, has_next, has_path, has_local, has_alike}
+use Rattle.outcome_laws.proofs.Local.{flipped, can_still, local_still, commutes}
 use Rattle.outcome_laws.proofs.Live.{alike_states_step_alike}
-use Rattle.outcome_laws.proofs.Search.{flip, join, goes_alike, path_on, local_leads}
+use Rattle.outcome_laws.proofs.Search.{can_alike, flip, join, goes_alike, path_on, local_leads}
 
 -- ---- A step beside local ones
 
@@ -24,25 +25,26 @@ abbrev Beside : Setup → ℕ → Plain → Plain → Type 0
 Beside setup h u w =
     IsBeside setup h u w w ⊎ ((can_step setup h w ≡ true) × IsBeside setup h u w (stepped setup h w))
 
-behind : (setup : Setup) (g h : ℕ) (u w there : Plain) → (h == g) ≡ false → can_step setup g u ≡ true
+behind : (setup : Setup) (g h : ℕ) (u w there : Plain) → HasItsCode setup u → (h == g) ≡ false
+    → can_step setup g u ≡ true
     → is_local setup g u ≡ true → IsBeside setup h (stepped setup g u) w there → IsBeside setup h u w there
-behind setup g h u w there apart can local rest = record {
+behind setup g h u w there holds apart can local rest = record {
   order = g ∷ rest.order;
   local = (
     can_still setup h g u (flipped g h apart) ∙ can,
-    local_still setup h g u (flipped g h apart) ∙ local,
-    subst (λ z. IsLocalPath setup rest.order z there) (commutes setup g h u apart local) rest.local,
+    local_still setup h g u holds (flipped g h apart) ∙ local,
+    subst (λ z. IsLocalPath setup rest.order z there) (commutes setup g h u holds apart local) rest.local,
   );
 }
 
-beside : (setup : Setup) (h : ℕ) (order : List ℕ) (u w : Plain) → IsLocalPath setup order u w
+beside : (setup : Setup) (h : ℕ) (order : List ℕ) (u w : Plain) → HasItsCode setup u → IsLocalPath setup order u w
     → can_step setup h u ≡ true → Beside setup h u w
-beside setup h [] u w same can =
+beside setup h [] u w holds same can =
     inr (
       subst (λ z. can_step setup h z ≡ true) same can,
       record { order = []; local = ap (stepped setup h) same },
     )
-beside setup h (g ∷ order) u w way can =
+beside setup h (g ∷ order) u w holds way can =
     elim (cases_Bool (h == g)) [
       | inl same ↦
           let is : g ≡ h = grind (arith, nat_tests) in
@@ -51,9 +53,10 @@ beside setup h (g ∷ order) u w way can =
             local = subst (λ k. IsLocalPath setup order (stepped setup k u) w) is way.2;
           })
       | inr apart ↦
-          elim (beside setup h order (stepped setup g u) w way.2 (can_still setup g h u apart ∙ can)) [
-            | inl made ↦ inl (behind setup g h u w w apart way.0 way.1 made)
-            | inr left ↦ inr (left.0, behind setup g h u w (stepped setup h w) apart way.0 way.1 left.1)
+          elim (beside setup h order (stepped setup g u) w (has_next setup g u holds) way.2
+          (can_still setup g h u apart ∙ can)) [
+            | inl made ↦ inl (behind setup g h u w w holds apart way.0 way.1 made)
+            | inr left ↦ inr (left.0, behind setup g h u w (stepped setup h w) holds apart way.0 way.1 left.1)
           ]
     ]
 
@@ -84,13 +87,15 @@ record IsBound (setup : Setup) (watched : ℕ → Bool) (live : ℕ → ℕ → 
 module _ (setup : Setup) (watched : ℕ → Bool) (live : ℕ → ℕ → Bool) (table : IsLiveTable setup.image live)
     (visited : Visited) (enough : IsEnough setup watched live visited) (from : ℕ) where
   -- A hart's step that isn't among the local ones is made of the visited state too, and settles there.
-  further : (h : ℕ) (u w a : Plain) → HasWay visited from a → AreAlike watched live w a → can_step setup h w ≡ true
+  further : (h : ℕ) (u w a : Plain) → HasItsCode setup w → HasWay visited from a → AreAlike watched live w a
+      → can_step setup h w ≡ true
       → IsBeside setup h u w (stepped setup h w) → IsBound setup watched live visited from (stepped setup h u)
-  further h u w a reached alike can left =
-      let one = alike_states_step_alike setup watched live table w a alike h can in
+  further h u w a holds reached alike can left =
+      let one = alike_states_step_alike setup watched live table w a holds alike h can in
       let on = enough reached.place h a reached.at (one.can ∙ can) in
       let settles = on.settles in
       let same = goes_alike setup watched live table settles.order (stepped setup h a) (stepped setup h w) settles.there
+      (has_next setup h a (has_alike setup watched live w a alike holds))
       (flip watched live (stepped setup h w) (stepped setup h a) one.alike) settles.local in
       record {
         state = on.state;
@@ -103,74 +108,74 @@ module _ (setup : Setup) (watched : ℕ → Bool) (live : ℕ → ℕ → Bool) 
         settles = record {
           order = left.order ++ settles.order;
           there = same.there;
-          local = local_then setup left.order settles.order (stepped setup h u) (stepped setup h w) same.there left.local
-              same.local;
+          local = local_then setup left.order settles.order (stepped setup h u) (stepped setup h w) same.there
+              left.local same.local;
           alike = join watched live same.there settles.there on.state
               (flip watched live settles.there same.there same.alike) settles.alike;
         };
       }
 
-  next_settles : (h : ℕ) (u : Plain) → IsBound setup watched live visited from u → can_step setup h u ≡ true
+  next_settles : (h : ℕ) (u : Plain) → HasItsCode setup u → IsBound setup watched live visited from u
+      → can_step setup h u ≡ true
       → IsBound setup watched live visited from (stepped setup h u)
-  next_settles h u bound can =
+  next_settles h u holds bound can =
       let way = bound.settles in
-      elim (beside setup h way.order u way.there way.local can) [
+      elim (beside setup h way.order u way.there holds way.local can) [
         | inl made ↦ record {
           state = bound.state;
           reached = bound.reached;
           settles = record { order = made.order; there = way.there; local = made.local; alike = way.alike };
         }
-        | inr left ↦ further h u way.there bound.state bound.reached way.alike left.0 left.1
+        | inr left ↦
+            further h u way.there bound.state (has_local setup way.order u way.there holds way.local) bound.reached
+            way.alike left.0 left.1
       ]
 
-  each_settles : (order : List ℕ) (s u : Plain) → IsBound setup watched live visited from s
+  each_settles : (order : List ℕ) (s u : Plain) → HasItsCode setup s → IsBound setup watched live visited from s
       → path setup order s ≡ Some u → IsBound setup watched live visited from u
-  each_settles [] s u bound leads = subst (IsBound setup watched live visited from) (some_one s u leads) bound
-  each_settles (h ∷ order) s u bound leads =
+  each_settles [] s u holds bound leads = subst (IsBound setup watched live visited from) (some_one s u leads) bound
+  each_settles (h ∷ order) s u holds bound leads =
       let split = first_of (can_step setup h s) (path setup order (stepped setup h s)) u leads in
-      each_settles order (stepped setup h s) u (next_settles h s bound split.0) split.1
+      each_settles order (stepped setup h s) u (has_next setup h s holds) (next_settles h s holds bound split.0) split.1
 
 -- ---- What is alike can end alike
 
 pub end_alike : (setup : Setup) (watched : ℕ → Bool) (live : ℕ → ℕ → Bool) → IsLiveTable setup.image live
     → (s t : Plain) → AreAlike watched live s t → IsEnd setup s → IsEnd setup t
-end_alike setup watched live table s t alike end h =
-    elim (cases_Bool (can_step setup h t)) [
-      | inl can ↦
-          let one = alike_states_step_alike setup watched live table t s (flip watched live s t alike) h can in
-          let still : can_step setup h s ≡ true = one.can ∙ can in
-          let over = end h in
-          absurd (grind arith)
-      | inr over ↦ over
-    ]
+end_alike setup watched live table s t alike end h = sym (can_alike setup watched live s t alike h) ∙ end h
 
 ends_alike : (setup : Setup) (watched : ℕ → Bool) (live : ℕ → ℕ → Bool) → IsLiveTable setup.image live
-    → (order : List ℕ) (s t e : Plain) → AreAlike watched live s t → path setup order s ≡ Some e → IsEnd setup e
+    → (order : List ℕ) (s t e : Plain) → HasItsCode setup s → AreAlike watched live s t
+    → path setup order s ≡ Some e → IsEnd setup e
     → CanEnd setup t
-ends_alike setup watched live table [] s t e alike leads end = record {
+ends_alike setup watched live table [] s t e holds alike leads end = record {
   order = [];
   last = t;
   leads = refl;
   is_end = end_alike setup watched live table s t alike (subst (IsEnd setup) (sym (some_one s e leads)) end);
 }
-ends_alike setup watched live table (h ∷ order) s t e alike leads end =
+ends_alike setup watched live table (h ∷ order) s t e holds alike leads end =
     let split = first_of (can_step setup h s) (path setup order (stepped setup h s)) e leads in
-    let one = alike_states_step_alike setup watched live table s t alike h split.0 in
+    let one = alike_states_step_alike setup watched live table s t holds alike h split.0 in
     let can : can_step setup h t ≡ true = one.can ∙ split.0 in
-    let rest = ends_alike setup watched live table order (stepped setup h s) (stepped setup h t) e one.alike split.1 end in
+    let rest = ends_alike setup watched live table order (stepped setup h s) (stepped setup h t) e
+    (has_next setup h s holds) one.alike split.1 end in
     record { order = h ∷ rest.order; last = rest.last; leads = rw can rest.leads; is_end = rest.is_end }
 
 pub each_can_end : EachCanEnd
-each_can_end setup watched live table visited enough from s begins can order u leads =
+each_can_end setup watched live table visited enough from s holds begins can order u leads =
     let first : IsBound setup watched live visited from s = record {
       state = begins.state;
       reached = record { place = from; way = []; leads = refl; at = begins.at };
       settles = begins.settles;
     } in
-    let there = each_settles setup watched live table visited enough from order s u first leads in
+    let there = each_settles setup watched live table visited enough from order s u holds first leads in
     let way = there.settles in
     let ends = can there.state there.reached in
+    let holds_u = has_path setup order s u holds leads in
+    let holds_there = has_local setup way.order u way.there holds_u way.local in
     let rest = ends_alike setup watched live table ends.order there.state way.there ends.last
+    (has_alike setup watched live way.there there.state way.alike holds_there)
     (flip watched live way.there there.state way.alike) ends.leads ends.is_end in
     record {
       order = way.order ++ rest.order;

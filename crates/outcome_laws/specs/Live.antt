@@ -3,14 +3,15 @@
 use Rattle.std.specs.Prelude.{◌≡◌, ◌≢◌, ℕ, Bool, true, false, ◌==◌, ◌&&◌, ◌||◌}
 use Rattle.rv_word.specs.Word.{sum_of}
 use Rattle.rv_instr.specs.declared.instr.Instr.TheVariants as instr
-use Rattle.smt_model.specs.Words.{Op, Known, Instr, ProgramImage, code_word, op_of_word}
+use Rattle.elf_image.specs.Image.{code_word, code_writable}
+use Rattle.smt_model.specs.Words.{Op, Known, Instr, ProgramImage, op_of_word}
 use Rattle.smt_model.specs.{Setup.Setup, Exec.next_pc, Exec.extended}
 use Rattle.smt_model.specs.{Kinds.destination, Kinds.first_source, Kinds.second_source}
 use Rattle.smt_model.specs.Plain.{Plain, is_going_status}
-use Rattle.outcome_laws.specs.Paths.{can_step, stepped}
+use Rattle.outcome_laws.specs.Paths.{can_step, stepped, HasItsCode}
 use Rattle.outcome_laws.specs.Local.{is_local}
 
--- What is found at a pc.
+-- What the image has at a pc.
 abbrev pub op_at : ProgramImage → ℕ → Op
 op_at image pc = op_of_word (code_word image pc)
 
@@ -30,12 +31,13 @@ may_follow _ pc to = false
 abbrev pub reads_register : Op → ℕ → Bool
 reads_register op r = r == first_source op || r == second_source op
 
--- A table of live registers is good: a register is live where it is read, where it is watched, and where
--- and where it is live behind and not written before. x0 is none.
+-- A table of live registers is good: a register is live where it is read, and where it is live behind
+-- and not written before. Where the code may be written, all are. x0 is none.
 pub record IsLiveTable (image : ProgramImage) (live : ℕ → ℕ → Bool) : Type 0 where
   pub reads : (pc r : ℕ) → r ≢ 0 → reads_register (op_at image pc) r ≡ true → live pc r ≡ true
   pub stays : (pc to r : ℕ) → r ≢ 0 → may_follow (op_at image pc) pc to ≡ true → live to r ≡ true
       → (r == destination (op_at image pc)) ≡ false → live pc r ≡ true
+  pub all : code_writable image ≡ true → (pc r : ℕ) → r ≢ 0 → live pc r ≡ true
 
 -- What a register of a hart holds still matters: it is watched, or the hart goes and may read it.
 abbrev pub matters : (ℕ → Bool) → (ℕ → ℕ → Bool) → Plain → ℕ → ℕ → Bool
@@ -62,5 +64,5 @@ pub record StepAlike (setup : Setup) (watched : ℕ → Bool) (live : ℕ → �
 abbrev pub AlikeStatesStepAlike : Type 0
 AlikeStatesStepAlike = (setup : Setup) (watched : ℕ → Bool) (live : ℕ → ℕ → Bool)
     → IsLiveTable setup.image live
-    → (s t : Plain) → AreAlike watched live s t → (h : ℕ) → can_step setup h s ≡ true
+    → (s t : Plain) → HasItsCode setup s → AreAlike watched live s t → (h : ℕ) → can_step setup h s ≡ true
     → StepAlike setup watched live h s t

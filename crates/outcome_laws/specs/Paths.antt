@@ -2,7 +2,9 @@
 -- 1979: an execution is one order of all steps, those of each processor in its program's order]
 use Rattle.std.specs.Prelude.{◌≡◌, ℕ, Bool, false, ◌&&◌, nat_lt, if◌then◌else◌, List, [], ◌∷◌}
 use Rattle.std.specs.Prelude.{Option, Some, None, option_map, reverse}
+use Rattle.elf_image.specs.Image.{code_writable}
 use Rattle.smt_model.specs.{Setup.Setup}
+use Rattle.smt_laws.specs.Code.{HoldsItsCode}
 use Rattle.smt_model.specs.Plain.{Plain, run, start, after, is_going_status, op_at_pc, computes, effect_at}
 
 -- Hart h is there and going.
@@ -18,6 +20,10 @@ abbrev pub path : Setup → List ℕ → Plain → Option Plain
 path setup [] s = Some s
 path setup (h ∷ order) s = if can_step setup h s then path setup order (stepped setup h s) else None
 
+-- Code that may not be written is what the image has. So it is at the start, and after each step.
+abbrev pub HasItsCode : Setup → Plain → Type 0
+HasItsCode setup s = code_writable setup.image ≡ false → HoldsItsCode setup.image s.bytes
+
 -- The program is at its end: no hart goes.
 abbrev pub IsEnd : Setup → Plain → Type 0
 IsEnd setup s = (h : ℕ) → can_step setup h s ≡ false
@@ -26,3 +32,9 @@ IsEnd setup s = (h : ℕ) → can_step setup h s ≡ false
 abbrev pub RunsArePaths : Type 0
 RunsArePaths = (setup : Setup) (order : List ℕ)
     → option_map (λ ran. ran.state) (run setup order) ≡ path setup (reverse order) (start setup)
+
+-- So it is where an order leads, from where it is so; and it is so at the start.
+abbrev pub PathsKeepCode : Type 0
+PathsKeepCode = (setup : Setup)
+    → HasItsCode setup (start setup)
+    × ((order : List ℕ) (s t : Plain) → HasItsCode setup s → path setup order s ≡ Some t → HasItsCode setup t)

@@ -2,7 +2,7 @@
 -- of each hart that can step and then by local steps; and it keeps one of several states that are alike.
 use Rattle.std.specs.Prelude.{◌≡◌, ℕ, Bool, true, List, [], ◌∷◌, ◌++◌, Option, Some}
 use Rattle.smt_model.specs.{Setup.Setup, Plain.Plain}
-use Rattle.outcome_laws.specs.Paths.{can_step, stepped, path, IsEnd}
+use Rattle.outcome_laws.specs.Paths.{can_step, stepped, path, IsEnd, HasItsCode}
 use Rattle.outcome_laws.specs.{Local.is_local, Live.AreAlike, Live.IsLiveTable}
 
 -- The steps of an order lead from s to t, and each is local.
@@ -64,7 +64,7 @@ abbrev pub InEachSearch
 InEachSearch P = (setup : Setup) (watched : ℕ → Bool) (live : ℕ → ℕ → Bool)
     → IsLiveTable setup.image live
     → (visited : Visited) → IsEnough setup watched live visited
-    → (from : ℕ) (s : Plain) → SettlesAt setup watched live visited from s
+    → (from : ℕ) (s : Plain) → HasItsCode setup s → SettlesAt setup watched live visited from s
     → P setup watched live visited from s
 
 -- A visited state to which a way leads, and that is alike to this one.
@@ -102,7 +102,7 @@ abbrev pub WhatSettlesIsReached : Type 0
 WhatSettlesIsReached = (setup : Setup) (watched : ℕ → Bool) (live : ℕ → ℕ → Bool)
     → IsLiveTable setup.image live
     → (from : Plain) (order : List ℕ) (s t : Plain) (h : ℕ)
-    → IsReached setup watched live from order s
+    → HasItsCode setup from → IsReached setup watched live from order s
     → can_step setup h s ≡ true → (settles : Settles setup watched live (stepped setup h s) t)
     → IsReached setup watched live from (order ++ h ∷ settles.order) t
 

@@ -1,14 +1,16 @@
 //! The functions do nothing: each is there for its contract, which ranges over all setups and all
 //! states of the plain machine.
-ghost use Rattle.outcome_laws.specs.Paths.{RunsArePaths};
+ghost use Rattle.outcome_laws.specs.Paths.{PathsKeepCode, RunsArePaths};
 ghost use Rattle.outcome_laws.specs.Local.{LocalStepsGoFirst};
 ghost use Rattle.outcome_laws.specs.Live.{AlikeStatesStepAlike};
 ghost use Rattle.outcome_laws.specs.Search.{EveryEndIsVisited, WhatSettlesIsReached};
 ghost use Rattle.outcome_laws.specs.Search.{NoEndIsReached, EachCanEnd};
 
-/// A run of the plain machine in an order is the path of that order, from the start.
+/// A run of the plain machine in an order is the path of that order, from the start; and code that may
+/// not be written stays what the image has.
 pub fn runs_are_paths()
     ensures paths { RunsArePaths }
+    ensures code { PathsKeepCode }
 {}
 
 /// On the way to an end a local step may go first, and the rest of the way is shorter by it.

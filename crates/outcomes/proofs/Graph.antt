@@ -7,8 +7,10 @@ use Rattle.std.proofs.lemmas.Option.{slice_get_within, slice_get_cases}
 use Rattle.std.proofs.lemmas.List.{append-nil, append_assoc}
 use Rattle.smt_model.specs.{Setup.Setup, Plain.Plain, Plain.start}
 use Rattle.live_registers.specs.Table.{live_of}
-use Rattle.outcome_laws.specs.{Paths.can_step, Paths.stepped, Paths.path, Paths.IsEnd, Live.AreAlike, Live.IsLiveTable}
+use Rattle.outcome_laws.specs.{Paths.can_step, Paths.stepped, Paths.path, Paths.IsEnd, Paths.HasItsCode}
+use Rattle.outcome_laws.specs.{Live.AreAlike, Live.IsLiveTable}
 use Rattle.outcome_laws.specs.Search.{Settles, Visited, IsWay, GoesOn, IsEnough, HasWay, SettlesAt, IsReached, CanEnd}
+use Rattle.outcome_laws.proofs.Holding.{has_alike, has_path, paths_keep_code}
 use Rattle.outcome_laws.proofs.Search.{flip, local_leads, what_settles_is_reached, no_end_is_reached}
 use Rattle.outcome_laws.proofs.Settling.{end_alike, each_can_end}
 use Rattle.searches.specs.Found.{Found, IsGraph, IsEdge, Follows, edge_at, moves_at}
@@ -165,21 +167,22 @@ module _ (setup : Setup) (m : Machine) (begun : Begun) (found : Found State ℕ)
   abbrev Reached : Plain → List ℕ → State → Type 0
   Reached from order t = IsReached setup watched live from order (state_of m t)
 
-  one_more : (from : Plain) (order : List ℕ) (s u : State) (h way : ℕ) → Reached from order s
+  one_more : (from : Plain) (order : List ℕ) (s u : State) (h way : ℕ) → HasItsCode setup from → Reached from order s
       → MakesStep setup m s h (record { state = u; way = way }) → Reached from (order ++ h ∷ replicate way h) u
-  one_more from order s u h way reached made =
+  one_more from order s u h way holds reached made =
       subst (λ o. Reached from (order ++ h ∷ o) u) made.leads.by
-      (what_settles_is_reached setup watched live table from order (state_of m s) (state_of m u) h reached made.can
-      made.leads.settles)
+      (what_settles_is_reached setup watched live table from order (state_of m s) (state_of m u) h holds reached
+      made.can made.leads.settles)
 
-  by_moves : (from : Plain) (moves : List (Move ℕ)) (order : List ℕ) (s t : State) → Reached from order s
+  by_moves : (from : Plain) (moves : List (Move ℕ)) (order : List ℕ) (s t : State) → HasItsCode setup from
+      → Reached from order s
       → Leads (Steps m) s moves t → Reached from (order ++ moved moves) t
-  by_moves from [] order s t reached same =
+  by_moves from [] order s t holds reached same =
       subst (λ o. Reached from o t) (sym (append-nil order)) (subst (Reached from order) same reached)
-  by_moves from (move ∷ moves) order s t reached leads =
-      let one = one_more from order s leads.0 move.hart move.way reached (leads.1 setup image harts) in
+  by_moves from (move ∷ moves) order s t holds reached leads =
+      let one = one_more from order s leads.0 move.hart move.way holds reached (leads.1 setup image harts) in
       subst (λ o. Reached from o t) (append_assoc order (move.hart ∷ replicate move.way move.hart) (moved moves))
-      (by_moves from moves (order ++ move.hart ∷ replicate move.way move.hart) leads.0 t one leads.2)
+      (by_moves from moves (order ++ move.hart ∷ replicate move.way move.hart) leads.0 t holds one leads.2)
 
   start_reached : Reached (start setup) (turns begun.ways m.program.harts) begun.state
   start_reached =
@@ -195,8 +198,18 @@ module _ (setup : Setup) (m : Machine) (begun : Begun) (found : Found State ℕ)
   pub reached : (k : ℕ) (t : State) → slice_get found.states k ≡ Some t
       → Reached (start setup) (order_at begun.ways m.program.harts found.origins k) t
   reached k t at =
-      by_moves (start setup) (moves_at found.origins k) (turns begun.ways m.program.harts) begun.state t start_reached
-      (graph.moved k t at)
+      by_moves (start setup) (moves_at found.origins k) (turns begun.ways m.program.harts) begun.state t
+      (paths_keep_code setup).0 start_reached (graph.moved k t at)
+
+  -- Code that may not be written is what the image has, in each state and where the order to it leads.
+  holds_there : (k : ℕ) (t : State) (at : slice_get found.states k ≡ Some t) → HasItsCode setup (reached k t at).state
+  holds_there k t at =
+      has_path setup (order_at begun.ways m.program.harts found.origins k) (start setup) (reached k t at).state
+      (paths_keep_code setup).0 (reached k t at).leads
+
+  holds_in : (k : ℕ) (t : State) → slice_get found.states k ≡ Some t → HasItsCode setup (state_of m t)
+  holds_in k t at =
+      has_alike setup watched live (reached k t at).state (state_of m t) (reached k t at).alike (holds_there k t at)
 
   -- ---- Ways to an end
 
@@ -209,16 +222,16 @@ module _ (setup : Setup) (m : Machine) (begun : Begun) (found : Found State ℕ)
       (on.0, on.1, subst (λ p. slice_get found.states p ≡ Some on.0) same on.2, on.3 setup image harts)
 
   by_way : (from : Plain) (way : List ℕ) (k q : ℕ) (order : List ℕ) (s t : State) → slice_get found.states k ≡ Some s
-      → slice_get found.states q ≡ Some t → Reached from order s → Follows found k way q
+      → slice_get found.states q ≡ Some t → HasItsCode setup from → Reached from order s → Follows found k way q
       → (more : List ℕ) × Reached from more t
-  by_way from [] k q order s t at last so_far same =
+  by_way from [] k q order s t at last holds so_far same =
       let is : s ≡ t = same_element found.states k s t at (subst (λ p. slice_get found.states p ≡ Some t) (sym same) last) in
       (order, subst (Reached from order) is so_far)
-  by_way from (h ∷ way) k q order s t at last so_far follows =
+  by_way from (h ∷ way) k q order s t at last holds so_far follows =
       let below : h < m.program.harts = subst (λ n. h < n) graph.all_harts follows.1 in
       let on = edge_made k h follows.0 s follows.2 (edge_at found k h) refl (graph.along k h s at below) in
-      by_way from way follows.0 q (order ++ h ∷ replicate on.1 h) on.0 t on.2 last
-      (one_more from order s on.0 h on.1 so_far on.3) follows.3
+      by_way from way follows.0 q (order ++ h ∷ replicate on.1 h) on.0 t on.2 last holds
+      (one_more from order s on.0 h on.1 holds so_far on.3) follows.3
 
   can_end : (k : ℕ) (s : State) → slice_get found.states k ≡ Some s → GraphCanEnd found k → CanEnd setup (state_of m s)
   can_end k s at way =
@@ -229,7 +242,7 @@ module _ (setup : Setup) (m : Machine) (begun : Begun) (found : Found State ℕ)
           → CanEnd setup (state_of m s)
       by None is inside = absurd (not_there found.states way.1 is inside)
       by (Some t) is inside =
-          let go = by_way (state_of m s) way.0 k way.1 [] s t at is
+          let go = by_way (state_of m s) way.0 k way.1 [] s t at is (holds_in k s at)
           (record { state = state_of m s; leads = refl; alike = own watched live (state_of m s) }) way.2 in
           let z = go.1 in
           record {
@@ -279,7 +292,7 @@ module _ (setup : Setup) (m : Machine) (begun : Begun) (found : Found State ℕ)
   pub stuck_told : (stuck : Option ℕ) → IsLeastStuck found stuck
       → IsStuckTold setup (option_map (order_at begun.ways m.program.harts found.origins) stuck)
   stuck_told None each =
-      each_can_end setup watched live table visited enough 0 (start setup) start_settles
+      each_can_end setup watched live table visited enough 0 (start setup) (paths_keep_code setup).0 start_settles
       (λ a way. by a way (state_at way.place a way.at))
     where
       by : (a : Plain) (way : HasWay visited 0 a)
@@ -297,7 +310,7 @@ module _ (setup : Setup) (m : Machine) (begun : Begun) (found : Found State ℕ)
             z.state,
             z.leads,
             λ can.
-                no_end_is_reached setup watched live table visited enough p z.state
+                no_end_is_reached setup watched live table visited enough p z.state (holds_there p t is)
                 (record {
                   state = state_of m t;
                   at = ap (option_map (state_of m)) is;

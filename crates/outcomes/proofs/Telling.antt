@@ -3,6 +3,7 @@ use Rattle.std.specs.Prelude.{◌≡◌, ℕ, ◌<◌, List, Contains, Option, S
 use Rattle.std.proofs.Common.{◌∙◌, refl, sym, ap, subst}
 use Rattle.smt_model.specs.{Setup.Setup, Plain.Plain, Plain.start}
 use Rattle.outcome_laws.specs.Paths.{IsEnd}
+use Rattle.outcome_laws.proofs.Holding.{paths_keep_code}
 use Rattle.outcome_laws.proofs.Search.{flip, every_end_is_visited}
 use Rattle.outcome_laws.proofs.Settling.{end_alike}
 use Rattle.searches.specs.{Found.Found as Graph, Found.IsGraph, Ending.IsLeastStuck}
@@ -47,7 +48,7 @@ module _ (setup : Setup) (m : Machine) (begun : Begun) (graph_of : Graph State �
       (live setup m begun graph_of sound graph begins image harts)
       (table setup m begun graph_of sound graph begins image harts)
       (visited setup m begun graph_of sound graph begins image harts)
-      (enough setup m begun graph_of sound graph begins image harts) 0 (start setup)
+      (enough setup m begun graph_of sound graph begins image harts) 0 (start setup) (paths_keep_code setup).0
       (start_settles setup m begun graph_of sound graph begins image harts) order ends.last ends.leads ends.is_end in
       let t = state_at setup m begun graph_of sound graph begins image harts seen.reached.place seen.state seen.reached.at in
       let over : IsEnd setup (state_of m t.0) =

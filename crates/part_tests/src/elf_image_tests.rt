@@ -6,6 +6,7 @@ mod refusing;
 use crate::placing::{Placed, image_of_segments};
 use crate::rows::holds_at;
 use elf_image::Image;
+use std::alloc::Global;
 use std::process::Abort;
 use std::test::Fail;
 use test_files::{EXIT_WITH_5, image_of};
@@ -48,6 +49,20 @@ fn loads_the_words_and_bytes_of_a_file(rt: HostRuntime) -> Result<(), Fail> {
     assert!(rt; places == (8192, 0x8000_0000, (0x8000_0000, 12)));
     has(&rt, &image, &WORDS, &BYTES);
     Ok(())
+}
+
+/// Whether the code of the program of three words may be written, where its segment has these flags.
+fn is_writable(flags: u8, alloc: Global) -> Option<bool> {
+    let mut file = EXIT_WITH_5;
+    file[76] = flags;
+    Some(image_of(&file, 8192, alloc)?.code_writable())
+}
+
+#[test]
+fn code_may_be_written_where_its_segment_has_the_flag(rt: HostRuntime) {
+    assert!(rt; is_writable(5, rt.alloc()) == Some(false));
+    assert!(rt; is_writable(7, rt.alloc()) == Some(true));
+    assert!(rt; is_writable(3, rt.alloc()) == Some(true));
 }
 
 static PLACED_WORDS: [(u32, Option<u32>); 2] = [

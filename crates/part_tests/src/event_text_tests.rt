@@ -1,5 +1,5 @@
 //! The lines of events and records, against lines worked by hand from their form; whole traces in
-//! `traces`, what version 2 has of its own in `versions`, and the way there in `migrating`.
+//! `traces`, what the later versions have of their own in `versions`, and the way there in `migrating`.
 
 mod migrating;
 mod traces;
@@ -8,8 +8,8 @@ mod versions;
 use crate::rows::holds;
 use arrayvec::ArrayString;
 use event_text::{
-    FIRST_RANGES, Ranges, SECOND_RANGES, print_event, print_record, push_event, push_record,
-    read_event_within,
+    FIRST_RANGES, Ranges, SECOND_RANGES, THIRD_RANGES, print_event, print_record, push_event,
+    push_record, read_event_within,
 };
 use events::{Effect, Event, Next, Outcome, Record, Written};
 
@@ -194,6 +194,7 @@ fn is_line(event: &Event, line: &str) -> bool {
     print_event(event).as_str() == line
         && read_event_within(line.as_bytes(), FIRST_RANGES) == Ok(*event)
         && read_event_within(line.as_bytes(), SECOND_RANGES) == Ok(*event)
+        && read_event_within(line.as_bytes(), THIRD_RANGES) == Ok(*event)
 }
 
 #[test]
@@ -308,7 +309,8 @@ fn a_line_is_refused_for_the_first_rule_that_it_breaks(rt: HostRuntime) {
     for (line, rule) in &REFUSED {
         let first = broken_rule(line, FIRST_RANGES);
         let second = broken_rule(line, SECOND_RANGES);
-        holds(&rt, line, first == Some(*rule) && second == Some(*rule));
+        let third = broken_rule(line, THIRD_RANGES);
+        holds(&rt, line, [first, second, third] == [Some(*rule); 3]);
     }
 }
 
@@ -321,5 +323,18 @@ fn version_2_has_wider_ranges(rt: HostRuntime) {
     for line in &OUTSIDE {
         holds(&rt, line, broken_rule(line, FIRST_RANGES) == Some(6));
         holds(&rt, line, broken_rule(line, SECOND_RANGES) == Some(6));
+    }
+}
+
+#[test]
+fn version_3_has_lines_of_refetches(rt: HostRuntime) {
+    let event = Event::Refetch { actor: 2, seq: 4 };
+    assert!(rt; print_event(&event).as_str() == "G 2 4");
+    assert!(rt; read_event_within(b"G 2 4", THIRD_RANGES) == Ok(event));
+    for ranges in [FIRST_RANGES, SECOND_RANGES] {
+        assert!(rt; broken_rule("G 2 4", ranges) == Some(3));
+    }
+    for (line, rule) in [("G 2", 4), ("G 2 4 0", 4), ("G 2 04", 5), ("G 32 4", 6)] {
+        holds(&rt, line, broken_rule(line, THIRD_RANGES) == Some(rule));
     }
 }

@@ -131,7 +131,10 @@ fn names_the_kind_of_an_event_by_its_letter(rt: HostRuntime) {
     };
     assert!(rt; (dropped.kind().letter(), retired.kind().letter()) == (b'X', b'T'));
     assert!(rt; EventKind::from_letter(b'X') == Some(EventKind::Drop));
-    for letter in *b"FDRICXT" {
+    let refetched = Event::Refetch { actor: 9, seq: 4 };
+    assert!(rt; refetched.kind() == EventKind::Refetch);
+    assert!(rt; (refetched.actor(), refetched.seq()) == (9, 4));
+    for letter in *b"FDRICXTG" {
         assert!(rt; letter_of(letter) == Some(letter));
     }
     assert!(rt; letter_of(b'x').is_none());

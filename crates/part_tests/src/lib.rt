@@ -8,6 +8,8 @@
 #[cfg(test)]
 mod changed_memory_tests;
 #[cfg(test)]
+mod decoded_code_tests;
+#[cfg(test)]
 mod elf_image_tests;
 #[cfg(test)]
 mod encoder_tests;

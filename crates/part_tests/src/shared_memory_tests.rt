@@ -8,11 +8,18 @@ mod memory;
 
 use shared_memory::{AccessKind, Memory};
 use std::alloc::Global;
-use test_files::{EXIT_WITH_5, image_of};
+use test_files::{EXIT_WITH_5, PATCHED, image_of, writable_file_of};
 
 /// The memory of the program of three words at 80000000, with 8192 bytes of RAM.
 pub fn first_memory(alloc: Global) -> Option<Memory> {
     let image = image_of(&EXIT_WITH_5, 8192, alloc)?;
+    Memory::new(&image, alloc).ok()
+}
+
+/// The memory of the same program where its code may be written.
+pub fn written_memory(alloc: Global) -> Option<Memory> {
+    let file = writable_file_of(&PATCHED[4..7], alloc).ok()?;
+    let image = image_of(file.as_slice(), 8192, alloc)?;
     Memory::new(&image, alloc).ok()
 }
 

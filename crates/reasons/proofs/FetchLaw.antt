@@ -4,10 +4,10 @@ use Rattle.std.specs.Prelude.{length, Option, Some, None}
 use Rattle.std.proofs.Common.{◌∙◌, refl, sym, ap, subst, inl, inr, arith}
 use Rattle.std.proofs.{lemmas.Bool.cases_Bool, lemmas.Bool.Decides.nat_tests}
 use Rattle.numbers.specs.Sizes.{latch_room}
-use Rattle.elf_image.specs.Image.{code_word}
+use Rattle.elf_image.specs.Image.{word_now}
 use Rattle.events.specs.declared.event.Event.{Event}
-use Rattle.events.specs.declared.event.Event.TheVariants.{Fetch, Decode, Rename, Issue, Complete, Drop, Retire}
-use Rattle.smt_model.specs.{Asks.AskFetch, Asks.answers, Setup.Setup, Jobs.is_actor, Memory.is_going}
+use Rattle.events.specs.declared.event.Event.TheVariants.{Fetch, Decode, Rename, Issue, Complete, Drop, Retire, Refetch}
+use Rattle.smt_model.specs.{Asks.AskFetch, Asks.answers, Setup.Setup, Jobs.is_actor, Memory.byte_at, Memory.is_going}
 use Rattle.smt_model.specs.{Fates.fetches, Flights.in_decode, Flights.icount, Rules.refused, Rules.is_legal}
 use Rattle.smt_model.specs.Basics.{below, first_least, how_many, least_from, same_number}
 use Rattle.smt_model.specs.Fetching.{is_after, turn, may_fetch, last_fetched, choice, fetch_pc}
@@ -67,7 +67,7 @@ fetch_of : (setup : Setup) (past : List Event) (k h : ℕ) → is_actor setup k 
     → MayCome setup past (AskFetch k)
 fetch_of setup past k h is_one at =
     let pc = fetch_pc setup past h in
-    let word = code_word setup.image pc in
+    let word = word_now setup.image (byte_at setup past) pc in
     record {
       event = Fetch k h (fetches past) pc word 0;
       answer = same_self k;
@@ -134,3 +134,4 @@ fetch_by setup past k (Issue actor s) asked ok = absurd (grind arith)
 fetch_by setup past k (Complete actor s outcome) asked ok = absurd (grind arith)
 fetch_by setup past k (Drop actor s) asked ok = absurd (grind arith)
 fetch_by setup past k (Retire actor s effect) asked ok = absurd (grind arith)
+fetch_by setup past k (Refetch actor s) asked ok = absurd (grind arith)

@@ -9,7 +9,7 @@ use Rattle.rv_instr.specs.declared.op.Op.{Op}
 use Rattle.events.specs.{declared.effect.Effect.Effect, declared.effect.Next.Next, declared.effect.Written.Written}
 use Rattle.events.specs.declared.effect.Next.TheVariants.{Pc, Ended, Stopped}
 use Rattle.events.specs.declared.event.Event.{Event}
-use Rattle.events.specs.declared.event.Event.TheVariants.{Fetch, Decode, Rename, Issue, Complete, Drop, Retire}
+use Rattle.events.specs.declared.event.Event.TheVariants.{Fetch, Decode, Rename, Issue, Complete, Drop, Retire, Refetch}
 use Rattle.smt_model.specs.{declared.config.Status.Status, Asks.AskDecode, Asks.AskRename, Asks.AskRetire}
 use Rattle.smt_model.specs.declared.config.Status.TheVariants as status
 use Rattle.smt_model.specs.{Asks.answers, Setup.Setup, Setup.registers_of, Jobs.is_actor, Memory.status}
@@ -17,12 +17,12 @@ use Rattle.smt_model.specs.{Memory.is_going, Plain.is_going_status, Picture.is_f
 use Rattle.smt_model.specs.Basics.{below, first, holds_of, how_many, same_number, same_truth}
 use Rattle.smt_model.specs.Comparisons.{same_effect, same_next, same_write}
 use Rattle.smt_model.specs.Kinds.{kind_of, is_loading, is_storing, writes_register}
-use Rattle.smt_model.specs.Fates.{Fate, fate, fetching, is, is_in_flight, is_live, is_of, op_at, stage}
+use Rattle.smt_model.specs.Fates.{Fate, Fetched, fate, fetching, is, is_in_flight, is_live, is_of, op_at, stage}
 use Rattle.smt_model.specs.Fates.{InDecode, InRename, Completed}
 use Rattle.smt_model.specs.Flights.{numbers, in_decode, in_rename, flight, queue}
-use Rattle.smt_model.specs.Rules.{refused, is_legal, is_first, of_fetched, effect_now}
+use Rattle.smt_model.specs.Rules.{refused, is_legal, is_first, is_fresh, of_fetched, effect_now}
 use Rattle.smt_model.proofs.Allowed.{decode_allowed, decode_allows, rename_allowed, rename_allows, retire_allowed}
-use Rattle.smt_model.proofs.Allowed.{retire_allows}
+use Rattle.smt_model.proofs.Allowed.{retire_allows, refetch_allowed, refetch_allows}
 use Rattle.smt_model.proofs.Lists.{member, member-filter, first-member}
 use Rattle.smt_model.proofs.{Fates.Moves.same_number-self, Registers.Claims.below-member}
 use Rattle.smt_model.proofs.Fates.Numbers.{at_hart, first_of_hart, known_fetched, numbers-of}
@@ -152,6 +152,7 @@ decode_by setup past legal k h (Issue actor s) asked ok = absurd (grind arith)
 decode_by setup past legal k h (Complete actor s outcome) asked ok = absurd (grind arith)
 decode_by setup past legal k h (Drop actor s) asked ok = absurd (grind arith)
 decode_by setup past legal k h (Retire actor s effect) asked ok = absurd (grind arith)
+decode_by setup past legal k h (Refetch actor s) asked ok = absurd (grind arith)
 
 -- ---- A retirement
 
@@ -168,6 +169,39 @@ same_effect-self : (x : Effect) → same_effect x x ≡ true
 same_effect-self x =
     rw (same_number-self x.value, same_next-self x.next, same_write-self x.write, same_number-self x.out) refl
 
+-- The first of a flight, which is completed, retires or is fetched again.
+module _ (setup : Setup) (past : List Event) (k h s : ℕ) (f : Fetched) (is_one : is_actor setup k ≡ true)
+    (fated : is (fate past s) Completed ≡ true) (of_h : is_of past h s ≡ true)
+    (found : fetching past s ≡ Some f) (oldest : first (flight past h) ≡ Some s) where
+  first_of_all : of_fetched past s (λ g. is_first s (flight past g.hart)) ≡ true
+  first_of_all = at_place past (λ g. is_first s (flight past g)) h s of_h (is_the_first (flight past h) s oldest)
+
+  by_freshness : (b : Bool) → is_fresh setup past f ≡ b → MayCome setup past (AskRetire k h)
+  by_freshness true fresh =
+      let effect = effect_now setup past s f in
+      record {
+        event = Retire k s effect;
+        answer = asked_both k s h past of_h;
+        allowed = retire_allows setup past k s effect (record {
+          actor_is = is_one;
+          fated = fated;
+          oldest = first_of_all;
+          effect_is = ap (holds_of (λ g. same_effect effect (effect_now setup past s g))) found
+              ∙ same_effect-self effect;
+          fresh = ap (holds_of (is_fresh setup past)) found ∙ fresh;
+        });
+      }
+  by_freshness false stale = record {
+    event = Refetch k s;
+    answer = asked_both k s h past of_h;
+    allowed = refetch_allows setup past k s (record {
+      actor_is = is_one;
+      fated = fated;
+      oldest = first_of_all;
+      stale = ap (holds_of (λ g. not (is_fresh setup past g))) found ∙ ap not stale;
+    });
+  }
+
 pub retire_may : (setup : Setup) (past : List Event) → is_legal setup past → (k h : ℕ)
     → first_named (retire_reasons setup past k h) ≡ None → MayCome setup past (AskRetire k h)
 retire_may setup past legal k h none =
@@ -182,20 +216,7 @@ retire_may setup past legal k h none =
     (fails (not (is (fate past s) Completed)) (reason.NotCompleted s (progress_of (fate past s))) done) in
     let it = first_is setup past legal is_in_flight h s (first-member (flight past h) s oldest.is) in
     let found = known_fetched setup past legal s (grind (arith, nat_tests)) in
-    let f = found.fetch in
-    let effect = effect_now setup past s f in
-    record {
-      event = Retire k s effect;
-      answer = asked_both k s h past it.of_h;
-      allowed = retire_allows setup past k s effect (record {
-        actor_is = is_one;
-        fated = fated;
-        oldest = at_place past (λ g. is_first s (flight past g)) h s it.of_h
-            (is_the_first (flight past h) s oldest.is);
-        effect_is = ap (holds_of (λ g. same_effect effect (effect_now setup past s g))) found.fetched
-            ∙ same_effect-self effect;
-      });
-    }
+    by_freshness setup past k h s found.fetch is_one fated it.of_h found.fetched oldest.is _ refl
 
 completed_none : (past : List Event) (o : Option ℕ) (s : ℕ) → o ≡ Some s → is (fate past s) Completed ≡ true
     → not_completed past o ≡ None
@@ -204,15 +225,14 @@ completed_none past o s at fated =
     ∙ unnamed (not (is (fate past s) Completed)) (reason.NotCompleted s (progress_of (fate past s)))
     (not_false (is (fate past s) Completed) fated)
 
-retire_none : (setup : Setup) (past : List Event) → is_legal setup past → (k h s : ℕ) (effect : Effect)
-    → is_of past h s ≡ true → refused setup past (Retire k s effect) ≡ None
+retire_none : (setup : Setup) (past : List Event) → is_legal setup past → (k h s : ℕ) → is_of past h s ≡ true
+    → is_actor setup k ≡ true → is (fate past s) Completed ≡ true
+    → of_fetched past s (λ f. is_first s (flight past f.hart)) ≡ true
     → first_named (retire_reasons setup past k h) ≡ None
-retire_none setup past legal k h s effect of_h ok =
-    let rule = retire_allowed setup past k s effect ok in
-    let oldest = first_of_hart past (flight past) h s of_h rule.oldest in
-    let fated = rule.fated in
+retire_none setup past legal k h s of_h is_one fated first_of_all =
+    let oldest = first_of_hart past (flight past) h s of_h first_of_all in
     let lives : is_live (fate past s) ≡ true = grind (arith, nat_tests) in
-    none_named (retire_reasons setup past k h) (hart_none setup past legal k h s rule.actor_is of_h lives
+    none_named (retire_reasons setup past k h) (hart_none setup past legal k h s is_one of_h lives
     (
     named (length (flight past h) == 0) (reason.NothingInFlight h)
     ∷ not_completed past (first (flight past h))
@@ -228,8 +248,15 @@ pub retire_by : (setup : Setup) (past : List Event) → is_legal setup past → 
 retire_by setup past legal k h (Retire actor s effect) asked ok =
     let same : actor ≡ k = grind (arith, nat_tests) in
     let of_h : is_of past h s ≡ true = grind arith in
-    retire_none setup past legal k h s effect of_h
-    (subst (λ j. refused setup past (Retire j s effect) ≡ None) same ok)
+    let rule = retire_allowed setup past actor s effect ok in
+    subst (λ j. first_named (retire_reasons setup past j h) ≡ None) same
+    (retire_none setup past legal actor h s of_h rule.actor_is rule.fated rule.oldest)
+retire_by setup past legal k h (Refetch actor s) asked ok =
+    let same : actor ≡ k = grind (arith, nat_tests) in
+    let of_h : is_of past h s ≡ true = grind arith in
+    let rule = refetch_allowed setup past actor s ok in
+    subst (λ j. first_named (retire_reasons setup past j h) ≡ None) same
+    (retire_none setup past legal actor h s of_h rule.actor_is rule.fated rule.oldest)
 retire_by setup past legal k h (Fetch actor hart s pc word predicted) asked ok = absurd (grind arith)
 retire_by setup past legal k h (Decode actor s) asked ok = absurd (grind arith)
 retire_by setup past legal k h (Rename actor s phys) asked ok = absurd (grind arith)

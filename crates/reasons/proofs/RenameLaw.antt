@@ -7,7 +7,7 @@ use Rattle.std.proofs.{lemmas.Bool.cases_Bool, lemmas.Bool.and_parts, lemmas.Boo
 use Rattle.numbers.specs.Sizes.{most_accesses, most_in_flight}
 use Rattle.rv_instr.specs.declared.op.Op.{Op}
 use Rattle.events.specs.declared.event.Event.{Event}
-use Rattle.events.specs.declared.event.Event.TheVariants.{Fetch, Decode, Rename, Issue, Complete, Drop, Retire}
+use Rattle.events.specs.declared.event.Event.TheVariants.{Fetch, Decode, Rename, Issue, Complete, Drop, Retire, Refetch}
 use Rattle.smt_model.specs.{Asks.AskRename, Asks.answers, Setup.Setup, Setup.registers_of, Jobs.is_actor}
 use Rattle.smt_model.specs.{Picture.is_free, Registers.is_unclaimed}
 use Rattle.smt_model.specs.Basics.{below, first, holds_of, how_many, same_truth}
@@ -211,3 +211,4 @@ rename_by setup past legal k h (Issue actor s) asked ok = absurd (grind arith)
 rename_by setup past legal k h (Complete actor s outcome) asked ok = absurd (grind arith)
 rename_by setup past legal k h (Drop actor s) asked ok = absurd (grind arith)
 rename_by setup past legal k h (Retire actor s effect) asked ok = absurd (grind arith)
+rename_by setup past legal k h (Refetch actor s) asked ok = absurd (grind arith)

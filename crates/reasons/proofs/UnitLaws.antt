@@ -9,7 +9,7 @@ use Rattle.rv_instr.specs.{Registers.op_unit, declared.op.UnitKind.UnitKind}
 use Rattle.events.specs.{declared.effect.Outcome.Outcome, declared.effect.Next.Next}
 use Rattle.events.specs.declared.effect.Next.TheVariants.{Pc, Ended, Stopped}
 use Rattle.events.specs.declared.event.Event.{Event}
-use Rattle.events.specs.declared.event.Event.TheVariants.{Fetch, Decode, Rename, Issue, Complete, Drop, Retire}
+use Rattle.events.specs.declared.event.Event.TheVariants.{Fetch, Decode, Rename, Issue, Complete, Drop, Retire, Refetch}
 use Rattle.smt_model.specs.{Asks.AskIssue, Asks.AskComplete, Asks.answers, Setup.Setup, Jobs.is_actor}
 use Rattle.smt_model.specs.{Jobs.unit_of_actor, Jobs.job, Kinds.same_unit, Registers.is_ready}
 use Rattle.smt_model.specs.Basics.{first, holds_of, same_number}
@@ -185,6 +185,7 @@ issue_by setup past legal k (Rename actor s phys) asked ok = absurd (grind arith
 issue_by setup past legal k (Complete actor s outcome) asked ok = absurd (grind arith)
 issue_by setup past legal k (Drop actor s) asked ok = absurd (grind arith)
 issue_by setup past legal k (Retire actor s effect) asked ok = absurd (grind arith)
+issue_by setup past legal k (Refetch actor s) asked ok = absurd (grind arith)
 
 -- ---- A completion
 
@@ -288,6 +289,7 @@ unit_has setup (Complete actor n outcome ∷ past) legal k s at =
 unit_has setup (Drop actor n ∷ past) legal k s at =
     unit_still setup k s (actor == k) (job past k) (unit_has setup past legal.1 k s) at
 unit_has setup (Retire actor n effect ∷ past) legal k s at = unit_has setup past legal.1 k s at
+unit_has setup (Refetch actor n ∷ past) legal k s at = unit_has setup past legal.1 k s at
 
 complete_none : (setup : Setup) (past : List Event) → is_legal setup past → (k s : ℕ) → is_actor setup k ≡ true
     → same_number (job past k) (Some s) ≡ true → first_named (complete_reasons setup past k) ≡ None
@@ -319,3 +321,4 @@ complete_by setup past legal k (Decode actor s) asked ok = absurd (grind arith)
 complete_by setup past legal k (Rename actor s phys) asked ok = absurd (grind arith)
 complete_by setup past legal k (Issue actor s) asked ok = absurd (grind arith)
 complete_by setup past legal k (Retire actor s effect) asked ok = absurd (grind arith)
+complete_by setup past legal k (Refetch actor s) asked ok = absurd (grind arith)

@@ -4,7 +4,7 @@ use Rattle.std.proofs.Common.{sym, ◌∙◌, ap, subst, arith}
 use Rattle.std.specs.{Prelude.nat_le, Io.KnownBytes.Appends, declared.option.Option.Option}
 use Rattle.std.proofs.{lemmas.List.flat_map_more, lemmas.List.FromFn.map-range_with_len_more}
 use Rattle.std.proofs.{lemmas.Bool.Decides.nat_tests}
-use Rattle.elf_image.specs.Image.{ProgramImage, code_start, code_size, code_word, word_in}
+use Rattle.elf_image.specs.Image.{ProgramImage, code_start, code_size, code_word, word_now, word_in}
 use Rattle.reports.specs.Listing.{word_addresses}
 use Rattle.reports.proofs.Appending.{appends_more}
 
@@ -30,7 +30,7 @@ tests start size i aligned whole below = grind (arith, nat_tests)
 pub has_word : (image : ProgramImage) (start size i : ℕ) → start ≡ code_start image → size ≡ code_size image
     → (start % 4 ≡ 0) × (size % 4 ≡ 0)
     → i < size / 4 → code_word image (start + 4 * i) ≡ Some (word_in image (start + 4 * i))
-unfolding code_word
+unfolding word_now
 has_word image start size i is_start is_size aligned below =
     rw (sym is_start, sym is_size, tests start size i aligned.0 aligned.1 below) refl
 

@@ -30,13 +30,15 @@ abbrev pub squashes_text : Form → Counts → List ℕ
 squashes_text form c =
     number_text form (codes ",") (codes "squashed-mispredicted") c.squashed_mispredicted
     ++ (number_text form (codes ",") (codes "squashed-replayed") c.squashed_replayed
+    ++ (number_text form (codes ",") (codes "squashed-refetched") c.squashed_refetched
     ++ (number_text form (codes ",") (codes "squashed-ended") c.squashed_ended
-    ++ number_text form (codes ",") (codes "squashed-stopped") c.squashed_stopped))
+    ++ number_text form (codes ",") (codes "squashed-stopped") c.squashed_stopped)))
 
 abbrev pub outcomes_text : Form → Counts → List ℕ
 outcomes_text form c =
     number_text form (codes ",") (codes "mispredicted") c.mispredicted
-    ++ (number_text form (codes ",") (codes "replayed") c.replayed ++ squashes_text form c)
+    ++ (number_text form (codes ",") (codes "replayed") c.replayed
+    ++ (number_text form (codes ",") (codes "refetched") c.refetched ++ squashes_text form c))
 
 -- How many of these retired instructions each kind of unit has executed of each hart.
 abbrev pub unit_word : UnitKind → List ℕ

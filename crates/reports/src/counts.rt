@@ -85,6 +85,7 @@ fn write_outcomes<W: Write>(form: Form, counts: &Counts, out: &mut W) -> io::Res
 {
     write_number(form, ",", "mispredicted", counts.mispredicted, out)?;
     write_number(form, ",", "replayed", counts.replayed, out)?;
+    write_number(form, ",", "refetched", counts.refetched, out)?;
     write_squashes(form, counts, out)
 }
 
@@ -95,6 +96,7 @@ fn write_squashes<W: Write>(form: Form, counts: &Counts, out: &mut W) -> io::Res
     let Counts {
         squashed_mispredicted,
         squashed_replayed,
+        squashed_refetched,
         squashed_ended,
         squashed_stopped,
         ..
@@ -107,6 +109,7 @@ fn write_squashes<W: Write>(form: Form, counts: &Counts, out: &mut W) -> io::Res
         out,
     )?;
     write_number(form, ",", "squashed-replayed", squashed_replayed, out)?;
+    write_number(form, ",", "squashed-refetched", squashed_refetched, out)?;
     write_number(form, ",", "squashed-ended", squashed_ended, out)?;
     write_number(form, ",", "squashed-stopped", squashed_stopped, out)
 }

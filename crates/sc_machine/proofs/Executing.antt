@@ -1,7 +1,8 @@
 -- What a hart does next on the machine is what it does next in a state with which the machine agrees.
 use Rattle.std.proofs.Common.{◌≡◌, ℕ, zero, suc, ◌+◌, ◌<◌, Option, refl, sym, ap, subst, ◌∙◌}
 use Rattle.std.specs.Prelude.{slice_index}
-use Rattle.elf_image.specs.Image.{code_word}
+use Rattle.elf_image.specs.Image.{word_now}
+use Rattle.elf_image.proofs.Words.{word_now-same}
 use Rattle.rv_instr.specs.Decode.{op_of_word}
 use Rattle.shared_memory.specs.Contents.{byte_of, reserved_of}
 use Rattle.smt_model.specs.Words.{Op, Effect, Record}
@@ -32,8 +33,11 @@ record_same r h pc word x of_h at of_word of_x =
 
 module _ (setup : Setup) (s : Plain) (m : Machine) (h : ℕ) (x : Hart) (agrees : Agrees setup s m)
     (is : HartAgrees s h x) where
-  word_same : word_here m.memory x ≡ word_at_pc setup s h
-  word_same = ap (λ image. code_word image x.pc) agrees.image ∙ ap (code_word setup.image) is.pc
+  pub word_same : word_here m.memory x ≡ word_at_pc setup s h
+  word_same =
+      ap (λ image. word_now image (byte_of m.memory) x.pc) agrees.image
+      ∙ word_now-same setup.image (byte_of m.memory) s.bytes agrees.bytes x.pc
+      ∙ ap (word_now setup.image s.bytes) is.pc
 
   op_same : op_here m.memory x ≡ op_at_pc setup s h
   op_same = ap op_of_word word_same

@@ -1,6 +1,6 @@
 -- What an instruction of a hart does, told of the machine's own parts.
 use Rattle.std.specs.Prelude.{ℕ, Option, slice_index}
-use Rattle.elf_image.specs.Image.{code_word}
+use Rattle.elf_image.specs.Image.{word_now}
 use Rattle.rv_instr.specs.Decode.{op_of_word}
 use Rattle.shared_memory.specs.Contents.{Contents, byte_of, reserved_of}
 use Rattle.smt_model.specs.Words.{Op, Effect}
@@ -9,9 +9,9 @@ use Rattle.smt_model.specs.{Exec.Computed, Exec.exec, Faults.checked, Bytes.read
 use Rattle.smt_model.specs.{Reservations.holds_word, Effects.effect_of}
 use Rattle.sc_machine.specs.declared.hart.Hart.{Hart}
 
--- The word at the hart's pc, and what it is.
+-- The word that memory has at the hart's pc, and what it is.
 abbrev pub word_here : Contents → Hart → Option ℕ
-word_here m x = code_word m.image x.pc
+word_here m x = word_now m.image (byte_of m) x.pc
 
 abbrev pub op_here : Contents → Hart → Op
 op_here m x = op_of_word (word_here m x)

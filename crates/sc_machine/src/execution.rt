@@ -1,8 +1,9 @@
 //! What a hart does next, on memory as it stands.
 
-ghost use Rattle.std.specs.Prelude.{◌≡◌, ◌<◌};
+ghost use Rattle.std.specs.Prelude.{◌≡◌, ◌<◌, ℕ};
+ghost use Rattle.shared_memory.specs.Contents.{byte_of};
 ghost use Rattle.numbers.specs.Sizes.{most_harts};
-ghost use Rattle.elf_image.specs.Image.{ProgramImage, code_word};
+ghost use Rattle.elf_image.specs.Image.{ProgramImage, word_now};
 ghost use Rattle.rv_instr.specs.Decode.{op_of_word};
 ghost use Rattle.rv_instr.specs.Kinds.{first_source, second_source};
 ghost use Rattle.rv_instr.specs.Table.{OpInRange};
@@ -28,24 +29,17 @@ pub struct Execution {
     pub record: Record,
 }
 
-/// An instruction that was fetched, and what it computes.
-#[derive(Drop)]
-pub struct NextInstruction {
-    pub word: Option<u32>,
-    pub op: Op,
-    pub computed: Computed,
-}
-
-/// What hart `hart`, with `state` of its own, does next. The code is that of the memory's image.
+/// What hart `hart`, with `state` of its own, does next. The code is what memory has now.
 // It stands in the step of the plain machine, or what it answers would go there through memory.
 #[inline(always)]
 pub fn next_execution(memory: &Memory, code: &Code, hart: u8, state: &Hart) -> Execution
     requires hart { hart < most_harts }
-    requires code { IsCodeOf memory.now.image code.now }
+    requires code { IsCodeOf memory.now.image (byte_of memory.now) code.now }
     ensures is { IsNext memory.now hart state.now result }
     ensures allowed { IsAllowed memory.now result }
 {
-    let NextInstruction { word, op, computed } = next_instruction(memory, code, state);
+    let (word, op) = fetch(code, state.pc);
+    let computed = compute(memory, op, state);
     let _destination = op.destination();
     let _first = first_source(op);
     let _second = second_source(op);
@@ -63,38 +57,33 @@ pub fn next_execution(memory: &Memory, code: &Code, hart: u8, state: &Hart) -> E
     }
 }
 
-/// The instruction that a hart has yet to execute, and what it computes of the hart's registers, with
-/// the faults of its access. Neither asks what memory holds now, but for the image.
+/// What an instruction computes of a hart's registers, with the faults of its access. It doesn't ask
+/// what memory holds, but for the image.
 // It stands in its callers, as `next_execution` does.
 #[inline(always)]
-pub fn next_instruction(memory: &Memory, code: &Code, state: &Hart) -> NextInstruction
-    requires code { IsCodeOf memory.now.image code.now }
-    ensures word { result.word ≡ word_here memory.now state.now }
-    ensures op { result.op ≡ op_here memory.now state.now }
-    ensures computed { result.computed
-        ≡ computed_here memory.now state.now (op_here memory.now state.now) }
-    ensures no_fault { HasNoFault memory.now.image result.op result.computed }
-    ensures in_range { OpInRange result.op }
+pub fn compute(memory: &Memory, op: Op, state: &Hart) -> Computed
+    requires in_range { OpInRange op }
+    ensures value { result ≡ computed_here memory.now state.now op }
+    ensures no_fault { HasNoFault memory.now.image op result }
 {
-    let (word, op) = fetch(code, state.pc);
     let first = first_source(op);
     let second = second_source(op);
-    let computed = stop_at_fault(
+    stop_at_fault(
         memory,
         op,
         execute(op, state.pc, state.read(first), state.read(second)),
-    );
-    NextInstruction { word, op, computed }
+    )
 }
 
 /// The word at a pc and what it is.
 #[tactic(auto, unfolding(rv_instr::specs::Decode::op_of_word))]
 fn fetch(code: &Code, pc: u32) -> (Option<u32>, Op)
-    ensures word { (image : ProgramImage) → IsCodeOf image code.now
-        → result.0 ≡ code_word image pc }
-    ensures op { (image : ProgramImage) → IsCodeOf image code.now
-        → result.1 ≡ op_of_word (code_word image pc) }
-    ensures in_range { (image : ProgramImage) → IsCodeOf image code.now → OpInRange result.1 }
+    ensures word { (image : ProgramImage) (bytes : ℕ → ℕ) → IsCodeOf image bytes code.now
+        → result.0 ≡ word_now image bytes pc }
+    ensures op { (image : ProgramImage) (bytes : ℕ → ℕ) → IsCodeOf image bytes code.now
+        → result.1 ≡ op_of_word (word_now image bytes pc) }
+    ensures in_range { (image : ProgramImage) (bytes : ℕ → ℕ) → IsCodeOf image bytes code.now
+        → OpInRange result.1 }
 {
     match code.at(pc) {
         Some(fetched) => (Some(fetched.word), fetched.op),

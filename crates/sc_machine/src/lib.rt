@@ -17,7 +17,7 @@ mod machine;
 mod refused;
 mod step;
 
-pub use execution::{NextInstruction, next_instruction};
+pub use execution::compute;
 pub use hart::Hart;
 pub use machine::Plain;
 pub use refused::{PlainRefused, Stopped, StoppedAt};

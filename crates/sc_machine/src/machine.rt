@@ -1,7 +1,7 @@
 ghost use Rattle.std.specs.Prelude.{◌≡◌, ℕ, ◌<◌, ◌≤◌, ◌↔◌, Err, false, length, IfOk, slice_index};
 ghost use Rattle.std.specs.Prelude.{slice_index_or, OnOk};
 ghost use Rattle.numbers.specs.Sizes.{most_harts};
-ghost use Rattle.smt_model.specs.Plain.{read_register};
+ghost use Rattle.smt_model.specs.Plain.{read_register, word_at_pc};
 ghost use Rattle.sc_machine.specs.Harts.{IsFirst};
 ghost use Rattle.sc_machine.specs.Machine.{InEachState};
 ghost use Rattle.sc_machine.specs.Steps.{IsNew, are_harts};
@@ -23,7 +23,7 @@ use std::marker::Model;
 pub struct Plain {
     pub(crate) harts: Vec<Hart>,
     pub(crate) memory: Memory,
-    /// The code of the image that memory started from.
+    /// The code as memory has it now.
     pub(crate) code: Code,
     pub(crate) output: Vec<u8>,
     /// How many bytes may be put out.
@@ -110,6 +110,14 @@ impl Plain {
         ensures { InEachState self.now (λ setup s. result ≡ s.pcs hart) }
     {
         self.harts[usize::from(hart)].pc
+    }
+
+    /// The word that memory has now at a hart's pc, where there is one.
+    pub fn word_at_pc(&self, hart: u8) -> Option<u32>
+        requires { hart < length self.now.harts }
+        ensures { InEachState self.now (λ setup s. result ≡ word_at_pc setup s hart) }
+    {
+        self.code.word_at(self.harts[usize::from(hart)].pc)
     }
 
     /// How a hart stands.

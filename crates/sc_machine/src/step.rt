@@ -14,6 +14,7 @@ use crate::change::change_memory;
 use crate::execution::{Execution, next_execution};
 use crate::machine::Plain;
 use crate::refused::{Stopped, StoppedAt};
+use decoded_code::decode_write;
 use events::Record;
 
 impl Plain {
@@ -112,6 +113,7 @@ impl Plain {
         let effect = record.effect;
         self.harts[usize::from(hart)].advance(op.destination(), effect);
         change_memory(&mut self.memory, hart, op, addr, effect);
+        decode_write(&mut self.code, &self.memory, effect.write);
         put(&mut self.output, effect.out);
     }
 }

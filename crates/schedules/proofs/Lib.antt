@@ -3,6 +3,7 @@ pub mod Asking
 pub mod ByUnits
 pub mod Places
 pub mod Serving
+pub mod Stepping
 pub mod Scheduling
 pub mod Writing
 pub mod Replying

@@ -4,7 +4,7 @@ use Rattle.std.specs.Prelude.{not, ◌&&◌, ◌||◌, nat_lt, if◌then◌else�
 use Rattle.std.proofs.Common.{◌∙◌, refl, sym, ap, subst, inl, inr, append_assoc, arith}
 use Rattle.std.proofs.{lemmas.Bool.false≢true, lemmas.List.reverse-append, lemmas.Option.none-some}
 use Rattle.events.specs.declared.event.Event.{Event}
-use Rattle.events.specs.declared.event.Event.TheVariants.{Fetch, Decode, Rename, Issue, Complete, Drop, Retire}
+use Rattle.events.specs.declared.event.Event.TheVariants.{Fetch, Decode, Rename, Issue, Complete, Drop, Retire, Refetch}
 use Rattle.smt_model.specs.{Basics.holds_of, Setup.Setup, Setup.registers_of, Jobs.job, Registers.is_unclaimed}
 use Rattle.smt_model.specs.{Rules.refused}
 use Rattle.smt_model.specs.Asks.{Ask, AskFetch, AskDecode, AskRename, AskIssue, AskComplete, AskRetire, answers}
@@ -246,7 +246,7 @@ decode_leaves predict k h setup past e answered =
 
 pub retire_leaves : (predict : Predictor) (k h : ℕ) → LeavesNothing predict (AskRetire k h)
 retire_leaves predict k h setup past e answered =
-    is_retire past k h e answered (IsDecided setup predict past) (λ n effect of_hart. tt)
+    is_retire past k h e answered (IsDecided setup predict past) (λ n effect of_hart. tt) (λ n of_hart. tt)
 
 pub issue_leaves : (predict : Predictor) (k : ℕ) → LeavesNothing predict (AskIssue k)
 issue_leaves predict k setup past e answered =
@@ -293,6 +293,7 @@ module _ {P : Type 0} (predicts : P → ℕ → ℕ → ℕ → ℕ → P → Ty
   follows (Complete actor seq outcome) before after guessed = tt
   follows (Drop actor seq) before after guessed = tt
   follows (Retire actor seq effect) before after guessed = tt
+  follows (Refetch actor seq) before after guessed = tt
 
   pub all_follow : (past : List Event) (before after : P) → AreGuessed predicts past before after
       → AllFollow guess past
@@ -321,7 +322,7 @@ rename_jobs k h past e answered j =
 
 pub retire_jobs : (k h : ℕ) → LeavesJobs (AskRetire k h)
 retire_jobs k h past e answered j =
-    is_retire past k h e answered (λ x. job (x ∷ past) j ≡ job past j) (λ n effect of_hart. refl)
+    is_retire past k h e answered (λ x. job (x ∷ past) j ≡ job past j) (λ n effect of_hart. refl) (λ n of_hart. refl)
 
 -- An issue opens no job of another actor.
 pub issue_others : (k : ℕ) (past : List Event) (e : Event) → answers (AskIssue k) past e ≡ true → (j : ℕ)

@@ -4,10 +4,11 @@ use Rattle.std.proofs.Common.{sym, ap, subst, ◌∙◌, arith}
 use Rattle.std.proofs.{lemmas.List.length-reverse, lemmas.List.reverse-reverse}
 use Rattle.events.specs.declared.event.Event.{Event}
 use Rattle.smt_model.specs.{Setup.Setup, Account.records, Account.order}
-use Rattle.smt_laws.specs.Scripts.{HasReplied, IsShownByScript}
+use Rattle.smt_laws.specs.Scripts.{HasReplied}
 use Rattle.core_state.specs.View.{CoreView}
 use Rattle.scripts.specs.Unambiguous.{ScriptsAreUnambiguous}
 use Rattle.schedules.specs.{Asks.asks_of, Asks.HasNoIssue, Schedules.IsScheduleOf, Schedules.room_for}
+use Rattle.schedules.specs.{Schedules.IsShownInTurns}
 use Rattle.scripts.specs.Session.{AreAskedWith}
 use Rattle.schedules.specs.Replies.{predictor_of, IsFunction, FillsNoMoreThanItsScript}
 use Rattle.schedules.specs.Retiring.{RetiresOrder, SchedulesAreRetired, OfFunctions}
@@ -15,18 +16,18 @@ use Rattle.schedules.specs.Retiring.{RetiresOrder, SchedulesAreRetired, OfFuncti
 module _ {P : Type 0} (predicts : P → ℕ → ℕ → ℕ → ℕ → P → Type 0) (fills : FillsNoMoreThanItsScript predicts)
     (unambiguous : ScriptsAreUnambiguous) (guess : ℕ → ℕ → ℕ → ℕ) (function : IsFunction predicts guess)
     (setup : Setup) (limit : ℕ) (harts script : List ℕ) (is : IsScheduleOf setup limit harts script) where
-  by_schedule : IsShownByScript setup (predictor_of guess) (reverse harts) is.ran
+  by_schedule : IsShownInTurns setup (predictor_of guess) (reverse harts) is.ran
   by_schedule = is.shown (predictor_of guess)
 
-  short_enough : (past : List Event) → length past ≤ room_for (length (reverse harts)) setup.harts
-      → length past ≤ room_for (length harts) setup.harts
-  short_enough past short = subst (λ n. length past ≤ room_for n setup.harts) (length-reverse harts) short
+  short_enough : (past : List Event) → length past ≤ room_for setup (length (reverse harts))
+      → length past ≤ room_for setup (length harts)
+  short_enough past short = subst (λ n. length past ≤ room_for setup n) (length-reverse harts) short
 
   -- The history is the one that the schedule's definition names.
   has_history : (before after : P) (core : CoreView) (text : List ℕ) → core.setup ≡ setup → core.limit ≡ limit
       → AreAskedWith predicts before after script core text → (past : List Event)
       → HasReplied setup (predictor_of guess) (reverse (asks_of is.words)) past
-      → length past ≤ room_for (length harts) setup.harts → core.past ≡ past
+      → length past ≤ room_for setup (length harts) → core.past ≡ past
   has_history before after core text own same made past replied short =
       let words = unambiguous script made.asked.words is.words made.asked.is_script is.is_script in
       let alone = subst HasNoIssue (sym words) is.by_units in
@@ -36,14 +37,14 @@ module _ {P : Type 0} (predicts : P → ℕ → ℕ → ℕ → ℕ → P → Ty
       let room = is.room in
       fills guess function before after script core text made alone past here (omega (arith, short, room, same))
 
-  by_history : (shown : IsShownByScript setup (predictor_of guess) (reverse harts) is.ran) (past : List Event)
+  by_history : (shown : IsShownInTurns setup (predictor_of guess) (reverse harts) is.ran) (past : List Event)
       → past ≡ shown.shown.past → RetiresOrder setup harts past
   by_history shown past same = record {
     ran = is.ran;
     runs = is.runs;
     retired = ap (λ p. reverse (records p)) same ∙ ap reverse shown.shown.retired;
     in_order = ap (λ p. reverse (order p)) same ∙ (ap reverse shown.shown.in_order ∙ reverse-reverse harts);
-    short = subst (λ p. length p ≤ room_for (length harts) setup.harts) (sym same)
+    short = subst (λ p. length p ≤ room_for setup (length harts)) (sym same)
         (short_enough shown.shown.past shown.shown.short);
   }
 

@@ -1,5 +1,6 @@
 pub mod Asks
 pub mod Turns
+pub mod Ran
 pub mod Schedules
 pub mod Refusals
 pub mod Replies

@@ -14,7 +14,7 @@ pub record RetiresOrder (setup : Setup) (harts : List ℕ) (past : List Event) :
   pub runs : run setup (reverse harts) ≡ Some ran
   pub retired : reverse (records past) ≡ reverse ran.records
   pub in_order : reverse (order past) ≡ harts
-  pub short : length past ≤ room_for (length harts) setup.harts
+  pub short : length past ≤ room_for setup (length harts)
 
 -- ---- The law
 

@@ -5,7 +5,8 @@ ghost use Rattle.rv_instr.specs.Registers.{same_unit};
 ghost use Rattle.numbers.specs.Sizes.{most_actors};
 ghost use Rattle.smt_model.specs.{Basics.holds_of, Setup.unit_of_role};
 ghost use Rattle.smt_laws.specs.Scripts.{unit_of_kind};
-ghost use Rattle.schedules.specs.Refusals.{unit_of_record, IsServed, IsFirstUnserved};
+ghost use Rattle.schedules.specs.Refusals.{unit_of_record, IsServed, IsFirstUnserved, missing_kind};
+ghost use Rattle.schedules.specs.Refusals.{HasUnits, LacksUnit};
 ghost use Rattle.schedules.specs.Turns.{AreUnits};
 
 use events::Record;
@@ -35,9 +36,40 @@ impl Units {
     }
 }
 
+/// The first kind of unit that a schedule needs, and that isn't among the actors of these roles: of
+/// all kinds where the code may be written, and else of those that the records need.
+pub fn missing_kind_for(writable: bool, roles: &[Role], records: &[Record]) -> Option<UnitKind>
+    requires { length roles.now ≤ most_actors }
+    ensures missing { IfSome result (LacksUnit writable roles.now records.now) }
+    ensures served { IfNone result (HasUnits writable roles.now records.now) }
+{
+    if writable {
+        missing_kind(roles)
+    } else {
+        missing_unit(roles, records)
+    }
+}
+
+/// The first kind of which there is no unit.
+fn missing_kind(roles: &[Role]) -> Option<UnitKind>
+    requires { length roles.now ≤ most_actors }
+    ensures { result ≡ missing_kind roles.now }
+{
+    if first_unit(roles, UnitKind::Alu).is_none() {
+        return Some(UnitKind::Alu);
+    }
+    if first_unit(roles, UnitKind::Mul).is_none() {
+        return Some(UnitKind::Mul);
+    }
+    if first_unit(roles, UnitKind::Mem).is_none() {
+        return Some(UnitKind::Mem);
+    }
+    None
+}
+
 /// The kind of unit that the first of these records needs for which there is none among the actors
 /// of these roles.
-pub fn missing_unit(roles: &[Role], records: &[Record]) -> Option<UnitKind>
+fn missing_unit(roles: &[Role], records: &[Record]) -> Option<UnitKind>
     requires { length roles.now ≤ most_actors }
     ensures missing { IfSome result (IsFirstUnserved roles.now records.now) }
     ensures served { IfNone result (All (IsServed roles.now) records.now) }

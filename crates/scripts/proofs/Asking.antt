@@ -7,7 +7,8 @@ use Rattle.std.proofs.{lemmas.Bool.and_parts, lemmas.Bool.false≢true, lemmas.B
 use Rattle.std.proofs.lemmas.Option.{none-some, same_Some, slice_get-map}
 use Rattle.numbers.specs.Sizes.{most_actors}
 use Rattle.events.specs.{declared.event.Event.Event, Event.actor_of}
-use Rattle.events.specs.declared.event.Event.TheVariants.{Fetch, Decode, Rename, Issue, Complete, Drop, Retire}
+use Rattle.events.specs.declared.event.Event.TheVariants.{Fetch, Decode, Rename, Issue, Complete}
+use Rattle.events.specs.declared.event.Event.TheVariants.{Drop, Retire, Refetch}
 use Rattle.core_state.specs.View.{CoreView}
 use Rattle.smt_model.specs.Account.{event_count, last_event_of}
 use Rattle.core_lock.specs.{declared.ask.Asked.Asked, declared.ask.Said.Said, Passes.IsTold, Passes.places, Passes.more_idle}
@@ -27,6 +28,7 @@ is_fetch (Issue actor seq) = false
 is_fetch (Complete actor seq outcome) = false
 is_fetch (Drop actor seq) = false
 is_fetch (Retire actor seq effect) = false
+is_fetch (Refetch actor seq) = false
 
 abbrev asks_fetch : Asked → Bool
 asks_fetch asked.Fetch = true
@@ -49,6 +51,7 @@ no_fetch k a (Issue actor seq) other is = refl
 no_fetch k a (Complete actor seq outcome) other is = refl
 no_fetch k a (Drop actor seq) other is = refl
 no_fetch k a (Retire actor seq effect) other is = refl
+no_fetch k a (Refetch actor seq) other is = refl
 
 module _ {P : Type 0} (predicts : P → ℕ → ℕ → ℕ → ℕ → P → Type 0) where
   unguessed : (e : Event) (before after : P) → is_fetch e ≡ false → after ≡ before → IsGuessed predicts e before after
@@ -59,6 +62,7 @@ module _ {P : Type 0} (predicts : P → ℕ → ℕ → ℕ → ℕ → P → Ty
   unguessed (Complete actor seq outcome) before after other same = same
   unguessed (Drop actor seq) before after other same = same
   unguessed (Retire actor seq effect) before after other same = same
+  unguessed (Refetch actor seq) before after other same = same
 
   -- What was guessed of the step that was made, where one was made.
   abbrev pub IsGuessedOf : Option Event → P → P → Type 0
@@ -74,6 +78,7 @@ module _ {P : Type 0} (predicts : P → ℕ → ℕ → ℕ → ℕ → P → Ty
   fetch_guessed (Complete actor seq outcome) before after is = absurd is
   fetch_guessed (Drop actor seq) before after is = absurd is
   fetch_guessed (Retire actor seq effect) before after is = absurd is
+  fetch_guessed (Refetch actor seq) before after is = absurd is
 
   other_guessed : (k : ℕ) (a : Asked) (s : Said) (before after : P) → asks_fetch a ≡ false → is_reply k a s ≡ true
       → after ≡ before → IsGuessedOf (event_in s) before after

@@ -1,10 +1,10 @@
 -- What is read or written without a fault can be read or written.
 use Rattle.std.specs.Prelude.{◌≡◌, ℕ, ◌==◌, ◌%◌, Bool, true, false, not, ◌||◌, if◌then◌else◌, Option, Some, None}
 use Rattle.std.proofs.Common.{refl, arith}
-use Rattle.elf_image.specs.Image.{ProgramImage, in_ram, touches_code}
+use Rattle.elf_image.specs.Image.{ProgramImage, in_ram}
 use Rattle.rv_instr.specs.declared.op.Op.{Op}
 use Rattle.rv_execute.specs.Access.{reads_memory}
-use Rattle.smt_model.specs.Faults.{read_fault, write_fault, fault_of, fault}
+use Rattle.smt_model.specs.Faults.{read_fault, write_fault, touches_fixed_code, fault_of, fault}
 use Rattle.smt_model.specs.Kinds.{Kind, Computing, Loading, Storing, Reserving, Conditional, Atomic, kind_of}
 use Rattle.smt_model.specs.Kinds.{access_size}
 
@@ -23,7 +23,7 @@ reads_where_writes false inside code none = absurd (grind arith)
 write_then_read : (image : ProgramImage) (addr n : ℕ) → write_fault image addr n ≡ None → read_fault image addr n ≡ None
 unfolding read_by write_by
 write_then_read image addr n none =
-    reads_where_writes (addr % n == 0) (in_ram image addr n) (touches_code image addr n) none
+    reads_where_writes (addr % n == 0) (in_ram image addr n) (touches_fixed_code image addr n) none
 
 kind_reads : (kind : Kind) (image : ProgramImage) (addr n : ℕ) → reads_memory kind ≡ true
     → fault_of kind image addr n ≡ None

@@ -3,7 +3,7 @@ use Rattle.std.proofs.Common.{◌≡◌, ℕ, zero, suc, ◌+◌, ◌-◌, ◌<�
 use Rattle.std.proofs.Common.{inl, inr}
 use Rattle.std.proofs.lemmas.Bool.{cases_lt}
 use Rattle.std.proofs.lemmas.Bool.Decides.{nat_tests}
-use Rattle.elf_image.specs.Image.{ProgramImage, ram_start}
+use Rattle.elf_image.specs.Image.{ProgramImage, ram_start, word_of}
 use Rattle.smt_model.specs.Bytes.{number_at, written_byte, byte_after, write_of}
 use Rattle.smt_model.specs.Faults.{read_fault, write_fault}
 use Rattle.shared_memory.specs.Contents.{Contents, byte_of}
@@ -24,6 +24,17 @@ number_there m addr place (suc n) at =
     let here = byte_there m addr (omega arith) in
     let same : addr - ram_start ≡ place = omega arith in
     rw (here, same, later) refl
+
+-- A word is the number of its four bytes.
+pub word_there : (m : Contents) (addr place : ℕ) → ram_start + place ≡ addr
+    → word_of (byte_of m) addr ≡ number_at (slice_index m.bytes) place 4
+unfolding word_of
+word_there m addr place at =
+    let two : addr + 1 + 1 ≡ addr + 2 = omega arith in
+    let three : addr + 1 + 1 + 1 ≡ addr + 3 = omega arith in
+    let third = ap (byte_of m) two in
+    let fourth = ap (byte_of m) three in
+    rw (sym (number_there m addr place 4 at)) (omega (arith, third, fourth))
 
 pub written_there : (addr place n datum a k before : ℕ) → ram_start + place ≡ addr → ram_start + k ≡ a
     → written_byte (write_of place n datum) k before ≡ written_byte (write_of addr n datum) a before

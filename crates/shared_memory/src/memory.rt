@@ -1,9 +1,9 @@
-ghost use Rattle.std.specs.Prelude.{◌≡◌, ℕ, ◌+◌, ◌-◌, ◌<◌, ◌≤◌, ◌==◌, if◌then◌else◌, Some, None};
-ghost use Rattle.std.specs.Prelude.{IfOk};
+ghost use Rattle.std.specs.Prelude.{◌≡◌, ℕ, ◌+◌, ◌-◌, ◌%◌, ◌<◌, ◌≤◌, ◌==◌, if◌then◌else◌, Some};
+ghost use Rattle.std.specs.Prelude.{None, IfOk};
 ghost use Rattle.numbers.specs.Sizes.{most_harts};
-ghost use Rattle.elf_image.specs.Image.{ram_start, in_ram, touches_code};
+ghost use Rattle.elf_image.specs.Image.{ram_start, in_ram, touches_code, word_of};
 ghost use Rattle.smt_model.specs.Bytes.{number_at, write_of, byte_after};
-ghost use Rattle.smt_model.specs.Faults.{read_fault, write_fault};
+ghost use Rattle.smt_model.specs.Faults.{read_fault, write_fault, touches_fixed_code};
 ghost use Rattle.smt_model.specs.Reservations.{holds_word};
 ghost use Rattle.rv_execute.specs.Access.{IsSize};
 ghost use Rattle.shared_memory.specs.Contents.{IsStart, IsWritten, byte_of, reserved_of};
@@ -66,7 +66,7 @@ impl Memory {
     }
 
     /// Why an access of 1, 2 or 4 bytes faults, where it does: misaligned is decided before outside
-    /// of RAM. For a store the code is outside.
+    /// of RAM. For a store code that may not be written is outside.
     pub fn fault(&self, addr: u32, n: u8, kind: AccessKind) -> Option<Cause>
         requires { IsSize n }
         ensures { result ≡ access_fault kind self.now.image addr n }
@@ -92,6 +92,14 @@ impl Memory {
         ensures { result ≡ byte_of self.now addr }
     {
         laid_byte(&self.bytes, place_of(addr))
+    }
+
+    /// The aligned word of the byte at an address, the lowest byte first.
+    pub fn word_around(&self, addr: u32) -> u32
+        requires { ram_start ≤ addr }
+        ensures { result ≡ word_of (byte_of self.now) (addr - addr % 4) }
+    {
+        laid_number(&self.bytes, place_of(addr - addr % 4), 4)
     }
 
     /// Writes the lowest 1, 2 or 4 bytes of a number, where a store has no fault, and ends every
@@ -176,7 +184,7 @@ impl Memory {
         None
     }
 
-    /// Why a write faults: 6 misaligned, 7 outside of RAM or into the code.
+    /// Why a write faults: 6 misaligned, 7 outside of RAM or into code that may not be written.
     fn write_fault(&self, addr: u32, n: u8) -> Option<Cause>
         requires { IsSize n }
         ensures { result ≡ write_fault self.now.image addr n }
@@ -184,7 +192,7 @@ impl Memory {
         if addr % u32::from(n) != 0 {
             return Some(6);
         }
-        if !self.in_ram(addr, n) || self.touches_code(addr, n) {
+        if !self.in_ram(addr, n) || self.touches_fixed_code(addr, n) {
             return Some(7);
         }
         None
@@ -196,6 +204,13 @@ impl Memory {
     {
         let end = u64::from(RAM_START) + u64::from(self.image.ram().bytes());
         RAM_START <= addr && u64::from(addr) + u64::from(n) <= end
+    }
+
+    /// Whether some of the bytes are part of code that may not be written.
+    fn touches_fixed_code(&self, addr: u32, n: u8) -> bool
+        ensures { result ≡ touches_fixed_code self.now.image addr n }
+    {
+        !self.image.code_writable() && self.touches_code(addr, n)
     }
 
     /// Whether some of the bytes are part of the code.

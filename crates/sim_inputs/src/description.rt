@@ -267,7 +267,7 @@ const SVG_OF_WHY: Argument = Argument {
 const WRITTEN_OUT: Argument = Argument {
     kind: Kind::File,
     name: "OUT",
-    help: "The file for the trace of version 2",
+    help: "The file for the trace of version 3",
 };
 
 /// The subcommands that have an image, in the order in which help lists them.
@@ -375,7 +375,7 @@ static OF_OTHERS: [Subcommand; 2] = [
     },
     Subcommand {
         name: "migrate",
-        about: "Write version 2 of a trace of version 1",
+        about: "Write version 3 of an older trace",
         arguments: &[TRACE, WRITTEN_OUT, CONFIG],
         form: MIGRATE_FORM,
     },

@@ -17,7 +17,7 @@ to 100000, the word is asked n times, as in F0*4.";
 
 /// How a trace is written, for the help of `check` and of `script`.
 pub(crate) const TRACE_FORM: &str = "\
-A trace has the line smt-trace 2, then a line of its core:
+A trace has the line smt-trace 3, then a line of its core:
   config harts extra queue role role ..
 and then one for each event, the oldest first:
   F actor hart number pc word predicted       fetch
@@ -27,12 +27,14 @@ and then one for each event, the oldest first:
   C actor number value next address data out  complete
   X actor number                              drop
   T actor number value next address data out  retire
+  G actor number                              refetch
 One space stands between two fields, a newline ends each line, and - is none.
 Pcs, words, values, addresses and data are eight hexadecimal digits in lower
 case, out is two, and the data of a retirement are two for each byte written.
 next is p and a pc, e and a status of eight digits, or s and a cause. All other
-fields are decimal, but for roles. A trace of version 1, which begins with the
-line smt-trace 1, has no line of its core: it is that of the configuration.";
+fields are decimal, but for roles. A trace of version 2, which begins with the
+line smt-trace 2, has no refetches; nor has one of version 1, which has no line
+of its core either: it is that of the configuration.";
 
 /// How an order is written, for the help of `plain` and of `schedule`.
 pub(crate) const ORDER_FORM: &str = "\
@@ -45,6 +47,7 @@ In the row of an instruction stand, each under its event:
   F D R I C T   it is fetched, decoded, renamed, issued, completed, retired
   .             it is in the pipeline
   x             it is squashed; behind the row stands by which instruction
+  G             it is fetched again, and so squashed: its word is another now
   X             a unit hands it back, squashed before
 The trace is checked first, as check does: no other one is drawn.";
 
@@ -81,6 +84,7 @@ each location. The states are printed as herd prints them, each once.";
 
 /// What a migration does, for the help of `migrate`.
 pub(crate) const MIGRATE_FORM: &str = "\
-A trace of version 1 doesn't say of which core it is. One of version 2 does, in
-its second line: the sizes and roles that the configuration has. The events
-stay as they are. OUT is written only where TRACE is a trace of version 1.";
+A trace of version 1 doesn't say of which core it is. One of version 3 does, in
+its second line: the sizes and roles that the configuration has, or those that
+a trace of version 2 says itself. The events stay as they are. OUT is written
+only where TRACE is a trace of version 1 or 2.";

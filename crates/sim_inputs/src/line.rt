@@ -188,12 +188,12 @@ pub struct LitmusCommand<'a> {
     pub svg: Option<&'a str>,
 }
 
-/// `migrate TRACE OUT`: the trace of version 2 that has the events of one of version 1 is written.
+/// `migrate TRACE OUT`: the trace of version 3 that has the events of an older one is written.
 #[derive(Clone, Copy, Drop)]
 pub struct MigrateCommand<'a> {
     /// The file of the trace, which is read.
     pub trace: &'a str,
-    /// The file that the trace of version 2 is written to.
+    /// The file that the trace of version 3 is written to.
     pub out: &'a str,
 }
 

@@ -5,7 +5,7 @@ use Rattle.std.specs.Prelude.{nat_le}
 use Rattle.std.proofs.{lemmas.Bool.Decides.nat_tests, lemmas.List.take_more, lemmas.List.reverse-append}
 use Rattle.numbers.specs.Sizes.{most_actors}
 use Rattle.events.specs.{declared.event.Event.Event, Event.actor_of}
-use Rattle.events.specs.declared.event.Event.TheVariants.{Fetch, Decode, Rename, Issue, Complete, Drop, Retire}
+use Rattle.events.specs.declared.event.Event.TheVariants.{Fetch, Decode, Rename, Issue, Complete, Drop, Retire, Refetch}
 use Rattle.smt_model.specs.{Account.event_count, Basics.how_many, Setup.Setup, Rules.is_legal, Rules.refused}
 use Rattle.smt_model.specs.{Jobs.is_actor}
 use Rattle.smt_model.proofs.Allowed.{allowed}
@@ -71,6 +71,7 @@ actor_in setup past (Issue actor seq) ok = (allowed setup past (Issue actor seq)
 actor_in setup past (Complete actor seq outcome) ok = (allowed setup past (Complete actor seq outcome) ok).0
 actor_in setup past (Drop actor seq) ok = (allowed setup past (Drop actor seq) ok).0
 actor_in setup past (Retire actor seq effect) ok = (allowed setup past (Retire actor seq effect) ok).0
+actor_in setup past (Refetch actor seq) ok = (allowed setup past (Refetch actor seq) ok).0
 
 pub none_from_most : (setup : Setup) (past : List Event) → is_legal setup past → length setup.roles ≤ most_actors
     → made_from most_actors past ≡ 0

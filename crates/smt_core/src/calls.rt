@@ -163,7 +163,8 @@ impl Core {
         }
     }
 
-    /// Retires hart `hart`'s oldest instruction in flight.
+    /// Retires hart `hart`'s oldest instruction in flight, or fetches it again, where memory has another
+    /// word there now.
     #[inline(always)]
     pub fn retire(&mut self, actor: u8, hart: u8) -> Answer
         ensures { Answered (AskRetire actor hart) self.old result self.new }

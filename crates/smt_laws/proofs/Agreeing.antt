@@ -1,52 +1,40 @@
 -- What a retiring instruction finds, where the history so far is a run of the plain machine: the plain machine's pc,
 -- word, operands, memory and reservation. So it does what the plain machine does.
-use Rattle.std.specs.Prelude.{◌≡◌, ℕ, zero, suc, ◌+◌, ◌<◌, ◌≤◌, true, ◌==◌, List, [], ◌∷◌, Option, Some, None}
-use Rattle.std.proofs.Common.{◌∙◌, refl, sym, ap, subst, inl, inr, arith}
+use Rattle.std.specs.Prelude.{◌≡◌, ℕ, zero, suc, ◌+◌, ◌<◌, ◌≤◌, true, ◌==◌, List, Option, Some, None}
+use Rattle.std.proofs.Common.{◌∙◌, refl, sym, ap, inl, inr, arith}
 use Rattle.std.proofs.{lemmas.Bool.cases_Bool, lemmas.Bool.Decides.nat_tests}
-use Rattle.elf_image.specs.Image.{code_word}
+use Rattle.elf_image.specs.Image.{word_now}
+use Rattle.elf_image.proofs.Words.{word_now-same}
 use Rattle.rv_instr.specs.{Decode.op_of_word, declared.op.Op.Op}
 use Rattle.events.specs.{declared.effect.Effect.Effect, declared.event.Event.Event}
-use Rattle.events.specs.declared.event.Event.TheVariants.{Fetch, Decode, Rename, Issue, Complete, Drop, Retire}
-use Rattle.smt_model.specs.{Basics.first, Basics.or_zero, Setup.Setup, Kinds.first_source, Kinds.second_source}
+use Rattle.events.specs.{declared.event.Event.TheVariants.Retire}
+use Rattle.smt_model.specs.{Basics.holds_of, Basics.or_zero, Setup.Setup, Kinds.first_source, Kinds.second_source}
 use Rattle.smt_model.specs.{Kinds.access_size, Faults.computed_on, Effects.effect_of, Bytes.read, Bytes.read_value}
 use Rattle.smt_model.specs.{Bytes.number_at, Reservations.holds_word, Flights.live, Memory.byte_at, Memory.is_going}
-use Rattle.smt_model.specs.{Rules.refused, Rules.is_legal, Rules.computed_at}
+use Rattle.smt_model.specs.{Rules.refused, Rules.is_legal, Rules.computed_at, Rules.is_fresh}
 use Rattle.smt_model.specs.Plain.{Plain, is_going_status, read_register, word_at_pc, op_at_pc, computes, effect_at}
 use Rattle.smt_model.specs.Fates.{Fetched, fetching, is_of, is_live, is_in_flight, op_of_fetched}
 use Rattle.smt_model.specs.Registers.{source, committer, committed, source_register, register_by, first_register, value}
 use Rattle.smt_model.specs.Registers.{reading, operand}
-use Rattle.smt_model.proofs.{Allowed.fetch_allowed, Fates.Moves.same_number-is, Fates.Moves.retire_was}
+use Rattle.smt_model.proofs.{Allowed.retire_allowed, Fates.Moves.same_number-is, Fates.Moves.retire_was}
 use Rattle.smt_laws.proofs.{Fates.Order.retire_front, Registers.Sources.source-is, Registers.Sources.source-committed}
 use Rattle.smt_laws.proofs.{Registers.Sources.source-none, Fates.Choosing.hart_there, Fates.Choosing.left}
 use Rattle.smt_laws.proofs.Registers.Below.{first_source-below, second_source-below}
 use Rattle.smt_laws.proofs.{Events.Freeing.true_false, Steps.RetireCommits.was-Retire}
 use Rattle.smt_laws.proofs.Registers.Operands.{IsSourceName, IsReady, reading_by-is, first_ready, second_ready}
 use Rattle.smt_laws.specs.Sequential.{IsSequential, retired_pc}
-use Rattle.smt_laws.specs.Chain.{Hop, hop, IsChain, following_pc}
-use Rattle.smt_laws.proofs.{Paths.chain-first, Done.IsDone, Done.some_one, Live.live-front, Chains.chained}
+use Rattle.smt_laws.specs.Chain.{Hop, hop, following_pc}
+use Rattle.smt_laws.proofs.{Paths.chain-front, Done.IsDone, Live.live-front, Chains.chained}
 use Rattle.smt_laws.proofs.{Chains.hop-done}
 
--- ---- The word is the one that stands at the pc
+-- ---- The word is the one that memory has at the pc now
 
-pub fetched-word : (setup : Setup) (past : List Event) → is_legal setup past → (s : ℕ) (f : Fetched)
-    → fetching past s ≡ Some f
-    → f.word ≡ code_word setup.image f.pc
-fetched-word setup [] legal s f at = absurd (grind arith)
-fetched-word setup (Fetch actor hart n pc word predicted ∷ past) legal s f at =
-    elim (cases_Bool (n == s)) [
-      | inl here ↦
-          let mine : Fetched = record { hart = hart; pc = pc; word = word; predicted = predicted } in
-          subst (λ z. z.word ≡ code_word setup.image z.pc) (some_one mine f (rw here at at))
-          (same_number-is word (code_word setup.image pc)
-          (fetch_allowed setup past actor hart n pc word predicted legal.0).word_is)
-      | inr other ↦ fetched-word setup past legal.1 s f (rw other at at)
-    ]
-fetched-word setup (Decode actor n ∷ past) legal s f at = fetched-word setup past legal.1 s f at
-fetched-word setup (Rename actor n register ∷ past) legal s f at = fetched-word setup past legal.1 s f at
-fetched-word setup (Issue actor n ∷ past) legal s f at = fetched-word setup past legal.1 s f at
-fetched-word setup (Complete actor n o ∷ past) legal s f at = fetched-word setup past legal.1 s f at
-fetched-word setup (Drop actor n ∷ past) legal s f at = fetched-word setup past legal.1 s f at
-fetched-word setup (Retire actor n x ∷ past) legal s f at = fetched-word setup past legal.1 s f at
+pub retired_word : (setup : Setup) (past : List Event) (actor n : ℕ) (x : Effect)
+    → refused setup past (Retire actor n x) ≡ None → (f : Fetched) → fetching past n ≡ Some f
+    → f.word ≡ word_now setup.image (byte_at setup past) f.pc
+retired_word setup past actor n x ok f at =
+    same_number-is f.word (word_now setup.image (byte_at setup past) f.pc)
+    (sym (ap (holds_of (is_fresh setup past)) at) ∙ (retire_allowed setup past actor n x ok).fresh)
 
 -- ---- Its sources are the committed registers
 
@@ -111,13 +99,6 @@ pub read-same : (f g : ℕ → ℕ) → ((a : ℕ) → f a ≡ g a) → (op : Op
 read-same f g same op addr = ap (read_value op) (number-same f g same addr (access_size op))
 
 -- ---- The plain machine's step
-
-pub chain-front : (hops : ℕ → Option Hop) (xs : List ℕ) (n : ℕ) (one : Hop) → first xs ≡ Some n → hops n ≡ Some one
-    → (from end : ℕ)
-    → IsChain hops xs from end → one.pc ≡ from
-chain-front hops [] n one front at from end chain = absurd (grind arith)
-chain-front hops (y ∷ ys) n one front at from end chain =
-    let here : y ≡ n = grind arith in (chain-first hops y ys one (ap hops here ∙ at) from end chain).0
 
 -- Who retires is of a hart that goes.
 pub goes-yet : (setup : Setup) (past : List Event) → is_legal setup past → (actor n : ℕ) (x : Effect)
@@ -202,7 +183,9 @@ step-is setup past legal k actor n x ok done =
     let f = done.fetch in
     let pc_same = step-pc setup past legal k actor n x ok done in
     let word_same : word_at_pc setup k.ran.state f.hart ≡ f.word =
-    ap (code_word setup.image) pc_same ∙ sym (fetched-word setup past legal n f done.fetched) in
+    ap (word_now setup.image k.ran.state.bytes) pc_same
+    ∙ (word_now-same setup.image k.ran.state.bytes (byte_at setup past) k.bytes f.pc
+    ∙ sym (retired_word setup past actor n x ok f done.fetched)) in
     let op_same : op_at_pc setup k.ran.state f.hart ≡ op_of_fetched (Some f) = ap op_of_word word_same in
     let same = step-computed setup past legal k actor n x ok done pc_same op_same in
     record {

@@ -9,7 +9,7 @@ use Rattle.std.proofs.{lemmas.Bool.Decides.nat_tests}
 use Rattle.events.specs.{declared.effect.Next.Next, declared.effect.Next.TheVariants.Pc}
 use Rattle.events.specs.{declared.effect.Next.TheVariants.Ended, declared.effect.Next.TheVariants.Stopped}
 use Rattle.events.specs.{declared.effect.Outcome.Outcome, declared.effect.Effect.Effect, declared.event.Event.Event}
-use Rattle.events.specs.declared.event.Event.TheVariants.{Fetch, Decode, Rename, Issue, Complete, Drop, Retire}
+use Rattle.events.specs.declared.event.Event.TheVariants.{Fetch, Decode, Rename, Issue, Complete, Drop, Retire, Refetch}
 use Rattle.smt_model.specs.{declared.config.Status.Status, Basics.holds_of, Setup.Setup, Nexts.is_last, Nexts.pc_after}
 use Rattle.smt_model.specs.{Nexts.redirect_pc, Plain.status_after, Plain.is_going_status, Flights.numbers, Flights.live}
 use Rattle.smt_model.specs.{Memory.status, Memory.is_going, Fetching.fetch_pc, Rules.refused, Rules.is_legal}
@@ -20,20 +20,17 @@ use Rattle.smt_model.proofs.{Allowed.fetch_allowed, Fates.Moves.fetch_number, Fa
 use Rattle.smt_model.proofs.{Fates.Moves.complete_was, Fates.Sound.sound}
 use Rattle.smt_laws.proofs.Registers.Namings.{completion-none}
 use Rattle.smt_laws.proofs.{Events.Calm.completion-other, Events.Freeing.true_false, Steps.Complete.was-Complete}
-use Rattle.smt_laws.proofs.{Steps.Complete.completion-Complete, Steps.Fetch.own_fetched, Steps.Fetch.place-Fetch}
-use Rattle.smt_laws.proofs.Steps.Misprediction.{squashing-Complete}
+use Rattle.smt_laws.proofs.{Steps.Complete.completion-Complete, Steps.Misprediction.squashing-Complete}
+use Rattle.smt_laws.proofs.Steps.Fetch.{own_fetched, place-Fetch}
 use Rattle.smt_model.proofs.Fates.Numbers.{known_fetched, is_of-below, fetching-none, fetching-kept, numbers-of}
 use Rattle.smt_model.proofs.Fates.Numbers.{numbers-member, numbers-rise}
 use Rattle.smt_laws.specs.Sequential.{retired_pc}
 use Rattle.smt_laws.specs.Chain.{Hop, hop_of, hop, IsChain, FollowsTheProgram}
 use Rattle.smt_laws.proofs.Done.{IsDone, done-at}
-use Rattle.smt_laws.proofs.Paths.{chain-first, chain-same, chain-push, chain-squash}
+use Rattle.smt_laws.proofs.Refetched.{chain-Refetch}
+use Rattle.smt_laws.proofs.Paths.{Chained, chain-first, chain-same, chain-push, chain-squash}
 use Rattle.smt_laws.proofs.Live.{live-Decode, live-Rename, live-Issue, live-Drop, live-Complete, live-elsewhere}
 use Rattle.smt_laws.proofs.Live.{spares_others, live-misprediction, live-squashes_now, live-retired}
-
--- The law at one hart.
-abbrev pub Chained : Setup → List Event → ℕ → Type 0
-Chained setup past h = IsChain (hop past) (live past h) (retired_pc setup past h) (fetch_pc setup past h)
 
 live_of : (setup : Setup) (past : List Event) → is_legal setup past → (h s : ℕ) → member s (live past h) ≡ true
     → is_of past h s ≡ true
@@ -257,11 +254,6 @@ goes_to (Pc pc) a b going = refl
 goes_to (Ended number) a b going = absurd (grind arith)
 goes_to (Stopped cause) a b going = absurd (grind arith)
 
-sent_to : (next : Next) (a b : ℕ) → is_last next ≡ false → pc_after next a ≡ pc_after next b
-sent_to (Pc pc) a b going = refl
-sent_to (Ended number) a b going = absurd (grind arith)
-sent_to (Stopped cause) a b going = absurd (grind arith)
-
 pub hop-done : (setup : Setup) (past : List Event) (n : ℕ) (x : Effect) → (done : IsDone setup past n x)
     → hop past n ≡ Some (record { pc = done.fetch.pc; next = pc_after done.outcome.next done.fetch.predicted })
 hop-done setup past n x done =
@@ -305,7 +297,7 @@ chain-squashes_now setup past legal actor n x ok squashes_now going h of_n =
     subst (λ xs. IsChain (hop (e ∷ past)) xs (retired_pc setup (e ∷ past) h) (fetch_pc setup (e ∷ past) h))
     (sym (live-squashes_now setup past legal actor n x ok squashes_now h of_n))
     (retired_to setup past actor n x h of_n
-    ∙ (sent_to x.next (retired_pc setup past h) (fetch_pc setup past h) going ∙ sym goes))
+    ∙ (goes_to x.next (retired_pc setup past h) (fetch_pc setup past h) going ∙ sym goes))
 
 chain-Retire_other : (setup : Setup) (past : List Event) → is_legal setup past → (actor n : ℕ) (x : Effect)
     → (g : ℕ) → is_of past g n ≡ true → (h : ℕ) → is_of past h n ≡ false → Chained setup past h
@@ -404,3 +396,5 @@ chained setup (Drop actor n ∷ past) legal h going =
 chained setup (Retire actor n x ∷ past) legal h going =
     chain-Retire setup past legal.1 actor n x legal.0 h going
     (chained setup past legal.1 h (went past actor n x h going))
+chained setup (Refetch actor n ∷ past) legal h going =
+    chain-Refetch setup past legal.1 actor n legal.0 h (chained setup past legal.1 h going)

@@ -7,3 +7,4 @@ pub mod Mapping
 pub mod Squash
 pub mod SquashedRegisters
 pub mod FreedRegisters
+pub mod Emptying

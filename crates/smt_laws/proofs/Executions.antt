@@ -4,7 +4,8 @@ use Rattle.std.specs.Prelude.{◌≡◌, ℕ, Bool, true, false, not, ◌==◌, 
 use Rattle.std.specs.Prelude.{Some}
 use Rattle.std.proofs.Common.{◌∙◌, refl, sym, ap, subst, arith}
 use Rattle.std.proofs.lemmas.Bool.Decides.{nat_tests}
-use Rattle.elf_image.specs.Image.{code_word}
+use Rattle.elf_image.specs.Image.{word_now}
+use Rattle.elf_image.proofs.Words.{word_now-same}
 use Rattle.rv_instr.specs.Decode.{op_of_word}
 use Rattle.events.specs.{declared.effect.Next.Next, declared.effect.Next.TheVariants.Pc}
 use Rattle.events.specs.{declared.effect.Next.TheVariants.Ended, declared.effect.Next.TheVariants.Stopped}
@@ -134,7 +135,7 @@ goes_on setup h one agrees test =
       there = grind (arith, nat_tests);
       going = sym same ∙ goes;
       pc = agrees.pcs h;
-      word = refl;
+      word = word_now-same setup.image s.bytes (byte_by setup one.records) agrees.bytes (s.pcs h);
       effect = effect-same setup one.records s agrees (record_at setup s h) at;
     }
 
@@ -181,7 +182,8 @@ recorded-same : (setup : Setup) (older : List Record) (s : Plain) → Agrees set
     → record_at setup s r.hart ≡ r
 recorded-same setup older s agrees r on =
     let pc_same : s.pcs r.hart ≡ r.pc = agrees.pcs r.hart ∙ sym on.pc in
-    let word_same : word_at_pc setup s r.hart ≡ r.word = ap (code_word setup.image) pc_same ∙ sym on.word in
+    let word_same : word_at_pc setup s r.hart ≡ r.word = ap (word_now setup.image s.bytes) pc_same
+    ∙ (word_now-same setup.image s.bytes (byte_by setup older) agrees.bytes r.pc ∙ sym on.word) in
     record-is (record_at setup s r.hart) r refl pc_same word_same
     (effect-same setup older s agrees r (record { pc = pc_same; word = word_same }) ∙ sym on.effect)
 

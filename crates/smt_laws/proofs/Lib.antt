@@ -8,6 +8,7 @@ pub mod Stated
 pub mod Paths
 pub mod Done
 pub mod Live
+pub mod Refetched
 pub mod Chains
 pub mod Agreeing
 pub mod Stepping
@@ -15,6 +16,7 @@ pub mod Sequential
 pub mod PlainLaws
 pub mod Executions
 pub mod Writes
+pub mod FixedCode
 pub mod Overlays
 pub mod Overlaid
 pub mod Untouched

@@ -7,19 +7,22 @@ use Rattle.std.proofs.{lemmas.Bool.cases_eq, lemmas.Bool.cases_lt, lemmas.Bool.D
 use Rattle.std.proofs.{lemmas.List.append-nil}
 use Rattle.events.specs.{declared.effect.Outcome.Outcome, declared.effect.Effect.Effect, declared.event.Event.Event}
 use Rattle.events.specs.{Event.seq_of}
-use Rattle.events.specs.declared.event.Event.TheVariants.{Decode, Rename, Issue, Complete, Drop, Retire}
+use Rattle.events.specs.declared.event.Event.TheVariants.{Decode, Rename, Issue, Complete, Drop, Retire, Refetch}
 use Rattle.smt_model.specs.{Basics.first, Setup.Setup, Nexts.is_last, Flights.numbers, Flights.added, Flights.live}
-use Rattle.smt_model.specs.{Rules.refused, Rules.is_legal}
-use Rattle.smt_model.specs.Fates.{Fate, stage, fate, is_live, is_of, squashes, mispredicts, squashes_at_retirement}
-use Rattle.smt_model.specs.Fates.{same_hart}
+use Rattle.smt_model.specs.{Flights.flight, Rules.refused, Rules.is_legal}
+use Rattle.smt_model.specs.Fates.{Fate, stage, fate, is_live, is_in_flight, is_of, squashes, mispredicts}
+use Rattle.smt_model.specs.Fates.{squashes_at_retirement, same_hart}
 use Rattle.smt_model.proofs.Lists.{member, filter-same, filter-none, filter-both, filter-loses-first}
 use Rattle.smt_model.proofs.Fates.Moves.{decode_was, rename_was, issue_was}
-use Rattle.smt_laws.proofs.{Fates.Order.in_order, Fates.Order.retire_front, Events.Calm.IsCalm, Events.Calm.fate-other}
+use Rattle.smt_model.proofs.{Allowed.retire_allowed}
+use Rattle.smt_laws.proofs.{Fates.Order.in_order, Events.Calm.IsCalm, Events.Calm.fate-other}
 use Rattle.smt_laws.proofs.{Events.Harts.place-kept, Events.Freeing.true_false, Steps.RetireCommits.was-Retire}
 use Rattle.smt_laws.proofs.Events.Squash.{IsSquashing, squash_young, squash_older}
 use Rattle.smt_laws.proofs.{Steps.Complete.own-Complete, Steps.Complete.calm-Complete, Steps.Retire.now-Retire}
-use Rattle.smt_laws.proofs.{Steps.Retire.calm-Retire, Steps.EndHalts.squashing-Retire, Steps.EndHalts.retired_six}
-use Rattle.smt_model.proofs.Fates.Numbers.{is_of-is, same_hart-at, numbers-of, numbers-member, numbers-rise}
+use Rattle.smt_laws.proofs.{Steps.Retire.calm-Retire, Events.Emptying.squashing-Retire}
+use Rattle.smt_laws.proofs.Events.Emptying.{IsEmptying, emptying-Retire, emptying-Refetch, none_before}
+use Rattle.smt_model.proofs.Fates.Numbers.{is_of-is, same_hart-at, first_of_hart, numbers-of, numbers-member}
+use Rattle.smt_model.proofs.Fates.Numbers.{numbers-rise}
 use Rattle.smt_laws.proofs.Paths.{least_first}
 
 -- ---- Events that squash nothing, and leave their instruction live, or not
@@ -129,28 +132,32 @@ live-misprediction setup past legal actor n o ok h squashing =
 
 -- ---- A retirement
 
--- As an instruction retires, no older one of its hart is live.
+-- As an instruction leaves the flight in front, no older one of its hart is live.
+older_dead : (setup : Setup) (past : List Event) → is_legal setup past → (h n s : ℕ)
+    → first (flight past h) ≡ Some n → is_of past h n ≡ true → is_in_flight (fate past n) ≡ true
+    → is_of past h s ≡ true → s < n → is_live (fate past s) ≡ false
+older_dead setup past legal h n s front of_n flies of_s under =
+    let order = in_order setup past legal h s n of_s of_n under (λ gone. absurd (grind (arith, nat_tests))) in
+    let passed = none_before setup past legal h n s front of_s under in
+    grind (arith, nat_tests)
+
 pub none_older : (setup : Setup) (past : List Event) → is_legal setup past → (actor n : ℕ) (x : Effect)
     → refused setup past (Retire actor n x) ≡ None → (h s : ℕ) → is_of past h n ≡ true → is_of past h s ≡ true → s < n
     → is_live (fate past s) ≡ false
 none_older setup past legal actor n x ok h s of_n of_s under =
-    let was = was-Retire setup past actor n x ok in
-    let at : stage (fate past n) ≡ 5 = ap stage was in
-    let order = in_order setup past legal h s n of_s of_n under (λ gone. absurd (omega arith)) in
-    let passed = retire_front setup past legal actor n x ok h s of_s of_n under in
-    grind (arith, nat_tests)
+    older_dead setup past legal h n s
+    (first_of_hart past (flight past) h n of_n (retire_allowed setup past actor n x ok).oldest) of_n
+    (ap is_in_flight (was-Retire setup past actor n x ok)) of_s under
 
--- One that squashes leaves its hart nothing.
+-- One that squashes leaves its hart nothing, and neither does a refetch.
 late-dead : (f : Fate) → 6 ≤ stage f → is_live f ≡ false
 late-dead f late = grind (arith, nat_tests)
 
-pub live-squashes_now : (setup : Setup) (past : List Event) → is_legal setup past → (actor n : ℕ) (x : Effect)
-    → (ok : refused setup past (Retire actor n x) ≡ None) → squashes_at_retirement past n x ≡ true → (h : ℕ)
-    → is_of past h n ≡ true
-    → live (Retire actor n x ∷ past) h ≡ []
-live-squashes_now setup past legal actor n x ok squashes_now h of_n =
-    let e = Retire actor n x in
-    let squashing = squashing-Retire setup past legal actor n x ok squashes_now h of_n in
+live-emptied : (setup : Setup) (past : List Event) → is_legal setup past → (e : Event) → refused setup past e ≡ None
+    → (h : ℕ) → IsEmptying past e h → live (e ∷ past) h ≡ []
+live-emptied setup past legal e ok h emptying =
+    let n = seq_of e in
+    let squashing = emptying.squashing in
     list-squash past e h squashing (λ s. is_live (fate (e ∷ past) s))
     ∙ filter-none (λ s. is_live (fate (e ∷ past) s)) (numbers past h) (λ s m.
     let of_s = numbers-of setup past legal h s m in
@@ -159,12 +166,36 @@ live-squashes_now setup past legal actor n x ok squashes_now h of_n =
       | inr upto ↦
           elim (cases_eq s n) [
             | inl here ↦ late-dead (fate (e ∷ past) s)
-                (subst (λ z. 6 ≤ stage (fate (e ∷ past) z)) (sym here) (retired_six setup past actor n x ok))
+                (subst (λ z. 6 ≤ stage (fate (e ∷ past) z)) (sym here) emptying.landed)
             | inr other ↦
                 ap is_live (squash_older past e h squashing s (omega arith))
-                ∙ none_older setup past legal actor n x ok h s of_n of_s (omega arith)
+                ∙ older_dead setup past legal h n s emptying.front squashing.of_hart squashing.flew of_s (omega arith)
           ]
     ])
+
+pub live-squashes_now : (setup : Setup) (past : List Event) → is_legal setup past → (actor n : ℕ) (x : Effect)
+    → (ok : refused setup past (Retire actor n x) ≡ None) → squashes_at_retirement past n x ≡ true → (h : ℕ)
+    → is_of past h n ≡ true
+    → live (Retire actor n x ∷ past) h ≡ []
+live-squashes_now setup past legal actor n x ok squashes_now h of_n =
+    live-emptied setup past legal (Retire actor n x) ok h
+    (emptying-Retire setup past actor n x ok h (squashing-Retire setup past legal actor n x ok squashes_now h of_n))
+
+pub live-Refetch : (setup : Setup) (past : List Event) → is_legal setup past → (actor n : ℕ)
+    → refused setup past (Refetch actor n) ≡ None → (h : ℕ) → is_of past h n ≡ true
+    → live (Refetch actor n ∷ past) h ≡ []
+live-Refetch setup past legal actor n ok h of_n =
+    live-emptied setup past legal (Refetch actor n) ok h (emptying-Refetch setup past legal actor n ok h of_n)
+
+-- Other harts keep what they have on their way.
+pub live-Refetch_other : (setup : Setup) (past : List Event) → is_legal setup past → (actor n h g : ℕ)
+    → is_of past h n ≡ true → is_of past g n ≡ false → live (Refetch actor n ∷ past) g ≡ live past g
+live-Refetch_other setup past legal actor n h g of_n away =
+    live-elsewhere setup past legal (Refetch actor n) g refl away (λ s of_s.
+    let apart : (h == g) ≡ false = sym (is_of-is past h g n of_n) ∙ away in
+    let same : same_hart past n s ≡ is_of past h s = same_hart-at past h n s of_n in
+    let not_of : is_of past h s ≡ (g == h) = is_of-is past g h s of_s in
+    grind (arith, nat_tests))
 
 -- Any other takes its instruction away, which stood first.
 pub live-front : (setup : Setup) (past : List Event) → is_legal setup past → (actor n : ℕ) (x : Effect)

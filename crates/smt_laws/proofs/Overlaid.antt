@@ -7,7 +7,7 @@ use Rattle.std.proofs.{lemmas.Bool.cases_eq, lemmas.Bool.Decides.nat_tests}
 use Rattle.rv_instr.specs.declared.op.Op.{Op}
 use Rattle.events.specs.{declared.effect.Outcome.Outcome, declared.effect.Effect.Effect}
 use Rattle.events.specs.{declared.event.Event.Event}
-use Rattle.events.specs.declared.event.Event.TheVariants.{Fetch, Decode, Rename, Issue, Complete, Drop, Retire}
+use Rattle.events.specs.declared.event.Event.TheVariants.{Fetch, Decode, Rename, Issue, Complete, Drop, Retire, Refetch}
 use Rattle.smt_model.specs.{Basics.or_zero, Setup.Setup}
 use Rattle.smt_model.specs.{Registers.resulting}
 use Rattle.smt_model.specs.{Outcomes.outcome_of}
@@ -246,6 +246,12 @@ overlaid setup (Complete actor n outcome ∷ past) legal h s op o v now =
     ]
 overlaid setup (Drop actor n ∷ past) legal h s op o v now =
     let e = Drop actor n in
+    let was = completes setup past legal.1 e legal.0 s now.completed refl in
+    overlaid-on setup past legal.1 e legal.0 h s op o v now was (λ b. refl) (λ k m x same. absurd (grind arith))
+    (overlaid setup past legal.1 h s op o v
+    (untouched-before setup past legal.1 e legal.0 h s op o v now was now.untouched))
+overlaid setup (Refetch actor n ∷ past) legal h s op o v now =
+    let e = Refetch actor n in
     let was = completes setup past legal.1 e legal.0 s now.completed refl in
     overlaid-on setup past legal.1 e legal.0 h s op o v now was (λ b. refl) (λ k m x same. absurd (grind arith))
     (overlaid setup past legal.1 h s op o v

@@ -7,7 +7,7 @@ use Rattle.std.proofs.{lemmas.Bool.cases_Bool, lemmas.Bool.cases_eq, lemmas.Bool
 use Rattle.rv_instr.specs.declared.op.Op.{Op}
 use Rattle.events.specs.{declared.effect.Outcome.Outcome, declared.effect.Effect.Effect}
 use Rattle.events.specs.{declared.effect.Written.Written, declared.event.Event.Event}
-use Rattle.events.specs.declared.event.Event.TheVariants.{Fetch, Decode, Rename, Issue, Complete, Drop, Retire}
+use Rattle.events.specs.declared.event.Event.TheVariants.{Fetch, Decode, Rename, Issue, Complete, Drop, Retire, Refetch}
 use Rattle.smt_model.specs.{Setup.Setup, Exec.Computed, Nexts.is_last}
 use Rattle.smt_model.specs.{Outcomes.outcome_of, Outcomes.outcome_by, Effects.effect_of, Effects.effect_by}
 use Rattle.smt_model.specs.{Bytes.number_at, Bytes.read, Bytes.read_value, Bytes.byte_after}
@@ -170,7 +170,7 @@ pub record IsUntouched (past : List Event) (h s : ℕ) (op : Op) (o : Outcome) (
 
 -- ---- What stays
 
--- An event of a completed instruction is its retirement, or a drop, which says nothing of it.
+-- An event of a completed instruction is its retirement, or a drop or a refetch, which say nothing of it.
 pub tells_nothing : (setup : Setup) (past : List Event) → is_legal setup past → (e : Event)
     → refused setup past e ≡ None → (x : ℕ) → stage (fate past x) ≡ 5
     → ((actor : ℕ) (effect : Effect) → e ≡ Retire actor x effect → ⊥) → fate_by e x ≡ None
@@ -186,6 +186,7 @@ tells_nothing setup past legal (Issue actor n) ok x at not_it =
 tells_nothing setup past legal (Complete actor n outcome) ok x at not_it =
     let was = complete_was setup past (sound setup past legal) actor n outcome ok in grind (arith, nat_tests)
 tells_nothing setup past legal (Drop actor n) ok x at not_it = refl
+tells_nothing setup past legal (Refetch actor n) ok x at not_it = refl
 tells_nothing setup past legal (Retire actor n effect) ok x at not_it =
     elim (cases_eq n x) [
       | inl same ↦ absurd (not_it actor effect (ap (λ z. Retire actor z effect) same))

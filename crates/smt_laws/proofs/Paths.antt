@@ -4,9 +4,10 @@ use Rattle.std.specs.Prelude.{◌≡◌, ℕ, ◌<◌, Bool, true, false, nat_le
 use Rattle.std.specs.List.{filter}
 use Rattle.std.proofs.Common.{◌∙◌, refl, sym, ap, subst, inl, inr, arith}
 use Rattle.std.proofs.{lemmas.Bool.cases_eq, lemmas.Bool.Decides.nat_tests}
-use Rattle.smt_model.specs.Basics.{first}
+use Rattle.events.specs.{declared.event.Event.Event}
+use Rattle.smt_model.specs.{Basics.first, Setup.Setup, Flights.live, Fetching.fetch_pc}
 use Rattle.smt_model.proofs.Lists.{member, member-behind, Each-at, Rises, filter-none}
-use Rattle.smt_laws.specs.Chain.{Hop, Leads, IsChain}
+use Rattle.smt_laws.specs.{Sequential.retired_pc, Chain.Hop, Chain.hop, Chain.Leads, Chain.IsChain}
 
 -- ---- One hop
 
@@ -19,6 +20,14 @@ leads-on (Some one) from P Q on leads = (leads.0, on one.next leads.1)
 pub chain-first : (hops : ℕ → Option Hop) (n : ℕ) (rest : List ℕ) (one : Hop) → hops n ≡ Some one → (from end : ℕ)
     → IsChain hops (n ∷ rest) from end → (one.pc ≡ from) × IsChain hops rest one.next end
 chain-first hops n rest one at from end chain = subst (λ o. Leads o from (λ next. IsChain hops rest next end)) at chain
+
+-- The first of a chain stands where it begins.
+pub chain-front : (hops : ℕ → Option Hop) (xs : List ℕ) (n : ℕ) (one : Hop) → first xs ≡ Some n → hops n ≡ Some one
+    → (from end : ℕ)
+    → IsChain hops xs from end → one.pc ≡ from
+chain-front hops [] n one front at from end chain = absurd (grind arith)
+chain-front hops (y ∷ ys) n one front at from end chain =
+    let here : y ≡ n = grind arith in (chain-first hops y ys one (ap hops here ∙ at) from end chain).0
 
 first-inside : (x : ℕ) (xs : List ℕ) → member x (x ∷ xs) ≡ true
 first-inside x xs = grind (arith, nat_tests)
@@ -95,3 +104,8 @@ least_first test n (x ∷ xs) rises m passes older =
           let gone : test x ≡ false = older x (first-inside x xs) under in
           rw gone (least_first test n xs rises.1 there passes (λ s m_s. older s (member-behind x s xs m_s)))
     ]
+
+-- ---- The law at one hart
+
+abbrev pub Chained : Setup → List Event → ℕ → Type 0
+Chained setup past h = IsChain (hop past) (live past h) (retired_pc setup past h) (fetch_pc setup past h)

@@ -5,7 +5,7 @@ use Rattle.std.specs.Prelude.{List, [], ◌∷◌, map, Option, Some, None}
 use Rattle.std.proofs.Common.{◌∙◌, refl, ap, subst, true≢false, inl, inr, arith}
 use Rattle.std.proofs.{lemmas.Bool.cases_lt, lemmas.Bool.Decides.nat_tests}
 use Rattle.events.specs.{declared.effect.Outcome.Outcome, declared.effect.Effect.Effect, declared.event.Event.Event}
-use Rattle.events.specs.declared.event.Event.TheVariants.{Fetch, Decode, Rename, Issue, Complete, Drop, Retire}
+use Rattle.events.specs.declared.event.Event.TheVariants.{Fetch, Decode, Rename, Issue, Complete, Drop, Retire, Refetch}
 use Rattle.smt_model.specs.{declared.config.Status.Status, Setup.Setup, Setup.registers_of, Setup.first_number, Bytes.byte_after, Plain.start}
 use Rattle.smt_model.specs.{Plain.output_after, Plain.run, Folds.by_retirements, Fates.stage, Fates.fate, Fates.op_of_fetched, Rules.refused}
 use Rattle.smt_model.specs.{Rules.is_legal, Rules.computed_at}
@@ -18,7 +18,7 @@ use Rattle.smt_model.proofs.Registers.Claims.{who_commits}
 use Rattle.smt_laws.proofs.Registers.Counts.{claims-once}
 use Rattle.smt_laws.proofs.{Registers.Counts.committed-range, Events.Calm.result-other}
 use Rattle.smt_laws.proofs.Registers.Committing.{committer-Fetch, committer-Decode, committer-Rename, committer-Issue}
-use Rattle.smt_laws.proofs.Registers.Committing.{committer-Complete}
+use Rattle.smt_laws.proofs.Registers.Committing.{committer-Complete, committer-Refetch}
 use Rattle.smt_laws.specs.Sequential.{IsSequential, EachIsSequential}
 use Rattle.smt_laws.proofs.{Done.done-at, Agreeing.step-is}
 use Rattle.smt_laws.proofs.Stepping.{value-kept, longer, runs-Retire, records-longer, pcs-Retire, statuses-Retire}
@@ -135,6 +135,12 @@ keeps-Complete setup past legal actor n o ok h r there =
 keeps-Drop : (setup : Setup) (past : List Event) (actor n : ℕ) → Keeps setup past (Drop actor n)
 keeps-Drop setup past actor n h r there = refl
 
+keeps-Refetch : (setup : Setup) (past : List Event) → is_legal setup past → (actor n : ℕ)
+    → refused setup past (Refetch actor n) ≡ None → Keeps setup past (Refetch actor n)
+keeps-Refetch setup past legal actor n ok h r there =
+    value-kept setup past legal (Refetch actor n) ok h r there (committer-Refetch setup past legal actor n ok h r)
+    (λ w found. refl)
+
 -- What retirements make of a start is the same after an event that is none, so the history stays a run.
 still : {A : Type 0} (change : ℕ → Effect → List Event → A → A) (first : A) (e : Event) (past : List Event)
     → retires e ≡ false → by_retirements change first past ≡ by_retirements change first (e ∷ past)
@@ -144,6 +150,7 @@ still change first (Rename actor n register) past none = refl
 still change first (Issue actor n) past none = refl
 still change first (Complete actor n o) past none = refl
 still change first (Drop actor n) past none = refl
+still change first (Refetch actor n) past none = refl
 still change first (Retire actor n x) past none = absurd (true≢false none)
 
 goes-on : (setup : Setup) (past : List Event) → (legal : is_legal setup past) → IsSequential setup past → (e : Event)
@@ -208,5 +215,8 @@ sequential setup (Complete actor n o ∷ past) legal =
 sequential setup (Drop actor n ∷ past) legal =
     goes-on setup past legal.1 (sequential setup past legal.1) (Drop actor n) refl legal.0
     (keeps-Drop setup past actor n)
+sequential setup (Refetch actor n ∷ past) legal =
+    goes-on setup past legal.1 (sequential setup past legal.1) (Refetch actor n) refl legal.0
+    (keeps-Refetch setup past legal.1 actor n legal.0)
 sequential setup (Retire actor n x ∷ past) legal =
     goes-Retire setup past legal.1 (sequential setup past legal.1) actor n x legal.0

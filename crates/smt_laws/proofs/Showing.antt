@@ -13,4 +13,6 @@ pub mod UnitAsks
 pub mod Turning
 pub mod Starting
 pub mod EachRun
+pub mod Refetching
+pub mod InTwelve
 pub mod Costs

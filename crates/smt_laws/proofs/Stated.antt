@@ -8,8 +8,8 @@ use Rattle.smt_model.specs.{Outcomes.outcome_of, Rules.is_legal, Rules.computed_
 use Rattle.smt_model.specs.Fates.{Fate, Unknown, InDecode, InRename, Renamed, Issued, Completed, Retired, Halted}
 use Rattle.smt_model.specs.Fates.{Squashed, Fetched, stage, fate, is_in_flight, is_of, op_of_fetched}
 use Rattle.smt_model.specs.Registers.{phys, source, committed, first_register, register_by, operand, reads}
-use Rattle.smt_laws.specs.Histories.{may_become, place, MovesByStep, OneOfAKind, GoesInOrder, LeavesNothing, SourcesStay}
-use Rattle.smt_laws.specs.Histories.{SourcesAreClaimed, IsOlderInFlight, ValuesStay, ClaimedOnce, FlightsHold}
+use Rattle.smt_laws.specs.Histories.{may_become, place, MovesByStep, OneOfAKind, GoesInOrder, LeavesNothing}
+use Rattle.smt_laws.specs.Histories.{SourcesStay, SourcesAreClaimed, IsOlderInFlight, ValuesStay, ClaimedOnce, FlightsHold}
 use Rattle.smt_laws.specs.Histories.{CommittedHold, ResultsAreRules}
 use Rattle.smt_model.proofs.{Fates.Moves.moves, Fates.Moves.stage_of, Fates.Sound.moved}
 use Rattle.smt_laws.proofs.Fates.Order.{rank}

@@ -9,7 +9,8 @@ pub mod Misprediction
 pub mod Drop
 pub mod Retire
 pub mod RetireCommits
+pub mod Leaving
 pub mod End
-pub mod EndHalts
+pub mod Refetch
 pub mod Replay
 pub mod ReplaySquash

@@ -6,7 +6,7 @@ use Rattle.std.proofs.{lemmas.Bool.cases_Bool, lemmas.Bool.cases_lt, lemmas.Bool
 use Rattle.rv_instr.specs.declared.op.Op.{Op}
 use Rattle.events.specs.{declared.effect.Effect.Effect}
 use Rattle.events.specs.{declared.effect.Written.Written, declared.effect.Record.Record, declared.event.Event.Event}
-use Rattle.events.specs.declared.event.Event.TheVariants.{Fetch, Decode, Rename, Issue, Complete, Drop, Retire}
+use Rattle.events.specs.declared.event.Event.TheVariants.{Fetch, Decode, Rename, Issue, Complete, Drop, Retire, Refetch}
 use Rattle.smt_model.specs.{Basics.or_else, Setup.Setup, Nexts.is_last, Rules.is_legal}
 use Rattle.smt_model.specs.Fates.{Fetched, stage, fate, fetching, op_at, op_of_fetched, completion, completed_by}
 use Rattle.smt_model.specs.{Words.op_of_word, Basics.how_many, Account.records, Account.record_of}
@@ -40,6 +40,7 @@ untouched_yet (Issue actor n ∷ past) s none = untouched_yet past s none
 untouched_yet (Complete actor n outcome ∷ past) s none =
     untouched_yet past s (none_behind (completed_by (Complete actor n outcome) s) (completion past s) none)
 untouched_yet (Drop actor n ∷ past) s none = untouched_yet past s none
+untouched_yet (Refetch actor n ∷ past) s none = untouched_yet past s none
 untouched_yet (Retire actor n x ∷ past) s none =
     both_false (is_touched past s) (touches_access x.write (op_at past s) (accessed (completion past s)))
     (untouched_yet past s none)
@@ -85,6 +86,7 @@ looks_under (Rename actor n register ∷ past) = let rest = looks_under past in 
 looks_under (Issue actor n ∷ past) = let rest = looks_under past in omega arith
 looks_under (Complete actor n outcome ∷ past) = let rest = looks_under past in omega arith
 looks_under (Drop actor n ∷ past) = let rest = looks_under past in omega arith
+looks_under (Refetch actor n ∷ past) = let rest = looks_under past in omega arith
 looks_under (Retire actor n x ∷ past) =
     let rest = looks_under past in
     let one = looks_one (op_at past n) (is_touched past n) x (looks past) in
@@ -150,6 +152,7 @@ looks_of_loads setup (Rename actor n register ∷ past) legal = looks_of_loads s
 looks_of_loads setup (Issue actor n ∷ past) legal = looks_of_loads setup past legal.1
 looks_of_loads setup (Complete actor n outcome ∷ past) legal = looks_of_loads setup past legal.1
 looks_of_loads setup (Drop actor n ∷ past) legal = looks_of_loads setup past legal.1
+looks_of_loads setup (Refetch actor n ∷ past) legal = looks_of_loads setup past legal.1
 looks_of_loads setup (Retire actor n x ∷ past) legal =
     let was = retire_was setup past actor n x legal.0 in
     let found = known_fetched setup past legal.1 n (omega arith) in

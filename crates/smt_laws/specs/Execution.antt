@@ -4,7 +4,7 @@
 -- program. [Lamport 1979, sequential consistency]
 use Rattle.std.specs.Prelude.{◌≡◌, ℕ, ◌<◌, Bool, true, not, ◌==◌, ◌&&◌, if◌then◌else◌, List, []}
 use Rattle.std.specs.Prelude.{◌∷◌, map, Option, Some, None}
-use Rattle.elf_image.specs.Image.{byte_in, code_word}
+use Rattle.elf_image.specs.Image.{byte_in, word_now}
 use Rattle.rv_instr.specs.{Decode.op_of_word, declared.op.Op.Op}
 use Rattle.events.specs.{declared.effect.Effect.Effect, declared.effect.Record.Record}
 use Rattle.events.specs.{declared.event.Event.Event}
@@ -73,12 +73,12 @@ done_by setup older r =
 -- ---- Executions
 
 -- A record goes on from the older ones: its hart is there and goes, its pc is where that hart
--- stands, its word stands at this pc, and its effect is that of the word.
+-- stands, its word stands at this pc in what was written so far, and its effect is that of the word.
 pub record GoesOn (setup : Setup) (older : List Record) (r : Record) : Type 0 where
   pub there : r.hart < setup.harts
   pub going : goes_by older r.hart ≡ true
   pub pc : r.pc ≡ pc_by setup older r.hart
-  pub word : r.word ≡ code_word setup.image r.pc
+  pub word : r.word ≡ word_now setup.image (byte_by setup older) r.pc
   pub effect : r.effect ≡ done_by setup older r
 
 abbrev pub IsExecution : Setup → List Record → Type 0

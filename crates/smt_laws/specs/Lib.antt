@@ -4,6 +4,7 @@ pub mod Sequential
 pub mod Chain
 pub mod PlainLaws
 pub mod Execution
+pub mod Code
 pub mod Writes
 pub mod Shown
 pub mod Scripts

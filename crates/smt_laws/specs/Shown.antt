@@ -1,6 +1,8 @@
 -- The converse of the headline: every run of the plain machine is what some legal history retires.
 -- So a core shows the sequentially consistent executions, all of them and no other.
 use Rattle.std.specs.Prelude.{◌≡◌, ℕ, ◌+◌, ◌*◌, ◌<◌, ◌≤◌, true, false, List, [], ◌∷◌, length, map}
+use Rattle.elf_image.specs.Image.{code_writable}
+use Rattle.rv_instr.specs.declared.op.UnitKind.{UnitKind}
 use Rattle.std.specs.Prelude.{Option, Some}
 use Rattle.std.specs.List.{AllByRecursion}
 use Rattle.rv_instr.specs.Registers.{op_unit, same_unit}
@@ -52,31 +54,48 @@ pub record CanShow (setup : Setup) (all : List Record) : Type 0 where
   pub actors : 1 ≤ length setup.roles
   pub units : AllByRecursion (HasUnit setup) all
 
+-- One of the actors is a unit of this kind.
+pub record HasKind (setup : Setup) (kind : UnitKind) : Type 0 where
+  pub actor : ℕ
+  pub suits : holds_of (λ u. same_unit u kind) (unit_of_actor setup actor) ≡ true
+
+-- There is a unit of each kind.
+abbrev pub HasEachKind : Setup → Type 0
+HasEachKind setup = (kind : UnitKind) → HasKind setup kind
+
 -- ---- Laws
 
 -- A legal history, decided as the predictor says, retires these records in this order of harts,
--- both with the newest first. It has at most six events for each instruction and one for each hart.
-pub record IsShown (setup : Setup) (predict : Predictor) (harts : List ℕ) (all : List Record)
-    : Type 0 where
+-- both with the newest first. It has at most `each` events for each instruction and one for each
+-- hart.
+pub record IsShown (setup : Setup) (predict : Predictor) (each : ℕ) (harts : List ℕ)
+    (all : List Record) : Type 0 where
   pub past : List Event
   pub legal : is_legal setup past
   pub decided : AreDecided setup predict past
-  pub short : length past ≤ 6 * length harts + setup.harts
+  pub short : length past ≤ each * length harts + setup.harts
   pub in_order : order past ≡ harts
   pub retired : records past ≡ all
 
--- Every run of the plain machine can be shown, whatever the predictor, by a core that has what the
--- run needs.
+-- Every run of the plain machine can be shown in six events each, whatever the predictor, by a core
+-- that has what the run needs, where the code may not be written.
 abbrev pub EachRunIsShown : Type 0
 EachRunIsShown = (setup : Setup) (predict : Predictor) (harts : List ℕ) (ran : Run)
-    → run setup harts ≡ Some ran
-    → CanShow setup ran.records → IsShown setup predict harts ran.records
+    → code_writable setup.image ≡ false → run setup harts ≡ Some ran
+    → CanShow setup ran.records → IsShown setup predict 6 harts ran.records
 
 -- Every execution, given by its records alone, can be shown so.
 abbrev pub EachExecutionIsShown : Type 0
 EachExecutionIsShown = (setup : Setup) (predict : Predictor) (all : List Record)
-    → IsExecution setup all
-    → CanShow setup all → IsShown setup predict (map (λ r. r.hart) all) all
+    → code_writable setup.image ≡ false → IsExecution setup all
+    → CanShow setup all → IsShown setup predict 6 (map (λ r. r.hart) all) all
+
+-- Whether or not the code may be written, it can be shown in twelve events each by a core that has
+-- a unit of each kind: what a hart had on its way may be refetched before.
+abbrev pub EachRunIsShownInTwelve : Type 0
+EachRunIsShownInTwelve = (setup : Setup) (predict : Predictor) (harts : List ℕ) (ran : Run)
+    → HasEachKind setup → run setup harts ≡ Some ran
+    → CanShow setup ran.records → IsShown setup predict 12 harts ran.records
 
 -- Six events an instruction are the least.
 abbrev pub TakesSixEach : Type 0

@@ -1,6 +1,7 @@
 //! The functions do nothing: each is there for its contract, which ranges over all setups and all
 //! histories that the rules allow, or over all runs of the plain machine.
 ghost use Rattle.smt_laws.specs.Chain.{FollowsTheProgram};
+ghost use Rattle.smt_laws.specs.Code.{HistoriesKeepCode, StepsKeepCode};
 ghost use Rattle.smt_laws.specs.Execution.{ExecutionsAreRuns, RetiresAnExecution};
 ghost use Rattle.smt_laws.specs.Execution.{RunsAreExecutions};
 ghost use Rattle.smt_laws.specs.PlainLaws.{EndsReservations, ReadsZero, StepsAlone};
@@ -19,6 +20,13 @@ pub fn refines_the_plain_machine()
 /// it fetches next.
 pub fn follows_the_program()
     ensures chain { FollowsTheProgram }
+{}
+
+/// Code that may not be written stays as the image has it, in every legal history and from each
+/// step of the plain machine to the next.
+pub fn keeps_code()
+    ensures histories { HistoriesKeepCode }
+    ensures steps { StepsKeepCode }
 {}
 
 /// In the plain machine x0 reads as 0, and is never written.

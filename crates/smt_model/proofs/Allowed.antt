@@ -3,18 +3,18 @@ use Rattle.std.specs.Prelude.{◌≡◌, ℕ, Bool, true, not, ◌==◌, ◌&&�
 use Rattle.std.specs.Prelude.{None, is_some, is_none}
 use Rattle.std.proofs.Common.{refl, arith}
 use Rattle.numbers.specs.Sizes.{latch_room, most_accesses, most_in_flight}
-use Rattle.elf_image.specs.Image.{code_word}
+use Rattle.elf_image.specs.Image.{word_now}
 use Rattle.events.specs.{declared.effect.Outcome.Outcome, declared.effect.Effect.Effect, declared.event.Event.Event}
-use Rattle.events.specs.declared.event.Event.TheVariants.{Fetch, Decode, Rename, Issue, Complete, Drop, Retire}
+use Rattle.events.specs.declared.event.Event.TheVariants.{Fetch, Decode, Rename, Issue, Complete, Drop, Retire, Refetch}
 use Rattle.smt_model.specs.Basics.{holds_of, same_number, same_truth, how_many}
 use Rattle.smt_model.specs.{Setup.Setup, Setup.registers_of, Registers.is_unclaimed, Registers.is_ready}
 use Rattle.smt_model.specs.{Fetching.choice, Fetching.fetch_pc, Jobs.is_actor, Jobs.unit_of_actor, Jobs.job}
-use Rattle.smt_model.specs.{Comparisons.same_outcome, Comparisons.same_effect}
+use Rattle.smt_model.specs.{Memory.byte_at, Comparisons.same_outcome, Comparisons.same_effect}
 use Rattle.smt_model.specs.Kinds.{kind_of, is_loading, is_storing, writes_register}
 use Rattle.smt_model.specs.Fates.{fetches, op_at, fate, is, InDecode, InRename, Renamed, Completed, Squashed}
 use Rattle.smt_model.specs.Flights.{in_decode, in_rename, flight, queue}
 use Rattle.smt_model.specs.Rules.{outcome_now, effect_now, of_fetched, is_first, is_for, is_oldest_ready, rules}
-use Rattle.smt_model.specs.Rules.{first_failing, refused}
+use Rattle.smt_model.specs.Rules.{first_failing, refused, is_fresh}
 
 -- ---- A list of rules
 
@@ -48,7 +48,7 @@ pub record FetchAllowed (setup : Setup) (past : List Event) (actor hart seq pc :
   pub chosen : same_number (choice setup past) (Some hart) ≡ true
   pub next_number : (seq == fetches past) ≡ true
   pub pc_is : (pc == fetch_pc setup past hart) ≡ true
-  pub word_is : same_number word (code_word setup.image pc) ≡ true
+  pub word_is : same_number word (word_now setup.image (byte_at setup past) pc) ≡ true
 
 pub record DecodeAllowed (setup : Setup) (past : List Event) (actor seq : ℕ) : Type 0 where
   pub actor_is : is_actor setup actor ≡ true
@@ -102,6 +102,13 @@ pub record RetireAllowed (setup : Setup) (past : List Event) (actor seq : ℕ) (
   pub fated : is (fate past seq) Completed ≡ true
   pub oldest : of_fetched past seq (λ f. is_first seq (flight past f.hart)) ≡ true
   pub effect_is : of_fetched past seq (λ f. same_effect effect (effect_now setup past seq f)) ≡ true
+  pub fresh : of_fetched past seq (is_fresh setup past) ≡ true
+
+pub record RefetchAllowed (setup : Setup) (past : List Event) (actor seq : ℕ) : Type 0 where
+  pub actor_is : is_actor setup actor ≡ true
+  pub fated : is (fate past seq) Completed ≡ true
+  pub oldest : of_fetched past seq (λ f. is_first seq (flight past f.hart)) ≡ true
+  pub stale : of_fetched past seq (λ f. not (is_fresh setup past f)) ≡ true
 
 -- ---- From the refusal that doesn't come
 
@@ -164,7 +171,13 @@ pub retire_allowed : (setup : Setup) (past : List Event) (actor seq : ℕ) (effe
     → refused setup past (Retire actor seq effect) ≡ None → RetireAllowed setup past actor seq effect
 retire_allowed setup past actor seq effect ok =
     let all = allowed setup past (Retire actor seq effect) ok in
-    record { actor_is = all.0; fated = all.1.0; oldest = all.1.1.0; effect_is = all.1.1.1.0 }
+    record { actor_is = all.0; fated = all.1.0; oldest = all.1.1.0; effect_is = all.1.1.1.0; fresh = all.1.1.1.1.0 }
+
+pub refetch_allowed : (setup : Setup) (past : List Event) (actor seq : ℕ)
+    → refused setup past (Refetch actor seq) ≡ None → RefetchAllowed setup past actor seq
+refetch_allowed setup past actor seq ok =
+    let all = allowed setup past (Refetch actor seq) ok in
+    record { actor_is = all.0; fated = all.1.0; oldest = all.1.1.0; stale = all.1.1.1.0 }
 
 -- ---- And back
 
@@ -212,4 +225,10 @@ drop_allows setup past actor seq is = allows setup past (Drop actor seq) (is.act
 pub retire_allows : (setup : Setup) (past : List Event) (actor seq : ℕ) (effect : Effect)
     → RetireAllowed setup past actor seq effect → refused setup past (Retire actor seq effect) ≡ None
 retire_allows setup past actor seq effect is =
-    allows setup past (Retire actor seq effect) (is.actor_is, (is.fated, (is.oldest, (is.effect_is, tt))))
+    allows setup past (Retire actor seq effect)
+    (is.actor_is, (is.fated, (is.oldest, (is.effect_is, (is.fresh, tt)))))
+
+pub refetch_allows : (setup : Setup) (past : List Event) (actor seq : ℕ) → RefetchAllowed setup past actor seq
+    → refused setup past (Refetch actor seq) ≡ None
+refetch_allows setup past actor seq is =
+    allows setup past (Refetch actor seq) (is.actor_is, (is.fated, (is.oldest, (is.stale, tt))))

@@ -1,6 +1,7 @@
 -- What may be asked of a core, and which events answer it.
 use Rattle.std.specs.Prelude.{ℕ, Bool, false, ◌==◌, ◌&&◌, List}
 use Rattle.smt_model.specs.Words.{Event, Fetch, Decode, Rename, Issue, Complete, Drop, Retire}
+use Rattle.smt_model.specs.Words.{Refetch}
 use Rattle.smt_model.specs.Fates.{is_of}
 
 -- One step, by an actor, and of a hart where the step is of one.
@@ -13,7 +14,8 @@ pub data Ask : Type 0 where
   AskRetire : (actor hart : ℕ) → Ask
 
 -- The event is of the kind that was asked for, by this actor, and its instruction is one of this
--- hart. What answers a completion is a completion or a drop.
+-- hart. What answers a completion is a completion or a drop, and what answers a retirement is a
+-- retirement or a refetch.
 abbrev pub answers : Ask → List Event → Event → Bool
 answers (AskFetch k) past (Fetch actor hart seq pc word predicted) = actor == k
 answers (AskDecode k h) past (Decode actor seq) = (actor == k) && is_of past h seq
@@ -22,4 +24,5 @@ answers (AskIssue k) past (Issue actor seq) = actor == k
 answers (AskComplete k) past (Complete actor seq outcome) = actor == k
 answers (AskComplete k) past (Drop actor seq) = actor == k
 answers (AskRetire k h) past (Retire actor seq effect) = (actor == k) && is_of past h seq
+answers (AskRetire k h) past (Refetch actor seq) = (actor == k) && is_of past h seq
 answers _ past _ = false

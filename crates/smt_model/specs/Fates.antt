@@ -3,7 +3,7 @@
 use Rattle.std.specs.Prelude.{ℕ, suc, Bool, false, not, ◌==◌, ◌&&◌, ◌||◌, nat_lt, nat_le}
 use Rattle.std.specs.Prelude.{if◌then◌else◌, List, [], ◌∷◌, Option, Some, None, is_some}
 use Rattle.smt_model.specs.Words.{op_of_word, Op, NoWord, Next, Outcome, Effect, Event, Fetch}
-use Rattle.smt_model.specs.Words.{Decode, Rename, Issue, Complete, Drop, Retire}
+use Rattle.smt_model.specs.Words.{Decode, Rename, Issue, Complete, Drop, Retire, Refetch}
 use Rattle.smt_model.specs.{Basics.holds_of, Basics.same_number, Kinds.kind_of, Kinds.is_loading}
 use Rattle.smt_model.specs.{Nexts.is_last, Nexts.redirect_pc, Folds.latest}
 
@@ -55,7 +55,7 @@ completed_by _ s = None
 abbrev pub completion : List Event → ℕ → Option Outcome
 completion = latest completed_by
 
--- ---- Squashes. An event squashes all younger instructions of its hart.
+-- ---- Squashes. An event squashes all younger instructions of its hart; a refetch its own too.
 
 -- A completion of s with this next is a misprediction: the younger ones were fetched on a wrong
 -- path.
@@ -79,6 +79,7 @@ squashes (Complete actor seq outcome) past t =
     mispredicts past seq outcome.next && (nat_lt seq t && same_hart past seq t)
 squashes (Retire actor seq effect) past t =
     squashes_at_retirement past seq effect && (nat_lt seq t && same_hart past seq t)
+squashes (Refetch actor seq) past t = nat_le seq t && same_hart past seq t
 squashes _ past t = false
 
 -- ---- Fates. [the stages of the pipeline: Tullsen and others, ISCA 1996]
@@ -130,7 +131,7 @@ is_counted f = nat_le 1 (stage f) && nat_le (stage f) 3
 abbrev pub retired_as : Next → Fate
 retired_as next = if is_last next then Halted else Retired
 
--- What an event says of its own instruction. A drop says nothing of it.
+-- What an event says of its own instruction. A drop and a refetch say nothing of it.
 abbrev pub fate_by : Event → ℕ → Option Fate
 fate_by (Fetch actor hart seq pc word predicted) s = if seq == s then Some InDecode else None
 fate_by (Decode actor seq) s = if seq == s then Some InRename else None
@@ -139,6 +140,7 @@ fate_by (Issue actor seq) s = if seq == s then Some Issued else None
 fate_by (Complete actor seq outcome) s = if seq == s then Some Completed else None
 fate_by (Drop actor seq) s = None
 fate_by (Retire actor seq effect) s = if seq == s then Some (retired_as effect.next) else None
+fate_by (Refetch actor seq) s = None
 
 abbrev pub squashed_fate : Fate → Fate
 squashed_fate old = if is_live old then Squashed else old

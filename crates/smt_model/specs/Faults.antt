@@ -1,7 +1,7 @@
 -- The faults of an access. Misaligned is decided before outside. [this project's own choice]
-use Rattle.std.specs.Prelude.{ℕ, ◌%◌, not, ◌==◌, ◌||◌, if◌then◌else◌, Option, Some, None}
+use Rattle.std.specs.Prelude.{ℕ, ◌%◌, Bool, not, ◌==◌, ◌&&◌, ◌||◌, if◌then◌else◌, Option, Some, None}
 use Rattle.std.specs.Prelude.{option_map, unwrap_or}
-use Rattle.smt_model.specs.Words.{Op, ProgramImage, in_ram, touches_code, Stopped}
+use Rattle.smt_model.specs.Words.{Op, ProgramImage, in_ram, touches_code, code_writable, Stopped}
 use Rattle.smt_model.specs.{Setup.Setup, Exec.Computed, Exec.exec, Nexts.is_last}
 use Rattle.smt_model.specs.Kinds.{Kind, Computing, Loading, Reserving, kind_of, access_size}
 
@@ -10,11 +10,16 @@ abbrev pub read_fault : ProgramImage → ℕ → ℕ → Option ℕ
 read_fault image addr n =
     if not (addr % n == 0) then Some 4 else (if not (in_ram image addr n) then Some 5 else None)
 
--- The cause for a write of n bytes: 6 misaligned, 7 outside RAM or into the code.
+-- Some of the n bytes is part of code that may not be written.
+abbrev pub touches_fixed_code : ProgramImage → ℕ → ℕ → Bool
+touches_fixed_code image addr n = not (code_writable image) && touches_code image addr n
+
+-- The cause for a write of n bytes: 6 misaligned, 7 outside RAM or into code that may not be
+-- written.
 abbrev pub write_fault : ProgramImage → ℕ → ℕ → Option ℕ
 write_fault image addr n =
     if not (addr % n == 0) then Some 6
-    else (if not (in_ram image addr n) || touches_code image addr n then Some 7 else None)
+    else (if not (in_ram image addr n) || touches_fixed_code image addr n then Some 7 else None)
 
 abbrev pub fault_of : Kind → ProgramImage → ℕ → ℕ → Option ℕ
 fault_of Computing image addr n = None

@@ -2,13 +2,20 @@
 use Rattle.std.specs.Prelude.{ℕ, Bool, true, not, ◌==◌, ◌&&◌, nat_lt, if◌then◌else◌, List, [], ◌∷◌}
 use Rattle.std.specs.Prelude.{◌++◌, filter, length, Option, Some, None}
 use Rattle.numbers.specs.Sizes.{latch_room}
-use Rattle.smt_model.specs.Words.{Event, Fetch, Complete, Retire}
+use Rattle.smt_model.specs.Words.{Event, Fetch, Complete, Retire, Refetch}
 use Rattle.smt_model.specs.{Basics.below, Basics.first_least, Setup.Setup, Nexts.pc_after}
 use Rattle.smt_model.specs.{Fates.is_of, Fates.mispredicts, Fates.squashes_at_retirement}
+use Rattle.smt_model.specs.Fates.{Fetched, fetching}
 use Rattle.smt_model.specs.{Flights.in_decode, Flights.icount, Memory.is_going}
 
+-- The pc of an instruction, where it is hart h's.
+abbrev pub refetch_pc : Option Fetched → ℕ → ℕ → ℕ
+refetch_pc None h before = before
+refetch_pc (Some f) h before = if f.hart == h then f.pc else before
+
 -- Where hart h fetches next: at the entry, or where its last fetch predicted or its last squash
--- sent it. An end or a stop leaves it where it was.
+-- sent it; a refetch sends it to the pc of its instruction. An end or a stop leaves it where it
+-- was.
 abbrev pub fetch_pc : Setup → List Event → ℕ → ℕ
 fetch_pc setup [] h = setup.image.entry
 fetch_pc setup (Fetch actor hart seq pc word predicted ∷ past) h =
@@ -21,6 +28,8 @@ fetch_pc setup (Retire actor seq effect ∷ past) h =
     if is_of past h seq && squashes_at_retirement past seq effect
     then pc_after effect.next (fetch_pc setup past h)
     else fetch_pc setup past h
+fetch_pc setup (Refetch actor seq ∷ past) h =
+    refetch_pc (fetching past seq) h (fetch_pc setup past h)
 fetch_pc setup (_ ∷ past) h = fetch_pc setup past h
 
 -- The hart that was fetched last.

@@ -5,7 +5,7 @@
 use Rattle.std.specs.Prelude.{ℕ, Bool, true, false, ◌==◌, ◌&&◌, nat_lt, if◌then◌else◌, List, []}
 use Rattle.std.specs.Prelude.{◌∷◌, ◌++◌, Option, Some, None}
 use Rattle.events.specs.declared.effect.Next.TheVariants as next
-use Rattle.smt_model.specs.Words.{byte_in, code_word, op_of_word, Op, Next, Effect, Record}
+use Rattle.smt_model.specs.Words.{byte_in, word_now, op_of_word, Op, Next, Effect, Record}
 use Rattle.smt_model.specs.{declared.config.Status.Status, declared.config.Status.TheVariants.Going}
 use Rattle.smt_model.specs.{declared.config.Status.TheVariants.Ended}
 use Rattle.smt_model.specs.{declared.config.Status.TheVariants.Stopped, Setup.Setup}
@@ -43,9 +43,9 @@ is_going_status _ = false
 abbrev pub read_register : Plain → ℕ → ℕ → ℕ
 read_register s h r = if r == 0 then 0 else s.registers h r
 
--- What hart h finds at its pc, and what that computes.
+-- What hart h finds at its pc in memory as it stands, and what that computes.
 abbrev pub word_at_pc : Setup → Plain → ℕ → Option ℕ
-word_at_pc setup s h = code_word setup.image (s.pcs h)
+word_at_pc setup s h = word_now setup.image s.bytes (s.pcs h)
 
 abbrev pub op_at_pc : Setup → Plain → ℕ → Op
 op_at_pc setup s h = op_of_word (word_at_pc setup s h)

@@ -6,8 +6,8 @@ use Rattle.std.specs.Prelude.{◌∷◌, length, Option, Some, None, is_some, is
 use Rattle.std.specs.List.{list_all}
 use Rattle.numbers.specs.Sizes.{latch_room, most_accesses, most_in_flight}
 use Rattle.rv_instr.specs.Registers.{op_unit}
-use Rattle.smt_model.specs.Words.{code_word, Outcome, Effect, Event, Fetch, Decode, Rename, Issue}
-use Rattle.smt_model.specs.Words.{Complete, Drop, Retire}
+use Rattle.smt_model.specs.Words.{word_now, Outcome, Effect, Event, Fetch, Decode, Rename, Issue}
+use Rattle.smt_model.specs.Words.{Complete, Drop, Retire, Refetch}
 use Rattle.smt_model.specs.Basics.{holds_of, same_number, same_truth, or_zero, first, how_many}
 use Rattle.smt_model.specs.{Setup.Setup, Setup.registers_of, Exec.Computed, Faults.computed_on}
 use Rattle.smt_model.specs.{Bytes.read, Reservations.holds_word, Outcomes.outcome_of}
@@ -70,13 +70,17 @@ has_room is_one past s =
     (λ f. nat_lt (how_many (λ t. is_one (kind_of (op_at past t))) (flight past f.hart))
     most_accesses)
 
+-- The word that memory has at its pc now is the one that was fetched; none is the same as none.
+abbrev pub is_fresh : Setup → List Event → Fetched → Bool
+is_fresh setup past f = same_number f.word (word_now setup.image (byte_at setup past) f.pc)
+
 abbrev pub rules : Setup → List Event → Event → List (ℕ × Bool)
 rules setup past (Fetch actor hart seq pc word predicted) =
     (1, is_actor setup actor)
     ∷ (2, same_number (choice setup past) (Some hart))
     ∷ (3, seq == fetches past)
     ∷ (4, pc == fetch_pc setup past hart)
-    ∷ (5, same_number word (code_word setup.image pc)) ∷ []
+    ∷ (5, same_number word (word_now setup.image (byte_at setup past) pc)) ∷ []
 rules setup past (Decode actor seq) =
     (1, is_actor setup actor)
     ∷ (2, is (fate past seq) InDecode)
@@ -116,7 +120,13 @@ rules setup past (Retire actor seq effect) =
     (1, is_actor setup actor)
     ∷ (2, is (fate past seq) Completed)
     ∷ (3, of_fetched past seq (λ f. is_first seq (flight past f.hart)))
-    ∷ (4, of_fetched past seq (λ f. same_effect effect (effect_now setup past seq f))) ∷ []
+    ∷ (4, of_fetched past seq (λ f. same_effect effect (effect_now setup past seq f)))
+    ∷ (5, of_fetched past seq (is_fresh setup past)) ∷ []
+rules setup past (Refetch actor seq) =
+    (1, is_actor setup actor)
+    ∷ (2, is (fate past seq) Completed)
+    ∷ (3, of_fetched past seq (λ f. is_first seq (flight past f.hart)))
+    ∷ (4, of_fetched past seq (λ f. not (is_fresh setup past f))) ∷ []
 
 abbrev pub first_failing : List (ℕ × Bool) → Option ℕ
 first_failing [] = None

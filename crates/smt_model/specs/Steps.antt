@@ -11,6 +11,7 @@ use Rattle.smt_model.specs.{Basics.holds_of, Basics.same_number, Basics.how_many
 use Rattle.smt_model.specs.{Kinds.first_source, Kinds.second_source, Plain.status_after}
 use Rattle.smt_model.specs.{Plain.output_after, Plain.is_going_status, Bytes.byte_after}
 use Rattle.smt_model.specs.{Reservations.reservation_after, Memory.address_of, Picture.Picture}
+use Rattle.smt_model.specs.{declared.config.Status.Status}
 use Rattle.smt_model.specs.Touched.{accessed, touches_access, looks_after}
 use Rattle.smt_model.specs.Fates.{Fetched, is, is_in_flight, op_of_fetched, Renamed, Issued}
 use Rattle.smt_model.specs.Fates.{Completed}
@@ -266,22 +267,32 @@ pub record IsRetire (p q : Picture) (h n : ℕ) (x : Effect) (goes_on : ℕ) : T
       StaysBut (ActiveList ∷ CommittedMap ∷ FetchPc ∷ [])
       (FreeList ∷ Values ∷ Records ∷ Output ∷ Memory ∷ []) p q h
 
--- ---- A retirement that ends or stops its hart: it commits nothing, and its own register becomes
--- free. Nothing is said of the hart's map, which goes with the squash that follows.
-pub record IsHalt (p q : Picture) (h n : ℕ) (x : Effect) : Type 0 where
+-- ---- The first of hart h's flight, n, leaves and commits nothing: its own register becomes free.
+-- From then on the hart stands like this, and is fetched at `goes_on`. Nothing is said of its map,
+-- which goes with the squash that follows.
+pub record IsLeave (p q : Picture) (h n : ℕ) (standing : Status) (goes_on : ℕ) : Type 0 where
   pub of_hart : is_hart_of p h n ≡ true
   pub own : AreOwn p (p.flight h)
   pub flight : p.flight h ≡ n ∷ q.flight h
-  pub status : q.status h ≡ status_after x.next (p.status h)
+  pub status : q.status h ≡ standing
+  pub fetch_pc : q.fetch_pc h ≡ goes_on
   pub free : (y : ℕ) → q.free y ≡ (p.free y || has_register p y n)
-  pub records : AddsRecord p q n x
   pub flights : KeepsFlights p q n
-  pub stays : StaysBut (ActiveList ∷ Map ∷ Standing ∷ []) (FreeList ∷ Records ∷ []) p q h
+  pub stays :
+      StaysBut (ActiveList ∷ Map ∷ FetchPc ∷ Standing ∷ []) (FreeList ∷ Records ∷ []) p q h
 
--- A retirement that ends or stops its hart: it halts, then all younger ones are squashed.
+-- A retirement that ends or stops its hart: it leaves a record, then all younger ones are squashed.
 pub record IsEnd (p q : Picture) (h n : ℕ) (x : Effect) : Type 0 where
   pub middle : Picture
-  pub halt : IsHalt p middle h n x
+  pub leave : IsLeave p middle h n (status_after x.next (p.status h)) (p.fetch_pc h)
+  pub records : AddsRecord p middle n x
+  pub squash : IsSquash middle q h n
+
+-- A refetch: it leaves no record, its hart goes back to its pc, then all younger ones are squashed.
+pub record IsRefetch (p q : Picture) (h n : ℕ) (pc : ℕ) : Type 0 where
+  pub middle : Picture
+  pub leave : IsLeave p middle h n (p.status h) pc
+  pub records : middle.records ≡ p.records
   pub squash : IsSquash middle q h n
 
 -- A load that retires with another value: all younger ones are squashed first, then it retires.

@@ -39,6 +39,30 @@ pub fn file_of(words: &[u32], zeros: u8, alloc: Global) -> Result<Vec<u8>, Alloc
     Ok(file)
 }
 
+/// A program that copies its last word over its fifth, which is reached behind `fence.i`: `auipc x6`,
+/// `lw x5,28(x6)`, `sw x5,16(x6)`, `fence.i`, `addi x10,x0,5`, `addi x17,x0,93`, `ecall`, and the word
+/// `addi x10,x0,9`.
+pub static PATCHED: [u32; 8] = [
+    0x0000_0317,
+    0x01c3_2283,
+    0x0053_2823,
+    0x0000_100f,
+    0x0050_0513,
+    0x05d0_0893,
+    0x0000_0073,
+    0x0090_0513,
+];
+
+/// The file of a program of these words, at most 63, as `file_of` makes it, but that its segment may be
+/// written too.
+pub fn writable_file_of(words: &[u32], alloc: Global) -> Result<Vec<u8>, AllocError> {
+    let mut file = file_of(words, 0, alloc)?;
+    if let Some(flags) = file.get_mut(76) {
+        *flags = 7;
+    }
+    Ok(file)
+}
+
 /// The image of a file with so many bytes of RAM, where there is such a size and the file is
 /// accepted.
 pub fn image_of(file: &[u8], ram: u32, alloc: Global) -> Option<Image> {

@@ -2,7 +2,8 @@
 -- where a history and the plain machine leave off.
 use Rattle.std.specs.Prelude.{ℕ, ◌/◌, ◌%◌, ◌^◌, List, [], ◌∷◌, ◌++◌, length, map, option_map, take, reverse, Option}
 use Rattle.std.specs.Prelude.{Some, None}
-use Rattle.elf_image.specs.Image.{ProgramImage, byte_in, code_segment, code_start, code_size, word_in, code_word}
+use Rattle.elf_image.specs.Image.{ProgramImage, byte_in, code_segment, code_start, code_size, code_writable, word_of}
+use Rattle.elf_image.specs.Image.{word_now}
 use Rattle.rv_word.specs.Word.{sum_of, difference_of, left_shift_of, right_shift_of, signed_right_shift_of}
 use Rattle.rv_word.specs.Word.{signed_less_of, less_of, product_of, signed_high_product_of, mixed_high_product_of}
 use Rattle.rv_word.specs.Word.{high_product_of, signed_quotient_of, quotient_of, signed_remainder_of, remainder_of}
@@ -118,9 +119,8 @@ instructions = tt
 
 unfoldable pub rules_of_events : Unit {0}
 unfolding
-    instructions byte_in code_segment code_start code_size word_in code_word fault checked same_hart mispredicts
-    squashes_at_retirement
-    is_unclaimed first_look choice refused
+    instructions byte_in code_segment code_start code_size code_writable word_of word_now fault checked same_hart
+    mispredicts squashes_at_retirement is_unclaimed first_look choice refused
 rules_of_events = tt
 
 -- The first refusal in a history, none where it is legal.

@@ -9,6 +9,7 @@ mod Memory
 mod Mispredictions
 mod Refusals
 mod Renaming
+mod Refetching
 mod Reservations
 mod Results
 mod Squashes

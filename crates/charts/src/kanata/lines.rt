@@ -53,6 +53,8 @@ impl Log {
             EventKind::Complete => write_stage(id, 'I', 'C', out),
             EventKind::Drop => self.write_end(id, 'x', 1, out),
             EventKind::Retire => self.write_end(id, 'C', 0, out),
+            // It leaves as one that is squashed.
+            EventKind::Refetch => Ok(()),
         }
     }
 
@@ -92,6 +94,9 @@ fn write_fetch<W: Write>(row: &Row, number: usize, id: u32, out: &mut W) -> io::
     }
     if row.replayed {
         out.write_all(b", replayed")?;
+    }
+    if row.refetched.is_some() {
+        out.write_all(b", refetched")?;
     }
     writeln!(out, "\nS\t{id}\t0\tF")
 }

@@ -50,6 +50,7 @@ fn write_title<W: Write>(
     write_place(", issued ", row.issued, out)?;
     write_place(", completed ", row.completed, out)?;
     write_place(", retired ", row.retired, out)?;
+    write_place(", refetched ", row.refetched, out)?;
     if let Some(squash) = row.squashed {
         write!(out, "\nsquashed {} by number {}", squash.place, squash.by)?;
     }

@@ -1,9 +1,9 @@
 -- Which rule a fetch breaks.
 use Rattle.std.specs.Prelude.{◌≡◌, ℕ, ◌<◌, ◌==◌, Bool, true, false, List, [], ◌∷◌, Option, Some, None}
 use Rattle.std.proofs.Common.{◌∙◌, refl, sym, ap}
-use Rattle.elf_image.specs.Image.{code_word}
+use Rattle.elf_image.specs.Image.{word_now}
 use Rattle.events.specs.{declared.event.Event.Event, declared.event.Event.TheVariants.Fetch}
-use Rattle.smt_model.specs.{Basics.same_number, Setup.Setup, Jobs.is_actor, Fates.fetches}
+use Rattle.smt_model.specs.{Basics.same_number, Setup.Setup, Jobs.is_actor, Fates.fetches, Memory.byte_at}
 use Rattle.smt_model.specs.Fetching.{choice, fetch_pc}
 use Rattle.smt_model.specs.Rules.{first_failing, refused}
 use Rattle.smt_laws.proofs.Fates.Choosing.{chosen}
@@ -43,7 +43,7 @@ module _ (setup : Setup) (past : List Event) (actor h s pc : ℕ) (word : Option
   abbrev behind_choice : List (ℕ × Bool)
   behind_choice =
       (3, s == fetches past) ∷ (4, pc == fetch_pc setup past h)
-      ∷ (5, same_number word (code_word setup.image pc)) ∷ []
+      ∷ (5, same_number word (word_now setup.image (byte_at setup past) pc)) ∷ []
 
   abbrev behind_actor : List (ℕ × Bool)
   behind_actor = (2, same_number (choice setup past) (Some h)) ∷ behind_choice
@@ -62,7 +62,7 @@ module _ (setup : Setup) (past : List Event) (actor h s pc : ℕ) (word : Option
 
   pub there : (a b c : Bool) → is_actor setup actor ≡ true → same_number (choice setup past) (Some h) ≡ true
       → a ≡ (s == fetches past) → b ≡ (pc == fetch_pc setup past h)
-      → c ≡ same_number word (code_word setup.image pc)
+      → c ≡ same_number word (word_now setup.image (byte_at setup past) pc)
       → refused setup past (Fetch actor h s pc word predicted) ≡ first_failing ((3, a) ∷ (4, b) ∷ (5, c) ∷ [])
   there a b c one this a_is b_is c_is =
       refused-is setup past (Fetch actor h s pc word predicted)

@@ -5,9 +5,10 @@ use Rattle.std.proofs.Common.{◌∙◌, Vec, Global, refl, sym, ap, subst, arit
 use Rattle.std.proofs.lemmas.List.{length_push, reverse-append}
 use Rattle.events.specs.{History.EventList, declared.effect.Outcome.Outcome, declared.effect.Record.Record}
 use Rattle.events.specs.{declared.event.Event.Event}
-use Rattle.events.specs.declared.event.Event.TheVariants.{Fetch, Decode, Rename, Issue, Complete, Drop}
+use Rattle.events.specs.declared.event.Event.TheVariants.{Fetch, Decode, Rename, Issue, Complete, Drop, Refetch}
 use Rattle.smt_model.specs.{Account.records, Fates.fetches, Fetching.last_fetched, Memory.output, Picture.picture}
-use Rattle.smt_model.specs.{Rules.refused, Rules.is_legal, Touched.looks}
+use Rattle.smt_model.specs.{Memory.byte_at, Rules.refused, Rules.is_legal, Setup.Setup, Touched.looks}
+use Rattle.decoded_code.specs.{Code.IsCodeOf, declared.code.Code.Code}
 use Rattle.core_parts.specs.{Agree.PartsAgree, Agree.KeepsSizes}
 use Rattle.core_state.specs.{State.IsCore, State.past_of, State.setup_in}
 use Rattle.core_parts.specs.{declared.parts.Parts.Parts}
@@ -22,6 +23,7 @@ pub record Quiet (e : Event) : Type 0 where
   pub fetches : (past : List Event) → fetches (e ∷ past) ≡ fetches past
   pub last_fetched : (past : List Event) → last_fetched (e ∷ past) ≡ last_fetched past
   pub looks : (past : List Event) → looks (e ∷ past) ≡ looks past
+  pub byte : (setup : Setup) (past : List Event) → byte_at setup (e ∷ past) ≡ byte_at setup past
   pub records : (past : List Event) → records (e ∷ past) ≡ records past
   pub output : (past : List Event) → output (e ∷ past) ≡ output past
 
@@ -31,6 +33,7 @@ quiet_decode actor s =
       fetches = λ past. refl;
       last_fetched = λ past. refl;
       looks = λ past. refl;
+      byte = λ setup past. refl;
       records = λ past. refl;
       output = λ past. refl;
     }
@@ -41,6 +44,7 @@ quiet_rename actor s phys =
       fetches = λ past. refl;
       last_fetched = λ past. refl;
       looks = λ past. refl;
+      byte = λ setup past. refl;
       records = λ past. refl;
       output = λ past. refl;
     }
@@ -51,6 +55,7 @@ quiet_issue actor s =
       fetches = λ past. refl;
       last_fetched = λ past. refl;
       looks = λ past. refl;
+      byte = λ setup past. refl;
       records = λ past. refl;
       output = λ past. refl;
     }
@@ -61,6 +66,7 @@ quiet_complete actor s outcome =
       fetches = λ past. refl;
       last_fetched = λ past. refl;
       looks = λ past. refl;
+      byte = λ setup past. refl;
       records = λ past. refl;
       output = λ past. refl;
     }
@@ -71,6 +77,18 @@ quiet_drop actor s =
       fetches = λ past. refl;
       last_fetched = λ past. refl;
       looks = λ past. refl;
+      byte = λ setup past. refl;
+      records = λ past. refl;
+      output = λ past. refl;
+    }
+
+pub quiet_refetch : (actor s : ℕ) → Quiet (Refetch actor s)
+quiet_refetch actor s =
+    record {
+      fetches = λ past. refl;
+      last_fetched = λ past. refl;
+      looks = λ past. refl;
+      byte = λ setup past. refl;
       records = λ past. refl;
       output = λ past. refl;
     }
@@ -96,7 +114,8 @@ core_grown i parts history e core grows quiet longer =
       harts = grows.sizes.harts ∙ core.harts;
       queue = grows.sizes.queue ∙ core.queue;
       image = grows.sizes.image ∙ core.image;
-      code = core.code;
+      code = subst (λ b. IsCodeOf i.image b i.code)
+          (sym (quiet.byte (setup_in i) (past_of i)) ∙ ap (byte_at (setup_in i)) turned) core.code;
       legal = subst (is_legal (setup_in i)) turned (grows.allowed, core.legal);
       agrees = subst (λ p. PartsAgree (picture (setup_in i) p) parts) turned grows.agrees;
       fetched = core.fetched ∙ sym (quiet.fetches (past_of i)) ∙ ap fetches turned;
@@ -130,7 +149,7 @@ core_fetched i parts history actor h pc word predicted core grows longer =
       harts = grows.sizes.harts ∙ core.harts;
       queue = grows.sizes.queue ∙ core.queue;
       image = grows.sizes.image ∙ core.image;
-      code = core.code;
+      code = subst (λ b. IsCodeOf i.image b i.code) (ap (byte_at (setup_in i)) turned) core.code;
       legal = subst (is_legal (setup_in i)) turned (grows.allowed, core.legal);
       agrees = subst (λ p. PartsAgree (picture (setup_in i) p) parts) turned grows.agrees;
       fetched = next ∙ ap fetches turned;
@@ -155,13 +174,14 @@ pub record Retires (i : Inside) (many : ℕ) (now : List Record) (out : List ℕ
   pub one_record : length now ≤ length i.records.items + 1
   pub one_byte : length out ≤ length i.output.items + 1
 
-pub core_retired : (i : Inside) (parts : Parts) (many : ℕ) (now : Vec Record Global) (out : Vec ℕ Global)
+pub core_retired : (i : Inside) (parts : Parts) (code : Code) (many : ℕ) (now : Vec Record Global) (out : Vec ℕ Global)
     (history : EventList) (e : Event) → IsCore i
-    → Grows i parts e → Retires i many now.items out.items e → vec_capacity now ≡ vec_capacity i.records
+    → Grows i parts e → IsCodeOf i.image (byte_at (setup_in i) (e ∷ past_of i)) code
+    → Retires i many now.items out.items e → vec_capacity now ≡ vec_capacity i.records
     → vec_capacity out ≡ vec_capacity i.output
     → history ≡ record i.history { items = i.history.items ++ e ∷ [] }
-    → IsCore (record i { parts = parts; looks = many; records = now; output = out; history = history })
-core_retired i parts many now out history e core grows retires records_room output_room longer =
+    → IsCore (record i { code = code; parts = parts; looks = many; records = now; output = out; history = history })
+core_retired i parts code many now out history e core grows decoded retires records_room output_room longer =
     let more = length_push i.history.items e in
     let records_were = core.records_fit in
     let output_was = core.output_fit in
@@ -170,14 +190,15 @@ core_retired i parts many now out history e core grows retires records_room outp
     let records_fit_in = core.records_room in
     let output_fits_in = core.output_room in
     let turned = sym (past_push i.history.items e) in
-    subst (λ h. IsCore (record i { parts = parts; looks = many; records = now; output = out; history = h }))
+    subst
+    (λ h. IsCore (record i { code = code; parts = parts; looks = many; records = now; output = out; history = h }))
     (sym longer) (record {
       sizes = core.sizes;
       limit = core.limit;
       harts = grows.sizes.harts ∙ core.harts;
       queue = grows.sizes.queue ∙ core.queue;
       image = grows.sizes.image ∙ core.image;
-      code = core.code;
+      code = subst (λ b. IsCodeOf i.image b code) (ap (byte_at (setup_in i)) turned) decoded;
       legal = subst (is_legal (setup_in i)) turned (grows.allowed, core.legal);
       agrees = subst (λ p. PartsAgree (picture (setup_in i) p) parts) turned grows.agrees;
       fetched = core.fetched ∙ sym retires.fetches ∙ ap fetches turned;

@@ -1,4 +1,5 @@
 -- A retirement.
+pub mod Wanted
 pub mod Rules
 pub mod Look
 pub mod Writes

@@ -6,7 +6,7 @@ use Rattle.std.proofs.{lemmas.Bool.cases_Bool, lemmas.Bool.cases_lt, lemmas.Bool
 use Rattle.std.proofs.{lemmas.List.take_all, lemmas.List.take_more, lemmas.List.Sums.length-filter}
 use Rattle.numbers.specs.Sizes.{most_actors}
 use Rattle.events.specs.declared.event.Event.{Event}
-use Rattle.events.specs.declared.event.Event.TheVariants.{Fetch, Decode, Rename, Issue, Complete, Drop, Retire}
+use Rattle.events.specs.declared.event.Event.TheVariants.{Fetch, Decode, Rename, Issue, Complete, Drop, Retire, Refetch}
 use Rattle.smt_model.specs.{Account.open_job_count, Basics.below, Basics.how_many, Picture.Picture, Picture.picture}
 use Rattle.smt_model.specs.{Rules.is_legal, Jobs.job, Setup.Setup}
 use Rattle.smt_model.proofs.Allowed.{issue_allowed}
@@ -37,6 +37,7 @@ job-none setup (Complete actor seq outcome ∷ past) legal k above =
 job-none setup (Drop actor seq ∷ past) legal k above =
     if_none (actor == k) (job past k) (job-none setup past legal.1 k above)
 job-none setup (Retire actor seq effect ∷ past) legal k above = job-none setup past legal.1 k above
+job-none setup (Refetch actor seq ∷ past) legal k above = job-none setup past legal.1 k above
 
 -- ---- Counting below a number
 

@@ -5,7 +5,7 @@
 ghost use Rattle.std.specs.Prelude.{◌≡◌, ◌<◌, length, None, Some, is_some, true, IfOk, IfErr};
 ghost use Rattle.std.specs.Result.{result_err};
 ghost use Rattle.events.specs.declared.event.Event.TheVariants.{Fetch, Decode, Rename, Issue};
-ghost use Rattle.events.specs.declared.event.Event.TheVariants.{Complete, Retire};
+ghost use Rattle.events.specs.declared.event.Event.TheVariants.{Complete, Retire, Refetch};
 ghost use Rattle.smt_model.specs.Rules.{refused};
 ghost use Rattle.core_state.specs.View.{CoreView, grown};
 
@@ -42,6 +42,7 @@ impl State {
             } => self.follow_completion(actor, seq, outcome),
             Event::Drop { actor, seq } => self.follow_drop(actor, seq),
             Event::Retire { actor, seq, effect } => self.follow_retirement(actor, seq, effect),
+            Event::Refetch { actor, seq } => self.follow_refetch(actor, seq),
         }
     }
 
@@ -165,6 +166,18 @@ impl State {
     {
         let (hart, active) = self.judge_retirement(actor, seq, effect)?;
         self.write_retire(actor, hart, &active, effect);
+        Ok(())
+    }
+
+    fn follow_refetch(&mut self, actor: u8, seq: Seq) -> Result<(), u8>
+        requires { length self.old.past < self.old.limit }
+        ensures rule { result_err result
+            ≡ refused self.old.setup self.old.past (Refetch actor seq) }
+        ensures made { IfOk result (λ _. self.new ≡ grown (Refetch actor seq) self.old) }
+        ensures same { IfErr result (λ _. self.new ≡ self.old) }
+    {
+        let (hart, active) = self.judge_refetch(actor, seq)?;
+        self.write_refetch(actor, hart, &active);
         Ok(())
     }
 }

@@ -47,6 +47,7 @@ impl State {
             } => self.judge_completion(actor, seq, outcome).err(),
             Event::Drop { actor, seq } => self.drop_refusal(actor, seq),
             Event::Retire { actor, seq, effect } => self.judge_retirement(actor, seq, effect).err(),
+            Event::Refetch { actor, seq } => self.judge_refetch(actor, seq).err(),
         }
     }
 

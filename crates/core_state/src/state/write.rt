@@ -3,7 +3,7 @@
 
 ghost use Rattle.std.specs.Prelude.{◌≡◌, ◌<◌, length, None, true};
 ghost use Rattle.events.specs.declared.event.Event.TheVariants.{Decode, Rename, Issue, Complete};
-ghost use Rattle.events.specs.declared.event.Event.TheVariants.{Retire};
+ghost use Rattle.events.specs.declared.event.Event.TheVariants.{Retire, Refetch};
 ghost use Rattle.smt_model.specs.Fates.{is_of};
 ghost use Rattle.smt_model.specs.Picture.{picture};
 ghost use Rattle.smt_model.specs.Rules.{refused};
@@ -14,7 +14,10 @@ ghost use Rattle.core_state.specs.View.{CoreView, grown};
 use super::State;
 use crate::log::{append, put_out};
 use core_parts::OpenJob;
-use core_steps::{decode_oldest, drop_job, finish, issue_entry, rename_oldest, retire_oldest};
+use core_steps::{
+    decode_oldest, drop_job, finish, issue_entry, refetch_oldest, rename_oldest, retire_oldest,
+};
+use decoded_code::decode_write;
 use events::{Effect, Event, Outcome, Record};
 use exec_units::Job;
 use issue_queue::Entry;
@@ -144,6 +147,7 @@ impl State {
         );
         self.looks = looks;
         retire_oldest(&mut self.parts, hart, active, effect);
+        decode_write(&mut self.code, &self.parts.memory, effect.write);
         self.records.push_reserved(Record {
             hart,
             pc: active.pc,
@@ -155,6 +159,24 @@ impl State {
             actor,
             seq: active.seq,
             effect,
+        };
+        append(&mut self.history, &event);
+        event
+    }
+
+    /// Writes the refetch of an instruction in flight, which may come next.
+    pub(super) fn write_refetch(&mut self, actor: u8, hart: u8, active: &Active) -> Event
+        requires room { length self.old.past < self.old.limit }
+        requires allowed { refused self.old.setup self.old.past
+            (Refetch actor active.now.seq) ≡ None }
+        requires active { IsActive (picture self.old.setup self.old.past) hart active.now }
+        ensures event { result ≡ Refetch actor active.now.seq }
+        ensures made { self.new ≡ grown result self.old }
+    {
+        refetch_oldest(&mut self.parts, hart, active);
+        let event = Event::Refetch {
+            actor,
+            seq: active.seq,
         };
         append(&mut self.history, &event);
         event

@@ -3,5 +3,6 @@ pub mod Memory
 pub mod Touching
 pub mod Parts
 pub mod Replay
+pub mod Abandon
 pub mod Halt
 pub mod Checkpoints

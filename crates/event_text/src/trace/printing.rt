@@ -3,7 +3,8 @@
 ghost use Rattle.std.specs.Prelude.{◌≡◌, ◌+◌, ◌*◌, ◌≤◌, ◌++◌, false, flat_map, length, OnOk, OnErr};
 ghost use Rattle.arrayvec.specs.ArrayString.{array_string_len};
 ghost use Rattle.events.specs.Roles.{role_name};
-ghost use Rattle.event_text.specs.declared.head.TraceHead.TheVariants.{Second};
+ghost use Rattle.event_text.specs.declared.head.LaterVersion.TheVariants.{Third};
+ghost use Rattle.event_text.specs.declared.head.TraceHead.TheVariants.{Later};
 ghost use Rattle.event_text.specs.{Heads.head_lines, Line.after_space, Trace.trace_text};
 ghost use Rattle.event_text.specs.Sinking.{HasPut, HasPutBut, HasBroken};
 
@@ -20,7 +21,7 @@ type Piece = ArrayString<4096>;
 /// The room that any line takes, with the newline that ends it.
 const LONGEST: usize = 65;
 
-/// Puts the trace of a history, of version 2 and of such a core, into a sink that hasn't failed, in
+/// Puts the trace of a history, of version 3 and of such a core, into a sink that hasn't failed, in
 /// pieces. It ends at the first put that fails, and puts nothing after it.
 pub fn print_trace<S: Sink>(
     header: &TraceHeader,
@@ -29,9 +30,9 @@ pub fn print_trace<S: Sink>(
 ) -> Result<(), Broken>
     requires { S.has_failed sink.old ≡ false }
     ensures printed { OnOk result (HasPut S.written S.has_failed sink.old sink.new
-        (trace_text (Second header.now) history.now.items)) }
+        (trace_text (Later Third header.now) history.now.items)) }
     ensures broken { OnErr result (HasBroken S.written S.has_failed S.puts sink.old sink.new
-        (trace_text (Second header.now) history.now.items)) }
+        (trace_text (Later Third header.now) history.now.items)) }
 {
     let mut piece = Piece::new();
     push_head(&mut piece, header);
@@ -60,18 +61,18 @@ fn make_room<S: Sink>(piece: &mut Piece, sink: &mut S) -> Result<(), Broken>
     Ok(())
 }
 
-/// The most bytes of the lines that say how a trace of version 2 begins.
+/// The most bytes of the lines that say how a trace of version 3 begins.
 const LONGEST_HEAD: usize = 262;
 
 /// Room for these lines.
 pub(crate) type HeadText = ArrayString<LONGEST_HEAD>;
 
-// Appends the lines that say how a trace of version 2 begins.
+// Appends the lines that say how a trace of version 3 begins.
 pub(crate) fn push_head<const N: usize>(text: &mut ArrayString<N>, header: &TraceHeader)
     requires { array_string_len text.old + 262 ≤ N }
-    ensures { text.new.bytes ≡ text.old.bytes ++ head_lines (Second header.now) }
+    ensures { text.new.bytes ≡ text.old.bytes ++ head_lines (Later Third header.now) }
 {
-    text.push_str("smt-trace 2\nconfig");
+    text.push_str("smt-trace 3\nconfig");
     push_small_number_field(text, header.harts());
     push_number_field(text, u32::from(header.extra()));
     push_small_number_field(text, header.queue());

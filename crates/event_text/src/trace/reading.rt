@@ -13,7 +13,7 @@ ghost use Rattle.event_text.specs.Refusals.{IsRefusedFor, Gives};
 ghost use Rattle.event_text.specs.Trace.{event_lines, trace_text, AreWithin, IsHead};
 ghost use Rattle.event_text.specs.Trace.{Breaks, BreaksConfig, BreaksEvent};
 
-use crate::head::{TraceHead, TraceHeader};
+use crate::head::{LaterVersion, TraceHead, TraceHeader};
 use crate::ranges::Ranges;
 use crate::read::read_event_within;
 use crate::trace::Trace;
@@ -46,8 +46,8 @@ impl From<AllocFailed<Event>> for TraceRefused {
     }
 }
 
-/// Reads a trace, of version 1 or 2: the lines that say how it begins and a line for each event, each
-/// ended by a newline. Any bytes may come.
+/// Reads a trace, of version 1, 2 or 3: the lines that say how it begins and a line for each event,
+/// each ended by a newline. Any bytes may come.
 pub fn read_trace(text: &[u8], alloc: Global) -> Result<Trace, TraceRefused>
     ensures read { IfOk result (λ trace. text.now ≡ trace_text trace.head trace.events) }
     ensures is_head { IfOk result (λ trace. IsHead trace.head) }
@@ -85,11 +85,11 @@ fn read_head(text: &[u8]) -> Result<(TraceHead, &[u8]), TraceRefused>
     if line == b"smt-trace 1".as_slice() {
         return Ok((TraceHead::First, behind));
     }
-    if line != b"smt-trace 2".as_slice() {
+    let Some(version) = LaterVersion::named(line) else {
         return Err(TraceRefused::Line { line: 1, rule: 1 });
-    }
+    };
     match read_core(behind) {
-        Ok((header, behind)) => Ok((TraceHead::Second(header), behind)),
+        Ok((header, behind)) => Ok((TraceHead::Later(version, header), behind)),
         Err(rule) => Err(TraceRefused::Line { line: 2, rule }),
     }
 }

@@ -46,6 +46,10 @@ pub(super) enum Packed {
         seq: Seq,
         effect: PackedEffect,
     },
+    Refetch {
+        actor: u8,
+        seq: Seq,
+    },
 }
 
 // A history of ten million events is to have room in a third of a gigabyte.
@@ -126,6 +130,7 @@ pub(super) fn pack(event: Event) -> Packed
             seq,
             effect: pack_effect(effect),
         },
+        Event::Refetch { actor, seq } => Packed::Refetch { actor, seq },
     }
 }
 
@@ -142,7 +147,8 @@ impl Packed {
             | Packed::Issue { actor, .. }
             | Packed::Complete { actor, .. }
             | Packed::Drop { actor, .. }
-            | Packed::Retire { actor, .. } => actor,
+            | Packed::Retire { actor, .. }
+            | Packed::Refetch { actor, .. } => actor,
         }
     }
 
@@ -184,6 +190,7 @@ impl Packed {
                 seq,
                 effect: effect_in(effect),
             },
+            Packed::Refetch { actor, seq } => Event::Refetch { actor, seq },
         }
     }
 }

@@ -55,7 +55,7 @@ static CHANGED: [(Change, Change, Option<u8>); 33] = [
     ((63, 0x7f), SAME, Some(13)),
     ((61, 0x20), SAME, Some(13)),
     ((76, 4), SAME, Some(15)),
-    ((76, 7), SAME, Some(15)),
+    ((76, 7), SAME, None),
     ((72, 13), SAME, Some(16)),
     ((60, 2), SAME, Some(16)),
     ((24, 2), SAME, Some(17)),

@@ -1,4 +1,4 @@
-//! Traces of version 1, migrated to version 2.
+//! Traces of versions 1 and 2, migrated to version 3.
 
 use super::traces::{HEAD, header};
 use super::{others, trace};
@@ -14,7 +14,7 @@ static LINES: [&str; 3] = [
     "F 15 7 0 80000000 - 80000004\nR 1 10 503\nX 15 16777215\nT 2 5 - p80000018 80001001 aa -\n",
 ];
 
-/// Whether these lines stand behind the head of version 2 where they stood behind that of version 1.
+/// Whether these lines stand behind the head of version 3 where they stood behind that of version 1.
 fn is_migrated(lines: &str, alloc: Global) -> Result<bool, Fail> {
     let Some(header) = header() else {
         return Ok(false);
@@ -57,22 +57,35 @@ fn what_is_migrated_has_the_same_events(rt: HostRuntime) -> Result<(), Fail> {
     Ok(())
 }
 
-/// Texts that name version 2 already.
-static SECOND: [&str; 5] = [
-    "smt-trace 2",
-    "smt-trace 2\n",
-    "smt-trace 2\nconfig 2 64 16 fetch alu\n",
-    "smt-trace 2\nconfig 2 64 16 fetch alu\nD 0 0\n",
-    "smt-trace 2\nD 0 00\n",
+#[test]
+fn a_trace_of_version_2_keeps_its_core(rt: HostRuntime) -> Result<(), Fail> {
+    let header = header().expect(&rt, "a header");
+    let old = b"smt-trace 2\nconfig 1 528 4 mem alu\nD 1 0\n".as_slice();
+    let new = migrate(old, &header, rt.alloc())?;
+    let expected = b"smt-trace 3\nconfig 1 528 4 mem alu\nD 1 0\n".as_slice();
+    assert!(rt; new.as_slice() == expected);
+    Ok(())
+}
+
+/// Texts that name version 3 already.
+static NEWEST: [&str; 5] = [
+    "smt-trace 3",
+    "smt-trace 3\n",
+    "smt-trace 3\nconfig 2 64 16 fetch alu\n",
+    "smt-trace 3\nconfig 2 64 16 fetch alu\nD 0 0\n",
+    "smt-trace 3\nD 0 00\n",
 ];
 
 /// Texts that are no trace, each with the line and the rule that it is refused for.
-static NONE: [(&str, usize, u8); 9] = [
+static NONE: [(&str, usize, u8); 12] = [
     ("", 1, 2),
     ("smt-trace 1", 1, 2),
-    ("smt-trace 3\n", 1, 1),
+    ("smt-trace 2", 1, 2),
+    ("smt-trace 2\n", 2, 2),
+    ("smt-trace 2\nconfig 2 64 16 fetch alu\nG 0 0\n", 3, 3),
+    ("smt-trace 4\n", 1, 1),
     ("smt-trace 20\n", 1, 1),
-    ("\nsmt-trace 2\n", 1, 1),
+    ("\nsmt-trace 3\n", 1, 1),
     ("smt-trace 1\nD 16 0\n", 2, 6),
     ("smt-trace 1\nD 0 0\nR 0 0 504\n", 3, 6),
     ("smt-trace 1\nD 0 0", 2, 2),
@@ -85,8 +98,8 @@ fn refusal(text: &str, alloc: Global) -> Option<MigrateRefused> {
 }
 
 #[test]
-fn a_trace_of_version_2_isnt_migrated(rt: HostRuntime) {
-    for text in &SECOND {
+fn a_trace_of_version_3_isnt_migrated(rt: HostRuntime) {
+    for text in &NEWEST {
         let refused = refusal(text, rt.alloc());
         holds(&rt, text, refused == Some(MigrateRefused::Version));
     }

@@ -9,15 +9,15 @@ use std::io;
 use std::io::{ErrorKind, Write};
 use std::test::Fail;
 
-/// The lines with which a trace of version 2 of the core of `header` begins.
-pub const HEAD: &str = "smt-trace 2\nconfig 2 64 16 fetch alu\n";
+/// The lines with which a trace of version 3 of the core of `header` begins.
+pub const HEAD: &str = "smt-trace 3\nconfig 2 64 16 fetch alu\n";
 
 /// A core of two harts and two actors.
 pub fn header() -> Option<TraceHeader> {
     TraceHeader::new(2, 64, 16, &[Role::Fetch, Role::Alu])
 }
 
-/// The text of a trace of version 2 of the 18 events, so many times.
+/// The text of a trace of version 3 of the 18 events, so many times.
 fn trace_text(times: u32, alloc: Global) -> Result<Vec<u8>, AllocError> {
     let mut text = Vec::new(alloc);
     text.extend_from_slice(HEAD.as_bytes())?;
@@ -75,9 +75,9 @@ static REFUSED: [(&str, usize, u8); 31] = [
     ("", 1, 2),
     ("smt-trace 1", 1, 2),
     ("smt-trace 2", 1, 2),
-    ("smt-trace 3\n", 1, 1),
+    ("smt-trace 4\n", 1, 1),
     ("smt-trace 1\r\n", 1, 1),
-    ("smt-trace 3\nD 0 00\n", 1, 1),
+    ("smt-trace 4\nD 0 00\n", 1, 1),
     ("smt-trace 1\n\n", 2, 3),
     ("smt-trace 1\nd 0 0\n", 2, 3),
     ("smt-trace 1\n D 0 0\n", 2, 3),

@@ -1,4 +1,4 @@
-//! Traces of version 2: of what core they say that they are, and the ranges of their events.
+//! Traces of the later versions: of what core they say that they are, and the ranges of their events.
 
 use super::traces::{HEAD, header};
 use crate::rows::{holds, holds_at};
@@ -58,7 +58,7 @@ fn a_line_of_a_core_is_refused_for_the_first_rule_that_it_breaks(
 ) -> Result<(), Fail> {
     for (line, rule) in &REFUSED {
         let mut text = Vec::new(rt.alloc());
-        for piece in ["smt-trace 2\n", line, "\nD 0 00\n"] {
+        for piece in ["smt-trace 3\n", line, "\nD 0 00\n"] {
             text.extend_from_slice(piece.as_bytes())?;
         }
         let refused = read_trace(text.as_slice(), rt.alloc()).err();
@@ -188,7 +188,7 @@ fn the_first_line_behind_the_head_that_breaks_a_rule_is_named(rt: HostRuntime) -
     Ok(())
 }
 
-/// The greatest numbers of a trace of version 2.
+/// The greatest numbers of a trace of a later version.
 static GREATEST: &str = "D 31 0\nF 0 15 0 80000000 - 80000004\nR 0 0 1023\nX 0 16777215\n";
 
 /// The events of `GREATEST`.
@@ -224,7 +224,7 @@ fn greatest_text(alloc: Global) -> Result<Vec<u8>, AllocError> {
 }
 
 #[test]
-fn a_trace_of_version_2_is_read_and_printed_again(rt: HostRuntime) -> Result<(), Fail> {
+fn a_trace_of_version_3_is_read_and_printed_again(rt: HostRuntime) -> Result<(), Fail> {
     let text = greatest_text(rt.alloc())?;
     let read = read_trace(text.as_slice(), rt.alloc())?;
     assert!(rt; read.events() == greatest().as_slice());
@@ -241,6 +241,22 @@ fn a_trace_of_version_2_is_read_and_printed_again(rt: HostRuntime) -> Result<(),
 }
 
 #[test]
+fn a_trace_of_version_2_has_no_refetches(rt: HostRuntime) -> Result<(), Fail> {
+    let lines = b"config 2 64 16 fetch alu\nD 31 0\nG 31 0\n".as_slice();
+    let mut second = Vec::new(rt.alloc());
+    second.extend_from_slice(b"smt-trace 2\n")?;
+    second.extend_from_slice(lines)?;
+    let mut third = Vec::new(rt.alloc());
+    third.extend_from_slice(b"smt-trace 3\n")?;
+    third.extend_from_slice(lines)?;
+    let refused = read_trace(second.as_slice(), rt.alloc()).err();
+    assert!(rt; refused == Some(TraceRefused::Line { line: 4, rule: 3 }));
+    let read = read_trace(third.as_slice(), rt.alloc())?;
+    assert!(rt; read.events().last() == Some(&Event::Refetch { actor: 31, seq: 0 }));
+    Ok(())
+}
+
+#[test]
 fn a_trace_of_version_1_says_of_no_core(rt: HostRuntime) -> Result<(), Fail> {
     let read = read_trace(b"smt-trace 1\nD 15 0\n", rt.alloc())?;
     assert!(rt; read.header().is_none());
@@ -252,7 +268,7 @@ fn a_trace_of_version_1_says_of_no_core(rt: HostRuntime) -> Result<(), Fail> {
 fn the_longest_head_is_printed(rt: HostRuntime) -> Result<(), Fail> {
     let header = TraceHeader::new(16, 528, 64, &[Role::Retire; 32]).expect(&rt, "a header");
     let mut text = Vec::new(rt.alloc());
-    text.extend_from_slice(b"smt-trace 2\n")?;
+    text.extend_from_slice(b"smt-trace 3\n")?;
     text.extend_from_slice(line_with_roles(32, rt.alloc())?.as_slice())?;
     text.extend_from_slice(b"\n")?;
     let history = History::with_limit(1, rt.alloc())?;

@@ -1,6 +1,6 @@
 //! The memory that all harts share, by numbers worked by hand from the manual's byte order.
 
-use super::{first_memory, get, put};
+use super::{first_memory, get, put, written_memory};
 use shared_memory::touches;
 use std::test::Fail;
 
@@ -20,6 +20,25 @@ fn the_lowest_byte_comes_first(rt: HostRuntime) -> Result<(), Fail> {
     assert!(rt; [code, before] == [Ok(0x0050_0513), Ok(0)]);
     assert!(rt; [put_word, put_byte] == [Ok(()), Ok(())]);
     assert!(rt; bytes == [Ok(0x44), Ok(0xcd), Ok(0x1122), Ok(0x1122_cd44)]);
+    Ok(())
+}
+
+#[test]
+fn code_is_written_where_it_may_be(rt: HostRuntime) -> Result<(), Fail> {
+    let mut memory = written_memory(rt.alloc()).ok_or("refused")?;
+    let writes = [
+        put(&mut memory, 0x8000_0008, 4, 0x0000_100f),
+        put(&mut memory, 0x8000_0007, 1, 0x12),
+        put(&mut memory, 0x8000_0002, 4, 1),
+        put(&mut memory, 0x8000_2000, 1, 1),
+    ];
+    let words = [
+        memory.word_around(0x8000_000b),
+        memory.word_around(0x8000_0004),
+        memory.word_around(0x8000_0001),
+    ];
+    assert!(rt; writes == [Ok(()), Ok(()), Err(6), Err(7)]);
+    assert!(rt; words == [0x0000_100f, 0x12d0_0893, 0x0050_0513]);
     Ok(())
 }
 

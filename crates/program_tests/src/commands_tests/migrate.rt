@@ -80,10 +80,10 @@ fn the_first_trace_has_its_core_in_its_second_line(rt: HostRuntime) {
     let Migrated { text, out, ending } = migrate(&rt, TOLD, FIRST.as_bytes(), rt.alloc());
     let text = text_of(&text);
     let mut lines = text.lines();
-    let begins = lines.next() == Some("smt-trace 2") && lines.next() == Some("config 1 64 16 alu");
+    let begins = lines.next() == Some("smt-trace 3") && lines.next() == Some("config 1 64 16 alu");
     shows(&rt, "two lines", text, begins);
     shows(&rt, "twenty lines", text, text.lines().count() == 20);
-    let behind = text.strip_prefix("smt-trace 2\nconfig 1 64 16 alu\n");
+    let behind = text.strip_prefix("smt-trace 3\nconfig 1 64 16 alu\n");
     shows(
         &rt,
         "its events",
@@ -122,14 +122,14 @@ fn a_migrated_trace_is_of_its_core_whatever_the_configuration_says(rt: HostRunti
 }
 
 #[test]
-fn what_has_version_2_or_is_no_trace_is_not_migrated(rt: HostRuntime) {
+fn what_has_version_3_or_is_no_trace_is_not_migrated(rt: HostRuntime) {
     for (trace, fault) in [
         (
-            "smt-trace 2\nconfig 1 64 16 alu\n",
+            "smt-trace 3\nconfig 1 64 16 alu\n",
             "smtsim: trace version refused\n",
         ),
-        ("smt-trace 2", "smtsim: trace version refused\n"),
-        ("smt-trace 3\n", "smtsim: trace line 1 refused 1\n"),
+        ("smt-trace 3", "smtsim: trace version refused\n"),
+        ("smt-trace 4\n", "smtsim: trace line 1 refused 1\n"),
         (
             "smt-trace 1\nD 0 0\nQ\n",
             "smtsim: trace line 3 refused 3\n",

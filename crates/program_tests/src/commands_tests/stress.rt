@@ -37,7 +37,7 @@ fn runs_of_one_end_are_counted_and_the_first_is_kept(rt: HostRuntime) {
     // hands back of a squashed instruction may come behind the last retirement.
     let kept = kept.into_inner();
     let text = text_of(&kept);
-    assert!(rt; text.starts_with("smt-trace 2\nconfig "));
+    assert!(rt; text.starts_with("smt-trace 3\nconfig "));
     assert!(rt; text.contains("- e00000005 - - -\n"));
     assert!(rt; text.ends_with("\n0\n0\n0\n"));
 }

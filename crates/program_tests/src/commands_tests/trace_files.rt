@@ -20,7 +20,7 @@ use stress_runs::EndFiles;
 use test_files::{EXIT_WITH_5, image_of};
 
 /// The history of these asks, as a trace.
-const TRACE: &str = "smt-trace 2
+const TRACE: &str = "smt-trace 3
 config 1 64 16 alu
 F 0 0 0 80000000 00500513 80000004
 F 0 0 1 80000004 05d00893 80000008

@@ -31,7 +31,7 @@ explain|outcomes|litmus|migrate|harts|extra|queue|ram|limit|turns|actors",
     (
         "smtsim check --help",
         "Usage: smtsim check [OPTIONS] <IMAGE> <TRACE>|--config <FILE>|--counts|--json|--records|\
---why|smt-trace 2|config harts extra queue role role ..|smt-trace 1|\
+--why|smt-trace 3|config harts extra queue role role ..|smt-trace 2|smt-trace 1|\
 F actor hart number pc word predicted|T actor number value next address data out",
     ),
     (
@@ -45,7 +45,7 @@ F actor hart number pc word predicted|T actor number value next address data out
     ),
     (
         "smtsim script --help",
-        "Usage: smtsim script [OPTIONS] <IMAGE> <TRACE>|--config <FILE>|smt-trace 2|smt-trace 1",
+        "Usage: smtsim script [OPTIONS] <IMAGE> <TRACE>|--config <FILE>|smt-trace 3|smt-trace 1",
     ),
     (
         "smtsim explain --help",
@@ -73,7 +73,7 @@ h0=1 & a0@1=2",
     ),
     (
         "smtsim migrate --help",
-        "Usage: smtsim migrate [OPTIONS] <TRACE> <OUT>|--config <FILE>|version 1|version 2",
+        "Usage: smtsim migrate [OPTIONS] <TRACE> <OUT>|--config <FILE>|version 1|version 2|version 3",
     ),
 ];
 

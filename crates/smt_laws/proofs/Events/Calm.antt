@@ -4,7 +4,7 @@ use Rattle.std.specs.List.{filter}
 use Rattle.std.proofs.Common.{◌∙◌, refl, sym, ap, subst, inl, inr, arith}
 use Rattle.std.proofs.{lemmas.Bool.cases_eq, lemmas.Bool.Decides.nat_tests, lemmas.List.append-nil}
 use Rattle.events.specs.{declared.event.Event.Event, Event.seq_of}
-use Rattle.events.specs.declared.event.Event.TheVariants.{Fetch, Decode, Rename, Issue, Complete, Drop, Retire}
+use Rattle.events.specs.declared.event.Event.TheVariants.{Fetch, Decode, Rename, Issue, Complete, Drop, Retire, Refetch}
 use Rattle.smt_model.specs.{Basics.first, Setup.Setup, Kinds.first_source, Kinds.second_source, Rules.refused}
 use Rattle.smt_model.specs.{Rules.is_legal, Picture.picture, Steps.IsSameInstruction, Steps.KeepsFlights}
 use Rattle.smt_model.specs.{Steps.KeepsJobs}
@@ -32,6 +32,7 @@ told-other (Issue actor n) s other = grind (arith, nat_tests)
 told-other (Complete actor n outcome) s other = grind (arith, nat_tests)
 told-other (Drop actor n) s other = refl
 told-other (Retire actor n effect) s other = grind (arith, nat_tests)
+told-other (Refetch actor n) s other = refl
 
 pub completed-other : (e : Event) (s : ℕ) → seq_of e ≢ s → completed_by e s ≡ None
 completed-other (Fetch actor hart n pc word predicted) s other = refl
@@ -41,6 +42,7 @@ completed-other (Issue actor n) s other = refl
 completed-other (Complete actor n outcome) s other = grind (arith, nat_tests)
 completed-other (Drop actor n) s other = refl
 completed-other (Retire actor n effect) s other = refl
+completed-other (Refetch actor n) s other = refl
 
 pub named-other : (e : Event) (s : ℕ) → seq_of e ≢ s → named_by e s ≡ None
 named-other (Fetch actor hart n pc word predicted) s other = refl
@@ -50,6 +52,7 @@ named-other (Issue actor n) s other = refl
 named-other (Complete actor n outcome) s other = refl
 named-other (Drop actor n) s other = refl
 named-other (Retire actor n effect) s other = refl
+named-other (Refetch actor n) s other = refl
 
 pub resulting-other : (e : Event) (s : ℕ) → seq_of e ≢ s → resulting e s ≡ None
 resulting-other (Fetch actor hart n pc word predicted) s other = refl
@@ -59,6 +62,7 @@ resulting-other (Issue actor n) s other = refl
 resulting-other (Complete actor n outcome) s other = grind (arith, nat_tests)
 resulting-other (Drop actor n) s other = refl
 resulting-other (Retire actor n effect) s other = grind (arith, nat_tests)
+resulting-other (Refetch actor n) s other = refl
 
 pub fate-other : (e : Event) (past : List Event) (s : ℕ) → seq_of e ≢ s → squashes e past s ≡ false
     → fate (e ∷ past) s ≡ fate past s

@@ -77,13 +77,13 @@ queue-own f squash_it was late none = grind (arith, nat_tests)
 queue-kept : (above mine was : Bool) → (above && mine) ≡ false → was ≡ (not (mine && above) && was)
 queue-kept above mine was spared = grind (arith, nat_tests)
 
--- Event e, of an instruction of hart h in flight, squashes all younger ones of h; it adds no instruction and no
--- register.
+-- Event e, of an instruction of hart h in flight, squashes all younger ones of h, and of the others none; it adds no
+-- instruction and no register. Whether it squashes its own isn't said: a refetch does.
 pub record IsSquashing (past : List Event) (e : Event) (h : ℕ) : Type 0 where
   pub of_hart : is_of past h (seq_of e) ≡ true
   pub flew : is_in_flight (fate past (seq_of e)) ≡ true
   pub late : 5 ≤ stage (fate (e ∷ past) (seq_of e))
-  pub squashes_it : (s : ℕ) → squashes e past s ≡ (nat_lt (seq_of e) s && is_of past h s)
+  pub squashes_it : (s : ℕ) → seq_of e ≢ s → squashes e past s ≡ (nat_lt (seq_of e) s && is_of past h s)
   pub adds_none : (g : ℕ) → added e g ≡ []
   pub adds_no_number : added_by_any e ≡ []
 
@@ -94,9 +94,10 @@ pub squash_young : (setup : Setup) (past : List Event) → is_legal setup past �
     → (h : ℕ) → IsSquashing past e h
     → (s : ℕ) → is_of past h s ≡ true → seq_of e < s → is_live (fate (e ∷ past) s) ≡ false
 squash_young setup past legal e ok h squashing s of_s above =
+    let other : seq_of e ≢ s = λ same. absurd (omega arith) in
     let squash_it : squashes e past s ≡ true =
-    squashing.squashes_it s ∙ and_true (nat_lt (seq_of e) s) (is_of past h s) (grind (arith, nat_tests)) of_s in
-    let tells = told-other e s (λ same. absurd (omega arith)) in
+    squashing.squashes_it s other ∙ and_true (nat_lt (seq_of e) s) (is_of past h s) (grind (arith, nat_tests)) of_s in
+    let tells = told-other e s other in
     elim (cases_Bool (is_live (fate past s))) [
       | inl lived ↦
           let gone = stage-squashed e past s tells squash_it (grind (arith, nat_tests)) (grind (arith, nat_tests)) in
@@ -108,7 +109,7 @@ squash_young setup past legal e ok h squashing s of_s above =
 -- and any other is as it was.
 pub squash_other : (past : List Event) (e : Event) (h : ℕ) → IsSquashing past e h → (s : ℕ) → seq_of e ≢ s
     → (nat_lt (seq_of e) s && is_of past h s) ≡ false → fate (e ∷ past) s ≡ fate past s
-squash_other past e h squashing s other apart = fate-other e past s other (squashing.squashes_it s ∙ apart)
+squash_other past e h squashing s other apart = fate-other e past s other (squashing.squashes_it s other ∙ apart)
 
 pub squash_older : (past : List Event) (e : Event) (h : ℕ) → IsSquashing past e h → (s : ℕ) → s < seq_of e
     → fate (e ∷ past) s ≡ fate past s

@@ -10,7 +10,7 @@ use Rattle.numbers.specs.Sizes.{latch_room}
 use Rattle.events.specs.{declared.effect.Next.Next, declared.effect.Next.TheVariants.Pc}
 use Rattle.events.specs.{declared.effect.Next.TheVariants.Ended, declared.effect.Next.TheVariants.Stopped}
 use Rattle.events.specs.{declared.effect.Effect.Effect, declared.event.Event.Event}
-use Rattle.events.specs.declared.event.Event.TheVariants.{Fetch, Decode, Rename, Issue, Complete, Drop, Retire}
+use Rattle.events.specs.declared.event.Event.TheVariants.{Fetch, Decode, Rename, Issue, Complete, Drop, Retire, Refetch}
 use Rattle.smt_model.specs.{declared.config.Status.Status, Basics.below, Basics.first_least, Basics.least_from}
 use Rattle.smt_model.specs.{Setup.Setup, Nexts.is_last, Plain.is_going_status, Plain.status_after, Flights.in_decode}
 use Rattle.smt_model.specs.{Flights.icount, Memory.status, Memory.is_going, Rules.refused, Rules.is_legal}
@@ -100,6 +100,7 @@ hart_there setup (Issue actor n ∷ past) legal h s of_s = hart_there setup past
 hart_there setup (Complete actor n outcome ∷ past) legal h s of_s = hart_there setup past legal.1 h s of_s
 hart_there setup (Drop actor n ∷ past) legal h s of_s = hart_there setup past legal.1 h s of_s
 hart_there setup (Retire actor n effect ∷ past) legal h s of_s = hart_there setup past legal.1 h s of_s
+hart_there setup (Refetch actor n ∷ past) legal h s of_s = hart_there setup past legal.1 h s of_s
 
 -- ---- A hart that has ended or stopped has nothing on its way
 
@@ -118,7 +119,7 @@ left-next setup past legal e ok h left s of_s =
     (known setup past legal h s of_s) (left s of_s)
 
 -- What retires and ends or stops its hart leaves nothing of it.
-last_squashes_at_retirement : (past : List Event) (n : ℕ) (effect : Effect) → is_last effect.next ≡ true
+pub last_squashes_at_retirement : (past : List Event) (n : ℕ) (effect : Effect) → is_last effect.next ≡ true
     → squashes_at_retirement past n effect ≡ true
 unfolding squashes_at_retirement
 last_squashes_at_retirement past n effect last = rw last refl
@@ -203,3 +204,5 @@ left setup (Retire actor n effect ∷ past) legal h gone s of_s =
           left-next setup past legal.1 (Retire actor n effect) legal.0 h
           (left setup past legal.1 h (still_gone effect.next (status past h) (is_of past h n) goes_on gone)) s of_s
     ]
+left setup (Refetch actor n ∷ past) legal h gone s of_s =
+    left-next setup past legal.1 (Refetch actor n) legal.0 h (left setup past legal.1 h gone) s of_s

@@ -6,7 +6,7 @@ use Rattle.std.specs.List.{filter}
 use Rattle.std.proofs.Common.{◌∙◌, refl, sym, inl, inr, arith}
 use Rattle.std.proofs.{lemmas.Bool.cases_eq, lemmas.Bool.false_from_ne_true, lemmas.Bool.Decides.nat_tests}
 use Rattle.events.specs.{declared.effect.Outcome.Outcome, declared.effect.Effect.Effect, declared.event.Event.Event}
-use Rattle.events.specs.declared.event.Event.TheVariants.{Fetch, Decode, Rename, Issue, Complete, Drop, Retire}
+use Rattle.events.specs.declared.event.Event.TheVariants.{Fetch, Decode, Rename, Issue, Complete, Drop, Retire, Refetch}
 use Rattle.smt_model.specs.{Basics.first, Setup.Setup, Rules.refused, Rules.is_legal}
 use Rattle.smt_model.specs.Fates.{stage, fate, is, is_in_flight, InDecode, InRename, fate_by, is_of}
 use Rattle.smt_model.specs.Flights.{numbers, in_decode, in_rename, flight}
@@ -206,6 +206,8 @@ order-next setup past legal order (Retire actor n effect) ok h s t of_s of_t old
           order-rest setup past legal order (Retire actor n effect) ok h s t of_s of_t older
           (grind (arith, nat_tests)) lives
     ]
+order-next setup past legal order (Refetch actor n) ok h s t of_s of_t older lives =
+    order-rest setup past legal order (Refetch actor n) ok h s t of_s of_t older refl lives
 
 -- The law: fates are in order.
 pub in_order : (setup : Setup) (past : List Event) → is_legal setup past → InOrder past

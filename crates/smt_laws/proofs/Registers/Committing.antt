@@ -4,7 +4,7 @@ use Rattle.std.specs.List.{filter}
 use Rattle.std.proofs.Common.{◌∙◌, refl, sym, ap, inl, inr, arith}
 use Rattle.std.proofs.{lemmas.Bool.cases_eq, lemmas.Bool.Decides.nat_tests}
 use Rattle.events.specs.{declared.effect.Outcome.Outcome, declared.effect.Effect.Effect, declared.event.Event.Event}
-use Rattle.events.specs.declared.event.Event.TheVariants.{Fetch, Decode, Rename, Issue, Complete, Retire}
+use Rattle.events.specs.declared.event.Event.TheVariants.{Fetch, Decode, Rename, Issue, Complete, Retire, Refetch}
 use Rattle.smt_model.specs.{Basics.first, Basics.or_zero, Setup.Setup, Nexts.is_last, Rules.refused, Rules.is_legal}
 use Rattle.smt_model.specs.Fates.{Retired, stage, fate, is}
 use Rattle.smt_model.specs.Registers.{namings, writes, committer, committed, register_by, first_register}
@@ -51,6 +51,9 @@ retires-Retire : (setup : Setup) (past : List Event) (actor n : ℕ) (effect : E
     → refused setup past (Retire actor n effect) ≡ None
     → (x : ℕ) → x ≢ n → is (fate (Retire actor n effect ∷ past) x) Retired ≡ is (fate past x) Retired
 retires-Retire setup past actor n effect ok x other = grind (arith, nat_tests)
+
+retires-Refetch : (past : List Event) (actor n : ℕ) → RetiresSame past (Refetch actor n)
+retires-Refetch past actor n x late = grind (arith, nat_tests)
 
 -- ---- The committed one stays
 
@@ -128,6 +131,12 @@ pub committer-Complete : (setup : Setup) (past : List Event) → is_legal setup 
 committer-Complete setup past legal actor n outcome ok h r =
     committer-plain setup past legal (Complete actor n outcome) ok
     (retires-Complete setup past legal actor n outcome ok) refl h r
+
+pub committer-Refetch : (setup : Setup) (past : List Event) → is_legal setup past → (actor n : ℕ)
+    → refused setup past (Refetch actor n) ≡ None
+    → (h r : ℕ) → committer (Refetch actor n ∷ past) h r ≡ committer past h r
+committer-Refetch setup past legal actor n ok h r =
+    committer-plain setup past legal (Refetch actor n) ok (retires-Refetch past actor n) refl h r
 
 -- ---- A retirement
 

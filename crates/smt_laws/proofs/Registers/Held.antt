@@ -5,7 +5,7 @@ use Rattle.std.specs.List.{filter}
 use Rattle.std.proofs.Common.{◌∙◌, refl, sym, ap, inl, inr, arith}
 use Rattle.std.proofs.{lemmas.Bool.cases_Bool, lemmas.Bool.cases_eq, lemmas.Bool.Decides.nat_tests}
 use Rattle.events.specs.{declared.effect.Effect.Effect, declared.event.Event.Event}
-use Rattle.events.specs.declared.event.Event.TheVariants.{Fetch, Decode, Rename, Issue, Complete, Drop, Retire}
+use Rattle.events.specs.declared.event.Event.TheVariants.{Fetch, Decode, Rename, Issue, Complete, Drop, Retire, Refetch}
 use Rattle.smt_model.specs.Basics.{first, holds_of, or_zero, same_number}
 use Rattle.smt_model.specs.{Setup.Setup, Kinds.destination, Kinds.writes_register, Nexts.is_last, Rules.refused}
 use Rattle.smt_model.specs.{Rules.is_legal}
@@ -19,7 +19,7 @@ use Rattle.smt_laws.proofs.Registers.Namings.{newest-same, named-renamed, naming
 use Rattle.smt_laws.proofs.Registers.Namings.{taken}
 use Rattle.smt_laws.proofs.Registers.Committing.{committed-kept, committer-Fetch, committer-Decode, committer-Rename}
 use Rattle.smt_laws.proofs.Registers.Committing.{committer-Issue, committer-Complete, committer-Retire}
-use Rattle.smt_laws.proofs.Registers.Committing.{committer-Retire_other}
+use Rattle.smt_laws.proofs.Registers.Committing.{committer-Retire_other, committer-Refetch}
 
 pub record IsHeld (setup : Setup) (past : List Event) : Type 0 where
   -- An instruction in flight holds its register,
@@ -248,6 +248,12 @@ held-next setup past legal held (Drop actor n) ok = record {
 held-next setup past legal held (Retire actor n effect) ok = record {
   flying = flying-plain setup past legal held (Retire actor n effect) ok refl (λ w. refl);
   committing = committing-Retire setup past legal held actor n effect ok;
+}
+held-next setup past legal held (Refetch actor n) ok = record {
+  flying = flying-plain setup past legal held (Refetch actor n) ok refl (λ w. refl);
+  committing = λ h r is_register.
+      committing-plain setup past legal held (Refetch actor n) ok refl h r is_register
+      (committer-Refetch setup past legal actor n ok h r);
 }
 
 -- The law: each claimed register is held by its claimant.

@@ -5,7 +5,7 @@ use Rattle.std.proofs.Common.{◌∙◌, refl, ap, inl, inr, arith}
 use Rattle.std.proofs.{lemmas.Bool.cases_Bool, lemmas.Bool.cases_lt, lemmas.Bool.Decides.nat_tests}
 use Rattle.rv_instr.specs.declared.op.Op.{Op}
 use Rattle.events.specs.declared.event.Event.{Event}
-use Rattle.events.specs.declared.event.Event.TheVariants.{Fetch, Decode, Rename, Issue, Complete, Drop, Retire}
+use Rattle.events.specs.declared.event.Event.TheVariants.{Fetch, Decode, Rename, Issue, Complete, Drop, Retire, Refetch}
 use Rattle.smt_model.specs.{Basics.first, Basics.or_else, Basics.same_truth, Setup.Setup, Setup.registers_of}
 use Rattle.smt_model.specs.{Kinds.writes_register, Rules.refused, Rules.is_legal}
 use Rattle.smt_model.specs.Fates.{stage, fate, is_of, op_at, completion, completed_by}
@@ -41,6 +41,7 @@ named-stage setup past (Issue actor n) ok s some = grind arith
 named-stage setup past (Complete actor n outcome) ok s some = grind arith
 named-stage setup past (Drop actor n) ok s some = grind arith
 named-stage setup past (Retire actor n effect) ok s some = grind arith
+named-stage setup past (Refetch actor n) ok s some = grind arith
 
 completed-stage : (setup : Setup) (past : List Event) → is_legal setup past → (e : Event)
     → refused setup past e ≡ None → (s : ℕ)
@@ -53,6 +54,7 @@ completed-stage setup past legal (Complete actor n outcome) ok s some =
     let was = complete_was setup past (sound setup past legal) actor n outcome ok in grind (arith, nat_tests)
 completed-stage setup past legal (Drop actor n) ok s some = grind arith
 completed-stage setup past legal (Retire actor n effect) ok s some = grind arith
+completed-stage setup past legal (Refetch actor n) ok s some = grind arith
 
 resulting-stage : (setup : Setup) (past : List Event) → is_legal setup past → (e : Event)
     → refused setup past e ≡ None → (s : ℕ)
@@ -68,6 +70,7 @@ resulting-stage setup past legal (Retire actor n effect) ok s some =
     let was = retire_was setup past actor n effect ok in
     let as_told = stage-retired_as effect in
     grind (arith, nat_tests)
+resulting-stage setup past legal (Refetch actor n) ok s some = grind arith
 
 none_or_some : {A : Type 0} → (o : Option A) → (o ≡ None) ⊎ (is_some o ≡ true)
 none_or_some None = inl refl
@@ -144,6 +147,7 @@ operand-kept setup past (Issue actor n) ok which s late =
 operand-kept setup past (Complete actor n outcome) ok which s late = refl
 operand-kept setup past (Drop actor n) ok which s late = refl
 operand-kept setup past (Retire actor n effect) ok which s late = refl
+operand-kept setup past (Refetch actor n) ok which s late = refl
 
 -- ---- Those that were given a register
 
@@ -159,6 +163,7 @@ given-stage setup past (Issue actor n) ok s some = grind arith
 given-stage setup past (Complete actor n outcome) ok s some = grind arith
 given-stage setup past (Drop actor n) ok s some = grind arith
 given-stage setup past (Retire actor n effect) ok s some = grind arith
+given-stage setup past (Refetch actor n) ok s some = grind arith
 
 -- All of them were renamed.
 pub named-renamed : (setup : Setup) (past : List Event) → is_legal setup past → (s : ℕ) → member s (namings past) ≡ true
@@ -185,6 +190,7 @@ given_is (Issue actor n) s = refl
 given_is (Complete actor n outcome) s = refl
 given_is (Drop actor n) s = refl
 given_is (Retire actor n effect) s = refl
+given_is (Refetch actor n) s = refl
 
 only_now : (now before : Option (Option ℕ)) → is_some now ≡ true → option_inner (or_else now before) ≡ option_inner now
 only_now None before some = absurd (grind arith)
@@ -236,6 +242,7 @@ named-matched setup past (Issue actor n) ok s some = grind arith
 named-matched setup past (Complete actor n outcome) ok s some = grind arith
 named-matched setup past (Drop actor n) ok s some = grind arith
 named-matched setup past (Retire actor n effect) ok s some = grind arith
+named-matched setup past (Refetch actor n) ok s some = grind arith
 
 -- What passes from rename on is named.
 passes-named : (setup : Setup) (past : List Event) → is_legal setup past → (e : Event)
@@ -257,6 +264,7 @@ passes-named setup past legal (Retire actor n effect) ok s three seven none =
     let was = retire_was setup past actor n effect ok in
     let as_told = stage-retired_as effect in
     grind (arith, nat_tests)
+passes-named setup past legal (Refetch actor n) ok s three seven none = grind (arith, nat_tests)
 
 some_false : {A : Type 0} → (o : Option A) → o ≡ None → is_some o ≡ false
 some_false o none = rw none refl
@@ -321,6 +329,7 @@ in_range setup (Issue actor n ∷ past) legal s p named = in_range setup past le
 in_range setup (Complete actor n outcome ∷ past) legal s p named = in_range setup past legal.1 s p named
 in_range setup (Drop actor n ∷ past) legal s p named = in_range setup past legal.1 s p named
 in_range setup (Retire actor n effect ∷ past) legal s p named = in_range setup past legal.1 s p named
+in_range setup (Refetch actor n ∷ past) legal s p named = in_range setup past legal.1 s p named
 
 -- ---- Of one hart's that aren't squashed, the newest is the youngest
 
@@ -401,6 +410,8 @@ namings-fall setup (Drop actor n ∷ past) legal h =
     fall-next setup past legal.1 (Drop actor n) legal.0 h (namings-fall setup past legal.1 h)
 namings-fall setup (Retire actor n effect ∷ past) legal h =
     fall-next setup past legal.1 (Retire actor n effect) legal.0 h (namings-fall setup past legal.1 h)
+namings-fall setup (Refetch actor n ∷ past) legal h =
+    fall-next setup past legal.1 (Refetch actor n) legal.0 h (namings-fall setup past legal.1 h)
 
 -- ---- The newest that passes a test
 

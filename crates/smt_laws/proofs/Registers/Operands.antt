@@ -4,7 +4,7 @@ use Rattle.std.proofs.Common.{◌∙◌, refl, sym, ap, subst, inl, inr, arith}
 use Rattle.std.proofs.{lemmas.Bool.cases_Bool, lemmas.Bool.cases_eq, lemmas.Bool.Decides.nat_tests}
 use Rattle.rv_instr.specs.{Decode.op_of_word, declared.op.Op.Op}
 use Rattle.events.specs.declared.event.Event.{Event}
-use Rattle.events.specs.declared.event.Event.TheVariants.{Fetch, Decode, Rename, Issue, Complete, Drop, Retire}
+use Rattle.events.specs.declared.event.Event.TheVariants.{Fetch, Decode, Rename, Issue, Complete, Drop, Retire, Refetch}
 use Rattle.smt_model.specs.{Setup.Setup, Kinds.first_source, Kinds.second_source, Rules.refused, Rules.is_legal}
 use Rattle.smt_model.specs.Fates.{Fetched, stage, fate, is_in_flight, is_of, op_of_fetched, fetching}
 use Rattle.smt_model.specs.Registers.{reading, reading_by, reads, operand}
@@ -16,7 +16,7 @@ use Rattle.smt_model.proofs.Registers.Claims.{IsRegister}
 use Rattle.smt_laws.proofs.Registers.Below.{first_source-below, second_source-below}
 use Rattle.smt_laws.proofs.Registers.Reading.{value-stays}
 use Rattle.smt_model.proofs.Fates.Sound.{sound, moved, issued-Fetch, issued-Decode, issued-Rename, issued-Issue}
-use Rattle.smt_model.proofs.Fates.Sound.{issued-Complete, issued-Drop, issued-Retire}
+use Rattle.smt_model.proofs.Fates.Sound.{issued-Complete, issued-Drop, issued-Retire, issued-Refetch}
 
 -- A source, such as the first: x0 or none, or x1 to x31.
 abbrev pub IsSourceName : (Op → ℕ) → Type 0
@@ -165,6 +165,9 @@ ready setup (Drop actor n ∷ past) legal which names at_issue s four five =
 ready setup (Retire actor n effect ∷ past) legal which names at_issue s four five =
     ready-next setup past legal.1 (Retire actor n effect) legal.0 which names s four five
     (issued-Retire setup past (sound setup past legal.1) actor n effect legal.0 s)
+    (ready setup past legal.1 which names at_issue s)
+ready setup (Refetch actor n ∷ past) legal which names at_issue s four five =
+    ready-next setup past legal.1 (Refetch actor n) legal.0 which names s four five (issued-Refetch past actor n s)
     (ready setup past legal.1 which names at_issue s)
 
 -- The law, of either source.

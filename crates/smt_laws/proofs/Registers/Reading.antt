@@ -6,7 +6,7 @@ use Rattle.std.proofs.Common.{◌∙◌, refl, sym, ap, inl, inr, arith}
 use Rattle.std.proofs.{lemmas.Bool.cases_Bool, lemmas.Bool.cases_eq, lemmas.Bool.Decides.nat_tests}
 use Rattle.rv_instr.specs.declared.op.Op.{Op}
 use Rattle.events.specs.{declared.effect.Outcome.Outcome, declared.effect.Effect.Effect, declared.event.Event.Event}
-use Rattle.events.specs.declared.event.Event.TheVariants.{Fetch, Decode, Rename, Issue, Complete, Drop, Retire}
+use Rattle.events.specs.declared.event.Event.TheVariants.{Fetch, Decode, Rename, Issue, Complete, Drop, Retire, Refetch}
 use Rattle.smt_model.specs.{Basics.holds_of, Basics.or_zero, Basics.same_number, Setup.Setup, Exec.Computed}
 use Rattle.smt_model.specs.{Nexts.is_last, Outcomes.outcome_of, Outcomes.outcome_by, Effects.effect_of}
 use Rattle.smt_model.specs.{Effects.effect_by, Bytes.read, Reservations.holds_word, Memory.byte_at, Memory.reserved}
@@ -196,6 +196,7 @@ result-stays setup past legal (Retire actor n effect) ok h w s of_w of_s older w
           ∙ retire-value setup past legal actor n effect ok plain v (rw here said))
       | inr other ↦ resulting-Retire past actor n w effect (grind (arith, nat_tests)) ∙ said
     ]
+result-stays setup past legal (Refetch actor n) ok h w s of_w of_s older was still v said = said
 
 value_by-stays : (setup : Setup) (past : List Event) → is_legal setup past → (e : Event) → refused setup past e ≡ None
     → (h r s : ℕ)

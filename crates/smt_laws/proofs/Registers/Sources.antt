@@ -4,7 +4,7 @@ use Rattle.std.specs.Prelude.{Some, None}
 use Rattle.std.proofs.Common.{◌∙◌, refl, ap, inl, inr, arith}
 use Rattle.std.proofs.{lemmas.Bool.cases_lt, lemmas.Bool.false_from_ne_true, lemmas.Bool.Decides.nat_tests}
 use Rattle.events.specs.declared.event.Event.{Event}
-use Rattle.events.specs.declared.event.Event.TheVariants.{Fetch, Decode, Rename, Issue, Complete, Drop, Retire}
+use Rattle.events.specs.declared.event.Event.TheVariants.{Fetch, Decode, Rename, Issue, Complete, Drop, Retire, Refetch}
 use Rattle.smt_model.specs.{Basics.holds_of, Setup.Setup, Kinds.destination, Rules.refused, Rules.is_legal}
 use Rattle.smt_model.specs.Fates.{Fetched, Retired, stage, fate, is, is_in_flight, stands, is_of, fetching}
 use Rattle.smt_model.specs.Fates.{op_of_fetched}
@@ -109,6 +109,11 @@ upto-stays setup past legal (Complete actor n outcome) ok h r s b bound of_s was
 upto-stays setup past legal (Drop actor n) ok h r s b bound of_s was still = refl
 upto-stays setup past legal (Retire actor n effect) ok h r s b bound of_s was still =
     let e = Retire actor n effect in
+    newest-same (λ x. nat_lt x b && (writes (e ∷ past) h r x && stands (fate (e ∷ past) x)))
+    (λ x. nat_lt x b && (writes past h r x && stands (fate past x))) past
+    (test-stays setup past legal e ok h r s b bound of_s was still)
+upto-stays setup past legal (Refetch actor n) ok h r s b bound of_s was still =
+    let e = Refetch actor n in
     newest-same (λ x. nat_lt x b && (writes (e ∷ past) h r x && stands (fate (e ∷ past) x)))
     (λ x. nat_lt x b && (writes past h r x && stands (fate past x))) past
     (test-stays setup past legal e ok h r s b bound of_s was still)

@@ -1,11 +1,11 @@
 -- A source stays what it was while its reader is in flight, and is committed or an older one in flight.
-use Rattle.std.specs.Prelude.{◌≡◌, ◌≢◌, ℕ, ◌<◌, ◌≤◌, Bool, true, false, ◌&&◌, ◌||◌, nat_lt, List, ◌∷◌, Option, Some}
-use Rattle.std.specs.Prelude.{None}
+use Rattle.std.specs.Prelude.{◌≡◌, ◌≢◌, ℕ, ◌<◌, ◌≤◌, Bool, true, false, ◌&&◌, ◌||◌, nat_lt, nat_le, List, ◌∷◌, Option}
+use Rattle.std.specs.Prelude.{Some, None}
 use Rattle.std.proofs.Common.{◌∙◌, refl, sym, ap, inl, inr, arith}
 use Rattle.std.proofs.{lemmas.Bool.cases_eq, lemmas.Bool.cases_lt, lemmas.Bool.false_from_ne_true}
 use Rattle.std.proofs.{lemmas.Bool.Decides.nat_tests}
 use Rattle.events.specs.{declared.effect.Effect.Effect, declared.event.Event.Event}
-use Rattle.events.specs.declared.event.Event.TheVariants.{Fetch, Decode, Rename, Issue, Complete, Drop, Retire}
+use Rattle.events.specs.declared.event.Event.TheVariants.{Fetch, Decode, Rename, Issue, Complete, Drop, Retire, Refetch}
 use Rattle.smt_model.specs.{Basics.holds_of, Setup.Setup, Nexts.is_last, Rules.refused, Rules.is_legal}
 use Rattle.smt_model.specs.Fates.{stage, fate, is_live, is_in_flight, stands, fate_by, squashes, mispredicts}
 use Rattle.smt_model.specs.Fates.{squashes_at_retirement, same_hart, is_of, is_replayed, fetching}
@@ -33,6 +33,10 @@ under_squash : (squashes_it same_s same_x : Bool) (n x s : ℕ) → same_x ≡ s
     → (squashes_it && (nat_lt n x && same_x)) ≡ false
 under_squash squashes_it same_s same_x n x s same under spared = grind (arith, nat_tests)
 
+under_refetch : (same_s same_x : Bool) (n x s : ℕ) → same_x ≡ same_s → x ≤ s → (nat_le n s && same_s) ≡ false
+    → (nat_le n x && same_x) ≡ false
+under_refetch same_s same_x n x s same under spared = grind (arith, nat_tests)
+
 pub older_spared : (e : Event) (past : List Event) (h x s : ℕ) → is_of past h x ≡ true → is_of past h s ≡ true → x ≤ s
     → squashes e past s ≡ false → squashes e past x ≡ false
 older_spared (Fetch actor hart n pc word predicted) past h x s of_x of_s under spared = refl
@@ -46,8 +50,11 @@ older_spared (Drop actor n) past h x s of_x of_s under spared = refl
 older_spared (Retire actor n effect) past h x s of_x of_s under spared =
     under_squash (squashes_at_retirement past n effect) (same_hart past n s) (same_hart past n x) n x s
     (same_hart-moves past h n x s of_x of_s) under spared
+older_spared (Refetch actor n) past h x s of_x of_s under spared =
+    under_refetch (same_hart past n s) (same_hart past n x) n x s (same_hart-moves past h n x s of_x of_s) under spared
 
--- An event doesn't squash its own instruction.
+-- An event says nothing of what it squashes: a completion and a retirement spare their own instruction, and a refetch,
+-- which doesn't, says nothing of it.
 own_spared : (e : Event) (past : List Event) (s : ℕ) → squashes e past s ≡ true → fate_by e s ≡ None
 own_spared (Fetch actor hart n pc word predicted) past s cut = absurd (grind arith)
 own_spared (Decode actor n) past s cut = absurd (grind arith)
@@ -56,6 +63,7 @@ own_spared (Issue actor n) past s cut = absurd (grind arith)
 own_spared (Complete actor n outcome) past s cut = grind (arith, nat_tests)
 own_spared (Drop actor n) past s cut = refl
 own_spared (Retire actor n effect) past s cut = grind (arith, nat_tests)
+own_spared (Refetch actor n) past s cut = refl
 
 -- Who lives on was spared.
 pub spared : (e : Event) (past : List Event) (s : ℕ) → is_live (fate past s) ≡ true → stage (fate (e ∷ past) s) ≢ 8
@@ -118,6 +126,8 @@ stands-told setup past legal (Retire actor n effect) ok h x s of_x of_s under ke
           let tells : fate_by (Retire actor n effect) x ≡ None = grind (arith, nat_tests) in
           ap stands (fate-kept (Retire actor n effect) past x tells keeps_x)
     ]
+stands-told setup past legal (Refetch actor n) ok h x s of_x of_s under keeps keeps_x late =
+    ap stands (fate-kept (Refetch actor n) past x refl keeps_x)
 
 -- While s is in flight, those of its hart up to it that were renamed stand as they stood.
 pub stands-stay : (setup : Setup) (past : List Event) → is_legal setup past → (e : Event) → refused setup past e ≡ None

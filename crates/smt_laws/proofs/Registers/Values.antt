@@ -6,7 +6,7 @@ use Rattle.events.specs.{declared.effect.Next.Next, declared.effect.Next.TheVari
 use Rattle.events.specs.{declared.effect.Next.TheVariants.Ended, declared.effect.Next.TheVariants.Stopped}
 use Rattle.events.specs.{declared.effect.Outcome.Outcome, declared.effect.Effect.Effect}
 use Rattle.events.specs.{declared.effect.Written.Written, declared.event.Event.Event}
-use Rattle.events.specs.declared.event.Event.TheVariants.{Fetch, Decode, Rename, Issue, Complete, Drop, Retire}
+use Rattle.events.specs.declared.event.Event.TheVariants.{Fetch, Decode, Rename, Issue, Complete, Drop, Retire, Refetch}
 use Rattle.smt_model.specs.{Basics.or_else, Basics.or_zero, Setup.Setup, Kinds.first_source, Kinds.second_source}
 use Rattle.smt_model.specs.{Faults.computed_on, Outcomes.outcome_of, Looks.first_look}
 use Rattle.smt_model.specs.Fates.{Fetched, stage, fate, op_of_fetched, fetching, completion}
@@ -169,6 +169,7 @@ completes setup past legal (Issue actor n) ok s now quiet = grind (arith, nat_te
 completes setup past legal (Complete actor n outcome) ok s now quiet = grind (arith, nat_tests)
 completes setup past legal (Drop actor n) ok s now quiet = grind (arith, nat_tests)
 completes setup past legal (Retire actor n effect) ok s now quiet = grind (arith, nat_tests)
+completes setup past legal (Refetch actor n) ok s now quiet = grind (arith, nat_tests)
 
 -- The law: a completed instruction said what the rules compute.
 pub completed-is : (setup : Setup) (past : List Event) → is_legal setup past → (s : ℕ) → stage (fate past s) ≡ 5
@@ -209,3 +210,6 @@ completed-is setup (Retire actor n effect ∷ past) legal s now =
     let was = completes setup past legal.1 (Retire actor n effect) legal.0 s now quiet in
     completed-kept setup past legal.1 (Retire actor n effect) legal.0 s was quiet
     (completed-is setup past legal.1 s was)
+completed-is setup (Refetch actor n ∷ past) legal s now =
+    let was = completes setup past legal.1 (Refetch actor n) legal.0 s now refl in
+    completed-kept setup past legal.1 (Refetch actor n) legal.0 s was refl (completed-is setup past legal.1 s was)

@@ -4,17 +4,18 @@ use Rattle.std.specs.Prelude.{None, is_some}
 use Rattle.std.specs.List.{list_all}
 use Rattle.std.proofs.Common.{◌∙◌, refl, sym, ap, subst, inl, inr, arith}
 use Rattle.std.proofs.{lemmas.Bool.cases_eq, lemmas.Bool.cases_lt, lemmas.Bool.Decides.nat_tests}
-use Rattle.elf_image.specs.Image.{code_word}
+use Rattle.elf_image.specs.Image.{word_now}
 use Rattle.events.specs.{declared.effect.Outcome.Outcome, declared.effect.Effect.Effect, declared.event.Event.Event}
-use Rattle.events.specs.declared.event.Event.TheVariants.{Fetch, Decode, Rename, Issue, Complete, Drop, Retire}
-use Rattle.smt_model.specs.{Basics.first, Setup.Setup, Kinds.writes_register, Registers.is_ready}
+use Rattle.events.specs.declared.event.Event.TheVariants.{Fetch, Decode, Rename, Issue, Complete, Drop, Retire, Refetch}
+use Rattle.smt_model.specs.{Basics.first, Basics.holds_of, Setup.Setup, Kinds.writes_register, Registers.is_ready}
+use Rattle.smt_model.specs.{Memory.byte_at}
 use Rattle.smt_model.specs.{Fetching.choice, Fetching.fetch_pc, Flights.in_decode, Flights.in_rename}
 use Rattle.smt_model.specs.{Flights.flight, Flights.queue, Flights.all_numbers}
-use Rattle.smt_model.specs.Fates.{fate, fetching, is, is_of, op_at, stage, Renamed}
-use Rattle.smt_model.specs.Rules.{refused, is_allowed, is_legal, is_for, outcome_now, effect_now}
+use Rattle.smt_model.specs.Fates.{Fetched, fate, fetching, is, is_of, op_at, stage, Renamed}
+use Rattle.smt_model.specs.Rules.{refused, is_allowed, is_legal, is_for, is_fresh, outcome_now, effect_now}
 use Rattle.smt_model.specs.Asks.{Ask, AskFetch, AskDecode, AskRename, AskIssue, AskComplete, AskRetire, answers}
 use Rattle.smt_model.proofs.Allowed.{fetch_allowed, decode_allowed, rename_allowed, issue_allowed}
-use Rattle.smt_model.proofs.Allowed.{retire_allowed}
+use Rattle.smt_model.proofs.Allowed.{retire_allowed, refetch_allowed}
 use Rattle.smt_model.proofs.Fates.Moves.{same_number-is, fetch_number, issue_was, complete_was, drop_was, retire_was}
 use Rattle.smt_model.proofs.Fates.Moves.{complete_lent, drop_lent}
 use Rattle.smt_model.proofs.{Lists.member, Lists.filter-member, Fates.Numbers.first_of_hart, Fates.Numbers.known_below}
@@ -38,6 +39,7 @@ is_fetch past k (Issue actor n) answered P go = absurd (grind arith)
 is_fetch past k (Complete actor n outcome) answered P go = absurd (grind arith)
 is_fetch past k (Drop actor n) answered P go = absurd (grind arith)
 is_fetch past k (Retire actor n effect) answered P go = absurd (grind arith)
+is_fetch past k (Refetch actor n) answered P go = absurd (grind arith)
 
 pub is_decode : (past : List Event) (k h : ℕ) (e : Event) → answers (AskDecode k h) past e ≡ true → (P : Event → Type 0)
     → ((n : ℕ) → is_of past h n ≡ true → P (Decode k n))
@@ -51,6 +53,7 @@ is_decode past k h (Issue actor n) answered P go = absurd (grind arith)
 is_decode past k h (Complete actor n outcome) answered P go = absurd (grind arith)
 is_decode past k h (Drop actor n) answered P go = absurd (grind arith)
 is_decode past k h (Retire actor n effect) answered P go = absurd (grind arith)
+is_decode past k h (Refetch actor n) answered P go = absurd (grind arith)
 
 pub is_rename : (past : List Event) (k h : ℕ) (e : Event) → answers (AskRename k h) past e ≡ true → (P : Event → Type 0)
     → ((n : ℕ) (register : Option ℕ) → is_of past h n ≡ true → P (Rename k n register))
@@ -64,6 +67,7 @@ is_rename past k h (Issue actor n) answered P go = absurd (grind arith)
 is_rename past k h (Complete actor n outcome) answered P go = absurd (grind arith)
 is_rename past k h (Drop actor n) answered P go = absurd (grind arith)
 is_rename past k h (Retire actor n effect) answered P go = absurd (grind arith)
+is_rename past k h (Refetch actor n) answered P go = absurd (grind arith)
 
 pub is_issue : (past : List Event) (k : ℕ) (e : Event) → answers (AskIssue k) past e ≡ true → (P : Event → Type 0)
     → ((n : ℕ) → P (Issue k n))
@@ -77,6 +81,7 @@ is_issue past k (Issue actor n) answered P go =
 is_issue past k (Complete actor n outcome) answered P go = absurd (grind arith)
 is_issue past k (Drop actor n) answered P go = absurd (grind arith)
 is_issue past k (Retire actor n effect) answered P go = absurd (grind arith)
+is_issue past k (Refetch actor n) answered P go = absurd (grind arith)
 
 pub is_complete : (past : List Event) (k : ℕ) (e : Event) → answers (AskComplete k) past e ≡ true → (P : Event → Type 0)
     → ((n : ℕ) (outcome : Outcome) → P (Complete k n outcome))
@@ -93,19 +98,24 @@ is_complete past k (Drop actor n) answered P go0 go1 =
     let same : actor ≡ k = grind (arith, nat_tests) in
     subst (λ a. P (Drop a n)) (sym same) (go1 n)
 is_complete past k (Retire actor n effect) answered P go0 go1 = absurd (grind arith)
+is_complete past k (Refetch actor n) answered P go0 go1 = absurd (grind arith)
 
 pub is_retire : (past : List Event) (k h : ℕ) (e : Event) → answers (AskRetire k h) past e ≡ true → (P : Event → Type 0)
     → ((n : ℕ) (effect : Effect) → is_of past h n ≡ true → P (Retire k n effect))
+    → ((n : ℕ) → is_of past h n ≡ true → P (Refetch k n))
     → P e
-is_retire past k h (Fetch actor hart n pc word predicted) answered P go = absurd (grind arith)
-is_retire past k h (Decode actor n) answered P go = absurd (grind arith)
-is_retire past k h (Rename actor n register) answered P go = absurd (grind arith)
-is_retire past k h (Issue actor n) answered P go = absurd (grind arith)
-is_retire past k h (Complete actor n outcome) answered P go = absurd (grind arith)
-is_retire past k h (Drop actor n) answered P go = absurd (grind arith)
-is_retire past k h (Retire actor n effect) answered P go =
+is_retire past k h (Fetch actor hart n pc word predicted) answered P go0 go1 = absurd (grind arith)
+is_retire past k h (Decode actor n) answered P go0 go1 = absurd (grind arith)
+is_retire past k h (Rename actor n register) answered P go0 go1 = absurd (grind arith)
+is_retire past k h (Issue actor n) answered P go0 go1 = absurd (grind arith)
+is_retire past k h (Complete actor n outcome) answered P go0 go1 = absurd (grind arith)
+is_retire past k h (Drop actor n) answered P go0 go1 = absurd (grind arith)
+is_retire past k h (Retire actor n effect) answered P go0 go1 =
     let same : actor ≡ k = grind (arith, nat_tests) in
-    subst (λ a. P (Retire a n effect)) (sym same) (go n effect (grind arith))
+    subst (λ a. P (Retire a n effect)) (sym same) (go0 n effect (grind arith))
+is_retire past k h (Refetch actor n) answered P go0 go1 =
+    let same : actor ≡ k = grind (arith, nat_tests) in
+    subst (λ a. P (Refetch a n)) (sym same) (go1 n (grind arith))
 
 -- ---- Each kind
 
@@ -129,8 +139,9 @@ fetch-one setup predict past k h n pc word predicted g m at found guess ok says 
     let two_pc : at ≡ fetch_pc setup past g = let is = two.pc_is in grind (arith, nat_tests) in
     let pcs : pc ≡ at = one_pc ∙ (ap (fetch_pc setup past) hart ∙ sym two_pc) in
     let words : word ≡ found =
-    same_number-is word (code_word setup.image pc) one.word_is
-    ∙ (ap (code_word setup.image) pcs ∙ sym (same_number-is found (code_word setup.image at) two.word_is)) in
+    same_number-is word (word_now setup.image (byte_at setup past) pc) one.word_is
+    ∙ (ap (word_now setup.image (byte_at setup past)) pcs
+    ∙ sym (same_number-is found (word_now setup.image (byte_at setup past) at) two.word_is)) in
     let guesses : predicted ≡ guess =
     says ∙ (ap (λ z. predict z pc word) hart ∙ (ap (λ z. predict g z word) pcs ∙ (ap (predict g at) words
     ∙ sym too))) in
@@ -273,6 +284,31 @@ retire-one setup past legal k h m n a b of_m of_n ok also =
     ap (λ z. Retire k z a) number
     ∙ ap (Retire k n) (one ∙ (ap (λ z. effect_now setup past z at.fetch) number ∙ sym two))
 
+refetch-one : (setup : Setup) (past : List Event) (k h m n : ℕ) → is_of past h m ≡ true → is_of past h n ≡ true
+    → refused setup past (Refetch k m) ≡ None → refused setup past (Refetch k n) ≡ None → Refetch k m ≡ Refetch k n
+refetch-one setup past k h m n of_m of_n ok also =
+    ap (Refetch k) (same_first (flight past h) m n
+    (first_of_hart past (flight past) h m of_m (refetch_allowed setup past k m ok).oldest)
+    (first_of_hart past (flight past) h n of_n (refetch_allowed setup past k n also).oldest))
+
+not_one_and_other : (test : Fetched → Bool) (o : Option Fetched) → holds_of test o ≡ true
+    → holds_of (λ f. not (test f)) o ≡ true → ⊥
+not_one_and_other test None one other = absurd (grind arith)
+not_one_and_other test (Some f) one other = absurd (grind arith)
+
+-- One is not both fresh and stale.
+never_both_words : (setup : Setup) (past : List Event) (k h m n : ℕ) (a : Effect)
+    → is_of past h m ≡ true → is_of past h n ≡ true
+    → refused setup past (Retire k m a) ≡ None → refused setup past (Refetch k n) ≡ None → ⊥
+never_both_words setup past k h m n a of_m of_n ok also =
+    let one = retire_allowed setup past k m a ok in
+    let two = refetch_allowed setup past k n also in
+    let number : m ≡ n =
+    same_first (flight past h) m n (first_of_hart past (flight past) h m of_m one.oldest)
+    (first_of_hart past (flight past) h n of_n two.oldest) in
+    not_one_and_other (is_fresh setup past) (fetching past n)
+    (ap (λ z. holds_of (is_fresh setup past) (fetching past z)) (sym number) ∙ one.fresh) two.stale
+
 -- ---- Every ask
 
 abbrev AreOne : Setup → Predictor → List Event → Event → Event → Type 0
@@ -309,9 +345,13 @@ answered-one setup predict past legal (AskComplete k) one two a b =
     (λ n p ok says also too. absurd (never_both setup past legal k n m p also ok))
     (λ n ok says also too. drop-one setup past k m n ok also))
 answered-one setup predict past legal (AskRetire k h) one two a b =
-    is_retire past k h one a (λ e. AreOne setup predict past e two) (λ m x of_m.
-    is_retire past k h two b (λ e. AreOne setup predict past (Retire k m x) e) (λ n y of_n ok says also too.
-    retire-one setup past legal k h m n x y of_m of_n ok also))
+    is_retire past k h one a (λ e. AreOne setup predict past e two)
+    (λ m x of_m. is_retire past k h two b (λ e. AreOne setup predict past (Retire k m x) e)
+    (λ n y of_n ok says also too. retire-one setup past legal k h m n x y of_m of_n ok also)
+    (λ n of_n ok says also too. absurd (never_both_words setup past k h m n x of_m of_n ok also)))
+    (λ m of_m. is_retire past k h two b (λ e. AreOne setup predict past (Refetch k m) e)
+    (λ n y of_n ok says also too. absurd (never_both_words setup past k h n m y of_n of_m also ok))
+    (λ n of_n ok says also too. refetch-one setup past k h m n of_m of_n ok also))
 
 pub asks_have_one_answer : AsksHaveOneAnswer
 asks_have_one_answer setup predict past legal ask one two ok a says also b too =

@@ -1,12 +1,12 @@
 -- Six events an instruction are the least. What the events have done beyond the retired instructions is the stages of
--- those on their way: each event takes one instruction one stage on.
+-- those on their way: each event takes one instruction at most one stage on.
 use Rattle.std.specs.Prelude.{◌≡◌, ◌≢◌, ℕ, suc, ◌+◌, ◌*◌, ◌≤◌, Bool, true, false, ◌==◌, nat_le, if◌then◌else◌, List, []}
 use Rattle.std.specs.Prelude.{◌∷◌, ◌++◌, length, map, Option, Some, None}
 use Rattle.std.proofs.Common.{refl, sym, ap, subst, inl, inr, arith}
 use Rattle.std.proofs.{lemmas.Bool.cases_Bool, lemmas.Bool.cases_eq, lemmas.Bool.Decides.nat_tests}
 use Rattle.std.proofs.{lemmas.List.append-nil}
 use Rattle.events.specs.{declared.effect.Effect.Effect, declared.effect.Record.Record, declared.event.Event.Event}
-use Rattle.events.specs.declared.event.Event.TheVariants.{Fetch, Decode, Rename, Issue, Complete, Drop, Retire}
+use Rattle.events.specs.declared.event.Event.TheVariants.{Fetch, Decode, Rename, Issue, Complete, Drop, Retire, Refetch}
 use Rattle.smt_model.specs.{Basics.total, Setup.Setup, Account.order, Account.records, Account.record_of}
 use Rattle.smt_model.specs.{Rules.refused, Rules.is_legal, Flights.all_numbers}
 use Rattle.smt_model.specs.Fates.{Fate, Fetched, fate, fate_by, fetching, is_live, squashed_fate, squashes, stage}
@@ -176,6 +176,10 @@ covers setup (Complete actor n o ∷ past) legal =
     (covers setup past legal.1)
 covers setup (Drop actor n ∷ past) legal =
     covers-on past (Drop actor n) (append-nil (all_numbers past)) refl (omega arith) (covers setup past legal.1)
+covers setup (Refetch actor n ∷ past) legal =
+    let most = total-most (λ s. way (stage (fate past s))) (λ s. way (stage (fate (Refetch actor n ∷ past) s)))
+    (all_numbers past) (λ s m. other-most past (Refetch actor n) s refl) in
+    covers-on past (Refetch actor n) (append-nil (all_numbers past)) refl (omega arith) (covers setup past legal.1)
 covers setup (Retire actor n x ∷ past) legal =
     let before = covers setup past legal.1 in
     let step = stepped-Retire setup past legal.1 actor n x legal.0 in

@@ -77,15 +77,15 @@ total-fewer f g n (x ∷ xs) inside fewer most =
 
 -- ---- Sums over two lists
 
-total-none : (xs : List ℕ) → total (λ x. 0) xs ≡ 0
+pub total-none : (xs : List ℕ) → total (λ x. 0) xs ≡ 0
 total-none [] = refl
 total-none (x ∷ xs) = let rest = total-none xs in omega arith
 
-total-plus : (f g : ℕ → ℕ) (xs : List ℕ) → total (λ x. f x + g x) xs ≡ total f xs + total g xs
+pub total-plus : (f g : ℕ → ℕ) (xs : List ℕ) → total (λ x. f x + g x) xs ≡ total f xs + total g xs
 total-plus f g [] = refl
 total-plus f g (x ∷ xs) = let rest = total-plus f g xs in omega arith
 
-abbrev one_if : Bool → ℕ
+abbrev pub one_if : Bool → ℕ
 one_if b = if b then 1 else 0
 
 how_many-cons : (test : ℕ → Bool) (x : ℕ) (xs : List ℕ) → how_many test (x ∷ xs) ≡ one_if (test x) + how_many test xs
@@ -95,7 +95,7 @@ how_many-cons test x xs = elim (cases_Bool (test x)) [
 ]
 
 -- A number stands once at most in a list that rises.
-found-once : (v : ℕ) (ps : List ℕ) → Rises ps → total (λ p. one_if (v == p)) ps ≤ 1
+pub found-once : (v : ℕ) (ps : List ℕ) → Rises ps → total (λ p. one_if (v == p)) ps ≤ 1
 found-once v [] rises = omega arith
 found-once v (p ∷ ps) rises =
     elim (cases_eq v p) [

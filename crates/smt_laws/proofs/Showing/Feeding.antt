@@ -1,26 +1,28 @@
 -- A fetch between turns: of the harts that go the one with the least count is fetched, so that one with an empty latch
 -- comes before any other.
-use Rattle.std.specs.Prelude.{◌≡◌, ℕ, suc, ◌<◌, ◌≤◌, Bool, true, false, not, ◌==◌}
+use Rattle.std.specs.Prelude.{◌≡◌, ◌≢◌, ℕ, suc, ◌<◌, ◌≤◌, Bool, true, false, not, ◌==◌}
 use Rattle.std.specs.Prelude.{nat_lt, if◌then◌else◌, List, [], ◌∷◌, ◌++◌, length, Option, Some, None, is_some}
 use Rattle.std.specs.List.{filter}
 use Rattle.std.proofs.Common.{◌∙◌, refl, sym, ap, subst, inl, inr, arith}
 use Rattle.std.proofs.{lemmas.Bool.cases_Bool, lemmas.Bool.cases_eq}
 use Rattle.std.proofs.{lemmas.Bool.Decides.nat_tests}
 use Rattle.numbers.specs.Sizes.{latch_room}
-use Rattle.elf_image.specs.Image.{code_word}
+use Rattle.elf_image.specs.Image.{word_now}
 use Rattle.events.specs.{declared.event.Event.Event, declared.event.Event.TheVariants.Fetch}
 use Rattle.smt_model.specs.Basics.{below, first_least, least_from, same_number}
 use Rattle.smt_model.specs.{Setup.Setup, Flights.in_decode, Flights.icount, Flights.numbers, Memory.is_going}
+use Rattle.smt_model.specs.{Memory.byte_at, Fates.Fetched, Fates.fetching}
 use Rattle.smt_model.specs.Fetching.{is_after, turn, may_fetch, last_fetched, choice, fetch_pc}
-use Rattle.smt_model.specs.{Asks.Ask, Asks.AskFetch, Jobs.is_actor, Rules.refused}
-use Rattle.smt_model.specs.Fates.{Fate, fate, fetches, is, is_counted, next_fate, stage, InDecode, Squashed}
-use Rattle.smt_model.proofs.Lists.{member, member-append, filter-member, filter-same}
+use Rattle.smt_model.specs.{Asks.Ask, Asks.AskFetch, Jobs.is_actor, Rules.refused, Rules.is_legal}
+use Rattle.smt_model.specs.Fates.{Fate, fate, fetches, is, is_of, is_counted, next_fate, stage, InDecode, Squashed}
+use Rattle.smt_model.proofs.Lists.{member, member-append, member-filter, filter-member, filter-same}
 use Rattle.smt_model.proofs.{Allowed.fetch_allows, Allowed.fetch_allowed, Fates.Moves.same_number-self}
 use Rattle.smt_model.proofs.{Fates.Moves.same_number-is, Registers.Claims.below-member}
+use Rattle.smt_model.proofs.Fates.Numbers.{known, known_below, numbers-of}
 use Rattle.smt_laws.proofs.Fates.Choosing.{chosen}
 use Rattle.smt_laws.proofs.Steps.Fetch.{steps-Fetch}
 use Rattle.smt_laws.specs.Shown.{Predictor}
-use Rattle.smt_laws.proofs.Done.{some_one}
+use Rattle.smt_laws.proofs.Done.{some_one, is_of_own}
 use Rattle.smt_laws.proofs.Showing.{Answering.is_fetch, Replies.refused_one, Replies.answered, Replies.unanswered}
 use Rattle.smt_laws.proofs.Showing.Turns.{IsSoFar, is_aside, IsRested, NoJobs}
 
@@ -98,24 +100,33 @@ empty_list (x ∷ xs) none = absurd (omega arith)
 
 -- ---- What the fetch leaves
 
--- The history after the ask. Latches only grow, and all harts go that went. Where a hart that goes had an empty latch,
--- one such hart has an instruction now.
-pub record IsFilled (setup : Setup) (past now : List Event) : Type 0 where
-  pub one : ℕ
+-- Where a hart that goes had an empty latch, one such hart has an instruction now.
+pub record IsFilled (setup : Setup) (past now : List Event) (one : ℕ) : Type 0 where
   pub there : one < setup.harts
   pub going : is_going past one ≡ true
   pub empty : in_decode past one ≡ []
   pub filled : 1 ≤ length (in_decode now one)
 
+-- What is in the latch of hart h has the word that memory has at its pc now.
+abbrev pub IsFreshLatch : Setup → List Event → ℕ → Type 0
+IsFreshLatch setup now h = (n : ℕ) (f : Fetched) → member n (in_decode now h) ≡ true → fetching now n ≡ Some f
+    → f.word ≡ word_now setup.image (byte_at setup now) f.pc
+
+-- The history after the ask. The latch of one hart grows, and by one at most; all harts go that went.
 pub record IsFed (setup : Setup) (predict : Predictor) (asks : List Ask) (harts : List ℕ) (past : List Event) (most : ℕ)
     : Type 0 where
   pub now : List Event
   pub so : IsSoFar setup predict (AskFetch 0 ∷ asks) harts now most
   pub rested : IsRested now
   pub jobs : NoJobs now
+  pub one : ℕ
+  pub more : length (in_decode now one) ≤ suc (length (in_decode past one))
+  pub others : (g : ℕ) → g ≢ one → in_decode now g ≡ in_decode past g
   pub grows : (g : ℕ) → length (in_decode past g) ≤ length (in_decode now g)
   pub going : (g : ℕ) → is_going now g ≡ is_going past g
-  pub fills : (h : ℕ) → h < setup.harts → is_going past h ≡ true → in_decode past h ≡ [] → IsFilled setup past now
+  pub fills : (h : ℕ) → h < setup.harts → is_going past h ≡ true → in_decode past h ≡ [] → IsFilled setup past now one
+  pub kept : (s : ℕ) (f : Fetched) → fetching past s ≡ Some f → fetching now s ≡ Some f
+  pub fresh : (h : ℕ) → IsFreshLatch setup past h → IsFreshLatch setup now h
 
 -- None is chosen.
 none_chosen : (setup : Setup) (past : List Event) → choice setup past ≡ None → (k h n pc : ℕ) (word : Option ℕ)
@@ -124,6 +135,10 @@ none_chosen setup past none k h n pc word predicted ok =
     let some =
     same_number-is (choice setup past) (Some h) (fetch_allowed setup past k h n pc word predicted ok).chosen in
     absurd (grind arith)
+
+pub nothing_stale : (setup : Setup) (past : List Event) (h : ℕ) → in_decode past h ≡ [] → IsFreshLatch setup past h
+nothing_stale setup past h empty n f m at =
+    let none : member n [] ≡ true = subst (λ xs. member n xs ≡ true) empty m in absurd (grind arith)
 
 fed-None : (setup : Setup) (predict : Predictor) (asks : List Ask) (harts : List ℕ) (past : List Event) (most : ℕ)
     → IsSoFar setup predict asks harts past most → IsRested past → NoJobs past → choice setup past ≡ None
@@ -145,6 +160,9 @@ fed-None setup predict asks harts past most so rested jobs none =
       };
       rested = rested;
       jobs = jobs;
+      one = 0;
+      more = omega arith;
+      others = λ g apart. refl;
       grows = λ g. omega arith;
       going = λ g. refl;
       fills = λ h there going empty.
@@ -152,6 +170,8 @@ fed-None setup predict asks harts past most so rested jobs none =
           let pick = choice-some setup past h there going (omega arith) in
           let some = pick.found in
           absurd (grind arith);
+      kept = λ s f at. at;
+      fresh = λ h was. was;
     }
 
 fetched_aside : (told : Bool) (old : Fate) → is_aside (stage old) ≡ true
@@ -165,12 +185,42 @@ fetched_aside false old aside = aside
 self_equal : (n : ℕ) → (n == n) ≡ true
 self_equal n = grind (arith, nat_tests)
 
-length-more : (ys : List ℕ) (n : ℕ) → length ys < length (ys ++ n ∷ [])
-length-more [] n = omega arith
-length-more (y ∷ ys) n = let rest = length-more ys n in omega arith
+length-more : (ys : List ℕ) (n : ℕ) → length (ys ++ n ∷ []) ≡ suc (length ys)
+length-more [] n = refl
+length-more (y ∷ ys) n = ap suc (length-more ys n)
 
-longer : (xs ys : List ℕ) (n : ℕ) → xs ≡ ys ++ n ∷ [] → length ys < length xs
-longer xs ys n same = subst (λ z. length ys < length z) (sym same) (length-more ys n)
+longer : (xs ys : List ℕ) (n : ℕ) → xs ≡ ys ++ n ∷ [] → length xs ≡ suc (length ys)
+longer xs ys n same = ap length same ∙ length-more ys n
+
+-- What is fetched has a number of its own.
+new_number : (setup : Setup) (past : List Event) → is_legal setup past → (h s : ℕ) → is_of past h s ≡ true
+    → (fetches past == s) ≡ false
+new_number setup past legal h s of_s =
+    let under = known_below setup past legal s (known setup past legal h s of_s) in
+    grind (arith, nat_tests)
+
+latched : (setup : Setup) (past : List Event) → is_legal setup past → (h s : ℕ)
+    → member s (in_decode past h) ≡ true → is_of past h s ≡ true
+latched setup past legal h s m =
+    numbers-of setup past legal h s (member-filter (λ z. is (fate past z) InDecode) s (numbers past h) m).0
+
+-- What was just fetched has the word that memory has now.
+fetched_fresh : (setup : Setup) (past : List Event) (actor g n pc : ℕ) (word : Option ℕ) (predicted : ℕ)
+    → refused setup past (Fetch actor g n pc word predicted) ≡ None
+    → in_decode (Fetch actor g n pc word predicted ∷ past) g ≡ in_decode past g ++ n ∷ []
+    → IsFreshLatch setup past g → IsFreshLatch setup (Fetch actor g n pc word predicted ∷ past) g
+fetched_fresh setup past actor g n pc word predicted ok grown was s f m at =
+    let mine : Fetched = record { hart = g; pc = pc; word = word; predicted = predicted } in
+    elim (cases_Bool (n == s)) [
+      | inl here ↦
+          subst (λ z. z.word ≡ word_now setup.image (byte_at setup past) z.pc) (some_one mine f (rw here at at))
+          (same_number-is word (word_now setup.image (byte_at setup past) pc)
+          (fetch_allowed setup past actor g n pc word predicted ok).word_is)
+      | inr apart ↦
+          let inside : member s (in_decode past g ++ n ∷ []) ≡ true = subst (λ xs. member s xs ≡ true) grown m in
+          let parts = member-append s (in_decode past g) (n ∷ []) in
+          was s f (grind (arith, nat_tests)) (rw apart at at)
+    ]
 
 fed-Some : (setup : Setup) (predict : Predictor) (asks : List Ask) (harts : List ℕ) (past : List Event) (most : ℕ)
     → IsSoFar setup predict asks harts past most → IsRested past → NoJobs past → is_actor setup 0 ≡ true
@@ -179,7 +229,7 @@ fed-Some setup predict asks harts past most so rested jobs is_one g found =
     let who = chosen setup past g found in
     let n = fetches past in
     let pc = fetch_pc setup past g in
-    let word = code_word setup.image pc in
+    let word = word_now setup.image (byte_at setup past) pc in
     let e = Fetch 0 g n pc word (predict g pc word) in
     let ok : refused setup past e ≡ None =
     fetch_allows setup past 0 g n pc word (predict g pc word) (record {
@@ -190,13 +240,16 @@ fed-Some setup predict asks harts past most so rested jobs is_one g found =
       word_is = same_number-self word;
     }) in
     let step = steps-Fetch setup past so.legal 0 g n pc word (predict g pc word) ok in
-    let more : length (in_decode past g) < length (in_decode (e ∷ past) g) =
+    let more : length (in_decode (e ∷ past) g) ≡ suc (length (in_decode past g)) =
     longer (in_decode (e ∷ past) g) (in_decode past g) n step.in_decode in
     record {
       now = e ∷ past;
       so = answered setup predict asks harts harts past most so (AskFetch 0) e ok refl refl so.in_order;
       rested = λ s. fetched_aside (n == s) (fate past s) (rested s);
       jobs = jobs;
+      one = g;
+      more = omega arith;
+      others = λ x apart. (step.stays.others x apart).in_decode;
       grows = λ x. elim (cases_eq x g) [
         | inl here ↦ subst (λ z. length (in_decode past z) ≤ length (in_decode (e ∷ past) z)) (sym here) (omega arith)
         | inr apart ↦
@@ -212,12 +265,23 @@ fed-Some setup predict asks harts past most so rested jobs is_one g found =
           let count_h = icount-rested past rested h in
           let count_g = icount-rested past rested g in
           record {
-            one = g;
             there = who.there;
             going = who.going;
             empty = empty_list (in_decode past g) (omega arith);
             filled = omega arith;
           };
+      kept = λ s f at. rw (new_number setup past so.legal f.hart s (is_of_own past s f at)) at;
+      fresh = λ h was. elim (cases_eq h g) [
+        | inl here ↦
+            subst (IsFreshLatch setup (e ∷ past)) (sym here)
+            (fetched_fresh setup past 0 g n pc word (predict g pc word) ok step.in_decode
+            (subst (IsFreshLatch setup past) here was))
+        | inr apart ↦ λ s f m at.
+            let there : member s (in_decode past h) ≡ true =
+            subst (λ xs. member s xs ≡ true) (step.stays.others h apart).in_decode m in
+            let older = new_number setup past so.legal h s (latched setup past so.legal h s there) in
+            was s f there (rw older at at)
+      ];
     }
 
 fed_by : (setup : Setup) (predict : Predictor) (asks : List Ask) (harts : List ℕ) (past : List Event) (most : ℕ)

@@ -11,16 +11,20 @@ use Rattle.events.specs.{declared.effect.Outcome.Outcome, declared.effect.Effect
 use Rattle.events.specs.{declared.effect.Next.Next, declared.effect.Next.TheVariants.Pc}
 use Rattle.events.specs.{declared.effect.Next.TheVariants.Ended, declared.effect.Next.TheVariants.Stopped}
 use Rattle.events.specs.{declared.effect.Written.Written}
-use Rattle.events.specs.declared.event.Event.TheVariants.{Issue, Complete, Retire}
-use Rattle.smt_model.specs.Basics.{holds_of, same_number}
+use Rattle.events.specs.declared.event.Event.TheVariants.{Issue, Complete, Retire, Refetch}
+use Rattle.smt_model.specs.Basics.{first, holds_of, same_number}
 use Rattle.smt_model.specs.Comparisons.{same_next, same_write, same_outcome, same_effect}
 use Rattle.smt_model.specs.{Setup.Setup, Jobs.is_actor, Jobs.unit_of_actor, Jobs.job}
 use Rattle.smt_model.specs.{Account.order, Account.record_of, Account.records, Flights.flight}
+use Rattle.smt_model.specs.{Flights.in_decode, Flights.numbers}
 use Rattle.smt_model.specs.{Registers.is_ready}
-use Rattle.smt_model.specs.Rules.{refused, is_legal, is_for, outcome_now, effect_now}
-use Rattle.smt_model.specs.Fates.{Fetched, fate, fetching, is_in_flight, op_at, stage}
-use Rattle.smt_model.proofs.Allowed.{issue_allows, complete_allows, retire_allows}
+use Rattle.smt_model.specs.Rules.{refused, is_legal, is_for, is_fresh, outcome_now, effect_now}
+use Rattle.smt_model.specs.Fates.{Fate, Fetched, fate, fetching, is, is_in_flight, is_live, is_of, op_at, stage}
+use Rattle.smt_model.specs.Fates.{InDecode}
+use Rattle.smt_model.proofs.Allowed.{issue_allows, complete_allows, retire_allows, refetch_allows}
 use Rattle.smt_model.proofs.Fates.Moves.{same_number-self, stage-retired_as}
+use Rattle.smt_model.proofs.{Lists.filter-none, Lists.first-none}
+use Rattle.smt_laws.proofs.{Fates.Once.refetched, Live.live-Refetch}
 use Rattle.smt_laws.proofs.Showing.{Units.HasUnitFor}
 use Rattle.smt_laws.proofs.Showing.Turns.{NoJobs, IsAlone}
 use Rattle.smt_laws.proofs.Showing.Places.{place-one, flies_not_aside, queue-one, ready-alone}
@@ -139,9 +143,9 @@ same_effect-self x =
     rw (same_number-self x.value, same_next-self x.next, same_write-self x.write, same_number-self x.out) refl
 
 pub retire-ok : (setup : Setup) (past : List Event) → is_legal setup past → (k h n : ℕ) → is_actor setup k ≡ true
-    → IsAlone past h n 5 → (f : Fetched) → fetching past n ≡ Some f
+    → IsAlone past h n 5 → (f : Fetched) → fetching past n ≡ Some f → is_fresh setup past f ≡ true
     → refused setup past (Retire k n (effect_now setup past n f)) ≡ None
-retire-ok setup past legal k h n is_one alone f at =
+retire-ok setup past legal k h n is_one alone f at is_so =
     let x = effect_now setup past n f in
     let stands = alone.stands in
     let flies : is_in_flight (fate past n) ≡ true = grind (arith, nat_tests) in
@@ -151,6 +155,7 @@ retire-ok setup past legal k h n is_one alone f at =
       oldest = oldest_test past (flight past) h n [] alone.of_hart
           (place-one setup past legal is_in_flight flies_not_aside h n 5 alone flies);
       effect_is = ap (holds_of (λ g. same_effect x (effect_now setup past n g))) at ∙ same_effect-self x;
+      fresh = ap (holds_of (is_fresh setup past)) at ∙ is_so;
     })
 
 pub stage-Retire : (past : List Event) (k n : ℕ) (x : Effect) → stage (fate past n) ≡ 5
@@ -161,3 +166,24 @@ pub order-Retire : (past : List Event) (k h n : ℕ) (x : Effect) (f : Fetched) 
     → order (Retire k n x ∷ past) ≡ h ∷ order past
 order-Retire past k h n x f at same =
     ap (λ o. map (λ r. r.hart) (record_of o x ++ records past)) at ∙ ap (λ z. z ∷ order past) same
+
+-- ---- A refetch
+
+pub refetch-ok : (setup : Setup) (past : List Event) → is_legal setup past → (k h n : ℕ) → is_actor setup k ≡ true
+    → IsAlone past h n 5 → (f : Fetched) → fetching past n ≡ Some f → is_fresh setup past f ≡ false
+    → refused setup past (Refetch k n) ≡ None
+refetch-ok setup past legal k h n is_one alone f at is_so =
+    let stands = alone.stands in
+    let flies : is_in_flight (fate past n) ≡ true = grind (arith, nat_tests) in
+    refetch_allows setup past k n (record {
+      actor_is = is_one;
+      fated = grind (arith, nat_tests);
+      oldest = oldest_test past (flight past) h n [] alone.of_hart
+          (place-one setup past legal is_in_flight flies_not_aside h n 5 alone flies);
+      stale = ap (holds_of (λ g. not (is_fresh setup past g))) at ∙ ap not is_so;
+    })
+
+-- It squashes its own instruction.
+pub stage-Refetch : (setup : Setup) (past : List Event) → is_legal setup past → (k n : ℕ)
+    → refused setup past (Refetch k n) ≡ None → 6 ≤ stage (fate (Refetch k n ∷ past) n)
+stage-Refetch setup past legal k n ok = let gone = refetched setup past legal k n ok in omega arith

@@ -7,13 +7,15 @@ use Rattle.std.proofs.Common.{◌∙◌, refl, sym, ap, subst, inl, inr, arith}
 use Rattle.std.proofs.{lemmas.Bool.cases_Bool, lemmas.Bool.cases_eq, lemmas.Bool.Decides.nat_tests}
 use Rattle.std.proofs.{lemmas.List.append-nil}
 use Rattle.events.specs.{declared.effect.Outcome.Outcome, declared.effect.Effect.Effect, declared.event.Event.Event}
-use Rattle.events.specs.declared.event.Event.TheVariants.{Decode, Rename, Issue, Complete, Retire}
-use Rattle.smt_model.specs.{Setup.Setup, Flights.numbers, Flights.added, Flights.in_decode, Memory.is_going}
+use Rattle.events.specs.declared.event.Event.TheVariants.{Decode, Rename, Issue, Complete, Retire, Refetch}
+use Rattle.smt_model.specs.{Basics.first, Setup.Setup, Flights.numbers, Flights.added, Flights.in_decode}
+use Rattle.smt_model.specs.{Memory.is_going}
 use Rattle.smt_model.specs.{Rules.is_legal, Account.order, Jobs.job, Asks.Ask}
 use Rattle.smt_model.specs.Fates.{Fate, Unknown, InDecode, InRename, Renamed, Issued, Completed, Retired, Halted}
-use Rattle.smt_model.specs.Fates.{Squashed, fate, fate_by, is, is_of, is_live, stage, squashes, squashed_fate}
+use Rattle.smt_model.specs.Fates.{Squashed, fate, fate_by, fetching, is, is_of, is_live, stage, squashes, squashed_fate}
 use Rattle.smt_model.specs.Fates.{same_hart, mispredicts, squashes_at_retirement}
-use Rattle.smt_model.proofs.{Lists.filter-same, Fates.Moves.fate-kept, Fates.Numbers.same_hart-at}
+use Rattle.smt_model.proofs.{Lists.filter-same, Lists.filter-none, Lists.first-none, Fates.Moves.fate-kept}
+use Rattle.smt_model.proofs.{Fates.Numbers.same_hart-at}
 use Rattle.smt_model.proofs.Fates.Numbers.{is_of-is, is_of-one, numbers-of}
 use Rattle.smt_laws.specs.{Shown.Predictor, Shown.AreDecided, Scripts.HasReplied}
 
@@ -124,6 +126,19 @@ event-Retire past actor h n x of_n = record {
   going = λ g other. rw (of_no_other past h g n of_n other) refl;
 }
 
+and_false : (a b : Bool) → b ≡ false → (a && b) ≡ false
+and_false a b none = grind arith
+
+pub event-Refetch : (past : List Event) (actor h n : ℕ) → is_of past h n ≡ true
+    → IsEventOf past (Refetch actor n) h n
+event-Refetch past actor h n of_n = record {
+  tells = λ s other. refl;
+  spares = λ s other. and_false (nat_le n s) (same_hart past n s) (same_hart-at past h n s of_n ∙ other);
+  adds = λ g. refl;
+  same = λ g s. refl;
+  going = λ g other. refl;
+}
+
 -- ---- What it leaves
 
 -- A squash changes none that isn't on its way, and puts the others aside.
@@ -189,7 +204,7 @@ rested-next past e h n at alone by gone s =
 
 -- ---- The latches of the other harts
 
-latch-other : (setup : Setup) (past : List Event) → is_legal setup past → (e : Event) (h n : ℕ)
+pub latch-other : (setup : Setup) (past : List Event) → is_legal setup past → (e : Event) (h n : ℕ)
     → is_of past h n ≡ true → IsEventOf past e h n → (g : ℕ) → g ≢ h → in_decode (e ∷ past) g ≡ in_decode past g
 latch-other setup past legal e h n of_n by g apart =
     ap (λ ys. filter (λ s. is (fate (e ∷ past) s) InDecode) (numbers past g ++ ys)) (by.adds g)
@@ -207,3 +222,49 @@ pub others-wait : (setup : Setup) (past : List Event) → is_legal setup past �
 others-wait setup past legal e h n of_n by wait g there apart going =
     subst (λ xs. 1 ≤ length xs) (sym (latch-other setup past legal e h n of_n by g apart))
     (wait g there apart (sym (by.going g apart) ∙ going))
+
+-- ---- What a turn of hart h leaves of the others
+
+-- The latches of the others are what they were, and they go as before. In its own is nothing now, if there was one.
+pub record KeepsLatches (from now : List Event) (h : ℕ) : Type 0 where
+  pub others : (g : ℕ) → g ≢ h → in_decode now g ≡ in_decode from g
+  pub own : length (in_decode from h) ≤ 1 → in_decode now h ≡ []
+  pub going : (g : ℕ) → g ≢ h → is_going now g ≡ is_going from g
+  pub fetched : (s : ℕ) → fetching now s ≡ fetching from s
+
+waits_no_more : (f : Fate) → 2 ≤ stage f → is f InDecode ≡ false
+waits_no_more f beyond = grind (arith, nat_tests)
+
+never_waits : (squashed : Bool) (old : Fate) → is old InDecode ≡ false
+    → is (if squashed then squashed_fate old else old) InDecode ≡ false
+never_waits false old not_there = not_there
+never_waits true old not_there = elim (cases_Bool (is_live old)) [
+  | inl lives ↦ rw lives refl
+  | inr gone ↦ rw gone not_there
+]
+
+latch-none : (past : List Event) (e : Event) (h n : ℕ) → IsEventOf past e h n → 2 ≤ stage (fate (e ∷ past) n)
+    → in_decode past h ≡ [] → in_decode (e ∷ past) h ≡ []
+latch-none past e h n by beyond empty =
+    let test : ℕ → Bool = λ s. is (fate (e ∷ past) s) InDecode in
+    ap (λ ys. filter test (numbers past h ++ ys)) (by.adds h)
+    ∙ (ap (filter test) (append-nil (numbers past h))
+    ∙ filter-none test (numbers past h) (λ s m. elim (cases_eq s n) [
+      | inl here ↦
+          subst (λ z. is (fate (e ∷ past) z) InDecode ≡ false) (sym here)
+          (waits_no_more (fate (e ∷ past) n) beyond)
+      | inr other ↦
+          ap (λ f. is f InDecode) (fate-other past e s (by.tells s other))
+          ∙ never_waits (squashes e past s) (fate past s)
+          (first-none (λ z. is (fate past z) InDecode) (numbers past h) (ap first empty) s m)
+    ]))
+
+pub latches-next : (setup : Setup) (from past : List Event) → is_legal setup past → (e : Event) (h n : ℕ)
+    → is_of past h n ≡ true → IsEventOf past e h n → ((s : ℕ) → fetching (e ∷ past) s ≡ fetching past s)
+    → 2 ≤ stage (fate (e ∷ past) n) → KeepsLatches from past h → KeepsLatches from (e ∷ past) h
+latches-next setup from past legal e h n of_n by same beyond keeps = record {
+  others = λ g apart. latch-other setup past legal e h n of_n by g apart ∙ keeps.others g apart;
+  own = λ few. latch-none past e h n by beyond (keeps.own few);
+  going = λ g apart. by.going g apart ∙ keeps.going g apart;
+  fetched = λ s. same s ∙ keeps.fetched s;
+}

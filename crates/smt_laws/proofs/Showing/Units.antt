@@ -5,7 +5,7 @@ use Rattle.std.proofs.Common.{sym, subst, inl, inr, arith}
 use Rattle.std.proofs.{lemmas.Bool.cases_eq, lemmas.Bool.Decides.nat_tests}
 use Rattle.rv_instr.specs.{Registers.op_unit, Registers.same_unit, declared.op.Op.Op}
 use Rattle.events.specs.{declared.effect.Effect.Effect, declared.effect.Record.Record, declared.event.Event.Event}
-use Rattle.events.specs.declared.event.Event.TheVariants.{Fetch, Decode, Rename, Issue, Complete, Drop, Retire}
+use Rattle.events.specs.declared.event.Event.TheVariants.{Fetch, Decode, Rename, Issue, Complete, Drop, Retire, Refetch}
 use Rattle.smt_model.specs.{Basics.holds_of, Setup.Setup, Jobs.unit_of_actor, Account.records, Account.record_of}
 use Rattle.smt_model.specs.{Rules.refused, Rules.is_legal, Fates.Fetched, Fates.fetching, Fates.op_at}
 use Rattle.smt_model.specs.Fates.{op_of_fetched, stage, fate}
@@ -13,7 +13,7 @@ use Rattle.smt_model.proofs.{Allowed.issue_allowed, Fates.Sound.sound, Fates.Sou
 use Rattle.smt_model.proofs.Fates.Numbers.{op_at-kept}
 use Rattle.smt_model.proofs.Fates.Moves.{moves, retire_was}
 use Rattle.smt_model.proofs.Fates.Sound.{issued-Fetch, issued-Decode, issued-Rename, issued-Complete, issued-Drop}
-use Rattle.smt_model.proofs.Fates.Sound.{issued-Retire}
+use Rattle.smt_model.proofs.Fates.Sound.{issued-Retire, issued-Refetch}
 use Rattle.smt_laws.specs.Shown.{HasUnit, NeedsItsUnits}
 
 -- An actor is a unit that executes this instruction.
@@ -73,6 +73,9 @@ has_units setup (Drop actor n ∷ past) legal s four seven =
 has_units setup (Retire actor n x ∷ past) legal s four seven =
     unit-kept setup past legal.1 (Retire actor n x) legal.0 (has_units setup past legal.1) s
     (issued-Retire setup past (sound setup past legal.1) actor n x legal.0 s) four seven
+has_units setup (Refetch actor n ∷ past) legal s four seven =
+    unit-kept setup past legal.1 (Refetch actor n) legal.0 (has_units setup past legal.1) s
+    (issued-Refetch past actor n s) four seven
 
 -- ---- Its record
 
@@ -89,6 +92,7 @@ needs_its_units setup (Rename actor n register ∷ past) legal = needs_its_units
 needs_its_units setup (Issue actor n ∷ past) legal = needs_its_units setup past legal.1
 needs_its_units setup (Complete actor n o ∷ past) legal = needs_its_units setup past legal.1
 needs_its_units setup (Drop actor n ∷ past) legal = needs_its_units setup past legal.1
+needs_its_units setup (Refetch actor n ∷ past) legal = needs_its_units setup past legal.1
 needs_its_units setup (Retire actor n x ∷ past) legal =
     let at = retire_was setup past actor n x legal.0 in
     recorded setup (fetching past n) x (records past)

@@ -44,7 +44,7 @@ list-Decode : (past : List Event) (actor n h : ℕ) (test : Fate → Bool)
     ≡ filter (λ s. test (fate (Decode actor n ∷ past) s)) (numbers past h)
 list-Decode past actor n h test = ap (filter (λ s. test (fate (Decode actor n ∷ past) s))) (append-nil (numbers past h))
 
-leaves-Decode : (setup : Setup) (past : List Event) → is_legal setup past → (actor n : ℕ)
+pub leaves-Decode : (setup : Setup) (past : List Event) → is_legal setup past → (actor n : ℕ)
     → refused setup past (Decode actor n) ≡ None → (h : ℕ)
     → is_of past h n ≡ true → in_decode past h ≡ n ∷ in_decode (Decode actor n ∷ past) h
 leaves-Decode setup past legal actor n ok h of_n =

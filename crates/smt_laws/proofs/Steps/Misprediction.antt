@@ -115,7 +115,7 @@ squashing-Complete setup past legal actor n o ok mispredicted_next h of_n = reco
   of_hart = of_n;
   flew = ap is_in_flight (was-Complete setup past legal actor n o ok);
   late = subst (λ f. 5 ≤ stage f) (sym (now-Complete setup past legal actor n o ok)) (omega arith);
-  squashes_it = λ s. ap (λ b. b && (nat_lt n s && same_hart past n s)) mispredicted_next
+  squashes_it = λ s other. ap (λ b. b && (nat_lt n s && same_hart past n s)) mispredicted_next
       ∙ ap (λ b. nat_lt n s && b) (same_hart-at past h n s of_n);
   adds_none = λ g. refl;
   adds_no_number = refl;

@@ -17,8 +17,8 @@ use Rattle.smt_model.specs.Flights.{in_decode, in_rename, flight, icount}
 use Rattle.smt_laws.proofs.{Events.Freeing.is_flying, Events.Freeing.true_false, Registers.Below.first_source-below}
 use Rattle.smt_laws.proofs.{Registers.Below.second_source-below, Registers.Operands.IsSourceName}
 use Rattle.smt_laws.proofs.{Events.Filling.reads-woken, Events.Mapping.mapped-is, Steps.Misprediction.at_own}
-use Rattle.smt_laws.proofs.{Steps.Misprediction.at_other, Staying.another, Steps.EndHalts.not_read}
-use Rattle.smt_laws.proofs.Steps.EndHalts.{squashing-Retire, flight-emptied}
+use Rattle.smt_laws.proofs.{Steps.Misprediction.at_other, Staying.another, Events.Emptying.not_read}
+use Rattle.smt_laws.proofs.Events.Emptying.{squashing-Retire, emptying-Retire, flight-emptied}
 use Rattle.std.specs.List.{list_any}
 use Rattle.numbers.specs.Sizes.{most_registers}
 use Rattle.smt_model.specs.Steps.{IsSameHart, IsRetire, IsReplay, WakesReadings, up_to, beyond, youngest, has_register}
@@ -79,7 +79,7 @@ own_map setup past legal actor n x ok going h squashing of_n r low =
     let e = Retire actor n x in
     mapped-is setup (e ∷ past) (ok, legal) h r low
     ∙ (ap (λ xs. youngest (picture setup (e ∷ past)) r xs (committed (e ∷ past) h r))
-    (flight-emptied setup past legal actor n x ok h squashing of_n)
+    (flight-emptied setup past legal e ok h (emptying-Retire setup past actor n x ok h squashing))
     ∙ (committed-Retire setup past legal actor n x ok going h r low of_n
     ∙ ap (λ xs. youngest (picture setup past) r xs (committed past h r))
     (sym (only_one setup past legal actor n x ok h of_n))))
@@ -154,7 +154,8 @@ retires_then : (setup : Setup) (past : List Event) → is_legal setup past → r
 retires_then setup past legal fit actor n x ok squashes_now going h of_n =
     let e = Retire actor n x in
     let squashing = squashing-Retire setup past legal actor n x ok squashes_now h of_n in
-    let emptied_too = flight-emptied setup past legal actor n x ok h squashing of_n in
+    let emptied_too =
+    flight-emptied setup past legal e ok h (emptying-Retire setup past actor n x ok h squashing) in
     record {
       of_hart = of_n;
       fits = fits setup past legal actor n x ok;

@@ -27,7 +27,7 @@ use Rattle.smt_laws.proofs.Steps.RetireCommits.{WasInFlight, FliesOn}
 use Rattle.smt_laws.proofs.Events.Squash.{IsSquashing, squash_young, squash_other, icount-squash}
 use Rattle.smt_laws.proofs.Events.SquashedRegisters.{flew_before as flew_back, are_own, in_the_flight, flight-rises}
 use Rattle.smt_laws.proofs.Events.SquashedRegisters.{flight-owns, any-some, any-one, below_true}
-use Rattle.smt_laws.proofs.Steps.EndHalts.{first_and_rest, others_empty, dead_flying, flight_had}
+use Rattle.smt_laws.proofs.Events.Emptying.{first_and_rest, others_empty, dead_flying, flight_had}
 
 -- The younger ones of its hart are squashed, and it is still there.
 abbrev pub replay_middle : Setup → List Event → ℕ → ℕ → Picture
@@ -170,10 +170,9 @@ pub only_one : (setup : Setup) (past : List Event) → is_legal setup past → (
     → (ok : refused setup past (Retire actor n x) ≡ None) → (h : ℕ) → is_of past h n ≡ true
     → up_to n (flight past h) ≡ n ∷ []
 only_one setup past legal actor n x ok h of_n =
-    let split = first_and_rest (flight past h) n (flight-rises setup past legal h)
-    (first_of_hart past (flight past) h n of_n (retire_allowed setup past actor n x ok).oldest) in
-    ap (up_to n) split
-    ∙ up_to_first n (filter (λ s. not (s == n)) (flight past h)) (others_empty setup past legal actor n x ok h of_n)
+    let front = first_of_hart past (flight past) h n of_n (retire_allowed setup past actor n x ok).oldest in
+    ap (up_to n) (first_and_rest (flight past h) n (flight-rises setup past legal h) front)
+    ∙ up_to_first n (filter (λ s. not (s == n)) (flight past h)) (others_empty setup past legal h n front)
 
 pub waiting_one : (setup : Setup) (past : List Event) → is_legal setup past → (actor n : ℕ) (x : Effect)
     → (ok : refused setup past (Retire actor n x) ≡ None) → (h : ℕ) → IsSquashing past (Retire actor n x) h

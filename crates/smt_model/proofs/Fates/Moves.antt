@@ -4,12 +4,12 @@ use Rattle.std.specs.Prelude.{Some, None}
 use Rattle.std.proofs.Common.{refl, inl, inr, arith}
 use Rattle.std.proofs.{lemmas.Bool.cases_Bool, lemmas.Bool.Decides.nat_tests}
 use Rattle.events.specs.{declared.effect.Outcome.Outcome, declared.effect.Effect.Effect, declared.event.Event.Event}
-use Rattle.events.specs.declared.event.Event.TheVariants.{Fetch, Decode, Rename, Issue, Complete, Drop, Retire}
+use Rattle.events.specs.declared.event.Event.TheVariants.{Fetch, Decode, Rename, Issue, Complete, Drop, Retire, Refetch}
 use Rattle.smt_model.specs.{Basics.same_number, Setup.Setup, Nexts.is_last, Rules.refused, Jobs.job, Jobs.is_actor}
 use Rattle.smt_model.specs.Fates.{Fate, Unknown, InDecode, InRename, Renamed, Issued, Completed, Retired, Halted}
 use Rattle.smt_model.specs.Fates.{Squashed, stage, is, fetches, fate, fate_by, squashes, retired_as}
 use Rattle.smt_model.proofs.Allowed.{fetch_allowed, decode_allowed, rename_allowed, issue_allowed, complete_allowed}
-use Rattle.smt_model.proofs.Allowed.{drop_allowed, retire_allowed}
+use Rattle.smt_model.proofs.Allowed.{drop_allowed, retire_allowed, refetch_allowed}
 
 -- ---- Fates and their stages
 
@@ -125,6 +125,11 @@ pub retire_was : (setup : Setup) (past : List Event) (actor seq : ℕ) (effect :
 retire_was setup past actor seq effect ok =
     stage_of (fate past seq) Completed (retire_allowed setup past actor seq effect ok).fated
 
+pub refetch_was : (setup : Setup) (past : List Event) (actor seq : ℕ) → refused setup past (Refetch actor seq) ≡ None
+    → stage (fate past seq) ≡ 5
+refetch_was setup past actor seq ok =
+    stage_of (fate past seq) Completed (refetch_allowed setup past actor seq ok).fated
+
 -- ---- The eight steps
 
 -- From stage a to stage b: nowhere, one on as far as retired, from completed to halted, or squashed where live.
@@ -179,6 +184,10 @@ pub moved-Retire : (setup : Setup) (past : List Event) (actor seq : ℕ) (effect
 moved-Retire setup past actor seq effect ok s =
     let was = retire_was setup past actor seq effect ok in grind (arith, nat_tests)
 
+pub moved-Refetch : (past : List Event) (actor seq s : ℕ)
+    → moves (stage (fate past s)) (stage (fate (Refetch actor seq ∷ past) s)) ≡ true
+moved-Refetch past actor seq s = grind (arith, nat_tests)
+
 pub moved_if_sound : (setup : Setup) (past : List Event) → IsSound setup past → (e : Event)
     → refused setup past e ≡ None → (s : ℕ)
     → moves (stage (fate past s)) (stage (fate (e ∷ past) s)) ≡ true
@@ -191,3 +200,4 @@ moved_if_sound setup past sound (Complete actor seq outcome) ok s =
     moved-Complete setup past sound actor seq outcome ok s
 moved_if_sound setup past sound (Drop actor seq) ok s = moved-Drop past actor seq s
 moved_if_sound setup past sound (Retire actor seq effect) ok s = moved-Retire setup past actor seq effect ok s
+moved_if_sound setup past sound (Refetch actor seq) ok s = moved-Refetch past actor seq s

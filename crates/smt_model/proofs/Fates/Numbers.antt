@@ -4,7 +4,7 @@ use Rattle.std.proofs.Common.{◌∙◌, refl, sym, ap, inl, inr, arith}
 use Rattle.std.proofs.{lemmas.Bool.cases_Bool, lemmas.Bool.cases_eq, lemmas.Bool.cases_lt}
 use Rattle.std.proofs.{lemmas.Bool.Decides.nat_tests, lemmas.List.append-nil}
 use Rattle.events.specs.declared.event.Event.{Event}
-use Rattle.events.specs.declared.event.Event.TheVariants.{Fetch, Decode, Rename, Issue, Complete, Drop, Retire}
+use Rattle.events.specs.declared.event.Event.TheVariants.{Fetch, Decode, Rename, Issue, Complete, Drop, Retire, Refetch}
 use Rattle.smt_model.specs.{Basics.holds_of, Basics.first, Setup.Setup, Flights.numbers, Flights.added}
 use Rattle.smt_model.specs.{Flights.all_numbers}
 use Rattle.smt_model.specs.Fates.{stage, fetches, Fetched, fetching, is_of, op_at, op_of_fetched, same_hart, fate}
@@ -80,6 +80,7 @@ fetching-none setup (Issue actor seq ∷ past) legal s above = fetching-none set
 fetching-none setup (Complete actor seq outcome ∷ past) legal s above = fetching-none setup past legal.1 s above
 fetching-none setup (Drop actor seq ∷ past) legal s above = fetching-none setup past legal.1 s above
 fetching-none setup (Retire actor seq effect ∷ past) legal s above = fetching-none setup past legal.1 s above
+fetching-none setup (Refetch actor seq ∷ past) legal s above = fetching-none setup past legal.1 s above
 
 pub fetching-some : (setup : Setup) (past : List Event) → is_legal setup past → (s : ℕ) → s < fetches past
     → is_some (fetching past s) ≡ true
@@ -93,6 +94,7 @@ fetching-some setup (Issue actor seq ∷ past) legal s under = fetching-some set
 fetching-some setup (Complete actor seq outcome ∷ past) legal s under = fetching-some setup past legal.1 s under
 fetching-some setup (Drop actor seq ∷ past) legal s under = fetching-some setup past legal.1 s under
 fetching-some setup (Retire actor seq effect ∷ past) legal s under = fetching-some setup past legal.1 s under
+fetching-some setup (Refetch actor seq ∷ past) legal s under = fetching-some setup past legal.1 s under
 
 pub is_of-below : (setup : Setup) (past : List Event) → is_legal setup past → (h s : ℕ) → is_of past h s ≡ true
     → s < fetches past
@@ -155,6 +157,8 @@ below_known setup (Drop actor seq ∷ past) legal s under =
     known-kept setup past legal.1 (Drop actor seq) legal.0 s (below_known setup past legal.1 s under)
 below_known setup (Retire actor seq effect ∷ past) legal s under =
     known-kept setup past legal.1 (Retire actor seq effect) legal.0 s (below_known setup past legal.1 s under)
+below_known setup (Refetch actor seq ∷ past) legal s under =
+    known-kept setup past legal.1 (Refetch actor seq) legal.0 s (below_known setup past legal.1 s under)
 
 pub known : (setup : Setup) (past : List Event) → is_legal setup past → (h s : ℕ) → is_of past h s ≡ true
     → 1 ≤ stage (fate past s)
@@ -180,6 +184,7 @@ fetching-kept setup past legal (Issue actor seq) ok s under = refl
 fetching-kept setup past legal (Complete actor seq outcome) ok s under = refl
 fetching-kept setup past legal (Drop actor seq) ok s under = refl
 fetching-kept setup past legal (Retire actor seq effect) ok s under = refl
+fetching-kept setup past legal (Refetch actor seq) ok s under = refl
 
 pub is_of-kept : (setup : Setup) (past : List Event) → is_legal setup past → (e : Event)
     → refused setup past e ≡ None → (h s : ℕ)
@@ -210,6 +215,7 @@ numbers-of setup (Complete actor seq outcome ∷ past) legal h s m =
     numbers-of setup past legal.1 h s (rw append-nil at m)
 numbers-of setup (Drop actor seq ∷ past) legal h s m = numbers-of setup past legal.1 h s (rw append-nil at m)
 numbers-of setup (Retire actor seq effect ∷ past) legal h s m = numbers-of setup past legal.1 h s (rw append-nil at m)
+numbers-of setup (Refetch actor seq ∷ past) legal h s m = numbers-of setup past legal.1 h s (rw append-nil at m)
 
 pub numbers-member : (setup : Setup) (past : List Event) → is_legal setup past → (h s : ℕ) → is_of past h s ≡ true
     → member s (numbers past h) ≡ true
@@ -230,6 +236,7 @@ numbers-member setup (Complete actor seq outcome ∷ past) legal h s of_h =
 numbers-member setup (Drop actor seq ∷ past) legal h s of_h = rw append-nil (numbers-member setup past legal.1 h s of_h)
 numbers-member setup (Retire actor seq effect ∷ past) legal h s of_h =
     rw append-nil (numbers-member setup past legal.1 h s of_h)
+numbers-member setup (Refetch actor seq ∷ past) legal h s of_h = rw append-nil (numbers-member setup past legal.1 h s of_h)
 
 pub numbers-rise : (setup : Setup) (past : List Event) → is_legal setup past → (h : ℕ) → Rises (numbers past h)
 numbers-rise setup [] legal h = tt
@@ -248,6 +255,7 @@ numbers-rise setup (Issue actor seq ∷ past) legal h = rw append-nil (numbers-r
 numbers-rise setup (Complete actor seq outcome ∷ past) legal h = rw append-nil (numbers-rise setup past legal.1 h)
 numbers-rise setup (Drop actor seq ∷ past) legal h = rw append-nil (numbers-rise setup past legal.1 h)
 numbers-rise setup (Retire actor seq effect ∷ past) legal h = rw append-nil (numbers-rise setup past legal.1 h)
+numbers-rise setup (Refetch actor seq ∷ past) legal h = rw append-nil (numbers-rise setup past legal.1 h)
 
 -- Of all harts together.
 pub all_numbers-below : (setup : Setup) (past : List Event) → is_legal setup past → (s : ℕ)
@@ -268,6 +276,7 @@ all_numbers-below setup (Complete actor seq outcome ∷ past) legal s m =
 all_numbers-below setup (Drop actor seq ∷ past) legal s m = all_numbers-below setup past legal.1 s (rw append-nil at m)
 all_numbers-below setup (Retire actor seq effect ∷ past) legal s m =
     all_numbers-below setup past legal.1 s (rw append-nil at m)
+all_numbers-below setup (Refetch actor seq ∷ past) legal s m = all_numbers-below setup past legal.1 s (rw append-nil at m)
 
 pub all_numbers-member : (setup : Setup) (past : List Event) → is_legal setup past → (s : ℕ) → s < fetches past
     → member s (all_numbers past) ≡ true
@@ -289,6 +298,8 @@ all_numbers-member setup (Drop actor seq ∷ past) legal s under =
     rw append-nil (all_numbers-member setup past legal.1 s under)
 all_numbers-member setup (Retire actor seq effect ∷ past) legal s under =
     rw append-nil (all_numbers-member setup past legal.1 s under)
+all_numbers-member setup (Refetch actor seq ∷ past) legal s under =
+    rw append-nil (all_numbers-member setup past legal.1 s under)
 
 pub all_numbers-rise : (setup : Setup) (past : List Event) → is_legal setup past → Rises (all_numbers past)
 all_numbers-rise setup [] legal = tt
@@ -302,3 +313,4 @@ all_numbers-rise setup (Issue actor seq ∷ past) legal = rw append-nil (all_num
 all_numbers-rise setup (Complete actor seq outcome ∷ past) legal = rw append-nil (all_numbers-rise setup past legal.1)
 all_numbers-rise setup (Drop actor seq ∷ past) legal = rw append-nil (all_numbers-rise setup past legal.1)
 all_numbers-rise setup (Retire actor seq effect ∷ past) legal = rw append-nil (all_numbers-rise setup past legal.1)
+all_numbers-rise setup (Refetch actor seq ∷ past) legal = rw append-nil (all_numbers-rise setup past legal.1)

@@ -3,12 +3,12 @@ use Rattle.std.specs.Prelude.{◌≡◌, ◌≢◌, ◌⊎◌, ℕ, suc, ◌≤�
 use Rattle.std.proofs.Common.{refl, inl, inr, arith}
 use Rattle.std.proofs.lemmas.Bool.Decides.{nat_tests}
 use Rattle.events.specs.{declared.effect.Outcome.Outcome, declared.effect.Effect.Effect, declared.event.Event.Event}
-use Rattle.events.specs.declared.event.Event.TheVariants.{Fetch, Decode, Rename, Issue, Complete, Drop, Retire}
+use Rattle.events.specs.declared.event.Event.TheVariants.{Fetch, Decode, Rename, Issue, Complete, Drop, Retire, Refetch}
 use Rattle.smt_model.specs.{Setup.Setup, Fates.stage, Fates.fetches, Fates.fate, Rules.refused, Rules.is_legal}
 use Rattle.smt_model.specs.{Jobs.job, Jobs.is_actor}
 use Rattle.smt_model.proofs.Allowed.{issue_allowed}
 use Rattle.smt_model.proofs.Fates.Moves.{IsLent, IsSound, is_open, fetch_number, fetch_was, decode_was, rename_was}
-use Rattle.smt_model.proofs.Fates.Moves.{issue_was, complete_was, complete_lent, drop_was, drop_lent, retire_was}
+use Rattle.smt_model.proofs.Fates.Moves.{issue_was, complete_was, complete_lent, drop_was, drop_lent, retire_was, refetch_was}
 use Rattle.smt_model.proofs.Fates.Moves.{moved_if_sound, stage-retired_as, moves}
 
 -- ---- Fresh numbers
@@ -54,6 +54,10 @@ fresh-Retire : (setup : Setup) (past : List Event) → IsSound setup past → (a
     → stage (fate (Retire actor seq effect ∷ past) s) ≡ 0
 fresh-Retire setup past sound actor seq effect ok s above =
     let was = retire_was setup past actor seq effect ok in grind (arith, nat_tests, was, sound.fresh s)
+
+fresh-Refetch : (setup : Setup) (past : List Event) → IsSound setup past → (actor seq s : ℕ) → fetches past ≤ s
+    → stage (fate (Refetch actor seq ∷ past) s) ≡ 0
+fresh-Refetch setup past sound actor seq s above = grind (arith, nat_tests, sound.fresh s)
 
 -- ---- Open jobs: the one that is completed is nobody else's
 
@@ -113,6 +117,12 @@ jobs-Retire : (setup : Setup) (past : List Event) → IsSound setup past → (ac
 jobs-Retire setup past sound actor seq effect ok k s now =
     let was = retire_was setup past actor seq effect ok in grind (arith, nat_tests, was, sound.jobs k s)
 
+jobs-Refetch : (setup : Setup) (past : List Event) → IsSound setup past → (actor seq : ℕ)
+    → refused setup past (Refetch actor seq) ≡ None → (k s : ℕ) → job (Refetch actor seq ∷ past) k ≡ Some s
+    → is_open (stage (fate (Refetch actor seq ∷ past) s)) ≡ true
+jobs-Refetch setup past sound actor seq ok k s now =
+    let was = refetch_was setup past actor seq ok in grind (arith, nat_tests, was, sound.jobs k s)
+
 -- ---- What is issued was issued before, or is it now
 
 pub issued-Fetch : (setup : Setup) (past : List Event) → IsSound setup past
@@ -162,6 +172,10 @@ issued-Retire setup past sound actor seq effect ok s now =
     let was = retire_was setup past actor seq effect ok in
     let told = stage-retired_as effect in
     grind (arith, nat_tests, was, told)
+
+pub issued-Refetch : (past : List Event) (actor seq s : ℕ) → stage (fate (Refetch actor seq ∷ past) s) ≡ 4
+    → stage (fate past s) ≡ 4
+issued-Refetch past actor seq s now = grind (arith, nat_tests)
 
 -- ---- Each issued one is lent
 
@@ -229,6 +243,12 @@ lent-Retire : (setup : Setup) (past : List Event) → IsSound setup past → (ac
     → stage (fate (Retire actor seq effect ∷ past) s) ≡ 4 → IsLent (Retire actor seq effect ∷ past) s
 lent-Retire setup past sound actor seq effect ok s now =
     let old = sound.lent s (issued-Retire setup past sound actor seq effect ok s now) in
+    record { actor = old.actor; job_is = old.job_is }
+
+lent-Refetch : (setup : Setup) (past : List Event) → IsSound setup past → (actor seq s : ℕ)
+    → stage (fate (Refetch actor seq ∷ past) s) ≡ 4 → IsLent (Refetch actor seq ∷ past) s
+lent-Refetch setup past sound actor seq s now =
+    let old = sound.lent s (issued-Refetch past actor seq s now) in
     record { actor = old.actor; job_is = old.job_is }
 
 -- ---- An actor issues only where it is one, and only what nobody has
@@ -321,6 +341,16 @@ sound-Retire setup past sound actor seq effect ok = record {
   lent = lent-Retire setup past sound actor seq effect ok;
 }
 
+sound-Refetch : (setup : Setup) (past : List Event) → IsSound setup past → (actor seq : ℕ)
+    → refused setup past (Refetch actor seq) ≡ None → IsSound setup (Refetch actor seq ∷ past)
+sound-Refetch setup past sound actor seq ok = record {
+  fresh = fresh-Refetch setup past sound actor seq;
+  jobs = jobs-Refetch setup past sound actor seq ok;
+  actors = sound.actors;
+  alone = sound.alone;
+  lent = lent-Refetch setup past sound actor seq;
+}
+
 -- ---- Every legal history
 
 sound-start : (setup : Setup) → IsSound setup []
@@ -342,6 +372,7 @@ sound-next setup past sound (Issue actor seq) ok = sound-Issue setup past sound 
 sound-next setup past sound (Complete actor seq outcome) ok = sound-Complete setup past sound actor seq outcome ok
 sound-next setup past sound (Drop actor seq) ok = sound-Drop setup past sound actor seq ok
 sound-next setup past sound (Retire actor seq effect) ok = sound-Retire setup past sound actor seq effect ok
+sound-next setup past sound (Refetch actor seq) ok = sound-Refetch setup past sound actor seq ok
 
 pub sound : (setup : Setup) (past : List Event) → is_legal setup past → IsSound setup past
 sound setup [] legal = sound-start setup

@@ -1,20 +1,37 @@
 use Rattle.std.proofs.Common.{refl, sym, ap, ◌∙◌}
 use Rattle.std.specs.Prelude.{slice_index}
+use Rattle.elf_image.specs.Image.{code_writable, byte_in}
 use Rattle.sc_machine.specs.Harts.{register_written}
-use Rattle.condensed_machine.proofs.Finding.{op_same, computed_same}
+use Rattle.condensed_machine.proofs.Finding.{fixed_same, computed_same}
 use Rattle.condensed_machine.proofs.Instructions.{goes_by_one, stands_over, stands_at}
 use Rattle.condensed_machine.proofs.local.step_locally.Goals as goal
 
+pub compute-computed-requires : goal.compute-computed-requires
+compute-computed-requires c = record {
+  in_range = c.op_at-op.ensures.in_range c.args.start.now.image (byte_in c.args.start.now.image) c.requires.code;
+}
+
+pub advance-requires : goal.advance-requires
+advance-requires c =
+    c.destination.ensures.below
+    (c.op_at-op.ensures.in_range c.args.start.now.image (byte_in c.args.start.now.image) c.requires.code)
+
 pub returns-in-Some : goal.returns-in-Some
-returns-in-Some c = λ setup h s image inside is.
+returns-in-Some c = λ setup h s image inside holds is.
     let x = c.args.hart.now in
     let start = c.args.start.now in
-    let found = c.next_instruction-op.result in
+    let op = c.op_at-op.result in
     let e = c.in-Some.effect in
-    goes_by_one setup s h found.op found.computed e
-    (c.next_instruction-op.ensures.op ∙ op_same setup s start h x (sym image) is)
-    (c.next_instruction-op.ensures.computed ∙ computed_same setup s start h x (sym image) is)
-    x c.advance.new.self inside is (sym c.is_going.ensures ∙ c.if-not-is_going.false) (sym c.in-Some.ensures.local)
+    let code = c.requires.code in
+    let of_op =
+    fixed_same setup s start h x (sym image) is op holds c.requires.fixed
+    (c.op_at-op.ensures.value start.image (byte_in start.image) code) in
+    goes_by_one setup s h op c.compute-computed.result e of_op
+    (c.compute-computed.ensures.value
+    ∙ computed_same setup s start h x (sym image) is op
+    (c.op_at-op.ensures.in_range start.image (byte_in start.image) code) of_op)
+    x c.advance.new.self (ap code_writable image ∙ c.requires.fixed) inside is
+    (sym c.is_going.ensures ∙ c.if-not-is_going.false) (sym c.in-Some.ensures.local)
     c.in-Some.ensures.effect
     (record {
       registers = λ r.
@@ -26,20 +43,25 @@ returns-in-Some c = λ setup h s image inside is.
 
 pub returns-then-not-is_going : goal.returns-then-not-is_going
 returns-then-not-is_going c = (
-  λ setup h s image is.
+  λ setup h s image holds is.
       stands_over setup s h c.args.hart.now is (sym c.is_going.ensures ∙ c.if-not-is_going.true),
   refl,
 )
 
 pub returns-in-None : goal.returns-in-None
 returns-in-None c = (
-  λ setup h s image is.
+  λ setup h s image holds is.
       let x = c.args.hart.now in
       let start = c.args.start.now in
-      let found = c.next_instruction-op.result in
-      stands_at setup s h found.op found.computed
-      (c.next_instruction-op.ensures.op ∙ op_same setup s start h x (sym image) is)
-      (c.next_instruction-op.ensures.computed ∙ computed_same setup s start h x (sym image) is)
+      let op = c.op_at-op.result in
+      let code = c.requires.code in
+      let of_op =
+      fixed_same setup s start h x (sym image) is op holds c.requires.fixed
+      (c.op_at-op.ensures.value start.image (byte_in start.image) code) in
+      stands_at setup s h op c.compute-computed.result of_op
+      (c.compute-computed.ensures.value
+      ∙ computed_same setup s start h x (sym image) is op
+      (c.op_at-op.ensures.in_range start.image (byte_in start.image) code) of_op)
       (sym c.in-None.ensures.local),
   refl,
 )

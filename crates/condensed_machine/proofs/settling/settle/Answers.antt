@@ -1,20 +1,25 @@
-use Rattle.std.proofs.Common.{◌≡◌, ℕ, Bool, false, sym, subst, arith}
+use Rattle.std.proofs.Common.{◌≡◌, ℕ, Bool, false, replicate, sym, ap, subst, ◌∙◌, arith}
+use Rattle.elf_image.specs.Image.{code_writable}
+use Rattle.outcome_laws.proofs.Holding.{has_local}
 use Rattle.condensed_machine.specs.Settling.{LeadsLocally, SettlesAs, StepsLocally}
 use Rattle.condensed_machine.proofs.Following.{stays_put, goes_further}
+use Rattle.condensed_machine.proofs.Instructions.{stands_written}
 use Rattle.condensed_machine.proofs.settling.settle.Goals as goal
 
 pub loop-steps-init : goal.loop-steps-init
-loop-steps-init c = λ setup h s image inside is. stays_put setup h s c.args.hart.now is
+loop-steps-init c = λ setup h s image inside holds is. stays_put setup h s c.args.hart.now is
 
 pub loop-steps-preserved : goal.loop-steps-preserved
-loop-steps-preserved c = λ setup h s image inside is.
+loop-steps-preserved c = λ setup h s image inside holds is.
     let now = c.args.start.now.image in
     let y = c.loop-steps.hart in
     let z = c.step_locally.new.hart in
     let step : LeadsLocally now y 1 z =
     subst (λ (made : Bool). StepsLocally now y made z) c.if-not-step_locally.false c.step_locally.ensures in
-    let first = c.loop-steps.invariant setup h s image inside is in
-    goes_further setup h c.loop-steps.steps s y z first (step setup h first.there image inside first.agrees)
+    let first = c.loop-steps.invariant setup h s image inside holds is in
+    goes_further setup h c.loop-steps.steps s y z first
+    (step setup h first.there image inside
+    (has_local setup (replicate c.loop-steps.steps h) s first.there holds first.local) first.agrees)
 
 pub returns : goal.returns
 returns c =
@@ -36,3 +41,11 @@ returns-then-not-step_locally c =
     subst (λ (made : Bool). StepsLocally image y made z) c.if-not-step_locally.true c.step_locally.ensures in
     subst (SettlesAs image c.args.hart.now c.loop-steps.steps) (sym stands.1)
     (record { leads = c.loop-steps.invariant; few = omega arith; settled = λ fewer. stands.0 })
+
+pub returns-then-writable : goal.returns-then-writable
+returns-then-writable c = record {
+  leads = λ setup h s image inside holds is. stays_put setup h s c.args.hart.now is;
+  few = omega arith;
+  settled = λ fewer setup h s image holds is.
+      stands_written setup s h (ap code_writable image ∙ (sym c.requires.writable ∙ c.if-writable.true));
+}

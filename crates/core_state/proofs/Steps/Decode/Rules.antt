@@ -4,7 +4,7 @@ use Rattle.std.proofs.Common.{◌∙◌, subst, sym, ap, arith}
 use Rattle.std.proofs.lemmas.Bool.Decides.{nat_tests}
 use Rattle.numbers.specs.Sizes.{latch_room}
 use Rattle.events.specs.declared.event.Event.{Event}
-use Rattle.events.specs.declared.event.Event.TheVariants.{Fetch, Decode, Rename, Issue, Complete, Drop, Retire}
+use Rattle.events.specs.declared.event.Event.TheVariants.{Fetch, Decode, Rename, Issue, Complete, Drop, Retire, Refetch}
 use Rattle.smt_model.specs.{Asks.AskDecode, Basics.first, Basics.same_number, Flights.numbers, Flights.in_decode}
 use Rattle.smt_model.specs.{Flights.in_rename, Picture.picture, Rules.refused, Rules.is_first, Rules.is_legal}
 use Rattle.smt_model.specs.{Jobs.is_actor, Setup.Setup}
@@ -104,3 +104,4 @@ decode_idle setup past legal k h cannot (Issue actor seq) answered = absurd (gri
 decode_idle setup past legal k h cannot (Complete actor seq outcome) answered = absurd (grind arith)
 decode_idle setup past legal k h cannot (Drop actor seq) answered = absurd (grind arith)
 decode_idle setup past legal k h cannot (Retire actor seq effect) answered = absurd (grind arith)
+decode_idle setup past legal k h cannot (Refetch actor seq) answered = absurd (grind arith)

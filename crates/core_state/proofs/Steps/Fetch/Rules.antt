@@ -5,11 +5,12 @@ use Rattle.std.specs.List.{filter}
 use Rattle.std.proofs.Common.{◌∙◌, refl, subst, sym, ap, inl, inr, arith}
 use Rattle.std.proofs.{lemmas.Bool.cases_Bool, lemmas.Bool.Decides.nat_tests, lemmas.List.length-append}
 use Rattle.std.proofs.{lemmas.List.length-map, lemmas.Option.slice_get_cases}
-use Rattle.elf_image.specs.Image.{code_word}
+use Rattle.elf_image.specs.Image.{word_now}
 use Rattle.events.specs.declared.event.Event.{Event}
-use Rattle.events.specs.declared.event.Event.TheVariants.{Fetch, Decode, Rename, Issue, Complete, Drop, Retire}
+use Rattle.events.specs.declared.event.Event.TheVariants.{Fetch, Decode, Rename, Issue, Complete, Drop, Retire, Refetch}
 use Rattle.smt_model.specs.{Asks.AskFetch, Fates.fate, Fates.fetches, Fates.is_counted, Flights.added, Flights.numbers}
-use Rattle.smt_model.specs.{Flights.icount, Picture.picture, Rules.refused, Rules.is_legal, Jobs.is_actor, Setup.Setup}
+use Rattle.smt_model.specs.{Flights.icount, Memory.byte_at, Picture.picture, Rules.refused, Rules.is_legal}
+use Rattle.smt_model.specs.{Jobs.is_actor, Setup.Setup}
 use Rattle.smt_model.specs.Basics.{below, first_least, least_from, how_many, same_number}
 use Rattle.smt_model.specs.Fetching.{is_after, turn, may_fetch, last_fetched, choice, fetch_pc}
 use Rattle.smt_model.proofs.Allowed.{fetch_allowed, fetch_allows}
@@ -102,7 +103,7 @@ choice-is setup past harts last agrees count same =
 pub record IsNextFetch (setup : Setup) (past : List Event) (point : FetchPoint) : Type 0 where
   pub chosen : choice setup past ≡ Some point.hart
   pub pc : point.pc ≡ fetch_pc setup past point.hart
-  pub word : point.word ≡ code_word setup.image point.pc
+  pub word : point.word ≡ word_now setup.image (byte_at setup past) point.pc
 
 equal : (m n : ℕ) → m ≡ n → (m == n) ≡ true
 equal m n same = grind (arith, nat_tests)
@@ -133,6 +134,7 @@ one_added (Issue actor seq) h = omega arith
 one_added (Complete actor seq outcome) h = omega arith
 one_added (Drop actor seq) h = omega arith
 one_added (Retire actor seq effect) h = omega arith
+one_added (Refetch actor seq) h = omega arith
 
 numbers-within : (past : List Event) (h : ℕ) → length (numbers past h) ≤ length past
 numbers-within [] h = omega arith
@@ -189,3 +191,4 @@ fetch_idle setup past k cannot (Issue actor seq) answered = absurd (grind arith)
 fetch_idle setup past k cannot (Complete actor seq outcome) answered = absurd (grind arith)
 fetch_idle setup past k cannot (Drop actor seq) answered = absurd (grind arith)
 fetch_idle setup past k cannot (Retire actor seq effect) answered = absurd (grind arith)
+fetch_idle setup past k cannot (Refetch actor seq) answered = absurd (grind arith)

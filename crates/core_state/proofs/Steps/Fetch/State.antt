@@ -3,11 +3,11 @@
 use Rattle.std.specs.Prelude.{◌≡◌, ℕ, ◌+◌, ◌<◌, ◌≤◌, Bool, true, List, [], ◌∷◌, ◌++◌, Option, Some, None, length}
 use Rattle.std.specs.Prelude.{slice_index_or}
 use Rattle.std.proofs.Common.{◌∙◌, sym, subst, ap, arith}
-use Rattle.elf_image.specs.Image.{code_word}
+use Rattle.elf_image.specs.Image.{word_now}
 use Rattle.events.specs.{History.EventList, declared.event.Event.Event}
-use Rattle.events.specs.declared.event.Event.TheVariants.{Fetch, Decode, Rename, Issue, Complete, Drop, Retire}
+use Rattle.events.specs.declared.event.Event.TheVariants.{Fetch, Decode, Rename, Issue, Complete, Drop, Retire, Refetch}
 use Rattle.smt_model.specs.{Fates.fetches, Fetching.choice, Picture.Picture, Picture.picture, Rules.refused}
-use Rattle.smt_model.specs.{Jobs.is_actor, Steps.IsFetch}
+use Rattle.smt_model.specs.{Jobs.is_actor, Memory.byte_at, Steps.IsFetch}
 use Rattle.smt_model.proofs.{Allowed.fetch_allowed, Fates.Moves.same_number-is}
 use Rattle.smt_laws.proofs.Steps.Fetch.{steps-Fetch}
 use Rattle.rv_instr.specs.{Decode.op_of_word, declared.op.Op.Op}
@@ -22,6 +22,10 @@ use Rattle.core_state.specs.State.{IsCore, view_of, past_of, setup_in}
 use Rattle.core_state.proofs.Steps.Fetch.Rules.{choice-is, fetch_can, fetch_from, CannotFetch}
 use Rattle.core_state.proofs.{Steps.Invariant.core_fetched, Views.Viewed.actor_in, Views.Viewed.short_in}
 
+-- The bytes that memory has by the history.
+abbrev pub bytes_of : Inside → ℕ → ℕ
+bytes_of i = byte_at (setup_in i) (past_of i)
+
 choice_in : (i : Inside) → IsCore i → next_hart i.parts.harts.items i.last ≡ choice (setup_in i) (past_of i)
 choice_in i core = choice-is (setup_in i) (past_of i) i.parts.harts.items i.last core.agrees.harts core.harts core.last
 
@@ -35,7 +39,8 @@ pub found_can : (i : Inside) → IsCore i → (v : CoreView) → view_of i ≡ v
     → (actor h : ℕ) (tested : Bool) (harts : List HartState) (x : HartState)
     (word : Option ℕ) → tested ≡ is_actor v.setup actor → tested ≡ true → harts ≡ i.parts.harts.items
     → Some h ≡ next_hart harts i.last
-    → h < length harts → x ≡ slice_index_or i.parts.harts.items h x → word ≡ code_word i.image x.fetch_pc
+    → h < length harts → x ≡ slice_index_or i.parts.harts.items h x
+    → word ≡ word_now i.image (bytes_of i) x.fetch_pc
     → CanFetch v.setup v.past actor (record { hart = h; pc = x.fetch_pc; word = word })
 found_can i core v view actor h tested harts x word test yes_one all named inside here is_word =
     let there = subst (λ hs. h < length hs) all inside in
@@ -65,12 +70,12 @@ fetch_ok i core v view actor point predicted ok =
 
 -- The code that was decoded has the word's instruction at the pc that is fetched.
 pub op_of_point : (i : Inside) → IsCore i → (v : CoreView) → view_of i ≡ v → (actor : ℕ) (point : FetchPoint) (predicted : ℕ)
-    → (op : Op) → op ≡ op_of_word (code_word i.image point.pc)
+    → (op : Op) → op ≡ op_of_word (word_now i.image (bytes_of i) point.pc)
     → refused v.setup v.past (fetched_at actor point predicted v.past) ≡ None → op ≡ op_of_word point.word
 op_of_point i core v view actor point predicted op is ok =
     let here = fetch_ok i core v view actor point predicted ok in
-    let word_is : point.word ≡ code_word i.image point.pc =
-    same_number-is point.word (code_word i.image point.pc)
+    let word_is : point.word ≡ word_now i.image (bytes_of i) point.pc =
+    same_number-is point.word (word_now i.image (bytes_of i) point.pc)
     (fetch_allowed (setup_in i) (past_of i) actor point.hart i.fetched point.pc point.word predicted here).word_is in
     is ∙ ap op_of_word (sym word_is)
 
@@ -123,6 +128,7 @@ fetches-within (Issue actor seq ∷ past) = omega (arith, fetches-within past)
 fetches-within (Complete actor seq outcome ∷ past) = omega (arith, fetches-within past)
 fetches-within (Drop actor seq ∷ past) = omega (arith, fetches-within past)
 fetches-within (Retire actor seq effect ∷ past) = omega (arith, fetches-within past)
+fetches-within (Refetch actor seq ∷ past) = omega (arith, fetches-within past)
 
 pub fetched_few : (i : Inside) → IsCore i → length (past_of i) < 16777216 → i.fetched < 16777216
 fetched_few i core short = let count = core.fetched in omega (arith, fetches-within (past_of i))

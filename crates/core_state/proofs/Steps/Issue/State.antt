@@ -7,7 +7,7 @@ use Rattle.std.proofs.{lemmas.Bool.Decides.nat_tests, lemmas.Option.slice_get_pa
 use Rattle.numbers.specs.Sizes.{most_actors}
 use Rattle.rv_instr.specs.declared.op.UnitKind.{UnitKind}
 use Rattle.events.specs.{History.EventList, declared.event.Event.Event}
-use Rattle.events.specs.declared.event.Event.TheVariants.{Fetch, Decode, Rename, Issue, Complete, Drop, Retire}
+use Rattle.events.specs.declared.event.Event.TheVariants.{Fetch, Decode, Rename, Issue, Complete, Drop, Retire, Refetch}
 use Rattle.exec_units.specs.Job.{JobView}
 use Rattle.issue_queue.specs.{Entry.has_values, declared.entry.Entry.Entry}
 use Rattle.events.specs.declared.role.Role.{Role}
@@ -163,6 +163,7 @@ no_issue i actor wrong (Issue k s) asked ok =
 no_issue i actor wrong (Complete k s outcome) asked ok = absurd (grind arith)
 no_issue i actor wrong (Drop k s) asked ok = absurd (grind arith)
 no_issue i actor wrong (Retire k s effect) asked ok = absurd (grind arith)
+no_issue i actor wrong (Refetch k s) asked ok = absurd (grind arith)
 
 pub no_unit : (i : Inside) (actor : ℕ) → unit_of_actor (setup_in i) actor ≡ None
     → AllowsNone (setup_in i) (AskIssue actor) (past_of i)

@@ -4,7 +4,7 @@ use Rattle.std.specs.Prelude.{◌≡◌, ℕ, ◌<◌, ◌==◌, ◌&&◌, true,
 use Rattle.std.proofs.Common.{◌∙◌, refl, sym, subst, arith}
 use Rattle.std.proofs.{lemmas.Bool.and_parts, lemmas.Bool.Decides.nat_tests}
 use Rattle.events.specs.{History.EventList, declared.event.Event.Event}
-use Rattle.events.specs.declared.event.Event.TheVariants.{Fetch, Decode, Rename, Issue, Complete, Drop, Retire}
+use Rattle.events.specs.declared.event.Event.TheVariants.{Fetch, Decode, Rename, Issue, Complete, Drop, Retire, Refetch}
 use Rattle.smt_model.specs.{Asks.answers, Asks.AskRename, Fates.is_of, Picture.Picture, Picture.picture, Rules.refused}
 use Rattle.smt_model.specs.{Jobs.is_actor}
 use Rattle.smt_model.proofs.Allowed.{rename_allowed}
@@ -106,6 +106,7 @@ no_rename i actor h wrong (Issue k s) asked ok = absurd (grind arith)
 no_rename i actor h wrong (Complete k s outcome) asked ok = absurd (grind arith)
 no_rename i actor h wrong (Drop k s) asked ok = absurd (grind arith)
 no_rename i actor h wrong (Retire k s effect) asked ok = absurd (grind arith)
+no_rename i actor h wrong (Refetch k s) asked ok = absurd (grind arith)
 
 pub no_actor : (i : Inside) (actor h : ℕ) → is_actor (setup_in i) actor ≡ false
     → AllowsNone (setup_in i) (AskRename actor h) (past_of i)

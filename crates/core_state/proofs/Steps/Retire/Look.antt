@@ -20,7 +20,7 @@ use Rattle.smt_model.specs.{Flights.flight, Jobs.is_actor, Steps.IsRetire, Steps
 use Rattle.smt_model.specs.{Comparisons.same_next, Comparisons.same_write, Comparisons.same_effect}
 use Rattle.smt_model.specs.Fates.{Fetched, Completed, fetching, is, is_of, is_replayed, op_of_fetched}
 use Rattle.smt_model.specs.Fates.{squashes_at_retirement}
-use Rattle.smt_model.specs.Rules.{computed_at, effect_now, is_first, is_legal, of_fetched, refused}
+use Rattle.smt_model.specs.Rules.{computed_at, effect_now, is_first, is_fresh, is_legal, of_fetched, refused}
 use Rattle.smt_model.proofs.{Allowed.retire_allows, Fates.Moves.same_number-self}
 use Rattle.smt_laws.proofs.Steps.End.{steps-End}
 use Rattle.smt_laws.proofs.{Steps.Retire.steps-Retire, Steps.Replay.steps-Replay}
@@ -63,7 +63,7 @@ pub same_effect-self : (x : Effect) → same_effect x x ≡ true
 same_effect-self x =
     rw (same_number-self x.value, same_next-self x.next, same_write-self x.write, same_number-self x.out) refl
 
-at_fetched : (past : List Event) (s : ℕ) (test : Fetched → Bool) (f : Fetched) → fetching past s ≡ Some f
+pub at_fetched : (past : List Event) (s : ℕ) (test : Fetched → Bool) (f : Fetched) → fetching past s ≡ Some f
     → test f ≡ true
     → of_fetched past s test ≡ true
 at_fetched past s test f at holds = rw at holds
@@ -72,23 +72,29 @@ at_fetched past s test f at holds = rw at holds
 abbrev pub fetched_of : ℕ → Active → Fetched
 fetched_of h x = record { hart = h; pc = x.pc; word = x.word; predicted = x.predicted }
 
--- The oldest of a hart, where it is completed, retires with what it does now.
+pub oldest_in : (setup : Setup) (past : List Event) (h : ℕ) (x : Active) (o : Outcome)
+    → CanRetire (picture setup past) h x o
+    → of_fetched past x.seq (λ f. is_first x.seq (flight past f.hart)) ≡ true
+oldest_in setup past h x o can =
+    at_fetched past x.seq (λ g. is_first x.seq (flight past g.hart)) (fetched_of h x) can.is_active.fetched
+    (ap (λ y. same_number y (Some x.seq)) can.oldest ∙ same_number-self (Some x.seq))
+
+-- The oldest of a hart, where it is completed and memory has its word still, retires with what it does now.
 pub retires_now : (setup : Setup) (past : List Event) (actor h : ℕ) → is_actor setup actor ≡ true
     → (x : Active) (o : Outcome) (effect : Effect) → CanRetire (picture setup past) h x o
-    → effect ≡ effect_now setup past x.seq (fetched_of h x)
+    → is_fresh setup past (fetched_of h x) ≡ true → effect ≡ effect_now setup past x.seq (fetched_of h x)
     → refused setup past (Retire actor x.seq effect) ≡ None
-retires_now setup past actor h there x o effect can says =
+retires_now setup past actor h there x o effect can fresh says =
     let f = fetched_of h x in
     let at : fetching past x.seq ≡ Some f = can.is_active.fetched in
     retire_allows setup past actor x.seq effect (record {
       actor_is = there;
       fated = ap (λ y. is y Completed) can.completed;
-      oldest =
-          at_fetched past x.seq (λ g. is_first x.seq (flight past g.hart)) f at
-          (ap (λ y. same_number y (Some x.seq)) can.oldest ∙ same_number-self (Some x.seq));
+      oldest = oldest_in setup past h x o can;
       effect_is =
           at_fetched past x.seq (λ g. same_effect effect (effect_now setup past x.seq g)) f at
           (ap (same_effect effect) (sym says) ∙ same_effect-self effect);
+      fresh = at_fetched past x.seq (is_fresh setup past) f at fresh;
     })
 
 -- ---- What it changes: by whether it ends its hart, and whether its second look gave another number

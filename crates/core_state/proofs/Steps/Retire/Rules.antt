@@ -1,6 +1,6 @@
 -- The history's side of a retirement: the oldest instruction of a flight may retire where it is completed, with the
 -- effect that the rules want now, and the picture then changes by that step; where it isn't completed, none of its hart
--- may.
+-- may, and none may be fetched again.
 use Rattle.std.specs.Prelude.{◌≡◌, ℕ, ◌<◌, ◌≤◌, ◌==◌, Bool, true, false, List, [], ◌∷◌, drop, Option, Some, None}
 use Rattle.std.specs.Prelude.{is_some}
 use Rattle.std.specs.List.{AllByRecursion}
@@ -10,7 +10,7 @@ use Rattle.numbers.specs.Sizes.{most_registers}
 use Rattle.events.specs.{declared.effect.Effect.Effect, declared.effect.Outcome.Outcome}
 use Rattle.events.specs.{declared.event.Event.Event}
 use Rattle.events.specs.declared.effect.Next.TheVariants as nexts
-use Rattle.events.specs.declared.event.Event.TheVariants.{Fetch, Decode, Rename, Issue, Complete, Drop, Retire}
+use Rattle.events.specs.declared.event.Event.TheVariants.{Fetch, Decode, Rename, Issue, Complete, Drop, Retire, Refetch}
 use Rattle.retire_squash.specs.{declared.active.Active.Active, declared.active.Stage.Stage}
 use Rattle.retire_squash.specs.declared.active.Stage.TheVariants as stages
 use Rattle.rv_instr.specs.Decode.{op_of_word}
@@ -21,8 +21,7 @@ use Rattle.smt_model.specs.{Jobs.is_actor}
 use Rattle.smt_model.specs.Kinds.{destination}
 use Rattle.smt_model.specs.Fates.{Fetched, Completed, fate, is, stage, is_of, op_at, op_of_fetched, fetching}
 use Rattle.smt_model.specs.Fates.{is_replayed, completion}
-use Rattle.smt_model.specs.Rules.{is_legal, of_fetched, refused, effect_now}
-use Rattle.smt_model.proofs.Allowed.{retire_allowed}
+use Rattle.smt_model.specs.Rules.{is_legal, is_fresh, refused, effect_now}
 use Rattle.smt_laws.proofs.Registers.Below.{destination-below}
 use Rattle.smt_laws.proofs.{Fates.Choosing.hart_there, Events.SquashedRegisters.flight-rises}
 use Rattle.smt_model.proofs.Lists.{Each, Rises}
@@ -31,15 +30,11 @@ use Rattle.smt_model.proofs.Fates.Numbers.{first_of_hart}
 use Rattle.core_state.specs.Answers.{AllowsNone}
 use Rattle.core_parts.specs.{Agree.IsStage}
 use Rattle.core_steps.specs.Retirement.{CanRetire, NoneCanRetire, IsOldestActive, Retires, first_value, is_replay}
-use Rattle.core_state.proofs.Steps.Retire.Look.{fetched_of, retires_now, RetiresBy, retires_by_tests}
+use Rattle.core_state.proofs.Steps.Retire.Look.{fetched_of, at_fetched, retires_now, RetiresBy, retires_by_tests}
+use Rattle.core_state.proofs.Steps.Retire.Wanted.{Wants, retire_wants, refetch_wants}
 
 some_inner : {A : Type 0} → (a b : A) → Some a ≡ Some b → a ≡ b
 some_inner a b same = cc
-
-at_fetched : (past : List Event) (s : ℕ) (test : Fetched → Bool) (f : Fetched) → fetching past s ≡ Some f
-    → test f ≡ true
-    → of_fetched past s test ≡ true
-at_fetched past s test f at holds = rw at holds
 
 pub is_its_own : (setup : Setup) (past : List Event) (h : ℕ) (x : Active) (o : Outcome)
     → CanRetire (picture setup past) h x o
@@ -61,7 +56,7 @@ younger_than n (x ∷ xs) at rises =
     let same : x ≡ n = some_inner x n at in
     subst (λ m. AllByRecursion (λ y. m < y) xs) same (younger_each x xs rises.0)
 
-oldest_is : (setup : Setup) (past : List Event) → is_legal setup past → (h : ℕ) (x : Active) (o : Outcome)
+pub oldest_is : (setup : Setup) (past : List Event) → is_legal setup past → (h : ℕ) (x : Active) (o : Outcome)
     → CanRetire (picture setup past) h x o → IsOldestActive (picture setup past) h x
 oldest_is setup past legal h x o can =
     let is_active = can.is_active in
@@ -104,11 +99,11 @@ replays_by setup past actor h n effect pc by at other =
 pub retires_by : (setup : Setup) (past : List Event) → is_legal setup past
     → registers_of setup ≤ most_registers → (actor h : ℕ)
     → is_actor setup actor ≡ true → (x : Active) (o : Outcome) (effect : Effect) → CanRetire (picture setup past) h x o
-    → effect ≡ effect_now setup past x.seq (fetched_of h x)
+    → is_fresh setup past (fetched_of h x) ≡ true → effect ≡ effect_now setup past x.seq (fetched_of h x)
     → Retires (picture setup past) (picture setup (Retire actor x.seq effect ∷ past)) h x effect
-retires_by setup past legal fit actor h there x o effect can says =
+retires_by setup past legal fit actor h there x o effect can fresh says =
     let by = retires_by_tests setup past legal fit actor h x.seq effect
-    (retires_now setup past actor h there x o effect can says) (is_its_own setup past h x o can) in
+    (retires_now setup past actor h there x o effect can fresh says) (is_its_own setup past h x o can) in
     let test = replay_is setup past h x o effect can in
     record {
       is_oldest = oldest_is setup past legal h x o can;
@@ -123,10 +118,9 @@ is_refused : (o : Option ℕ) → (o ≡ None → ⊥) → is_some o ≡ true
 is_refused None never = absurd (never refl)
 is_refused (Some n) never = refl
 
--- Nothing answers but a retirement of hart h by this actor.
+-- Nothing answers but a retirement or a refetch of hart h by this actor.
 none_retires : (setup : Setup) (past : List Event) (actor h : ℕ)
-    → ((s : ℕ) (effect : Effect) → is_of past h s ≡ true → refused setup past (Retire actor s effect) ≡ None → ⊥)
-    → AllowsNone setup (AskRetire actor h) past
+    → ((s : ℕ) → is_of past h s ≡ true → Wants setup past actor s → ⊥) → AllowsNone setup (AskRetire actor h) past
 none_retires setup past actor h never (Fetch k hart seq pc word predicted) asked = absurd (grind arith)
 none_retires setup past actor h never (Decode k seq) asked = absurd (grind arith)
 none_retires setup past actor h never (Rename k seq phys) asked = absurd (grind arith)
@@ -137,19 +131,23 @@ none_retires setup past actor h never (Retire k seq effect) asked =
     let same : k ≡ actor = grind (arith, nat_tests) in
     let of_h : is_of past h seq ≡ true = grind (arith, nat_tests) in
     is_refused (refused setup past (Retire k seq effect))
-    (λ ok. never seq effect of_h (subst (λ z. refused setup past (Retire z seq effect) ≡ None) same ok))
+    (λ ok. never seq of_h (subst (λ z. Wants setup past z seq) same (retire_wants setup past k seq effect ok)))
+none_retires setup past actor h never (Refetch k seq) asked =
+    let same : k ≡ actor = grind (arith, nat_tests) in
+    let of_h : is_of past h seq ≡ true = grind (arith, nat_tests) in
+    is_refused (refused setup past (Refetch k seq))
+    (λ ok. never seq of_h (subst (λ z. Wants setup past z seq) same (refetch_wants setup past k seq ok)))
 
 pub no_actor_retires : (setup : Setup) (past : List Event) (actor h : ℕ) → is_actor setup actor ≡ false
     → AllowsNone setup (AskRetire actor h) past
 no_actor_retires setup past actor h stranger =
     none_retires setup past actor h
-    (λ s effect of_h ok. let there = (retire_allowed setup past actor s effect ok).actor_is in
+    (λ s of_h wants. let there = wants.actor_is in
     absurd (cc (stranger, there)))
 
 pub none_completed : (setup : Setup) (past : List Event) → is_legal setup past → (actor h : ℕ)
     → (h < setup.harts → NoneCanRetire (picture setup past) h) → AllowsNone setup (AskRetire actor h) past
 none_completed setup past legal actor h never =
-    none_retires setup past actor h (λ s effect of_h ok.
-    let allowed = retire_allowed setup past actor s effect ok in
-    never (hart_there setup past legal h s of_h) s (first_of_hart past (flight past) h s of_h allowed.oldest)
-    (fate_at (fate past s) Completed (stage_of (fate past s) Completed allowed.fated)))
+    none_retires setup past actor h (λ s of_h wants.
+    never (hart_there setup past legal h s of_h) s (first_of_hart past (flight past) h s of_h wants.oldest)
+    (fate_at (fate past s) Completed (stage_of (fate past s) Completed wants.fated)))

@@ -6,17 +6,19 @@ use Rattle.elf_image.specs.Image.{ProgramImage}
 use Rattle.rv_instr.specs.declared.op.Op.{Op}
 use Rattle.std.proofs.Common.{◌∙◌, Vec, Global, refl, sym, ap, subst, inl, inr, arith}
 use Rattle.std.proofs.{lemmas.Bool.cases_Bool, lemmas.Bool.Decides.nat_tests, lemmas.List.length_push}
-use Rattle.std.proofs.{lemmas.List.reverse-append}
+use Rattle.std.proofs.{lemmas.List.reverse-append, Math.Path.fun_ext}
+use Rattle.decoded_code.specs.{Code.IsCodeOf, declared.code.Code.Code}
 use Rattle.events.specs.{History.EventList, declared.effect.Effect.Effect, declared.effect.Outcome.Outcome}
 use Rattle.events.specs.{declared.effect.Record.Record, declared.event.Event.TheVariants.Retire}
 use Rattle.retire_squash.specs.declared.active.Active.{Active}
 use Rattle.smt_model.specs.{Account.records, Asks.AskRetire, Fates.Fetched, Fates.is_of, Picture.Picture}
-use Rattle.smt_model.specs.{Picture.picture, Plain.output_after, Rules.refused, Rules.effect_now, Jobs.is_actor}
+use Rattle.smt_model.specs.{Picture.picture, Plain.output_after, Rules.refused, Rules.effect_now, Rules.is_fresh}
+use Rattle.smt_model.specs.{Jobs.is_actor}
 use Rattle.smt_model.specs.{Setup.registers_of}
 use Rattle.smt_model.specs.{Basics.or_zero, Exec.Computed, Exec.exec, Faults.checked, Outcomes.outcome_of}
 use Rattle.smt_model.specs.{Effects.effect_of}
 use Rattle.smt_model.specs.{Bytes.read, Reservations.holds_word, Registers.operand, Fates.op_of_fetched}
-use Rattle.smt_model.specs.{Memory.byte_at, Memory.reserved, Kinds.first_source, Kinds.second_source}
+use Rattle.smt_model.specs.{Bytes.byte_after, Memory.byte_at, Memory.reserved, Kinds.first_source, Kinds.second_source}
 use Rattle.shared_memory.specs.Contents.{Contents, byte_of, reserved_of}
 use Rattle.shared_memory.specs.Contents.{CanWrite}
 use Rattle.smt_model.specs.Touched.{looks_after, looks}
@@ -30,14 +32,10 @@ use Rattle.core_parts.specs.{declared.parts.Parts.Parts}
 use Rattle.core_state.specs.{declared.state.State.TheInside.Inside}
 use Rattle.core_steps.specs.Retirement.{CanRetire, NoneCanRetire, Retires}
 use Rattle.core_state.specs.State.{IsCore, past_of, setup_in, view_of}
-use Rattle.retire_squash.specs.declared.active.Stage.{Stage}
-use Rattle.retire_squash.specs.declared.active.Stage.TheVariants as stages
-use Rattle.smt_model.specs.{Basics.holds_of, Comparisons.same_effect, Fates.Completed, Fates.fate, Fates.stage}
-use Rattle.smt_model.specs.{Flights.flight}
+use Rattle.smt_model.specs.{Basics.holds_of, Comparisons.same_effect}
 use Rattle.smt_model.proofs.Allowed.{retire_allowed, RetireAllowed}
 use Rattle.smt_laws.proofs.Fates.Choosing.{hart_there}
-use Rattle.smt_model.proofs.{Fates.Moves.fate_at, Fates.Moves.stage_of, Fates.Numbers.first_of_hart}
-use Rattle.core_parts.specs.Agree.{IsActive, IsStage}
+use Rattle.core_parts.specs.Agree.{IsActive}
 use Rattle.core_state.proofs.Following.Sameness.{same_effect-is}
 use Rattle.core_state.proofs.Steps.Invariant.{core_retired}
 use Rattle.core_state.proofs.Steps.Retire.Look.{fetched_of, retires_now, effect-same}
@@ -46,6 +44,7 @@ use Rattle.core_state.proofs.{Steps.Complete.Look.checked-address}
 use Rattle.core_parts.proofs.{Agreement.Queues.has_place, Agreement.Queues.in_range}
 use Rattle.core_state.proofs.Steps.Retire.Touched.{keeps_now, looks_now}
 use Rattle.core_state.proofs.Steps.Retire.Rules.{retires_by, is_its_own, none_completed}
+use Rattle.core_state.proofs.Steps.Retire.Wanted.{IsWanted, wanted, retire_wants, is_of_active}
 
 registers_fit : (i : Inside) → IsCore i → registers_of (setup_in i) ≤ most_registers
 registers_fit i core =
@@ -126,22 +125,25 @@ write_in_core i h x effect core is =
     (can_write setup.image op c (read op (byte_at setup past) d.addr) (holds_word (reserved past h) d.addr)))
 
 -- ---- What the code has found: hart h is there, and x may retire with this outcome, whatever picture the parts agree
--- with.
+-- with, and memory has its word still.
 pub record Finds (i : Inside) (actor h : ℕ) (x : Active) (o : Outcome) (effect : Effect) : Type 0 where
   pub there : is_actor (setup_in i) actor ≡ true
   pub inside : h < length i.parts.harts.items
   pub can : CanRetire (picture (setup_in i) (past_of i)) h x o
+  pub fresh : is_fresh (setup_in i) (past_of i) (fetched_of h x) ≡ true
   pub effect_is : effect ≡ effect_now (setup_in i) (past_of i) x.seq (fetched_of h x)
 
 pub finds_in : (i : Inside) (v : CoreView) (actor h : ℕ) (x : Active) (o : Outcome) (effect : Effect) (has : Bool)
     → view_of i ≡ v
     → has ≡ is_actor v.setup actor → has ≡ true → h < length i.parts.harts.items
     → ((p : Picture) → PartsAgree p i.parts → CanRetire p h x o)
-    → IsCore i → Says i h x.seq x.op o effect → Finds i actor h x o effect
-finds_in i v actor h x o effect has at tells true_is inside can core says = record {
+    → IsCore i → is_fresh v.setup v.past (fetched_of h x) ≡ true → Says i h x.seq x.op o effect
+    → Finds i actor h x o effect
+finds_in i v actor h x o effect has at tells true_is inside can core fresh says = record {
   there = subst (λ w. is_actor w.setup actor ≡ true) (sym at) (sym tells ∙ true_is);
   inside = inside;
   can = can (picture (setup_in i) (past_of i)) core.agrees;
+  fresh = subst (λ w. is_fresh w.setup w.past (fetched_of h x) ≡ true) (sym at) fresh;
   effect_is = effect_in i h x o effect core inside (can (picture (setup_in i) (past_of i)) core.agrees) says;
 }
 
@@ -153,13 +155,13 @@ found_retires : (i : Inside) (actor h : ℕ) (x : Active) (o : Outcome) (effect 
     → Retires (now_of i) (picture (setup_in i) (Retire actor x.seq effect ∷ past_of i)) h x effect
 found_retires i actor h x o effect core finds =
     retires_by (setup_in i) (past_of i) core.legal (registers_fit i core) actor h finds.there x o effect
-    finds.can finds.effect_is
+    finds.can finds.fresh finds.effect_is
 
 found_follows : (i : Inside) (actor h : ℕ) (x : Active) (o : Outcome) (effect : Effect) → IsCore i
     → Finds i actor h x o effect
     → refused (setup_in i) (past_of i) (Retire actor x.seq effect) ≡ None
 found_follows i actor h x o effect core finds =
-    retires_now (setup_in i) (past_of i) actor h finds.there x o effect finds.can
+    retires_now (setup_in i) (past_of i) actor h finds.there x o effect finds.can finds.fresh
     finds.effect_is
 
 pub found_from : (i : Inside) (actor h : ℕ) (x : Active) (o : Outcome) (effect : Effect) → IsCore i
@@ -182,12 +184,11 @@ allowed_in i v actor h x o effect at core finds =
     subst (λ w. refused w.setup w.past (Retire actor x.seq effect) ≡ None)
     at (found_follows i actor h x o effect core finds)
 
-pub its_own_in : (i : Inside) (v : CoreView) (actor h : ℕ) (x : Active) (o : Outcome) (effect : Effect)
-    → view_of i ≡ v → IsCore i
-    → Finds i actor h x o effect → is_of v.past h x.seq ≡ true
-its_own_in i v actor h x o effect at core finds =
+pub its_own_in : (i : Inside) (v : CoreView) (h : ℕ) (x : Active) (o : Outcome) → view_of i ≡ v → IsCore i
+    → ((p : Picture) → PartsAgree p i.parts → CanRetire p h x o) → is_of v.past h x.seq ≡ true
+its_own_in i v h x o at core can =
     subst (λ w. is_of w.past h x.seq ≡ true)
-    at (is_its_own (setup_in i) (past_of i) h x o finds.can)
+    at (is_its_own (setup_in i) (past_of i) h x o (can (now_of i) core.agrees))
 
 pub none_in : (i : Inside) (v : CoreView) (actor h : ℕ) → view_of i ≡ v → IsCore i
     → (h < length i.parts.harts.items → (p : Picture) → PartsAgree p i.parts → NoneCanRetire p h)
@@ -203,31 +204,51 @@ length_after : (byte : Option ℕ) (before : List ℕ) → length (output_after 
 length_after None before = omega arith
 length_after (Some byte) before = let more = length_push before byte in omega arith
 
-pub core_after : (i : Inside) (parts : Parts) (many : ℕ) (now : Vec Record Global) (out : Vec ℕ Global) (history : EventList)
-    (actor h : ℕ) (x : Active)
+-- The code is what memory has again, once what the write touched was decoded anew.
+abbrev pub IsDecodedAgain : Inside → Parts → Effect → Code → Type 0
+IsDecodedAgain i parts effect code =
+    (before : ℕ → ℕ) → IsCodeOf parts.memory.image before i.code
+    → ((a : ℕ) → byte_of parts.memory a ≡ byte_after effect.write a (before a))
+    → IsCodeOf parts.memory.image (byte_of parts.memory) code
+
+code_after : (i : Inside) (parts : Parts) (code : Code) (actor s : ℕ) (effect : Effect) → IsCore i
+    → KeepsSizes i.parts parts → PartsAgree (picture (setup_in i) (Retire actor s effect ∷ past_of i)) parts
+    → IsDecodedAgain i parts effect code
+    → IsCodeOf i.image (byte_at (setup_in i) (Retire actor s effect ∷ past_of i)) code
+code_after i parts code actor s effect core sizes agrees again =
+    let now = byte_at (setup_in i) (Retire actor s effect ∷ past_of i) in
+    let same : byte_of parts.memory ≡ now = fun_ext agrees.memory.byte in
+    let image : parts.memory.image ≡ i.image = sizes.image ∙ core.image in
+    let was : IsCodeOf parts.memory.image (byte_at (setup_in i) (past_of i)) i.code =
+    subst (λ g. IsCodeOf g (byte_at (setup_in i) (past_of i)) i.code) (sym image) core.code in
+    subst (λ g. IsCodeOf g now code) image
+    (subst (λ b. IsCodeOf parts.memory.image b code) same
+    (again (byte_at (setup_in i) (past_of i)) was agrees.memory.byte))
+
+pub core_after : (i : Inside) (parts : Parts) (code : Code) (many : ℕ) (now : Vec Record Global) (out : Vec ℕ Global)
+    (history : EventList) (actor h : ℕ) (x : Active)
     (o : Outcome) (effect : Effect) → IsCore i → Finds i actor h x o effect
     → ((p q : Picture) → PartsAgree p i.parts → Retires p q h x effect → PartsAgree q parts) → KeepsSizes i.parts parts
+    → IsDecodedAgain i parts effect code
     → many ≡ looks_after x.op (needs_look x.seq (queues_of i.parts.accesses h).loads) effect i.looks
     → now.items ≡ i.records.items ++ record { hart = h; pc = x.pc; word = x.word; effect = effect } ∷ []
     → vec_capacity now ≡ vec_capacity i.records → out.items ≡ output_after effect.out i.output.items
     → vec_capacity out ≡ vec_capacity i.output
     → history ≡ record i.history { items = i.history.items ++ Retire actor x.seq effect ∷ [] }
-    → IsCore (record i { parts = parts; looks = many; records = now; output = out; history = history })
-core_after i parts many now out history actor h x o effect core finds steps sizes counted recorded records_room put
-    output_room longer =
+    → IsCore (record i { code = code; parts = parts; looks = many; records = now; output = out; history = history })
+core_after i parts code many now out history actor h x o effect core finds steps sizes again counted recorded
+    records_room put output_room longer =
     let past = past_of i in
     let f : Fetched = record { hart = h; pc = x.pc; word = x.word; predicted = x.predicted } in
     let line : Record = record { hart = h; pc = x.pc; word = x.word; effect = effect } in
     let can = finds.can in
     let newest : records (Retire actor x.seq effect ∷ past) ≡ line ∷ records past =
     records-Retire past actor x.seq effect f can.is_active.fetched in
-    core_retired i parts many now out history (Retire actor x.seq effect) core
-    (record {
-      allowed = found_follows i actor h x o effect core finds;
-      agrees = steps (now_of i) (picture (setup_in i) (Retire actor x.seq effect ∷ past)) core.agrees
-          (found_retires i actor h x o effect core finds);
-      sizes = sizes;
-    })
+    let agrees = steps (now_of i) (picture (setup_in i) (Retire actor x.seq effect ∷ past)) core.agrees
+    (found_retires i actor h x o effect core finds) in
+    core_retired i parts code many now out history (Retire actor x.seq effect) core
+    (record { allowed = found_follows i actor h x o effect core finds; agrees = agrees; sizes = sizes })
+    (code_after i parts code actor x.seq effect core sizes agrees again)
     (record {
       fetches = refl;
       last_fetched = refl;
@@ -258,12 +279,12 @@ if_none (Some x) P holds = tt
 
 -- ---- One that may come next
 
--- A completed instruction has its outcome in the active list.
-stage_outcome : (p : Picture) (s : ℕ) (at : Stage) → p.fate s ≡ Completed → IsStage p s at
-    → (o : Outcome) × (p.completion s ≡ Some o)
-stage_outcome p s stages.Renamed done is = absurd (omega (arith, ap stage (sym is ∙ done)))
-stage_outcome p s stages.Issued done is = absurd (omega (arith, ap stage (sym is ∙ done)))
-stage_outcome p s (stages.Completed outcome) done is = (outcome, is.1)
+-- Hart h is there, whose member of the active list this is.
+pub active_inside : (i : Inside) → IsCore i → (h : ℕ) (x : Active) → IsActive (now_of i) h x
+    → h < length i.parts.harts.items
+active_inside i core h x active =
+    subst (λ n. h < n) (sym core.harts)
+    (hart_there (setup_in i) (past_of i) core.legal h x.seq (is_of_active (setup_in i) (past_of i) h x active))
 
 module _ (i : Inside) (core : IsCore i) (v : CoreView) (at : view_of i ≡ v) (actor h : ℕ) (x : Active)
     (effect : Effect) (ok : refused v.setup v.past (Retire actor x.seq effect) ≡ None)
@@ -277,14 +298,10 @@ module _ (i : Inside) (core : IsCore i) (v : CoreView) (at : view_of i ≡ v) (a
   rules_hold : RetireAllowed (setup_in i) (past_of i) actor x.seq effect
   rules_hold = retire_allowed (setup_in i) (past_of i) actor x.seq effect allowed
 
-  own : is_of (past_of i) h x.seq ≡ true
-  own = ap (holds_of (λ f. f.hart == h)) active_now.fetched ∙ (grind (arith, nat_tests))
-
-  done : fate (past_of i) x.seq ≡ Completed
-  done = fate_at (fate (past_of i) x.seq) Completed (stage_of (fate (past_of i) x.seq) Completed rules_hold.fated)
-
-  ends : (o : Outcome) × ((now_of i).completion x.seq ≡ Some o)
-  ends = stage_outcome (now_of i) x.seq x.stage done active_now.stage
+  oldest_now : IsWanted (setup_in i) (past_of i) h x
+  oldest_now =
+      wanted (setup_in i) (past_of i) actor h x active_now
+      (retire_wants (setup_in i) (past_of i) actor x.seq effect allowed)
 
   same_now : same_effect effect (effect_now (setup_in i) (past_of i) x.seq (fetched_of h x)) ≡ true
   same_now =
@@ -292,18 +309,14 @@ module _ (i : Inside) (core : IsCore i) (v : CoreView) (at : view_of i ≡ v) (a
       ∙ rules_hold.effect_is
 
   pub said_outcome : Outcome
-  said_outcome = ends.0
+  said_outcome = oldest_now.outcome
 
   pub finds_next : Finds i actor h x said_outcome effect
   unfolding said_outcome
   finds_next = record {
     there = rules_hold.actor_is;
-    inside = subst (λ n. h < n) (sym core.harts) (hart_there (setup_in i) (past_of i) core.legal h x.seq own);
-    can = record {
-      oldest = first_of_hart (past_of i) (flight (past_of i)) h x.seq own rules_hold.oldest;
-      is_active = active_now;
-      completed = done;
-      outcome = ends.1;
-    };
+    inside = active_inside i core h x active_now;
+    can = oldest_now.can;
+    fresh = sym (ap (holds_of (is_fresh (setup_in i) (past_of i))) active_now.fetched) ∙ rules_hold.fresh;
     effect_is = same_effect-is effect (effect_now (setup_in i) (past_of i) x.seq (fetched_of h x)) same_now;
   }

@@ -1,9 +1,11 @@
 ghost use Rattle.std.specs.Prelude.{◌≡◌, map, IfOk};
 ghost use Rattle.std.specs.Result.{result_err};
-ghost use Rattle.events.specs.declared.event.Event.TheVariants.{Retire};
-ghost use Rattle.smt_model.specs.Rules.{refused, is_first};
+ghost use Rattle.events.specs.declared.event.Event.TheVariants.{Retire, Refetch};
+ghost use Rattle.smt_model.specs.Picture.{picture};
+ghost use Rattle.smt_model.specs.Rules.{first_failing, refused, is_first};
 ghost use Rattle.core_parts.specs.Place.{InActiveList};
-ghost use Rattle.core_state.specs.Refusals.{outcome_at};
+ghost use Rattle.core_steps.specs.Retirement.{CanRetire};
+ghost use Rattle.core_state.specs.Refusals.{outcome_at, rules_of_oldest};
 
 use super::same::is_same_effect;
 use crate::state::State;
@@ -26,6 +28,50 @@ impl State {
         ensures there { IfOk result
             (λ r. InActiveList self.now.setup self.now.past r.0 seq r.1) }
     {
+        let (hart, active, outcome) = self.judge_oldest(actor, seq)?;
+        let now = effect(
+            &self.parts.memory,
+            &self.parts.accesses,
+            hart,
+            seq,
+            active.op,
+            outcome,
+        );
+        if !is_same_effect(said, now) {
+            return Err(4);
+        }
+        if !self.is_fresh(&active) {
+            return Err(5);
+        }
+        Ok((hart, active))
+    }
+
+    /// The hart whose instruction `seq` actor `actor` may fetch again, and how that stands, or the
+    /// first rule that the refetch breaks.
+    pub(in crate::state) fn judge_refetch(&self, actor: u8, seq: Seq) -> Result<(u8, Active), u8>
+        ensures rule { result_err result
+            ≡ refused self.now.setup self.now.past (Refetch actor seq) }
+        ensures there { IfOk result
+            (λ r. InActiveList self.now.setup self.now.past r.0 seq r.1) }
+    {
+        let (hart, active, _) = self.judge_oldest(actor, seq)?;
+        if self.is_fresh(&active) {
+            return Err(4);
+        }
+        Ok((hart, active))
+    }
+
+    /// The hart whose oldest instruction in flight `seq` is, how that stands, and the outcome that it
+    /// has completed with, or the first rule of a retirement or a refetch by actor `actor` that is
+    /// broken by this.
+    fn judge_oldest(&self, actor: u8, seq: Seq) -> Result<(u8, Active, Outcome), u8>
+        ensures rule { result_err result
+            ≡ first_failing (rules_of_oldest self.now.setup self.now.past actor seq) }
+        ensures there { IfOk result
+            (λ r. InActiveList self.now.setup self.now.past r.0 seq r.1) }
+        ensures can { IfOk result
+            (λ r. CanRetire (picture self.now.setup self.now.past) r.0 r.1 r.2) }
+    {
         if !self.has_actor(actor) {
             return Err(1);
         }
@@ -38,18 +84,7 @@ impl State {
         if !is_oldest_active(&self.hart(hart).active, seq) {
             return Err(3);
         }
-        let now = effect(
-            &self.parts.memory,
-            &self.parts.accesses,
-            hart,
-            seq,
-            active.op,
-            outcome,
-        );
-        if !is_same_effect(said, now) {
-            return Err(4);
-        }
-        Ok((hart, active))
+        Ok((hart, active, outcome))
     }
 }
 

@@ -1,4 +1,4 @@
--- What a retirement does to the parts: committed or halted, they agree with the picture after the step. Lists and
+-- What a retirement does to the parts: committed or left, they agree with the picture after the step. Lists and
 -- pictures alone.
 use Rattle.std.specs.Prelude.{◌≡◌, ◌≢◌, ℕ, ◌<◌, ◌==◌, ◌&&◌, ◌||◌, not, Bool, true, false, List, [], ◌∷◌, Option, Some}
 use Rattle.std.specs.Prelude.{None, IfSome, map, drop, length, is_some, slice_index, slice_index_or, slice_set}
@@ -248,21 +248,22 @@ parts_committed p q h x effect pc old new a y replaced free gone_from accesses m
           (memory_committed p q h x effect pc old.memory memory commits made agrees.memory);
     }
 
--- ---- A halt
+-- ---- It leaves and commits nothing
 
 -- The hart without it.
-abbrev pub left_hart : Active → Status → HartState → HartState
-left_hart x status a =
+abbrev pub left_hart : Active → Status → ℕ → HartState → HartState
+left_hart x status pc a =
     record a {
       active = drop 1 a.active;
       maps = record a.maps { kept = released_after x.seq a.maps.kept };
+      fetch_pc = pc;
       status = status;
     }
 
-hart_left : (p q : Picture) (h : ℕ) (x : Active) (status : Status) (a : HartState) → Leaves p q h x status
-    → HartAgrees p h a
-    → HartAgrees q h (left_hart x status a)
-hart_left p q h x status a leaves is =
+hart_left : (p q : Picture) (h : ℕ) (x : Active) (status : Status) (pc : ℕ) (a : HartState)
+    → Leaves p q h x status pc → HartAgrees p h a
+    → HartAgrees q h (left_hart x status pc a)
+hart_left p q h x status pc a leaves is =
     let step = leaves.step in
     let kept : KeepsFetched p q = step.stays.shared.kept in
     record {
@@ -275,18 +276,18 @@ hart_left p q h x status a leaves is =
       icount = is.icount ∙ sym step.stays.hart.icount;
       speculative = λ r above under. is.speculative r above under ∙ sym (leaves.mapped r above under);
       committed = λ r above under. is.committed r above under ∙ sym (step.stays.hart.committed r above under);
-      fetch_pc = is.fetch_pc ∙ sym step.stays.hart.fetch_pc;
-      status = leaves.stands ∙ sym step.status;
+      fetch_pc = sym step.fetch_pc;
+      status = sym step.status;
     }
 
-pub parts_left : (p q : Picture) (h : ℕ) (x : Active) (status : Status) (old : Parts) (a y : HartState)
+pub parts_left : (p q : Picture) (h : ℕ) (x : Active) (status : Status) (pc : ℕ) (old : Parts) (a y : HartState)
     (free : List Bool) (accesses : List Queues)
-    → h < length old.harts.items → a ≡ slice_index_or old.harts.items h a → HasLeft a y x.seq status
+    → h < length old.harts.items → a ≡ slice_index_or old.harts.items h a → HasLeft a y x.seq status pc
     → Changes (without_access x.op) h old.accesses accesses
     → ((r : ℕ) → holds free r ≡ (holds old.free r || same_number x.phys (Some r))) → PartsAgree p old
-    → Leaves p q h x status
+    → Leaves p q h x status pc
     → PartsAgree q (record old { harts = with_item old.harts h y; free = free; accesses = accesses })
-parts_left p q h x status old a y free accesses inside at has gone gives agrees leaves =
+parts_left p q h x status pc old a y free accesses inside at has gone gives agrees leaves =
     let step = leaves.step in
     let oldest = leaves.is_oldest in
     let here : HartAgrees p h a = subst (HartAgrees p h) (sym at) (agrees.harts h a inside) in
@@ -295,7 +296,7 @@ parts_left p q h x status old a y free accesses inside at has gone gives agrees 
     record {
       harts =
           each_set p q old.harts.items h a y inside
-          at (λ is. subst (HartAgrees q h) (sym has) (hart_left p q h x status a leaves is))
+          at (λ is. subst (HartAgrees q h) (sym has) (hart_left p q h x status pc a leaves is))
           (others_kept p q h x.seq step.stays step.of_hart step.flights) agrees.harts;
       checkpoints =
           checkpoints_set old.harts.items h y inside
@@ -326,10 +327,10 @@ parts_left p q h x status old a y free accesses inside at has gone gives agrees 
     }
 
 -- Its own register can be given back: it is in range and isn't free.
-pub own_leaves : (p q : Picture) (h : ℕ) (x : Active) (status : Status) (free : List Bool) → Leaves p q h x status
-    → FreeAgrees p free
+pub own_leaves : (p q : Picture) (h : ℕ) (x : Active) (status : Status) (pc : ℕ) (free : List Bool)
+    → Leaves p q h x status pc → FreeAgrees p free
     → IfSome x.phys (λ r. (r < most_registers) × (holds free r ≡ false))
-own_leaves p q h x status free leaves agrees =
+own_leaves p q h x status pc free leaves agrees =
     if_some x.phys (λ r. (r < most_registers) × (holds free r ≡ false)) (λ r named.
     let own = (subst (AreOwn p) leaves.step.flight leaves.step.own).0 r (sym leaves.is_oldest.phys ∙ named) in
     (own.in_range, agrees r ∙ own.claimed))

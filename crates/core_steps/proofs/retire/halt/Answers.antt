@@ -1,44 +1,28 @@
-use Rattle.std.specs.Prelude.{◌<◌}
-use Rattle.std.proofs.Common.{sym, subst}
-use Rattle.core_steps.specs.Checkpoints.{with_map}
-use Rattle.core_steps.proofs.Steps.{OtherMap.squash_with, OtherMap.squashes_anew, Retire.Halt.leaves_with}
+use Rattle.std.specs.Prelude.{slice_index_or}
+use Rattle.std.proofs.Common.{◌∙◌, ap}
+use Rattle.core_steps.proofs.Steps.Retire.Abandon.{ends_leave}
 use Rattle.core_steps.proofs.retire.halt.Goals as goal
 
-pub leave-requires : goal.leave-requires
-leave-requires c =
+pub abandon-requires : goal.abandon-requires
+abandon-requires c =
     let from = c.requires.step in
+    let old = c.args.parts.now in
+    let at = c.index.ensures ∙ ap (λ i. slice_index_or old.harts.items i c.index.result.now) c.from.ensures in
     record {
       step = record {
         before = from.before;
-        after = with_map (from.before.mapped c.args.hart) from.step.step.middle c.args.hart;
+        after = from.after;
         inside = from.inside;
         agrees = from.agrees;
-        step = leaves_with from.before from.after c.args.hart c.args.active.now c.args.status from.step;
-      };
-    }
-
-pub squash-requires : goal.squash-requires
-squash-requires c =
-    let from = c.requires.step in
-    let map = from.before.mapped c.args.hart in
-    let middle = with_map map from.step.step.middle c.args.hart in
-    record {
-      step = record {
-        before = middle;
-        after = from.after;
-        inside = subst (λ n. c.args.hart < n) (sym c.leave.ensures.sizes.harts) from.inside;
-        agrees =
-            c.leave.ensures.agrees from.before middle from.agrees
-            (leaves_with from.before from.after c.args.hart c.args.active.now c.args.status from.step);
-        step = squashes_anew middle from.after c.args.hart c.args.active.now.seq
-            (squash_with map from.step.step.middle from.after c.args.hart c.args.active.now.seq from.step.step.squash);
+        step = ends_leave from.before from.after old c.args.hart c.args.active.now c.args.status c.index.result.now
+            from.inside at from.agrees from.step;
       };
     }
 
 pub returns-clause-agrees : goal.returns-clause-agrees
 returns-clause-agrees c p q agrees ends =
-    let middle = with_map (p.mapped c.args.hart) ends.step.middle c.args.hart in
-    c.squash.ensures.agrees middle q
-    (c.leave.ensures.agrees p middle agrees (leaves_with p q c.args.hart c.args.active.now c.args.status ends))
-    (squashes_anew middle q c.args.hart c.args.active.now.seq
-    (squash_with (p.mapped c.args.hart) ends.step.middle q c.args.hart c.args.active.now.seq ends.step.squash))
+    let old = c.args.parts.now in
+    let at = c.index.ensures ∙ ap (λ i. slice_index_or old.harts.items i c.index.result.now) c.from.ensures in
+    c.abandon.ensures.agrees p q agrees
+    (ends_leave p q old c.args.hart c.args.active.now c.args.status c.index.result.now c.requires.step.inside at agrees
+    ends)

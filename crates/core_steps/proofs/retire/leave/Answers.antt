@@ -7,8 +7,8 @@ use Rattle.core_steps.proofs.retire.leave.Goals as goal
 pub give_back-requires : goal.give_back-requires
 give_back-requires c =
     let from = c.requires.step in
-    own_leaves from.before from.after c.args.hart c.args.active.now c.args.status c.args.parts.now.free from.step
-    from.agrees.free
+    own_leaves from.before from.after c.args.hart c.args.active.now c.args.status c.args.pc c.args.parts.now.free
+    from.step from.agrees.free
 
 pub remove_access-requires : goal.remove_access-requires
 remove_access-requires c =
@@ -30,7 +30,7 @@ returns-clause-agrees c p q agrees leaves =
       accesses = c.remove_access.new.accesses;
     }))
     (sym c.from.ensures)
-    (parts_left p q c.args.hart c.args.active.now c.args.status old a y c.give_back.new.free
+    (parts_left p q c.args.hart c.args.active.now c.args.status c.args.pc old a y c.give_back.new.free
     c.remove_access.new.accesses c.requires.step.inside
     (c.index_mut.ensures.value ∙ ap (λ i. slice_index_or old.harts.items i a) c.from.ensures) c.leave_flight.ensures
     c.remove_access.ensures c.give_back.ensures agrees leaves)

@@ -1,5 +1,8 @@
-use Rattle.event_text.proofs.Migrating.{all_wider}
+use Rattle.event_text.proofs.Migrating.{first_within, newest_within}
 use Rattle.event_text.proofs.laws.migration_law.Goals as goal
 
-pub returns : goal.returns
-returns c = all_wider
+pub returns-clause-first : goal.returns-clause-first
+returns-clause-first c = first_within
+
+pub returns-clause-newest : goal.returns-clause-newest
+returns-clause-newest c = newest_within

@@ -43,3 +43,9 @@ returns-in-Retire-clause-length g c = c.push_retire.ensures.length
 
 pub returns-in-Retire-clause-spelled : goal.returns-in-Retire-clause-spelled
 returns-in-Retire-clause-spelled g c = rw c.in-Retire.is c.push_retire.ensures.spelled
+
+pub returns-in-Refetch-clause-length : goal.returns-in-Refetch-clause-length
+returns-in-Refetch-clause-length g c = shorter _ _ 16 64 c.push_step-in-Refetch.ensures.length (lit≤ tt)
+
+pub returns-in-Refetch-clause-spelled : goal.returns-in-Refetch-clause-spelled
+returns-in-Refetch-clause-spelled g c = rw c.in-Refetch.is c.push_step-in-Refetch.ensures.spelled

@@ -1,7 +1,7 @@
 use Rattle.schedules.proofs.Writing.{turns_step}
 use Rattle.schedules.proofs.schedule.write_turns.Goals as goal
 
-pub loop-hart-preserved : goal.loop-hart-preserved
-loop-hart-preserved g c =
-    turns_step _ _ _ c.args.units c.args.order.now c.loop-hart.hart-index 0
-    c.loop-hart-test.true c.loop-hart.invariant c.in_ok-write_turn.ensures
+pub loop-turn-preserved : goal.loop-turn-preserved
+loop-turn-preserved g c =
+    turns_step _ _ _ c.args.units c.args.turns.now c.loop-turn.turn-index _
+    c.loop-turn-test.true c.loop-turn.invariant c.in_ok-write_turn.ensures

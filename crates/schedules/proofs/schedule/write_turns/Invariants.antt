@@ -5,6 +5,6 @@ use Rattle.schedules.specs.Turns.{turn_lines}
 use Rattle.schedules.proofs.schedule.write_turns.Given as goal
 
 -- the turns so far are written
-abbrev pub invariant-loop-hart : goal.invariant-loop-hart
-invariant-loop-hart g l = Appends (g.W.Write.contents l.fn.out) (g.W.Write.contents l.out)
-    (flat_map line_text (turn_lines l.units (take l.hart-index l.order)))
+abbrev pub invariant-loop-turn : goal.invariant-loop-turn
+invariant-loop-turn g l = Appends (g.W.Write.contents l.fn.out) (g.W.Write.contents l.out)
+    (flat_map line_text (turn_lines l.units (take l.turn-index l.turns)))

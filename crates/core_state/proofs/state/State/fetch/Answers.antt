@@ -3,14 +3,14 @@ use Rattle.std.proofs.Common.{◌∙◌, ap, arith}
 use Rattle.events.specs.declared.event.Event.TheVariants.{Fetch}
 use Rattle.core_parts.specs.declared.slot.Slot.{Slot}
 use Rattle.core_state.proofs.Steps.Fetch.State.{fetched_is, fetch_starts, fetch_core, fetched_few}
-use Rattle.core_state.proofs.Steps.Fetch.State.{op_of_point}
+use Rattle.core_state.proofs.Steps.Fetch.State.{op_of_point, bytes_of}
 use Rattle.core_state.proofs.Views.Viewed.{short_in}
 use Rattle.core_state.proofs.state.State.fetch.Goals as goal
 
 pub slot-slot-requires : goal.slot-slot-requires
 slot-slot-requires c =
     op_of_point c.self.inside c.self.invariant c.args.self.now c.self.view_is c.args.actor c.args.point c.args.predicted
-    c.op_at-op.result (c.op_at-op.ensures c.self.inside.image c.self.invariant.code) c.requires.allowed
+    c.op_at-op.result (c.op_at-op.ensures.value c.self.inside.image (bytes_of c.self.inside) c.self.invariant.code) c.requires.allowed
 
 pub fetch_slot-requires-clause-step : goal.fetch_slot-requires-clause-step
 fetch_slot-requires-clause-step c =

@@ -1,9 +1,10 @@
 -- The tests of the parts are the rules of a fetch.
 use Rattle.std.proofs.Common.{◌∙◌, ◌==◌, sym, ap}
 use Rattle.core_state.proofs.Following.Fetch.{no_actor, not_chosen, there, chosen_there, fetched_view}
-use Rattle.elf_image.specs.Image.{code_word}
-use Rattle.smt_model.specs.Basics.{same_number}
+use Rattle.elf_image.specs.Image.{word_now}
+use Rattle.smt_model.specs.{Basics.same_number, Memory.byte_at}
 use Rattle.core_state.specs.View.{CoreView}
+use Rattle.core_state.proofs.Steps.Fetch.State.{bytes_of}
 use Rattle.core_state.proofs.state.State.fetch_refusal.Goals as goal
 
 pub returns-then-not-has_actor : goal.returns-then-not-has_actor
@@ -36,4 +37,5 @@ returns c =
     (ap (λ n. c.args.seq == n) (fetched_view i c.self.invariant v c.self.view_is))
     (ap (λ n. point.pc == n) c.hart.ensures.fetch_pc)
     (c.is_same_number.ensures ∙ ap (same_number point.word)
-    (c.word_at.ensures i.image c.self.invariant.code ∙ ap (λ (u : CoreView). code_word u.setup.image point.pc) c.self.view_is)))
+    (c.word_at.ensures i.image (bytes_of i) c.self.invariant.code
+    ∙ ap (λ (u : CoreView). word_now u.setup.image (byte_at u.setup u.past) point.pc) c.self.view_is)))

@@ -3,6 +3,7 @@ use Rattle.std.proofs.Common.{◌∙◌, sym, subst, ap, arith}
 use Rattle.smt_model.specs.Asks.{AskFetch}
 use Rattle.core_state.specs.{Answers.AllowsNone, State.past_of, State.setup_in, View.CoreView}
 use Rattle.core_steps.specs.{Fetch.next_hart}
+use Rattle.core_state.proofs.Steps.Fetch.State.{bytes_of}
 use Rattle.core_state.proofs.{Steps.Fetch.Rules.fetch_idle, Steps.Fetch.State.found_can, Steps.Fetch.State.none_chosen}
 use Rattle.core_state.proofs.state.State.next_to_fetch.Goals as goal
 
@@ -28,4 +29,4 @@ returns-clause-allowed c =
     c.has_actor.result c.deref.result.now
     c.index.result.now c.word_at.result c.has_actor.ensures c.if-not-has_actor.false c.deref.ensures.value found.value
     found.inside c.index.ensures
-    (c.word_at.ensures c.self.inside.image c.self.invariant.code)
+    (c.word_at.ensures c.self.inside.image (bytes_of c.self.inside) c.self.invariant.code)

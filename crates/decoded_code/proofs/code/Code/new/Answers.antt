@@ -1,6 +1,5 @@
 use Rattle.std.proofs.Common.{◌≡◌, ◌*◌, length, arith}
 use Rattle.elf_image.specs.Image.{code_size}
-use Rattle.decoded_code.proofs.Fetching.{decoded}
 use Rattle.decoded_code.proofs.code.Code.new.Goals as goal
 
 pub returns : goal.returns
@@ -8,5 +7,9 @@ returns c =
     let words = c.loop-index.words in
     let size : 4 * length words.items ≡ code_size c.args.image.now =
     omega (arith, c.code-start.ensures.size, c.code-start.ensures.aligned, c.loop-index.invariant.0) in
-    decoded c.args.image.now (record { start = c.code-start.result.0; words = words }) c.code-start.ensures.start
-    c.code-start.ensures.aligned.0 size c.loop-index.invariant.1
+    record {
+      start = c.code-start.ensures.start;
+      aligned = c.code-start.ensures.aligned.0;
+      size = size;
+      each = c.loop-index.invariant.1;
+    }

@@ -1,7 +1,8 @@
 use Rattle.std.proofs.Common.{◌≡◌, List, [], ◌∷◌, ◌++◌, append_assoc, append-nil, subst, sym, ◌∙◌, ap}
 use Rattle.events.specs.{declared.event.Event.Event}
 use Rattle.event_text.specs.{Line.line_of, Sinking.HasBroken}
-use Rattle.event_text.specs.declared.head.TraceHead.TheVariants.{Second}
+use Rattle.event_text.specs.declared.head.LaterVersion.TheVariants.{Third}
+use Rattle.event_text.specs.declared.head.TraceHead.TheVariants.{Later}
 use Rattle.event_text.specs.{Heads.ended, Heads.head_lines, Trace.event_lines, Trace.trace_text}
 use Rattle.event_text.proofs.SinkLaws.{HasBroken-before, HasBroken-held, HasPutBut-more, HasPutBut-nil, HasPutBut-step}
 use Rattle.event_text.proofs.SinkLaws.{on_err, when_err}
@@ -10,7 +11,7 @@ use Rattle.event_text.proofs.trace.printing.print_trace.Goals as goal
 
 pub loop-event-init : goal.loop-event-init
 loop-event-init g c =
-    let head = Second c.args.header.now in
+    let head = Later Third c.args.header.now in
     let is : c.push_head.new.text.bytes ≡ head_lines head =
     c.push_head.ensures ∙ ap (λ bytes. bytes ++ head_lines head) c.new-piece.ensures in
     record {
@@ -22,7 +23,7 @@ loop-event-init g c =
 
 pub returns-in_err-make_room-clause-broken : goal.returns-in_err-make_room-clause-broken
 returns-in_err-make_room-clause-broken g c =
-    let head = Second c.args.header.now in
+    let head = Later Third c.args.header.now in
     let yielded = c.loop-event.yielded in
     let left = c.loop-event.event-iterator in
     let text : trace_text head yielded ++ event_lines left ≡ trace_text head c.args.history.now.items =
@@ -36,7 +37,7 @@ returns-in_err-make_room-clause-broken g c =
 
 pub loop-event-preserved : goal.loop-event-preserved
 loop-event-preserved g c =
-    let head = Second c.args.header.now in
+    let head = Later Third c.args.header.now in
     let yielded = c.loop-event.yielded in
     let event = c.in-Some.event in
     let held = c.make_room.new.piece.bytes in
@@ -58,7 +59,7 @@ loop-event-preserved g c =
 
 pub returns-clause-broken : goal.returns-clause-broken
 returns-clause-broken g c =
-    let head = Second c.args.header.now in
+    let head = Later Third c.args.header.now in
     let yielded = c.loop-event.yielded in
     let held : c.as_bytes.result.now ≡ c.loop-event.piece.bytes = c.as_bytes.ensures.value ∙ c.as_str.ensures.value in
     let all : yielded ≡ c.args.history.now.items =

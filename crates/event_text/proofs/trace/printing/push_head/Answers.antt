@@ -12,6 +12,6 @@ returns g c =
     let roles = rw c.roles.ensures.value at c.push_roles.ensures.spelled in
     head_spelled c.args.text.now.bytes c.push_str.new.self.bytes c.push_small_number_field.new.line.bytes
     c.push_number_field.new.line.bytes c.push_small_number_field-2.new.line.bytes c.push_roles.new.text.bytes
-    c.push_ascii.new.text.bytes (codes "smt-trace 2\nconfig") (decimal sizes.harts) (decimal sizes.extra)
+    c.push_ascii.new.text.bytes (codes "smt-trace 3\nconfig") (decimal sizes.harts) (decimal sizes.extra)
     (decimal sizes.queue) (spaced sizes.roles) c.push_str.ensures.bytes harts extra queue roles
     c.push_ascii.ensures.spelled

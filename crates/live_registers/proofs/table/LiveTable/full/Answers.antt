@@ -1,5 +1,5 @@
-use Rattle.std.specs.Prelude.{◌≡◌, true, All}
-use Rattle.elf_image.specs.Image.{ProgramImage}
+use Rattle.std.specs.Prelude.{◌≡◌, true, false, All}
+use Rattle.elf_image.specs.Image.{ProgramImage, byte_in, code_writable}
 use Rattle.decoded_code.specs.Code.{IsCodeOf}
 use Rattle.outcome_laws.specs.Live.{IsLiveTable}
 use Rattle.live_registers.specs.declared.table.{LiveTable.LiveTable, Row.Row}
@@ -11,6 +11,7 @@ pub returns-clause-good : goal.returns-clause-good
 returns-clause-good c =
     from_both c.filled.result (IsOfCode c.args.code.now)
     (λ (table : LiveTable). All (λ (row : Row). row.live ≡ all_alike true) table.rows.items)
-    (λ table. (image : ProgramImage) → IsCodeOf image c.args.code.now → IsLiveTable image (live_of table))
+    (λ table. (image : ProgramImage) → code_writable image ≡ false → IsCodeOf image (byte_in image) c.args.code.now
+    → IsLiveTable image (live_of table))
     c.filled.ensures.of_code c.filled.ensures.all
-    (λ table of_code full image is. full_good image c.args.code.now table is of_code full)
+    (λ table of_code full image fixed is. full_good image c.args.code.now table fixed is of_code full)

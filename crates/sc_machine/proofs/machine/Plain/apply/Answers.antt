@@ -1,4 +1,8 @@
-use Rattle.std.proofs.Common.{◌≡◌, ◌<◌, length, get_or, sym, ap, subst, ◌∙◌}
+use Rattle.std.proofs.Common.{◌≡◌, ◌<◌, length, get_or, sym, ap, subst, ◌∙◌, arith}
+use Rattle.std.proofs.lemmas.List.{length-set}
+use Rattle.shared_memory.specs.Contents.{byte_of}
+use Rattle.decoded_code.specs.Code.{IsCodeOf}
+use Rattle.sc_machine.specs.Execution.{HasRoom}
 use Rattle.std.specs.Prelude.{slice_index, slice_set}
 use Rattle.smt_model.specs.Plain.{after}
 use Rattle.sc_machine.specs.{Harts.HartAgrees, Harts.register_written, Machine.Machine, Machine.Agrees}
@@ -32,3 +36,18 @@ returns-clause-agrees c = λ setup s agrees.
     c.advance.ensures.status in
     advanced setup s m n h op addr e y here inside own (ap (λ i. slice_set m.harts i y) c.from.ensures)
     c.change_memory.ensures.image c.change_memory.ensures.bytes c.change_memory.ensures.reserved c.put.ensures.items
+
+pub invariant_of-self : goal.invariant_of-self
+invariant_of-self c =
+    let was = c.self.invariant in
+    let old = c.self.inside in
+    let room = subst (λ (m : Machine). HasRoom m c.args.execution) (sym c.self.view_is) c.requires.room in
+    record {
+      some = rw length-set was.some;
+      few = rw length-set was.few;
+      code = c.decode_write.ensures (byte_of old.memory)
+          (subst (λ image. IsCodeOf image (byte_of old.memory) old.code) (sym c.change_memory.ensures.image) was.code)
+          c.change_memory.ensures.bytes;
+      within = c.put.ensures.within old.room was.within room;
+      roomy = omega (arith, c.put.ensures.capacity, was.roomy);
+    }

@@ -1,0 +1,3 @@
+-- A refetch.
+pub mod Rules
+pub mod State

@@ -1,7 +1,0 @@
-use Rattle.std.proofs.Common.{arith}
-use Rattle.live_registers.proofs.Good.{good}
-use Rattle.live_registers.proofs.table.LiveTable.of.Goals as goal
-
-pub returns-then-is_good-clause-good : goal.returns-then-is_good-clause-good
-returns-then-is_good-clause-good c =
-    λ image is. good image c.args.code.now c.in_ok-table.table is c.in_ok-table.ensures (c.is_good.ensures (grind arith))
