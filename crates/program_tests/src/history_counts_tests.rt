@@ -87,8 +87,9 @@ fn the_numbers_have_a_line_each(rt: HostRuntime) {
         &rt,
         lines_after(ONE_RETIRED, rt.alloc()),
         "fetched 3\ndecoded 3\nrenamed 3\nissued 1\ncompleted 1\ndropped 0\nretired 1\n\
-        mispredicted 0\nreplayed 0\nsquashed-mispredicted 0\nsquashed-replayed 0\n\
-        squashed-ended 0\nsquashed-stopped 0\nhart-0-alu 1\nhart-0-mul 0\nhart-0-mem 0\n",
+        mispredicted 0\nreplayed 0\nrefetched 0\nsquashed-mispredicted 0\nsquashed-replayed 0\n\
+        squashed-refetched 0\nsquashed-ended 0\nsquashed-stopped 0\n\
+        hart-0-alu 1\nhart-0-mul 0\nhart-0-mem 0\n",
     );
 }
 
@@ -100,8 +101,9 @@ fn the_report_is_an_object(rt: HostRuntime) {
         "{\"events\":12,\"retired\":1,\"lent\":0,\"harts\":[{\"hart\":0,\"status\":\"going\"}],\
         \"output\":\"\",\"counts\":{\"fetched\":3,\"decoded\":3,\"renamed\":3,\"issued\":1,\
         \"completed\":1,\"dropped\":0,\"retired\":1,\"mispredicted\":0,\"replayed\":0,\
-        \"squashed-mispredicted\":0,\"squashed-replayed\":0,\"squashed-ended\":0,\
-        \"squashed-stopped\":0,\"hart-0-alu\":1,\"hart-0-mul\":0,\"hart-0-mem\":0,\"idle\":[3,0]}}\n",
+        \"refetched\":0,\"squashed-mispredicted\":0,\"squashed-replayed\":0,\
+        \"squashed-refetched\":0,\"squashed-ended\":0,\"squashed-stopped\":0,\
+        \"hart-0-alu\":1,\"hart-0-mul\":0,\"hart-0-mem\":0,\"idle\":[3,0]}}\n",
     );
 }
 
