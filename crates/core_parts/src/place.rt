@@ -101,7 +101,7 @@ fn oldest_active_with(active: &ActiveList, seq: Seq) -> Option<Active>
     if oldest.seq != seq {
         return None;
     }
-    Some(oldest)
+    Some(*oldest)
 }
 
 /// The one of these that is the instruction of number `seq`.

@@ -56,7 +56,7 @@ pub fn next_to_retire(parts: &Parts, hart: u8) -> Option<(Active, Outcome)>
 {
     let active = parts.harts.get(usize::from(hart))?.active.head()?;
     match active.stage {
-        Stage::Completed(outcome) => Some((active, outcome)),
+        Stage::Completed(outcome) => Some((*active, outcome)),
         Stage::Renamed | Stage::Issued => None,
     }
 }

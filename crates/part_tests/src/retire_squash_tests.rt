@@ -38,7 +38,7 @@ struct Leaving {
 }
 
 fn pop_oldest(active: &mut ActiveList) -> Option<Leaving> {
-    let head = active.head()?;
+    let head = *active.head()?;
     if active.is_empty() {
         return None;
     }

@@ -130,7 +130,7 @@ pub(crate) fn no_retirement(core: &Core, actor: u8, hart: u8) -> Option<Reason>
     let Some(oldest) = hart_of(core, hart).active.head() else {
         return Some(Reason::NothingInFlight { hart });
     };
-    not_completed(core, hart, &oldest)
+    not_completed(core, hart, oldest)
 }
 
 fn not_completed(core: &Core, hart: u8, active: &Active) -> Option<Reason>

@@ -93,14 +93,14 @@ impl ActiveList {
     }
 
     /// The oldest instruction in flight.
-    pub fn head(&self) -> Option<Active>
-        ensures some { IfSome result (λ oldest. self.now ≡ oldest ∷ drop 1 self.now) }
+    pub fn head(&self) -> Option<&Active>
+        ensures some { IfSome result (λ oldest. self.now ≡ oldest.now ∷ drop 1 self.now) }
         ensures none { IfNone result (self.now ≡ []) }
     {
         if self.count == 0 {
             return None;
         }
-        Some(self.places[self.first])
+        Some(&self.places[self.first])
     }
 
     /// The youngest instruction in flight.

@@ -43,7 +43,7 @@ fn write_end<W: Write>(core: &Core, end: RunEnd, out: &mut W) -> io::Result<()> 
 fn write_waiting<W: Write>(state: &HartState, out: &mut W) -> io::Result<()> {
     if let Some(active) = state.active.head() {
         write_instruction(active.seq, active.word, active.pc, out)?;
-        return write_stage(&active, out);
+        return write_stage(active, out);
     }
     if let Some(slot) = state.rename_latch.as_slice().first() {
         write_instruction(slot.seq, slot.word, slot.pc, out)?;
