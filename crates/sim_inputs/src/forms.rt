@@ -32,7 +32,7 @@ One space stands between two fields, a newline ends each line, and - is none.
 Pcs, words, values, addresses and data are eight hexadecimal digits in lower
 case, out is two, and the data of a retirement are two for each byte written.
 next is p and a pc, e and a status of eight digits, or s and a cause. All other
-fields are decimal, but for roles. A trace that begins with the line smt-trace 2 has no
+fields are decimal, but for roles. A trace that begins with smt-trace 2 has no
 refetches; nor has one that begins with smt-trace 1, which has no line of its
 core either: it is that of the configuration.";
 
