@@ -1,5 +1,5 @@
 #!/usr/bin/env python3
-"""interrupt_calls.py PROGRAM [NAME ..]: makes runs of tests/runs while its calls are interrupted.
+"""interrupt_calls.py PROGRAM [--closed] [NAME ..]: makes runs of tests/runs while its calls are interrupted.
 
 Each read and write of the program may be interrupted, or do but a part of what it could, and that
 is as if nothing had happened: each run has to print what its file says, and end so. The runs are
@@ -7,6 +7,10 @@ made three times: with every second read and write interrupted before it has don
 with each doing 1 to 7 bytes of what it could, and with both. They are those of RUNS, or those named;
 `all` stands for all but those of LEFT_OUT. Prints what differs, and a line for each of the three
 ways. Ends with 1 where a run differed.
+
+With `--closed` the runs are those of tools/every_command.py, of each command, or those named of them;
+each is made with standard input, output and error closed, alone and together, and has to do what it
+does with these streams closed and nothing interrupted.
 
 The library that interrupts is tools/interrupt_calls.c, built by the machine's own compiler: no part
 of the program.
@@ -19,7 +23,9 @@ import subprocess
 import sys
 import tempfile
 
-ROOT = os.path.dirname(os.path.dirname(os.path.abspath(__file__)))
+from every_command import ROOT, STREAMS, Kind, prepared, told, without_a_run
+from every_command import RUNS as COMMANDS
+
 SUITE = os.path.join(ROOT, "tests", "runs")
 
 # Each command, each file that is read or written, standard input, a script that is typed, devices
@@ -66,23 +72,56 @@ def all_runs():
     return sorted(name for name in names if not name.startswith(LEFT_OUT))
 
 
-def main():
-    if len(sys.argv) < 2:
+def make_runs(program, names, folder, library):
+    """Makes runs of the suite in each way, and answers whether one differed."""
+    failed = False
+    for way, letters in WAYS.items():
+        words = [f"{SUITE}/run.sh", wrapper(folder, library, program, letters), *names]
+        done = subprocess.run(words, capture_output=True, encoding="latin-1", check=False)
+        *differs, counts = done.stdout.splitlines()
+        print("\n".join([*differs, f"{way}: {counts}"]), flush=True)
+        failed |= done.returncode != 0
+    return failed
+
+
+def make_closed(program, names, folder, library):
+    """Makes runs of each command in each way, with streams closed, and answers whether one differed."""
+    prepared(program, folder)
+    missing = without_a_run()
+    for name in missing:
+        print(f"no run of the command {name}")
+    kinds = [Kind(program, folder, name) for name in names]
+    usual = [kind.run() for kind in kinds]
+    all_wrong = len(missing)
+    for way, letters in {"not interrupted": "", **WAYS}.items():
+        settings = {"LD_PRELOAD": library, "INTERRUPTED_CALLS": letters}
+        made, wrong = 0, 0
+        for kind, done in zip(kinds, usual, strict=True):
+            for closed in STREAMS:
+                found, made = kind.run(closed, **settings), made + 1
+                if not kind.is_as_it_should(found, done, closed):
+                    wrong += 1
+                    words = " ".join(kind.words)
+                    print(f"{words}: {told(closed)}, {way}: status {found.status}, {found.out[-80:]!r}, {found.err!r}")
+        print(f"{way}: {made} runs with streams closed, {wrong} not as they should", flush=True)
+        all_wrong += wrong
+    return all_wrong > 0
+
+
+def main(words):
+    if not words:
         print(__doc__, file=sys.stderr)
         return 2
-    program, names = os.path.abspath(sys.argv[1]), sys.argv[2:] or RUNS
+    closes = "--closed" in words
+    program, *names = [word for word in words if word != "--closed"]
+    program = os.path.abspath(program)
     if names == ["all"]:
-        names = all_runs()
-    failed = False
+        names = list(COMMANDS) if closes else all_runs()
     with tempfile.TemporaryDirectory() as folder:
         library = build(folder)
-        for way, letters in WAYS.items():
-            words = [f"{SUITE}/run.sh", wrapper(folder, library, program, letters), *names]
-            done = subprocess.run(words, capture_output=True, encoding="latin-1", check=False)
-            *differs, counts = done.stdout.splitlines()
-            print("\n".join([*differs, f"{way}: {counts}"]), flush=True)
-            failed |= done.returncode != 0
-    return 1 if failed else 0
+        if closes:
+            return int(make_closed(program, names or list(COMMANDS), folder, library))
+        return int(make_runs(program, names or RUNS, folder, library))
 
 
-sys.exit(main())
+sys.exit(main(sys.argv[1:]))

@@ -1,6 +1,6 @@
 #!/bin/sh
-# Makes sort.elf, primes.elf and search.elf of their sources, for the simulator. Debian's gcc-riscv64-unknown-elf and
-# binutils-riscv64-unknown-elf are needed.
+# Makes sort.elf, primes.elf, search.elf and library.elf of their sources, for the simulator. Debian's
+# gcc-riscv64-unknown-elf and binutils-riscv64-unknown-elf are needed, and picolibc-riscv64-unknown-elf for the last.
 set -eu
 cd "$(dirname "$0")"
 work=$(mktemp -d)
@@ -13,3 +13,5 @@ for program in sort primes search; do
         -o "$program.elf" "$work/start.o" "$work/$program.o"
     chmod 644 "$program.elf"
 done
+TOOLS=gnu CFLAGS=-Werror ../start/image.sh --libc library.c library.elf
+chmod 644 library.elf

@@ -5,9 +5,9 @@
 OUTPUT_ARCH(riscv)
 ENTRY(_start)
 
-ram_size = 65536;
-stack_size = 4096;
-most_harts = 8;
+PROVIDE(ram_size = 65536);
+PROVIDE(stack_size = 4096);
+PROVIDE(most_harts = 8);
 ram_end = 0x80000000 + ram_size;
 
 PHDRS
@@ -23,8 +23,15 @@ SECTIONS
     /* An image may not have an empty segment: a word, so that there is data even where a program has none. */
     .rodata : { LONG(0) *(.rodata .rodata.* .srodata .srodata.*) } :data
     .data : { *(.data .data.* .sdata .sdata.*) } :data
+    /* Thread-local variables: what they begin with. Only program_libc.ld has the header that they need. Both begin at multiples of
+       16, as each hart's own do: LLVM's linker would else count the difference in, and GNU's takes that of no .tdata for one. */
+    .tdata : ALIGN(16) { *(.tdata .tdata.*) } :data :thread_local
+    .tbss : ALIGN(16) { *(.tbss .tbss.* .tcommon) } :data :thread_local
     .bss : { *(.sbss .sbss.*) *(.bss .bss.* COMMON) } :data
     data_end = .;
+    /* For a C library: all that is free between the data and the stacks. */
+    __heap_start = ALIGN(16);
+    __heap_end = ram_end - most_harts * stack_size;
     /* LLVM's linker asks for the sections that it makes itself. */
     .symtab 0 : { *(.symtab) }
     .strtab 0 : { *(.strtab) }
@@ -32,4 +39,4 @@ SECTIONS
     /DISCARD/ : { *(.riscv.attributes) *(.comment) *(.note*) *(.eh_frame*) *(.llvm_addrsig) *(.debug*) *(.rela.*) }
 }
 
-ASSERT(data_end <= ram_end - most_harts * stack_size, "the data reach into the stacks")
+ASSERT(data_end <= ram_end - most_harts * stack_size, "the data reach into the stacks: take a larger ram_size, or fewer most_harts")

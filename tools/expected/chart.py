@@ -1,6 +1,7 @@
-"""The chart of a trace, as `smtsim chart` has to draw it: the text, and with --kanata the log for Konata.
+"""The chart of a trace, as `smtsim chart` has to draw it: the text, with --kanata the log for Konata, and with
+--picture what picture.py has to read from the picture.
 
-    chart.py IMAGE TRACE [--config FILE] [--from N] [--to N] [--hart H] [--width W] [--kanata]
+    chart.py IMAGE TRACE [--config FILE] [--from N] [--to N] [--hart H] [--width W] [--kanata | --picture]
 
 Written from docs/FORMATS.md over the second judge's definitions (judge_history.py): which event squashed
 an instruction is the first of which `squashes` says so. Only the spelling of an instruction is that of
@@ -45,7 +46,7 @@ class Row:
         return "." if self.at["F"] < n and all(n < place for place in over) else " "
 
     def is_shown(self, first, last, hart):
-        begins = self.at["F"] <= last and (self.last() is None or first <= self.last())
+        begins = first <= last and self.at["F"] <= last and (self.last() is None or first <= self.last())
         return begins and hart in (None, self.hart)
 
 
@@ -53,32 +54,112 @@ def rows_of(history):
     return [Row(history, e) for e in history.events if isinstance(e, Fetch)]
 
 
-def text(rows, first, last, hart, width):
-    """The lines of the chart, from one event to another."""
-    digits = len(str(len(rows)))
-    shown = [row for row in rows if row.is_shown(first, last, hart)]
-    room = max((len(row.text) for row in shown), default=0)
-    name = digits + room + 13
-    columns = max(10, width - name - max(9, digits + 4))
+class Names:
+    """How the names of rows are laid out: each part as wide as its widest, with a space behind."""
+
+    def __init__(self, rows, shown):
+        self.hart = len(str(max((row.hart for row in shown), default=0)))
+        self.number = len(str(max((row.number for row in rows), default=0)))
+        self.text = max((len(row.text) for row in shown), default=0)
+        self.room = len(self.laid_out(0, 0, 0, ""))
+        self.behind = max(len(remark) for remark in (" by " + "9" * self.number, " replayed"))
+
+    def laid_out(self, hart, number, pc, text):
+        return f"{hart:>{self.hart}} {number:>{self.number}} {pc:08x} {text:<{self.text}} "
+
+    def of(self, row):
+        return self.laid_out(row.hart, row.number, row.fetch.pc, row.text)
+
+
+def names_of(rows, first, last, hart):
+    return Names(rows, [row for row in rows if row.is_shown(first, last, hart)])
+
+
+def bands(rows, first, last, hart, columns):
+    """The lines of a chart in bands of so many columns, each line with the row that it is of, if it is of one."""
+    names = names_of(rows, first, last, hart)
     for start in range(first, last + 1, columns):
         end = min(last, start + columns - 1)
         if start > first:
-            yield ""
-        ruler = " " * name
+            yield "", None
+        ruler = " " * names.room
         for n in range(start, end + 1):
-            if n % 10 == 0 and len(ruler) <= name + n - start:
-                ruler = ruler.ljust(name + n - start) + str(n)
-        yield ruler
+            if n % 10 == 0 and len(ruler) <= names.room + n - start:
+                ruler = ruler.ljust(names.room + n - start) + str(n)
+        yield ruler, None
         for row in rows:
             if row.is_shown(start, end, hart):
-                head = f"{row.hart} {row.number:>{digits}} {row.fetch.pc:08x} {row.text:<{room}} "
                 stop = end if row.last() is None else min(end, row.last())
-                line = head + "".join(row.cell(n) for n in range(start, stop + 1))
+                line = names.of(row) + "".join(row.cell(n) for n in range(start, stop + 1))
                 if row.squash is not None and start <= row.squash <= end:
                     line += f" by {row.by}"
                 if row.replayed and start <= row.at["T"] <= end:
                     line += " replayed"
-                yield line
+                yield line, row
+
+
+def text(rows, first, last, hart, width):
+    """The lines of the chart, from one event to another."""
+    names = names_of(rows, first, last, hart)
+    columns = max(10, width - names.room - names.behind)
+    for line, _ in bands(rows, first, last, hart, columns):
+        yield line
+
+
+PLACES = {
+    "F": "fetched",
+    "D": "decoded",
+    "R": "renamed",
+    "I": "issued",
+    "C": "completed",
+    "T": "retired",
+    "G": "refetched",
+}
+
+
+def title(history, row):
+    """What a browser shows of a row."""
+    yield f"number {row.number} of hart {row.hart}: {row.fetch.pc:08x} {row.text}"
+    yield ", ".join(f"{said} {row.at[letter]}" for letter, said in PLACES.items() if letter in row.at)
+    if row.squash is not None:
+        yield f"squashed {row.squash} by number {row.by}" + (f", handed back {row.at['X']}" if "X" in row.at else "")
+    if row.replayed:
+        first, second = history.events[row.at["C"]].outcome.value, history.events[row.at["T"]].effect.value
+        yield f"replayed: its first look found {first:08x}, its second {second:08x}"
+
+
+# The eight colours of Okabe and Ito for harts 0 to 7, with a grey for black.
+COLOURS = ("#e69f00", "#56b4e9", "#009e73", "#f0e442", "#0072b2", "#d55e00", "#cc79a7", "#888888")
+
+
+def look_of(hart):
+    """The colour of a hart, and its edge."""
+    return f"{COLOURS[hart % 8]}{' thick' if hart > 7 else ''}"
+
+
+def picture(history, rows, first, last, hart, width):
+    """What picture.py reads from a picture: the legend, the bands with the look of each bar, and the titles."""
+    yield f"Events {first} to {last}" if first <= last else "No events"
+    shown = [row for row in rows if row.is_shown(first, last, hart)]
+    for one in sorted({row.hart for row in shown}):
+        yield f"hart {one} {look_of(one)}"
+    columns = max(1, min(last - first + 1, width))
+    start, ruler, is_first = first - columns, None, True
+    for line, row in bands(rows, first, last, hart, columns):
+        if row is None:
+            # A band without a row can't be seen, so its numbers wait for one.
+            start += columns if line else 0
+            ruler = line
+            continue
+        if ruler is not None:
+            yield from [ruler.rstrip()] if is_first else ["", ruler.rstrip()]
+            ruler, is_first = None, False
+        # Its bar ends with its squash.
+        over = row.squash is not None and row.squash < start
+        yield line if over else f"{line} [{look_of(row.hart)}{' gone' if row.squash is not None else ''}]"
+    yield ""
+    for row in shown:
+        yield from title(history, row)
 
 
 def waited_for(rows, row, register):
@@ -152,6 +233,7 @@ def main(words):
     line.add_argument("--hart", type=int)
     line.add_argument("--width", type=int, default=120)
     line.add_argument("--kanata", action="store_true")
+    line.add_argument("--picture", action="store_true")
     asked = line.parse_args(words)
     try:
         image, settings, events = judge.read(asked.image, asked.trace, asked.config)
@@ -166,6 +248,8 @@ def main(words):
     last = min(asked.last, len(events) - 1)
     if asked.kanata:
         lines = kanata(history, rows, asked.first, last, asked.hart)
+    elif asked.picture:
+        lines = picture(history, rows, asked.first, last, asked.hart, asked.width)
     else:
         lines = text(rows, asked.first, last, asked.hart, asked.width)
     sys.stdout.writelines(f"{line}\n" for line in lines)

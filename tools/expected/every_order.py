@@ -23,6 +23,10 @@ class TooMany(Exception):
     """There are more states than may be looked at."""
 
 
+class NoHart(Exception):
+    """A hart is named that isn't there."""
+
+
 def watched(text):
     """What a part of a list names: a hart and a register, or an address."""
     if text.endswith(":4"):
@@ -97,7 +101,7 @@ def holds(terms, found, registers, words):
     statuses, numbers, held, _ = found
     for kind, what, value in terms:
         if kind == "status":
-            good = what < len(statuses) and statuses[what] == value
+            good = statuses[what] == value
         elif isinstance(what, tuple):
             good = numbers[registers.index(what)] == value
         else:
@@ -107,24 +111,37 @@ def holds(terms, found, registers, words):
     return True
 
 
+def columns(watch, exists):
+    """The registers and the words that are watched, each once, where it is named first."""
+    named = [watched(part) for part in watch.split(",")] if watch else []
+    named += [what for _, what in map(term, exists.split("&")) if what is not None] if exists is not None else []
+    once = dict.fromkeys(named)
+    return [one for one in once if isinstance(one, tuple)], [one for one in once if isinstance(one, int)]
+
+
+def see_harts(named, harts):
+    """Refuses the first hart that isn't there, of harts and of registers with their harts."""
+    for one in named:
+        hart = one[0] if isinstance(one, tuple) else one
+        if hart >= harts:
+            raise NoHart(hart)
+
+
 def lines(made, harts, watch="", exists=None, most=None):
     """What is printed, without the line of the states."""
-    named = [watched(part) for part in watch.split(",")] if watch else []
     terms = [term(part) for part in exists.split("&")] if exists is not None else []
-    for _, what in terms:
-        if what is not None and what not in named:
-            named.append(what)
-    registers = [one for one in named if isinstance(one, tuple)]
-    words = [one for one in named if isinstance(one, int)]
+    asked = [test[1] for test, _ in terms if test[0] == "status" or isinstance(test[1], tuple)]
+    see_harts(asked + [watched(part) for part in watch.split(",") if "@" in part], harts)
+    registers, words = columns(watch, exists)
     found, is_stuck = explore(made, harts, registers, words, most)
-    listed = sorted(found, key=rank)
-    yield from (line(one, registers, words) for one in listed)
-    yield f"outcomes {len(listed)}"
+    ends = sorted(found, key=rank)
+    yield from (line(one, registers, words) for one in ends)
+    yield f"outcomes {len(ends)}"
     yield "complete"
     yield "stuck" if is_stuck else "always can end"
     if exists is not None:
         tests = [test for test, _ in terms]
-        places = [str(k) for k, one in enumerate(listed, 1) if holds(tests, one, registers, words)]
+        places = [str(k) for k, one in enumerate(ends, 1) if holds(tests, one, registers, words)]
         yield f"exists: yes, outcomes {' '.join(places)}" if places else "exists: no"
 
 
@@ -137,9 +154,14 @@ def main(words):
     settings = inputs.read_config(config)
     with open(words[0], "rb") as file:
         made = image.load(file.read(), settings["ram"])
-    for text in lines(made, settings["harts"], options.get("--watch", ""), options.get("--exists")):
-        print(text)
+    try:
+        for text in lines(made, settings["harts"], options.get("--watch", ""), options.get("--exists")):
+            print(text)
+    except NoHart as hart:
+        sys.stderr.write(f"smtsim: no hart {hart}\n")
+        return 2
+    return 0
 
 
 if __name__ == "__main__":
-    main(sys.argv[1:])
+    sys.exit(main(sys.argv[1:]))

@@ -3,7 +3,8 @@
     python3 tools/expected/fill.py FILE..
         writes standard output, standard error and status into these files
     python3 tools/expected/fill.py --check
-        names those runs whose `from` begins with tools/expected that the model denies
+        names those runs whose `from` begins with tools/expected that the model denies; with --gate behind it, its last
+        line is that of a gate
 
 A line `%N text` of an expected output stands for N lines `text`.
 """
@@ -88,7 +89,7 @@ def agrees(head, sections):
 
 
 def main(names):
-    if names == ["--check"]:
+    if names[:1] == ["--check"]:
         known = {name: read(name) for name in sorted(glob.glob(f"{RUNS}/cases/*.run"))}
         mine = {
             name: run
@@ -99,6 +100,8 @@ def main(names):
         for name in wrong:
             print(f"the model says otherwise: {name}")
         print(f"{len(mine)} of {len(known)} runs are the model's, {len(wrong)} differ")
+        if names[1:] == ["--gate"]:
+            print(f"{len(mine) - len(wrong)} passed, {len(wrong)} failed")
         return 1 if wrong or not mine else 0
     for name in names:
         write(name, *read(name))

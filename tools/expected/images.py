@@ -100,6 +100,17 @@ PROGRAMS = {
         0x80001337, 0x00251393, 0x00730333, 0x100322AF, 0x00350513, 0x05D00893, 0x00128293,
         0x03128433, 0x00000073, 0x00148493, 0x00148493, 0x00148493, 0x00148493,
     ],
+    # lui x6,0x80001; bne x10,x0,0x80000014; lb x5,0(x6); lh x5,0(x6); lw x5,0(x6); addi x5,x0,7; sb
+    # x5,0(x6); sb x5,1(x6); addi x7,x0,9; sb x7,1(x6); sb x7,2(x6); sb x7,3(x6); sb x7,4(x6); ebreak:
+    # hart 1 writes bytes that hart 0 loads, and the byte behind them
+    "bytes_behind_loads": [
+        0x80001337, 0x00051863, 0x00030283, 0x00031283, 0x00032283, 0x00700293, 0x00530023,
+        0x005300A3, 0x00900393, 0x007300A3, 0x00730123, 0x007301A3, 0x00730223, 0x00100073,
+    ],
+    # lui x5,0x10; sw x0,12(x5): outside RAM
+    "store_below_ram": [0x000102B7, 0x0002A623],
+    # 40 times addi x5,x5,1; all in a chain
+    "long_chain": [0x00128293] * 40,
     # 16 times addi x5,x5,1; all in a chain
     "chain": [0x00128293] * 16,
     # twenty loads of x5 from 0(x0); twenty stores
@@ -157,6 +168,7 @@ MORE = {
     "size_below_file": patched(GOOD, SIZE, word(8)),
     "below_ram": build(FIRST, at=BASE - 4, entry=BASE),
     "past_ram": build([NOP], at=BASE + 0xFFFC, size=8, entry=BASE + 0xFFFC),
+    "page_past_ram": build(FIRST, more=[(BASE + 0x10000, b"\7", R | W, 0x1000)]),
     "address_wraps": build([NOP], at=0xFFFFFFFC, size=0x10000, entry=BASE),
     "overlap": build(FIRST, more=[(BASE + 11, b"\0", R, 1)]),
     "no_code": build(FIRST, flags=R),

@@ -32,10 +32,15 @@ def observed_text(what):
 
 def state_line(test, state):
     causes, numbers = state
-    parts = zip(test.question.observed, numbers)
-    line = " ".join(f"{observed_text(what)}={number_text(test, number)};" for what, number in parts)
-    stops = [f" P{k} stopped {cause};" for k, cause in enumerate(causes) if cause != AT_ITS_END]
-    return line + "".join(stops)
+    looked_at = zip(test.question.observed, numbers)
+    parts = [f"{observed_text(what)}={number_text(test, number)};" for what, number in looked_at]
+    parts += [f"P{k} stopped {cause};" for k, cause in enumerate(causes) if cause != AT_ITS_END]
+    return " ".join(parts)
+
+
+def shown(text):
+    """A text of the input: each control character as its two hexadecimal digits."""
+    return "".join(f"\\x{ord(c):02x}" if c < " " or c == "\x7f" else c for c in text)
 
 
 def condition_text(condition):
@@ -76,14 +81,14 @@ def lines(test, states):
     is_as_asked = {"exists": held > 0, "~exists": held == 0, "forall": others == 0}[quantifier]
     how = "Never" if held == 0 else "Always" if others == 0 else "Sometimes"
     positive, negative = (others, held) if quantifier == "~exists" else (held, others)
-    yield f"Test {test.name} {HEADS[quantifier]}"
+    yield f"Test {shown(test.name)} {HEADS[quantifier]}"
     yield f"States {len(states)}"
     yield from (state_line(test, state) for state in states)
     yield "Ok" if is_as_asked else "No"
     yield "Witnesses"
     yield f"Positive: {positive} Negative: {negative}"
     yield f"Condition {quantifier} ({condition_text(condition)})"
-    yield f"Observation {test.name} {how} {held} {others}"
+    yield f"Observation {shown(test.name)} {how} {held} {others}"
 
 
 def said(data, most=MOST_STATES, patience=MOST_STATES):

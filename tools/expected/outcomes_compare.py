@@ -117,12 +117,7 @@ def ends_so(made, harts, order, wanted, watch, exists):
         if machine.refusal(hart) is not None:
             return False
         machine.step(hart)
-    named = [every_order.watched(part) for part in watch.split(",")] if watch else []
-    for _, what in [every_order.term(part) for part in exists.split("&")] if exists else []:
-        if what is not None and what not in named:
-            named.append(what)
-    registers = [one for one in named if isinstance(one, tuple)]
-    words = [one for one in named if isinstance(one, int)]
+    registers, words = every_order.columns(watch, exists)
     found = every_order.ending(machine, registers, words)
     return not machine.going() and every_order.line(found, registers, words) == wanted
 

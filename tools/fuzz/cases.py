@@ -43,10 +43,12 @@ class Case(NamedTuple):
 
 class Kind:
     """A kind of case, under the name of what it tries. Of what the program prints the model doesn't know the
-    lines that begin with `unknown`; both write the file `writes`, if any."""
+    lines that begin with `unknown`; both write the file `writes`, if any. Where there is no model, the program
+    with open streams is one for that with closed streams; where it `varies`, no run does as another one."""
 
-    def __init__(self, name, make, model, unknown=None, writes=None):
+    def __init__(self, name, make, model, unknown=None, writes=None, varies=False):
         self.name, self.make, self.model, self.unknown, self.writes = name, make, model, unknown, writes
+        self.varies = varies
 
     def known(self, text):
         """What a program has printed, as far as the model knows it."""
@@ -124,6 +126,8 @@ def by_every_order(line):
         lines = list(every_order.lines(made, harts, watch, exists, outcomes_compare.MOST))
     except every_order.TooMany:
         raise TooLong from None
+    except every_order.NoHart as hart:
+        return "", f"smtsim: no hart {hart}\n", 2
     return "".join(f"{text}\n" for text in lines), "", 0
 
 
@@ -239,6 +243,20 @@ def some_litmus(r):
     return {"test.litmus": test}, line
 
 
+def some_explanation(r):
+    files = some_script(r)
+    del files["script"]
+    return files, ["explain", "image.elf", "--config", "config.toml"]
+
+
+def some_run(r):
+    """A run by threads, which take few turns."""
+    files, line = some_explanation(r)
+    if r.random() < 0.7:
+        files["config.toml"] = f"harts = {r.choice((1, 2, 16))}\nturns = {r.choice((0, 9, 300))}\n".encode()
+    return files, ["run", *line[1:], "--trace", "written", "--counts"]
+
+
 KINDS = {
     kind.name: kind
     for kind in (
@@ -254,10 +272,20 @@ KINDS = {
 }
 
 
+# Those that are made with closed streams alone.
+CLOSED_KINDS = {
+    kind.name: kind
+    for kind in (
+        Kind("explain", some_explanation, None),
+        Kind("run", some_run, None, writes="written", varies=True),
+    )
+}
+
+
 def case(name, seed, number):
     """Case `number` of a seed and a kind."""
     r = random.Random(f"{name} {seed} {number}")
-    kind = KINDS[name]
+    kind = (KINDS | CLOSED_KINDS)[name]
     files, line = kind.make(r)
     if name != "outcomes" and r.random() < 0.5:
         hurt = r.choice(sorted(files))

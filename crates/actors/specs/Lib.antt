@@ -3,3 +3,4 @@ pub mod Naming
 pub mod Prediction
 pub mod Roles
 pub mod Turns
+pub mod Waiting

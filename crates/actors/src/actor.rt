@@ -1,9 +1,10 @@
-ghost use Rattle.std.specs.Prelude.{◌≡◌, ◌≤◌, ◌+◌, nat_lt, if◌then◌else◌};
+ghost use Rattle.std.specs.Prelude.{◌≡◌, ◌≤◌, ◌+◌, nat_lt, if◌then◌else◌, true};
 ghost use Rattle.actors.specs.Naming.{Fits};
 ghost use Rattle.actors.specs.Turns.{IsTurn};
 
 use crate::desk::{Desk, Naming, Placed};
 use crate::gate::{Gate, Point};
+use crate::patience::Patience;
 use crate::turn_outcome::TurnOutcome;
 use crate::turns::{decode_and_rename, execute, make};
 use core_lock::{Ask, BoardView, LockedCore, Origin, Pass, Reason};
@@ -41,8 +42,18 @@ pub(crate) fn act<N: Naming, G: Gate, P: Predict + Copy, R: Wait>(
     }
     let mut predict = predict;
     let mut hart = 0;
+    let mut patience = Patience::new();
     for _turn in 0..shared.turns {
-        if !goes_on(rt, shared, role, hart, &mut predict, pass, placed) {
+        if !goes_on(
+            rt,
+            shared,
+            role,
+            hart,
+            &mut predict,
+            &mut patience,
+            pass,
+            placed,
+        ) {
             return;
         }
         hart = next_hart(hart, shared.harts);
@@ -50,19 +61,22 @@ pub(crate) fn act<N: Naming, G: Gate, P: Predict + Copy, R: Wait>(
     shared.desk.stop(placed, Reason::Turns);
 }
 
-/// Reads the board, asks the gate, takes a turn and posts how many events the actor has made.
-/// Answers whether the actor has a next turn.
+/// Reads the board, asks the gate, takes a turn, posts how many events the actor has made, and waits
+/// where it has made none. Answers whether the actor has a next turn; then it has posted all that it
+/// has made.
 fn goes_on<N: Naming, G: Gate, P: Predict, R: Wait>(
     rt: &R,
     shared: &Shared<'_, N, G>,
     role: Role,
     hart: u8,
     predict: &mut P,
+    patience: &mut Patience,
     pass: &mut Pass<N>,
     placed: &mut Placed<N>,
 ) -> bool
     requires { Fits pass.old.actor pass.old.count placed.old.seat.place placed.old.seat.posted }
-    ensures { Fits pass.new.actor pass.new.count placed.new.seat.place placed.new.seat.posted }
+    ensures fits { Fits pass.new.actor pass.new.count placed.new.seat.place placed.new.seat.posted }
+    ensures posted { result ≡ true → placed.new.seat.posted ≡ pass.new.count }
 {
     let seen = shared.desk.read(placed);
     if seen.stop != 0 {
@@ -75,9 +89,13 @@ fn goes_on<N: Naming, G: Gate, P: Predict, R: Wait>(
         shared.desk.post(placed, pass);
     }
     match outcome {
-        TurnOutcome::Advanced => true,
+        TurnOutcome::Advanced => {
+            patience.note_advance();
+            true
+        }
         TurnOutcome::Idle => {
-            shared.desk.await_others(placed, &seen);
+            let pause = patience.note_idle();
+            shared.desk.pause(rt, placed, &seen, pause);
             true
         }
         TurnOutcome::Over(reason) => {

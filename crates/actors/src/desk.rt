@@ -3,17 +3,23 @@ ghost use Rattle.numbers.specs.Sizes.{most_actors};
 ghost use Rattle.core_lock.specs.Seats.{board_of, name_of};
 ghost use Rattle.actors.specs.Naming.{Fits};
 
+use crate::patience::Pause;
 use core_lock::{BOARD_WORDS, Board, BoardView, Origin, Pass, Reason, Seat};
 use numbers::sizes::MOST_ACTORS;
 use std::alloc::{AllocError, Global};
 use std::marker::{Brand, PhantomData};
+use std::sync::Wait;
 use std::thread::yield_now;
+use std::time::Duration;
 
 /// How many events of others an idle actor waits for before it asks again: as many as fill two latches.
 const AHEAD: u64 = 16;
 
 /// How often it looks at the board for them, which takes no lock.
 const LOOKS: u32 = 100;
+
+/// How often it does so where a rest comes next.
+const GLANCES: u32 = 2;
 
 /// Which core the actors of a run ask, and at which board their seats are.
 pub(crate) trait Naming: Origin {
@@ -87,14 +93,42 @@ impl<N: Naming> Desk<N> {
         self.board.read(&mut placed.seat)
     }
 
+    /// Waits behind a turn before which the board was seen so.
+    pub(crate) fn pause<R: Wait>(
+        &self,
+        rt: &R,
+        placed: &mut Placed<N>,
+        seen: &BoardView,
+        pause: Pause,
+    )
+        ensures place { placed.new.seat.place ≡ placed.old.seat.place }
+        ensures posted { placed.new.seat.posted ≡ placed.old.seat.posted }
+    {
+        match pause {
+            Pause::Nothing => {}
+            Pause::Watch => self.await_others(placed, seen, LOOKS),
+            Pause::Glance => self.await_others(placed, seen, GLANCES),
+            Pause::Rest(micros) => self.rest(rt, placed, micros),
+        }
+    }
+
+    /// Rests for so many microseconds, or until somebody asks to stop.
+    fn rest<R: Wait>(&self, rt: &R, placed: &mut Placed<N>, micros: u64)
+        ensures place { placed.new.seat.place ≡ placed.old.seat.place }
+        ensures posted { placed.new.seat.posted ≡ placed.old.seat.posted }
+    {
+        self.board
+            .rest(rt, &mut placed.seat, Duration::from_micros(micros));
+    }
+
     /// Gives the processor away until the others have made `AHEAD` events since the board was seen so,
-    /// somebody has asked to stop, or the board was looked at `LOOKS` times.
-    pub(crate) fn await_others(&self, placed: &mut Placed<N>, seen: &BoardView)
+    /// somebody has asked to stop, or the board was looked at so many times.
+    fn await_others(&self, placed: &mut Placed<N>, seen: &BoardView, looks: u32)
         ensures place { placed.new.seat.place ≡ placed.old.seat.place }
         ensures posted { placed.new.seat.posted ≡ placed.old.seat.posted }
     {
         let wanted = events_on(seen).saturating_add(AHEAD);
-        for _look in 0..LOOKS {
+        for _look in 0..looks {
             yield_now();
             let now = self.read(placed);
             if now.stop != 0 || events_on(&now) >= wanted {

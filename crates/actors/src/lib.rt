@@ -3,14 +3,15 @@
 //!
 //! Read in this order: `gate` (what each actor asks whether it may go on), `refused` (why there is no
 //! run), `static_predictor` (the program's predictor), `turn_outcome` (what the asks of a turn come
-//! to), `turns` (what an actor asks in one turn), `desk` (the board and its seats, under one name),
-//! `actor` (the turns of one actor), `start` (the threads), `roles` (which roles a run needs),
-//! `running` (a run).
+//! to), `turns` (what an actor asks in one turn), `patience` (how it waits where it finds nothing to
+//! do), `desk` (the board and its seats, under one name), `actor` (the turns of one actor), `start` (the
+//! threads), `roles` (which roles a run needs), `running` (a run).
 #![tactic(auto)]
 
 mod actor;
 mod desk;
 pub mod gate;
+mod patience;
 pub mod refused;
 mod roles;
 pub mod running;

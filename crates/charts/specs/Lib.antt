@@ -1,3 +1,4 @@
 pub mod Rows
 pub mod Moves
 pub mod Cells
+pub mod Views

@@ -2,7 +2,8 @@
 
 ghost use Rattle.std.specs.Prelude.{◌≡◌, ◌≢◌, ℕ, IfSome, IfNone};
 ghost use Rattle.events.specs.declared.kind.EventKind.{EventKind as Kind};
-ghost use Rattle.charts.specs.Cells.{place_of, IsCellOf};
+ghost use Rattle.charts.specs.Cells.{place_of, IsCellOf, is_live, is_over};
+ghost use Rattle.charts.specs.Views.{last_place, is_before, place_of_squash};
 
 use crate::row::Row;
 use events::EventKind;
@@ -86,12 +87,16 @@ impl Row {
     }
 
     /// Whether it is fetched, and neither retired nor squashed, behind the event at this place.
-    fn is_live_at(&self, place: u32) -> bool {
+    fn is_live_at(&self, place: u32) -> bool
+        ensures { result ≡ is_live self.now place }
+    {
         self.fetched < place && !is_at_or_before(self.retired, place) && !self.is_squashed_by(place)
     }
 
     /// Whether it was squashed by the event at this place, or by one before.
-    pub(crate) fn is_squashed_by(&self, place: u32) -> bool {
+    pub(crate) fn is_squashed_by(&self, place: u32) -> bool
+        ensures { result ≡ is_over (place_of_squash self.now.squashed) place }
+    {
         match self.squashed {
             Some(squash) => squash.place <= place,
             None => false,
@@ -118,7 +123,9 @@ impl Row {
     }
 
     /// Whether nothing stands in the row from the event at this place on.
-    pub(crate) fn ends_before(&self, place: u32) -> bool {
+    pub(crate) fn ends_before(&self, place: u32) -> bool
+        ensures { result ≡ is_before (last_place self.now) place }
+    {
         match self.last_place() {
             Some(last) => last < place,
             None => false,
@@ -127,7 +134,9 @@ impl Row {
 
     /// The place of the last that stands in the row: its retirement, or its drop or its squash. None
     /// where it is live at the end of the history.
-    pub(crate) fn last_place(&self) -> Option<u32> {
+    pub(crate) fn last_place(&self) -> Option<u32>
+        ensures { result ≡ last_place self.now }
+    {
         if self.retired.is_some() {
             return self.retired;
         }
@@ -141,7 +150,9 @@ impl Row {
     }
 }
 
-fn is_at_or_before(event: Option<u32>, place: u32) -> bool {
+fn is_at_or_before(event: Option<u32>, place: u32) -> bool
+    ensures { result ≡ is_over event place }
+{
     match event {
         Some(at) => at <= place,
         None => false,

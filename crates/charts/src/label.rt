@@ -25,9 +25,11 @@ fn text_of(text: &'static str) -> ArrayString<40> {
 /// How wide the parts of a row's name are.
 #[derive(Clone, Copy, Drop)]
 pub(crate) struct Widths {
-    /// The digits of the greatest number.
+    /// The digits of the greatest hart that is drawn.
+    hart: usize,
+    /// The digits of the greatest number, drawn or not: a remark may name it.
     number: usize,
-    /// The characters of the longest instruction.
+    /// The characters of the longest instruction that is drawn.
     instruction: usize,
 }
 
@@ -35,11 +37,13 @@ impl Widths {
     /// Of the names of the rows that are drawn.
     pub fn of(rows: &[Row], view: &View) -> Widths {
         let mut widths = Widths {
-            number: digits_of(rows.len()),
+            hart: 1,
+            number: digits_of(rows.len().saturating_sub(1)),
             instruction: 0,
         };
         for row in rows {
             if view.shows(row) {
+                widths.hart = widths.hart.max(digits_of(usize::from(row.hart)));
                 widths.instruction = widths.instruction.max(instruction_of(row).len());
             }
         }
@@ -48,10 +52,11 @@ impl Widths {
 
     /// The width of a name, with a space behind each of its parts.
     pub fn name(&self) -> usize {
-        // A digit for the hart, eight for the pc, and a space behind each of the four.
-        self.number
+        // Eight digits for the pc, and a space behind each of the four.
+        self.hart
+            .saturating_add(self.number)
             .saturating_add(self.instruction)
-            .saturating_add(13)
+            .saturating_add(12)
     }
 
     /// The width of the longest remark behind a row.
@@ -63,11 +68,17 @@ impl Widths {
     /// Writes the name of the row with this number.
     pub fn write_name<W: Write>(&self, row: &Row, number: usize, out: &mut W) -> io::Result<()> {
         let instruction = instruction_of(row);
-        write!(out, "{} ", row.hart)?;
-        write_spaces(self.number.saturating_sub(digits_of(number)), out)?;
-        write!(out, "{number} {:08x} {} ", row.pc, instruction)?;
+        write_right(usize::from(row.hart), self.hart, out)?;
+        write_right(number, self.number, out)?;
+        write!(out, "{:08x} {instruction} ", row.pc)?;
         write_spaces(self.instruction.saturating_sub(instruction.len()), out)
     }
+}
+
+/// Writes a number to the right of so many places, and a space.
+fn write_right<W: Write>(number: usize, places: usize, out: &mut W) -> io::Result<()> {
+    write_spaces(places.saturating_sub(digits_of(number)), out)?;
+    write!(out, "{number} ")
 }
 
 /// How many digits a number has.

@@ -1,4 +1,5 @@
-ghost use Rattle.std.specs.Prelude.{◌<◌};
+ghost use Rattle.std.specs.Prelude.{◌≡◌, ◌<◌};
+ghost use Rattle.charts.specs.Views.{shows, draws_hart};
 
 use crate::row::Row;
 
@@ -34,8 +35,13 @@ impl View {
 
     /// Whether the instruction of a row is drawn: it is of a hart that is drawn, and something of it
     /// stands in these columns.
-    pub fn shows(&self, row: &Row) -> bool {
-        self.has_hart(row.hart) && row.fetched <= self.to && !row.ends_before(self.from)
+    pub fn shows(&self, row: &Row) -> bool
+        ensures { result ≡ shows self.now row.now }
+    {
+        self.has_hart(row.hart)
+            && self.from <= self.to
+            && row.fetched <= self.to
+            && !row.ends_before(self.from)
     }
 
     /// What it shows of a band.
@@ -47,7 +53,9 @@ impl View {
         }
     }
 
-    fn has_hart(&self, hart: u8) -> bool {
+    fn has_hart(&self, hart: u8) -> bool
+        ensures { result ≡ draws_hart self.now.hart hart }
+    {
         match self.hart {
             Some(one) => one == hart,
             None => true,

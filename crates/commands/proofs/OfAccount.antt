@@ -10,8 +10,9 @@ use Rattle.smt_model.specs.{Account.records, Basics.how_many, Touched.looks}
 use Rattle.events.specs.declared.effect.Record.{Record}
 use Rattle.history_counts.specs.{declared.counts.Counts.Counts}
 use Rattle.history_counts.proofs.Listing.{how_many-reverse}
-use Rattle.reports.specs.Report.{is_load_record, looks_line, records_text, status_number}
-use Rattle.reports.proofs.Appending.{appends_more}
+use Rattle.report_lines.specs.Lines.{records_text, status_number}
+use Rattle.reports.specs.Report.{is_load_record, looks_line}
+use Rattle.report_lines.proofs.Appending.{appends_more}
 use Rattle.commands.specs.declared.wanted.Wanted.{Wanted}
 use Rattle.commands.specs.Account.{AreTables, IsReported, looks_of, statuses_of, retired_of, body_text, body_of}
 use Rattle.commands.specs.Account.{counts_in, idle_of}

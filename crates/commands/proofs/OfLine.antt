@@ -10,7 +10,7 @@ use Rattle.elf_image.specs.Image.{ProgramImage}
 use Rattle.commands.specs.Written.{ToWrite}
 use Rattle.sim_inputs.specs.{declared.line.Command.Command, declared.settings.Settings.Settings}
 use Rattle.sim_inputs.specs.{Configuration.IsConfiguration}
-use Rattle.reports.specs.Statuses.{says_harts}
+use Rattle.report_lines.specs.Statuses.{says_harts}
 use Rattle.commands.specs.declared.refused.Refused.{Refused}
 use Rattle.commands.specs.declared.refused.Refused.TheVariants.{Image, Config, Script, Order, Step, Memory, File}
 use Rattle.commands.specs.declared.refused.Refused.TheVariants.{Output, Thread, Trace, Version, Event, NoUnit, Limit, NoHart}

@@ -2,9 +2,9 @@
 use Rattle.std.specs.Prelude.{◌≡◌, ℕ, ◌+◌, ◌<◌, Bool, true, false, Option, Some, None, List, ◌++◌, length, take, get_or}
 use Rattle.std.specs.Prelude.{option_map, [], Result, Ok, Err, IfOk}
 use Rattle.std.specs.Io.KnownBytes.{Appends}
-use Rattle.std.proofs.Common.{inl, sym, ap, subst, ◌∙◌}
+use Rattle.std.proofs.Common.{inl, inr, sym, ap, subst, ◌∙◌}
 use Rattle.std.proofs.{lemmas.List.take_more, lemmas.List.flat_map_more}
-use Rattle.reports.proofs.Appending.{appends_more}
+use Rattle.report_lines.proofs.Appending.{appends_more}
 use Rattle.stress_runs.specs.Kept.{order_line, order_text}
 use Rattle.elf_image.specs.Image.{ProgramImage}
 use Rattle.outcomes.specs.{declared.watch.Watch.Watch, Found.Found}
@@ -16,7 +16,7 @@ use Rattle.sim_inputs.specs.{declared.line.OutcomesCommand.OutcomesCommand}
 use Rattle.commands.specs.declared.refused.Refused.{Refused}
 use Rattle.commands.specs.declared.refused.Refused.TheVariants as reason
 use Rattle.commands.specs.Outcomes.{IsAsked, IsFound, IsFiled, IsOrderPut, IsTextFor, order_wanted}
-use Rattle.commands.specs.Outcomes.{IsSearchRefusal, IsOutcomesRefusal}
+use Rattle.commands.specs.Outcomes.{IsSearchRefusal, IsConditionOf, IsHartRefusal, IsOutcomesRefusal}
 
 module _ (settings : Settings) (image : ProgramImage) (command : OutcomesCommand) (watch : Watch) (terms : List Term)
     (asked : IsAsked command watch terms) where
@@ -34,7 +34,7 @@ module _ (settings : Settings) (image : ProgramImage) (command : OutcomesCommand
   search_refused (reason.Register index) is = absurd is
   search_refused (reason.NoUnit kind) is = absurd is
   search_refused (reason.Limit least) is = absurd is
-  search_refused (reason.NoHart hart) is = record {
+  search_refused (reason.NoHart hart) is = inr (record {
     watch = watch;
     terms = terms;
     asked = asked;
@@ -42,7 +42,7 @@ module _ (settings : Settings) (image : ProgramImage) (command : OutcomesCommand
     contained = is.1;
     is = is.3;
     absent = is.2;
-  }
+  })
   search_refused (reason.Picture last) is = absurd is
   search_refused (reason.Watch why) is = absurd is
   search_refused (reason.Condition why) is = absurd is
@@ -57,6 +57,38 @@ module _ (settings : Settings) (image : ProgramImage) (command : OutcomesCommand
   search_refused reason.Thread is = absurd is
   search_refused reason.File is = absurd is
   search_refused reason.Output is = absurd is
+
+-- So it is where the condition names a hart that isn't there.
+pub hart_refused : (settings : Settings) (image : ProgramImage) (command : OutcomesCommand) (terms : List Term)
+    → IsConditionOf command.exists terms → (why : Refused) → IsHartRefusal settings.config.harts terms why
+    → IsOutcomesRefusal settings image command why
+hart_refused settings image command terms condition (reason.Image number) is = absurd is
+hart_refused settings image command terms condition reason.Config is = absurd is
+hart_refused settings image command terms condition (reason.Script number) is = absurd is
+hart_refused settings image command terms condition (reason.Order index) is = absurd is
+hart_refused settings image command terms condition (reason.Step index stopped) is = absurd is
+hart_refused settings image command terms condition (reason.Trace line rule) is = absurd is
+hart_refused settings image command terms condition reason.Version is = absurd is
+hart_refused settings image command terms condition (reason.Event index rule) is = absurd is
+hart_refused settings image command terms condition (reason.Prediction index) is = absurd is
+hart_refused settings image command terms condition (reason.Register index) is = absurd is
+hart_refused settings image command terms condition (reason.NoUnit kind) is = absurd is
+hart_refused settings image command terms condition (reason.Limit least) is = absurd is
+hart_refused settings image command terms condition (reason.NoHart hart) is =
+    inl (record { terms = terms; condition = condition; first = is })
+hart_refused settings image command terms condition (reason.Picture last) is = absurd is
+hart_refused settings image command terms condition (reason.Watch why) is = absurd is
+hart_refused settings image command terms condition (reason.Condition why) is = absurd is
+hart_refused settings image command terms condition reason.ManyWatched is = absurd is
+hart_refused settings image command terms condition (reason.NoWord address) is = absurd is
+hart_refused settings image command terms condition (reason.NoOutcome number) is = absurd is
+hart_refused settings image command terms condition reason.NotStuck is = absurd is
+hart_refused settings image command terms condition (reason.Litmus place fault) is = absurd is
+hart_refused settings image command terms condition reason.NothingToDraw is = absurd is
+hart_refused settings image command terms condition reason.Memory is = absurd is
+hart_refused settings image command terms condition reason.Thread is = absurd is
+hart_refused settings image command terms condition reason.File is = absurd is
+hart_refused settings image command terms condition reason.Output is = absurd is
 
 -- A line more of an order.
 pub order_step : (old mid new : Option (List ℕ)) (order : List ℕ) (i d : ℕ) → i < length order

@@ -7,7 +7,7 @@ use Rattle.core_state.specs.Setup.{setup_of}
 use Rattle.plain_run.specs.{Left.Left, Orders.HasLeft, Orders.OfEachSetup}
 use Rattle.scripts.specs.Order.{IsOrder}
 use Rattle.sim_inputs.specs.declared.settings.Settings.{Settings}
-use Rattle.reports.specs.Report.{records_text, plain_report_text, status_number}
+use Rattle.report_lines.specs.Lines.{records_text, plain_report_text, status_number}
 use Rattle.commands.specs.declared.refused.Refused.TheVariants.{Output}
 use Rattle.commands.specs.Plain.{IsPlainRefusal, PlainComesTo}
 

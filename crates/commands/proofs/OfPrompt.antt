@@ -10,8 +10,8 @@ use Rattle.text_fields.specs.{Printing.Prints}
 use Rattle.scripts.specs.{Script.IsScript, Script.pieces, Lines.words_in}
 use Rattle.prompts.specs.{declared.prompting.Ended.Ended, Prompted.IsPrompted}
 use Rattle.sim_inputs.specs.{declared.settings.Settings.Settings, Configuration.IsConfiguration}
-use Rattle.reports.proofs.Appending.{appends_more}
-use Rattle.reports.specs.Statuses.{says_harts}
+use Rattle.report_lines.proofs.Appending.{appends_more}
+use Rattle.report_lines.specs.Statuses.{says_harts}
 use Rattle.commands.specs.{declared.wanted.Wanted.Wanted, Inputs.Read}
 use Rattle.commands.specs.{Account.IsReported, Account.idle_of, Account.statuses_of, Refused.AreAccepted, Refused.AreRefused}
 use Rattle.commands.specs.{Refused.PassesAll, Step.IsAsking, Prompt.PromptComesTo, Prompt.TypedComesTo}

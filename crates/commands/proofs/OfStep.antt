@@ -9,7 +9,7 @@ use Rattle.smt_core.specs.Shown.{Shown}
 use Rattle.text_fields.specs.{Printing.Prints}
 use Rattle.scripts.specs.{Session.AreCounted}
 use Rattle.sim_inputs.specs.declared.settings.Settings.{Settings}
-use Rattle.reports.proofs.Appending.{appends_more}
+use Rattle.report_lines.proofs.Appending.{appends_more}
 use Rattle.commands.specs.declared.refused.Refused.{Refused}
 use Rattle.commands.specs.declared.refused.Refused.TheVariants.{Image, Memory}
 use Rattle.commands.specs.declared.refused.Refused.TheVariants.{Output}

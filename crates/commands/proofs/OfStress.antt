@@ -142,12 +142,13 @@ stress_comes_to settings image times Kept tally old new runs status all same pri
 module _ {S : Type 0} (begins : S → ℕ → Part → S → Type 0) (written : S → Option (List ℕ)) (has_failed : S → Bool)
     (before after : S) (run : RunCommand) (settings : Settings) (program : ProgramImage) (second : Read)
     (old new : Option (List ℕ)) (answer : Result ℕ Refused) (refused : IfErr answer (IsRunRefusal settings))
-    (unbroken : OnOk answer (has_failed after ≡ false)) (unreported : has_failed after ≡ true → new ≡ old) where
+    (unbroken : OnOk answer (has_failed after ≡ false)) (is_finished : S → Bool)
+    (finished : OnOk answer (is_finished after ≡ true)) (unreported : has_failed after ≡ true → new ≡ old) where
   pub many_performed : (times : ℕ) (keep : Bool) → run.times ≡ Some times → keep ≡ is_some run.keep
       → IfOk answer (StressComesTo settings program times
       (AreEndsWritten begins written has_failed before after keep) old new)
       → (keep ≡ false → after ≡ before)
-      → IsPerformed begins written has_failed before after (commands.Run run) settings program second old new answer
+      → IsPerformed begins is_finished written has_failed before after (commands.Run run) settings program second old new answer
   many_performed times keep is keeps ended unwanted = record {
     refused = refused;
     ended = subst
@@ -158,13 +159,14 @@ module _ {S : Type 0} (begins : S → ℕ → Part → S → Type 0) (written : 
         keeps ended);
     unwanted = λ none. unwanted (keeps ∙ rw is at none);
     unbroken = unbroken;
+    finished = finished;
     unreported = unreported;
   }
 
   pub one_performed : (wanted : Wanted) → run.times ≡ None → wanted ≡ run_wants run
       → IfOk answer (RunComesTo settings program wanted (IsTraceWritten written has_failed before after wanted.trace) old new)
       → (wanted.trace ≡ false → after ≡ before)
-      → IsPerformed begins written has_failed before after (commands.Run run) settings program second old new answer
+      → IsPerformed begins is_finished written has_failed before after (commands.Run run) settings program second old new answer
   one_performed wanted is same ended unwanted = record {
     refused = refused;
     ended = subst
@@ -176,5 +178,6 @@ module _ {S : Type 0} (begins : S → ℕ → Part → S → Type 0) (written : 
         same ended);
     unwanted = λ none. unwanted (ap (λ (w : Wanted). w.trace) same ∙ rw is at none);
     unbroken = unbroken;
+    finished = finished;
     unreported = unreported;
   }

@@ -10,8 +10,8 @@ use Rattle.commands.specs.Written.{ToWrite}
 use Rattle.smt_model.specs.{declared.config.Status.Status, Plain.is_going_status}
 use Rattle.text_fields.specs.{Printing.Prints}
 use Rattle.sim_inputs.specs.{declared.line.Command.Command, declared.settings.Settings.Settings}
-use Rattle.reports.specs.Report.{status_number, has_ended_well}
-use Rattle.reports.specs.Statuses.{says_harts}
+use Rattle.report_lines.specs.Lines.{status_number, has_ended_well}
+use Rattle.report_lines.specs.Statuses.{says_harts}
 use Rattle.commands.specs.declared.refused.Refused.TheVariants.{Image, Config, Output}
 use Rattle.commands.specs.declared.refused.Unread.{Unread}
 use Rattle.commands.specs.declared.refused.Unread.TheVariants as unread

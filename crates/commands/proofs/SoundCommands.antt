@@ -22,7 +22,7 @@ use Rattle.sim_inputs.specs.declared.line.ExplainCommand.{ExplainCommand}
 use Rattle.sim_inputs.specs.declared.line.OutcomesCommand.{OutcomesCommand}
 use Rattle.sim_inputs.specs.declared.line.LitmusCommand.{LitmusCommand}
 use Rattle.sim_inputs.specs.declared.line.MigrateCommand.{MigrateCommand}
-use Rattle.reports.specs.{Report.status_number, Statuses.says_harts}
+use Rattle.report_lines.specs.{Lines.status_number, Statuses.says_harts}
 use Rattle.stress_runs.specs.{End.EndView, Ends.end_of, Ends.worst_of}
 use Rattle.commands.specs.Refused.{AreAccepted, AreRefused}
 use Rattle.commands.specs.{Commands.RunsComeTo, Run.LackARole, Written.ToWrite}
@@ -323,6 +323,7 @@ of_outcomes outcomes settings program second = record {
       terms = all.terms;
       found = all.found;
       asked = all.asked;
+      there = all.there;
       is_found = all.is_found;
       printed = kept old mid new _ all.printed flushed;
       zero = all.zero;
@@ -331,6 +332,7 @@ of_outcomes outcomes settings program second = record {
       watch = more.watch;
       terms = more.terms;
       asked = more.asked;
+      there = more.there;
       beyond = more.beyond;
       printed = kept old mid new _ more.printed flushed;
       three = more.three;

@@ -10,7 +10,8 @@ use Rattle.event_text.specs.{Sinking.HasPut}
 use Rattle.text_fields.specs.{Printing.Prints}
 use Rattle.smt_model.specs.Touched.{looks, loads}
 use Rattle.history_counts.specs.{declared.counts.Counts.Counts, Numbers.counts_of}
-use Rattle.reports.specs.Report.{looks_line, records_text, report_text, status_number}
+use Rattle.report_lines.specs.Lines.{records_text, status_number}
+use Rattle.reports.specs.Report.{looks_line, report_text}
 use Rattle.reports.specs.{CountLines.count_lines, Counts.idle_lines, Json.json_text, Traces.trace_of}
 use Rattle.commands.specs.declared.wanted.Wanted.{Wanted}
 

@@ -11,7 +11,7 @@ use Rattle.smt_core.specs.Shown.{Shown}
 use Rattle.history_check.specs.Checking.{IsFirstBroken}
 use Rattle.text_fields.specs.{Printing.Prints}
 use Rattle.sim_inputs.specs.{declared.settings.Settings.Settings}
-use Rattle.reports.specs.Report.{status_number}
+use Rattle.report_lines.specs.Lines.{status_number}
 use Rattle.commands.specs.{declared.refused.Refused.Refused}
 use Rattle.commands.specs.declared.refused.Refused.TheVariants as refused
 use Rattle.commands.specs.declared.wanted.Wanted.{Wanted}

@@ -18,7 +18,8 @@ use Rattle.outcomes.specs.declared.refused.OutcomesRefused.TheVariants as search
 use Rattle.outcome_queries.specs.{declared.watched.Watched.Watched, declared.term.Term.Term}
 use Rattle.outcome_queries.specs.declared.refused.QueryRefused.{QueryRefused}
 use Rattle.outcome_queries.specs.{Watched.Spells, Terms.SpellsTerm, Lists.IsSeparated}
-use Rattle.outcome_queries.specs.Watches.{registers_in, words_in, Extends, IsWatchedFor}
+use Rattle.outcome_queries.specs.Watches.{registers_in, words_in, watched_in, IsOnceBehind, IsWatchedFor}
+use Rattle.outcome_queries.specs.Harts.{absent_hart, IsHartThere}
 use Rattle.outcome_queries.specs.Lists.{IsRefusedFor as IsMisspelledFor}
 use Rattle.outcome_text.specs.Listing.{outcomes_text, exists_text, incomplete_text}
 use Rattle.sim_inputs.specs.{declared.settings.Settings.Settings}
@@ -40,13 +41,13 @@ abbrev pub IsConditionOf : Option (Bor (List ℕ)) → List Term → Type 0
 IsConditionOf None terms = terms ≡ []
 IsConditionOf (Some text) terms = IsSeparated SpellsTerm 38 text.now terms
 
--- What is watched: what the list names, in its order, and behind it what the condition asks for.
+-- What is watched: what the list names, in its order, and behind it what the condition asks for, each once.
 pub record IsAsked (command : OutcomesCommand) (watch : Watch) (terms : List Term) : Type 0 where
   pub list : List Watched
   pub all : List Watched
   pub named : IsListOf command.watch list
   pub condition : IsConditionOf command.exists terms
-  pub behind : Extends list all
+  pub once : IsOnceBehind [] (list ++ watched_in terms) all
   pub told : All (IsWatchedFor all) terms
   pub registers : watch.registers.items ≡ registers_in all
   pub words : watch.words.items ≡ words_in all
@@ -64,24 +65,26 @@ abbrev pub condition_text : OutcomesCommand → Watch → List Term → List Tol
 condition_text command watch terms listed =
     if is_some command.exists then exists_text watch terms listed else []
 
--- All outcomes are printed.
+-- All outcomes are printed. Each hart that the condition names is there.
 pub record IsComplete (settings : Settings) (image : ProgramImage) (command : OutcomesCommand)
     (old new : Option (List ℕ)) (exit_status : ℕ) : Type 0 where
   pub watch : Watch
   pub terms : List Term
   pub found : Found
   pub asked : IsAsked command watch terms
+  pub there : All (IsHartThere settings.config.harts) terms
   pub is_found : IsFound settings image watch found
   pub printed : Appends old new (outcomes_text watch found (is_some found.stuck)
       ++ condition_text command watch terms found.listed)
   pub zero : exit_status ≡ 0
 
--- There are more states than were to be looked at, and that is printed.
+-- There are more states than were to be looked at, and that is printed. Each hart that the condition names is there.
 pub record IsIncomplete (settings : Settings) (image : ProgramImage) (command : OutcomesCommand)
     (old new : Option (List ℕ)) (exit_status : ℕ) : Type 0 where
   pub watch : Watch
   pub terms : List Term
   pub asked : IsAsked command watch terms
+  pub there : All (IsHartThere settings.config.harts) terms
   pub beyond : IsRefusedFor image settings.config.harts watch command.states search.Budget
   pub printed : Appends old new (incomplete_text command.states)
   pub three : exit_status ≡ 3
@@ -127,8 +130,14 @@ abbrev pub IsMisspelled : {A : Type 0} → (List ℕ → A → Type 0) → ℕ �
 IsMisspelled Says separator None why = ⊥
 IsMisspelled Says separator (Some text) why = IsMisspelledFor Says separator text.now why
 
+-- The condition names a hart that isn't there, this one first.
+pub record NamesAbsent (settings : Settings) (command : OutcomesCommand) (hart : ℕ) : Type 0 where
+  pub terms : List Term
+  pub condition : IsConditionOf command.exists terms
+  pub first : absent_hart settings.config.harts terms ≡ Some hart
+
 -- Something is watched that isn't there: a register of a hart, or a word.
-pub record LacksHart (settings : Settings) (command : OutcomesCommand) (hart : ℕ) : Type 0 where
+pub record WatchesAbsent (settings : Settings) (command : OutcomesCommand) (hart : ℕ) : Type 0 where
   pub watch : Watch
   pub terms : List Term
   pub asked : IsAsked command watch terms
@@ -136,6 +145,10 @@ pub record LacksHart (settings : Settings) (command : OutcomesCommand) (hart : �
   pub contained : Contains watch.registers.items watched
   pub is : hart ≡ watched.hart
   pub absent : is_register_there settings.config.harts watched ≡ false
+
+-- A hart is named that isn't there.
+abbrev pub LacksHart : Settings → OutcomesCommand → ℕ → Type 0
+LacksHart settings command hart = NamesAbsent settings command hart ⊎ WatchesAbsent settings command hart
 
 pub record LacksWord (image : ProgramImage) (command : OutcomesCommand) (address : ℕ) : Type 0 where
   pub watch : Watch
@@ -212,6 +225,11 @@ abbrev pub IsWatchRefusal : OutcomesCommand → Refused → Type 0
 IsWatchRefusal command (reasons.Watch why) = IsMisspelled Spells 44 command.watch why
 IsWatchRefusal command reasons.ManyWatched = Unit {0}
 IsWatchRefusal command _ = ⊥
+
+-- So it is by what looks at the harts of the condition.
+abbrev pub IsHartRefusal : ℕ → List Term → Refused → Type 0
+IsHartRefusal harts terms (reasons.NoHart hart) = absent_hart harts terms ≡ Some hart
+IsHartRefusal harts terms _ = ⊥
 
 -- When each refusal comes. Of memory nothing is said.
 abbrev pub IsOutcomesRefusal : Settings → ProgramImage → OutcomesCommand → Refused → Type 0

@@ -95,11 +95,15 @@ LineComesTo command config image second Traced old new status = ForTest (litmus_
     (ForMigration (migrates command) (MigrateLineComesTo config second Traced old new status)
     (ProgramComesTo command config image second Traced old new status))
 
+-- A migration that was refused has put nothing into the sink of its file, unless the output failed.
+abbrev pub IsLeft : {S : Type 0} → Command → S → S → Refused → Type 0
+IsLeft command before after reason = migrates command ≡ true → (reason ≡ Output) ⊎ (after ≡ before)
+
 -- What a command has answered, of its settings, its program image and its second file, before the
 -- output is flushed: a refusal that may come of it, or an exit status behind what is owed on it.
 -- Where no trace is wanted nothing goes into the sink of the trace. The sink hasn't failed behind an
--- exit status; where it has, nothing is printed but what a command prints before its trace.
-pub record IsPerformed {S : Type 0} (begins : S → ℕ → Part → S → Type 0)
+-- exit status, and what was put into it is finished; where it has failed, nothing is printed but what a command prints before its trace.
+pub record IsPerformed {S : Type 0} (begins : S → ℕ → Part → S → Type 0) (is_finished : S → Bool)
     (written : S → Option (List ℕ)) (has_failed : S → Bool) (before after : S) (command : Command) (settings : Settings) (program : ProgramImage)
     (second : Read) (old new : Option (List ℕ)) (answer : Result ℕ Refused) : Type 0 where
   pub refused : IfErr answer (IsCommandRefusal command settings program second)
@@ -107,4 +111,5 @@ pub record IsPerformed {S : Type 0} (begins : S → ℕ → Part → S → Type 
       (IsWritten begins written has_failed before after) old new)
   pub unwanted : wants_trace command ≡ false → after ≡ before
   pub unbroken : OnOk answer (has_failed after ≡ false)
+  pub finished : OnOk answer (is_finished after ≡ true)
   pub unreported : has_failed after ≡ true → IsUnreported command second old new

@@ -9,7 +9,7 @@ use Rattle.plain_run.specs.Orders.{IsStoppedAt}
 use Rattle.core_state.specs.Setup.{setup_of}
 use Rattle.scripts.specs.Order.{IsOrder, IsFirstNoHart}
 use Rattle.sim_inputs.specs.{declared.settings.Settings.Settings}
-use Rattle.reports.specs.Report.{records_text, plain_report_text, status_number}
+use Rattle.report_lines.specs.Lines.{records_text, plain_report_text, status_number}
 use Rattle.commands.specs.{declared.refused.Refused.Refused}
 use Rattle.commands.specs.declared.refused.Refused.TheVariants.{Config, Order, Step, Memory, Output}
 

@@ -12,7 +12,7 @@ use Rattle.rounds.specs.declared.stopped.RoundsStopped.{RoundsStopped}
 use Rattle.rounds.specs.declared.stopped.RoundsStopped.TheVariants as stopped
 use Rattle.rounds.specs.{Turns.Turn, Rounds.AreRounds}
 use Rattle.sim_inputs.specs.declared.{line.PlainCommand.PlainCommand, settings.Settings.Settings}
-use Rattle.reports.specs.Report.{plain_report_text, status_number}
+use Rattle.report_lines.specs.Lines.{plain_report_text, status_number}
 use Rattle.commands.specs.declared.refused.Refused.{Refused}
 use Rattle.commands.specs.declared.refused.Refused.TheVariants.{Config, Memory, Output}
 use Rattle.commands.specs.Plain.{plain_text, standing}

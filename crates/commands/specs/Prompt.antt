@@ -6,7 +6,7 @@ use Rattle.text_fields.specs.{Printing.Prints}
 use Rattle.scripts.specs.{Script.IsScript, Session.AreCounted, Lines.words_in}
 use Rattle.prompts.specs.{declared.prompting.Ended.Ended, Prompted.IsPrompted}
 use Rattle.sim_inputs.specs.declared.settings.Settings.{Settings}
-use Rattle.reports.specs.Report.{status_number}
+use Rattle.report_lines.specs.Lines.{status_number}
 use Rattle.commands.specs.declared.wanted.Wanted.{Wanted}
 use Rattle.commands.specs.{Inputs.Read, Inputs.OfProgram, Refused.AreAccepted}
 use Rattle.commands.specs.Account.{IsAccount, idle_of, statuses_of}

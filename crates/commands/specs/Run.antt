@@ -7,7 +7,7 @@ use Rattle.actors.specs.{Roles.HaveEveryRole, declared.refused.RunRefused.RunRef
 use Rattle.actors.specs.declared.refused.RunRefused.TheVariants as runs
 use Rattle.text_fields.specs.{Printing.Prints}
 use Rattle.sim_inputs.specs.declared.settings.Settings.{Settings}
-use Rattle.reports.specs.Report.{status_number}
+use Rattle.report_lines.specs.Lines.{status_number}
 use Rattle.commands.specs.declared.refused.Refused.{Refused}
 use Rattle.commands.specs.declared.refused.Refused.TheVariants.{Config, Memory, Thread, Output}
 use Rattle.commands.specs.Refused.{AreAccepted, AreRefused}

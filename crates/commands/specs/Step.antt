@@ -10,7 +10,7 @@ use Rattle.sim_inputs.specs.declared.settings.Settings.{Settings}
 use Rattle.commands.specs.declared.refused.Refused.{Refused}
 use Rattle.commands.specs.declared.refused.Refused.TheVariants.{Config, Script, Memory, Output}
 use Rattle.commands.specs.Refused.{AreAccepted, AreRefused}
-use Rattle.reports.specs.Report.{status_number}
+use Rattle.report_lines.specs.Lines.{status_number}
 use Rattle.commands.specs.declared.wanted.Wanted.{Wanted}
 use Rattle.commands.specs.Account.{IsAccount, idle_of, statuses_of}
 

@@ -6,7 +6,8 @@ ghost use Rattle.std.specs.Prelude.{◌≡◌, ◌++◌, OnOk, IfOk, IfErr, ◌�
 ghost use Rattle.std.specs.Prelude.{is_some, [], if◌then◌else◌, length};
 ghost use Rattle.std.specs.Io.KnownBytes.{Appends};
 ghost use Rattle.smt_model.specs.Basics.{how_many};
-ghost use Rattle.reports.specs.Report.{is_load_record, looks_line, records_text};
+ghost use Rattle.report_lines.specs.Lines.{records_text};
+ghost use Rattle.reports.specs.Report.{is_load_record, looks_line};
 ghost use Rattle.commands.specs.declared.refused.Refused.TheVariants.{Memory, Output};
 ghost use Rattle.commands.specs.Account.{AreTables, IsReported, IsTraceWritten, counts_in};
 ghost use Rattle.commands.specs.Account.{body_text, numbers_text, idle_of};
@@ -15,19 +16,20 @@ ghost use Rattle.reports.specs.Counts.{idle_lines};
 
 use crate::refused::Refused;
 use crate::wanted::Wanted;
-use event_text::Sink;
 use events::Record;
 use history_counts::{Counts, counts_of};
 use numbers::sizes::MOST_ACTORS;
+use report_lines::{report_records, status_of};
 use reports::{
-    RunEnd, put_trace, report, report_counts, report_ends, report_idle, report_json, report_looks,
-    report_records, status_of, write_tables,
+    RunEnd, report, report_counts, report_ends, report_idle, report_json, report_looks,
+    write_tables,
 };
 use smt_core::Core;
 use smt_laws::Account;
 use std::alloc::{AllocError, Global};
 use std::io;
 use std::io::Write;
+use stress_runs::{EndFiles, put_trace_file};
 
 /// Writes the trace of a core where it is wanted, and then what else is wanted of it and its report.
 /// `idle` says how many asks of each actor were answered idle. Answers the exit status: how the harts
@@ -35,7 +37,7 @@ use std::io::Write;
 ///
 /// `Output` is answered where the sink or `out` took no more, `Memory` where there is none for what
 /// is made before it is written. Where the sink failed, nothing is written.
-pub(crate) fn write_account<S: Sink, W: Write>(
+pub(crate) fn write_account<S: EndFiles, W: Write>(
     core: &Core,
     idle: &[u64],
     wanted: Wanted,
@@ -44,6 +46,7 @@ pub(crate) fn write_account<S: Sink, W: Write>(
     alloc: Global,
 ) -> Result<u8, Refused>
     requires works { S.has_failed trace.old ≡ false }
+    requires finished { S.is_finished trace.old ≡ true }
     ensures refused { IfErr result (λ reason. (reason ≡ Memory) ⊎ (reason ≡ Output)) }
     ensures traced { OnOk result (IsTraceWritten S.written S.has_failed trace.old trace.new
         wanted.trace core.now) }
@@ -51,6 +54,7 @@ pub(crate) fn write_account<S: Sink, W: Write>(
         (IsReported core.now idle.now wanted (W.contents out.old) (W.contents out.new)) }
     ensures unwanted { wanted.trace ≡ false → trace.new ≡ trace.old }
     ensures unbroken { OnOk result (S.has_failed trace.new ≡ false) }
+    ensures finished { OnOk result (S.is_finished trace.new ≡ true) }
     ensures unreported { S.has_failed trace.new ≡ true
         → W.contents out.new ≡ W.contents out.old }
 {
@@ -58,20 +62,22 @@ pub(crate) fn write_account<S: Sink, W: Write>(
     report_core(core, idle, wanted, out, alloc)
 }
 
-/// Puts the trace of a core into a sink, where it is wanted. `Output` is answered where the sink
-/// failed.
-fn write_trace<S: Sink>(core: &Core, wanted: bool, sink: &mut S) -> Result<(), Refused>
-    requires { S.has_failed sink.old ≡ false }
+/// Puts the trace of a core into a sink and finishes its file, where it is wanted. `Output` is answered
+/// where the sink failed.
+fn write_trace<S: EndFiles>(core: &Core, wanted: bool, sink: &mut S) -> Result<(), Refused>
+    requires works { S.has_failed sink.old ≡ false }
+    requires finished { S.is_finished sink.old ≡ true }
     ensures refused { IfErr result (λ reason. reason ≡ Output) }
     ensures written { OnOk result
         (IsTraceWritten S.written S.has_failed sink.old sink.new wanted core.now) }
     ensures works { OnOk result (S.has_failed sink.new ≡ false) }
+    ensures finished { OnOk result (S.is_finished sink.new ≡ true) }
     ensures unwanted { wanted ≡ false → sink.new ≡ sink.old }
 {
     if !wanted {
         return Ok(());
     }
-    match put_trace(core, sink) {
+    match put_trace_file(core, sink) {
         Ok(()) => Ok(()),
         Err(_) => Err(Refused::Output),
     }

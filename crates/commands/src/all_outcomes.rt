@@ -6,6 +6,9 @@ ghost use Rattle.commands.specs.Outcomes.{IsOutcomesRefusal, OutcomesComeTo, wan
 ghost use Rattle.commands.specs.Outcomes.{IsAsked, IsConditionOf, IsListOf, IsConditionRefusal};
 ghost use Rattle.commands.specs.Outcomes.{IsWatchRefusal, IsSearchRefusal, IsOrderRefusal, IsPutRefusal};
 ghost use Rattle.commands.specs.Outcomes.{IsTextRefusal, condition_text, IsFiled, IsOrderPut, IsTextFor};
+ghost use Rattle.commands.specs.Outcomes.{IsHartRefusal};
+ghost use Rattle.outcome_queries.specs.Harts.{IsHartThere};
+ghost use Rattle.std.specs.List.{All};
 ghost use Rattle.core_state.specs.Setup.{setup_of};
 ghost use Rattle.event_text.specs.Sinking.{HasPut};
 ghost use Rattle.stress_runs.specs.Kept.{order_line, order_text};
@@ -22,9 +25,8 @@ use crate::schedule::schedule_of;
 use crate::searching::find_shown;
 use actors::Gate;
 use elf_image::Image;
-use event_text::Sink;
 use outcome_queries::{
-    Condition, WatchList, read_condition, read_watch_list, watch_of, with_terms,
+    Condition, WatchList, absent_hart, read_condition, read_watch_list, watch_of, with_terms,
 };
 use outcome_text::{write_exists, write_incomplete, write_outcomes};
 use outcomes::{Outcomes, OutcomesRefused, Watch};
@@ -32,18 +34,19 @@ use sim_inputs::{OutcomesCommand, Settings};
 use std::alloc::{AllocError, Global};
 use std::io;
 use std::io::Write;
+use stress_runs::EndFiles;
 
 /// Writes a line for each outcome of an image, for as many harts as the settings say, how many there are,
 /// whether each state can go on to an end, and of which outcomes a condition holds. An order that is
 /// wanted goes into `file` first, or its script.
 ///
 /// Answers the exit status: 0, or 3 where there are more states than were to be looked at; then only that
-/// is said, and nothing goes into `file`. Refused are, in this order, a list or a condition that is
-/// misspelled, a hart and a word that aren't there, an outcome and a stuck state that aren't there, and
-/// what `perform_schedule` refuses; then nothing is printed. `Output` is answered where `out` or `file`
-/// failed. `gate` is shown how far the search is.
+/// is said, and nothing goes into `file`. Refused are, in this order, a condition or a list that is
+/// misspelled, a hart that isn't there (of the condition first), a word that isn't, an outcome and a stuck
+/// state that aren't there, and what `perform_schedule` refuses; then nothing is printed. `Output` is
+/// answered where `out` or `file` failed. `gate` is shown how far the search is.
 #[inline(never)]
-pub fn perform_outcomes<G: Gate, S: Sink, W: Write>(
+pub fn perform_outcomes<G: Gate, S: EndFiles, W: Write>(
     image: &Image,
     settings: &Settings,
     command: &OutcomesCommand<'_>,
@@ -53,6 +56,7 @@ pub fn perform_outcomes<G: Gate, S: Sink, W: Write>(
     alloc: Global,
 ) -> Result<u8, Refused>
     requires works { S.has_failed file.old ≡ false }
+    requires finished { S.is_finished file.old ≡ true }
     ensures refused { IfErr result (IsOutcomesRefusal settings.now image.now command.now) }
     ensures ended { IfOk result (OutcomesComeTo settings.now image.now command.now
         (W.contents out.old) (W.contents out.new)) }
@@ -60,12 +64,14 @@ pub fn perform_outcomes<G: Gate, S: Sink, W: Write>(
     ensures filed { IfOk result (λ status. status ≡ 0 → wants_order command.now ≡ true
         → IsFiled S.written S.has_failed file.old file.new settings.now image.now command.now) }
     ensures unbroken { OnOk result (S.has_failed file.new ≡ false) }
+    ensures finished { OnOk result (S.is_finished file.new ≡ true) }
     ensures unreported { S.has_failed file.new ≡ true
         → W.contents out.new ≡ W.contents out.old }
 {
     let terms = condition_of(command)?;
     let watch = watch_for(command, &terms)?;
     let harts = settings.config.harts;
+    see_harts(&terms, harts)?;
     match find_shown(image, harts, &watch, command.states, gate, alloc) {
         Ok(outcomes) => {
             let stuck = stuck_order(&outcomes, alloc)?;
@@ -94,6 +100,17 @@ fn condition_of(command: &OutcomesCommand<'_>) -> Result<Condition, Refused>
     }
 }
 
+/// Refuses a condition that names a hart which isn't there.
+fn see_harts(terms: &Condition, harts: u8) -> Result<(), Refused>
+    ensures there { OnOk result (All (IsHartThere harts) terms.now.items) }
+    ensures refused { IfErr result (IsHartRefusal harts terms.now.items) }
+{
+    match absent_hart(terms.as_slice(), harts) {
+        None => Ok(()),
+        Some(hart) => Err(Refused::NoHart(u32::from(hart))),
+    }
+}
+
 /// What is watched for the list and the condition of a command.
 fn watch_for(command: &OutcomesCommand<'_>, terms: &Condition) -> Result<Watch, Refused>
     requires { IsConditionOf command.now.exists terms.now.items }
@@ -101,7 +118,7 @@ fn watch_for(command: &OutcomesCommand<'_>, terms: &Condition) -> Result<Watch, 
     ensures refused { IfErr result (IsWatchRefusal command.now) }
 {
     let list = list_of(command)?;
-    match with_terms(&list, terms.as_slice()) {
+    match with_terms(list.as_slice(), terms.as_slice()) {
         Some(all) => Ok(watch_of(all.as_slice())),
         None => Err(Refused::ManyWatched),
     }
@@ -152,7 +169,7 @@ fn stuck_order(outcomes: &Outcomes, alloc: Global) -> Result<Option<Vec<u8>>, Re
 }
 
 /// Puts the order that is wanted into the file, or its script.
-fn put_order<S: Sink>(
+fn put_order<S: EndFiles>(
     image: &Image,
     settings: &Settings,
     command: &OutcomesCommand<'_>,
@@ -162,6 +179,7 @@ fn put_order<S: Sink>(
     alloc: Global,
 ) -> Result<(), Refused>
     requires works { S.has_failed file.old ≡ false }
+    requires finished { S.is_finished file.old ≡ true }
     requires stuck { option_map (λ it. it.items) stuck.now ≡ outcomes.now.stuck }
     ensures refused { IfErr result
         (IsPutRefusal settings.now image.now command.now outcomes.now) }
@@ -169,6 +187,7 @@ fn put_order<S: Sink>(
     ensures put { OnOk result (wants_order command.now ≡ true → IsOrderPut S.written S.has_failed
         file.old file.new settings.now image.now command.now outcomes.now) }
     ensures unbroken { OnOk result (S.has_failed file.new ≡ false) }
+    ensures finished { OnOk result (S.is_finished file.new ≡ true) }
 {
     if let Some(number) = command.outcome {
         let order = order_of(outcomes, number, alloc)?;
@@ -200,7 +219,7 @@ fn order_of(outcomes: &Outcomes, number: u32, alloc: Global) -> Result<Vec<u8>, 
 }
 
 /// Puts an order into the file, or its script where that is wanted.
-fn put_written<S: Sink>(
+fn put_written<S: EndFiles>(
     image: &Image,
     settings: &Settings,
     command: &OutcomesCommand<'_>,
@@ -209,11 +228,13 @@ fn put_written<S: Sink>(
     alloc: Global,
 ) -> Result<(), Refused>
     requires works { S.has_failed file.old ≡ false }
+    requires finished { S.is_finished file.old ≡ true }
     ensures refused { IfErr result (IsTextRefusal settings.now image.now command.now) }
     ensures put { OnOk result ((text : List ℕ)
         × IsTextFor command.now.script (setup_of image.now settings.now.config) settings.now.limit
         order.now text × HasPut S.written S.has_failed file.old file.new text) }
     ensures unbroken { OnOk result (S.has_failed file.new ≡ false) }
+    ensures finished { OnOk result (S.is_finished file.new ≡ true) }
 {
     let text = text_of(image, settings, command, order, alloc)?;
     put_text(text.as_slice(), file)?;

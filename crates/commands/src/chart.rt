@@ -12,11 +12,12 @@ use crate::check::{config_by, follow_all, read_events};
 use crate::refused::Refused;
 use charts::{Row, View, last_pictured, rows_of, write_kanata, write_svg, write_text};
 use elf_image::Image;
-use event_text::{Sink, Trace, put_all};
+use event_text::Trace;
 use events::Event;
 use sim_inputs::{ChartCommand, Settings};
 use std::alloc::{AllocError, Global};
 use std::io::Write;
+use stress_runs::{EndFiles, put_file};
 
 /// Checks a trace as `perform_check` does, and draws its history: as text on `out`, or as a picture
 /// or a log into `file`. Answers the exit status, 0.
@@ -26,7 +27,7 @@ use std::io::Write;
 /// memory: the whole chart is made before any of it is written. `Output` is answered where `out` or
 /// `file` failed.
 #[inline(never)]
-pub fn perform_chart<S: Sink, W: Write>(
+pub fn perform_chart<S: EndFiles, W: Write>(
     image: &Image,
     settings: &Settings,
     trace: &[u8],
@@ -36,10 +37,12 @@ pub fn perform_chart<S: Sink, W: Write>(
     alloc: Global,
 ) -> Result<u8, Refused>
     requires works { S.has_failed file.old ≡ false }
+    requires finished { S.is_finished file.old ≡ true }
     ensures refused { IfErr result (IsChartRefusal settings.now image.now trace.now chart.now) }
     ensures ended { IfOk result (ChartComesTo settings.now image.now trace.now chart.now) }
     ensures unwanted { has_file chart.now ≡ false → file.new ≡ file.old }
     ensures unbroken { OnOk result (S.has_failed file.new ≡ false) }
+    ensures finished { OnOk result (S.is_finished file.new ≡ true) }
     ensures unreported { S.has_failed file.new ≡ true
         → W.contents out.new ≡ W.contents out.old }
 {
@@ -126,17 +129,19 @@ fn draw(
 }
 
 /// Writes the text of a chart, on `out` or into its file. Answers the exit status, 0.
-fn put_chart<S: Sink, W: Write>(
+fn put_chart<S: EndFiles, W: Write>(
     text: &[u8],
     chart: &ChartCommand<'_>,
     file: &mut S,
     out: &mut W,
 ) -> Result<u8, Refused>
     requires works { S.has_failed file.old ≡ false }
+    requires finished { S.is_finished file.old ≡ true }
     ensures refused { IfErr result (λ reason. reason ≡ Output) }
     ensures zero { IfOk result (λ status. status ≡ 0) }
     ensures unwanted { has_file chart.now ≡ false → file.new ≡ file.old }
     ensures unbroken { OnOk result (S.has_failed file.new ≡ false) }
+    ensures finished { OnOk result (S.is_finished file.new ≡ true) }
     ensures unreported { S.has_failed file.new ≡ true
         → W.contents out.new ≡ W.contents out.old }
 {
@@ -149,15 +154,16 @@ fn put_chart<S: Sink, W: Write>(
     }
 }
 
-/// Puts the whole of a text into a sink. Answers the exit status, 0.
-pub(crate) fn put_text<S: Sink>(text: &[u8], file: &mut S) -> Result<u8, Refused>
+/// Puts the whole of a text into a file, and finishes it. Answers the exit status, 0.
+pub(crate) fn put_text<S: EndFiles>(text: &[u8], file: &mut S) -> Result<u8, Refused>
     requires works { S.has_failed file.old ≡ false }
     ensures put { OnOk result (HasPut S.written S.has_failed file.old file.new text.now) }
     ensures refused { IfErr result (λ reason. reason ≡ Output) }
     ensures zero { IfOk result (λ status. status ≡ 0) }
     ensures unbroken { OnOk result (S.has_failed file.new ≡ false) }
+    ensures finished { OnOk result (S.is_finished file.new ≡ true) }
 {
-    match put_all(text, file) {
+    match put_file(text, file) {
         Ok(()) => Ok(0),
         Err(_) => Err(Refused::Output),
     }

@@ -15,6 +15,7 @@ ghost use Rattle.commands.specs.Explain.{IsWritingRefusal, PrintsSome};
 use crate::refused::{Refused, Unread};
 use elf_image::{LoadRefused, RamSize};
 use explanations::{explain_config, explain_image};
+use shown_text::write_file_name;
 use sim_inputs::{Command, Line, Settings};
 use std::alloc::Global;
 use std::io;
@@ -96,7 +97,7 @@ fn tell_image<W: Write>(
     }
 }
 
-/// Says what there is to say of an image whose configuration is refused, as far as its file could be
+/// Says what there is to say of an image whose configuration is refused; nothing where its file can't be
 /// read.
 fn tell_without_config<W: Write>(
     image: Result<&[u8], Unread>,
@@ -106,8 +107,10 @@ fn tell_without_config<W: Write>(
     ensures refused { IfErr result IsWritingRefusal }
     ensures printed { OnOk result (PrintsSome (W.contents out.old) (W.contents out.new)) }
 {
-    let Ok(file) = image else {
-        return Ok(());
+    let file = match image {
+        Ok(file) => file,
+        Err(Unread::File) => return Ok(()),
+        Err(Unread::Memory) => return Err(Refused::Memory),
     };
     put(WITHOUT_CONFIG, out)?;
     tell_image(file, Settings::default().ram, out, alloc)?;
@@ -127,13 +130,18 @@ pub(crate) fn point_to_explain<E: Write>(refused: Refused, line: &Line<'_>, err:
         _ => files.image.unwrap_or("IMAGE"),
     };
     // A terminal that takes no line is no reason for another status.
-    let _ = match files.config {
-        Some(config) => writeln!(
-            err,
-            "smtsim: smtsim explain {image} --config {config} says why"
-        ),
-        None => writeln!(err, "smtsim: smtsim explain {image} says why"),
-    };
+    let _ = write_pointer(image, files.config, err);
+}
+
+/// Writes the command that explains these files, as it is to be typed.
+fn write_pointer<E: Write>(image: &str, config: Option<&str>, err: &mut E) -> io::Result<()> {
+    err.write_all(b"smtsim: smtsim explain ")?;
+    write_file_name(image, err)?;
+    if let Some(config) = config {
+        err.write_all(b" --config ")?;
+        write_file_name(config, err)?;
+    }
+    err.write_all(b" says why\n")
 }
 
 /// Writes a text, and flushes it.

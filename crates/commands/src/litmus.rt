@@ -13,7 +13,6 @@ use crate::refused::Refused;
 use crate::searching::find_shown;
 use actors::Gate;
 use elf_image::Image;
-use event_text::Sink;
 use litmus_cycles::{Explanation, Shown, draw_explanation, explain_forbidden, write_explanation};
 use litmus_images::{harts_of, image_of, watch_of};
 use litmus_reading::{ReadingRefused, read_litmus};
@@ -25,10 +24,11 @@ use sim_inputs::LitmusCommand;
 use std::alloc::{AllocError, Global};
 use std::io;
 use std::io::Write;
+use stress_runs::EndFiles;
 
 /// Reads a litmus test, and does what `perform_test` does with it. A text that is none is refused first.
 #[inline(never)]
-pub fn perform_litmus<G: Gate, S: Sink, W: Write>(
+pub fn perform_litmus<G: Gate, S: EndFiles, W: Write>(
     text: &[u8],
     command: &LitmusCommand<'_>,
     gate: &G,
@@ -37,10 +37,12 @@ pub fn perform_litmus<G: Gate, S: Sink, W: Write>(
     alloc: Global,
 ) -> Result<u8, Refused>
     requires works { S.has_failed file.old ≡ false }
+    requires finished { S.is_finished file.old ≡ true }
     ensures refused { IfErr result (IsLitmusRefusal text.now command.now) }
     ensures ended { IfOk result (LitmusComesTo command.now (W.contents out.old) (W.contents out.new)) }
     ensures unwanted { writes_file command.now ≡ false → file.new ≡ file.old }
     ensures unbroken { OnOk result (S.has_failed file.new ≡ false) }
+    ensures finished { OnOk result (S.is_finished file.new ≡ true) }
     ensures unreported { S.has_failed file.new ≡ true
         → W.contents out.new ≡ W.contents out.old }
 {
@@ -73,7 +75,7 @@ fn test_of(text: &[u8], alloc: Global) -> Result<LitmusTest, Refused>
 /// execution was found that has a cycle; then nothing is printed. `Output` is answered where `out` or `file`
 /// failed.
 #[inline(never)]
-pub fn perform_test<G: Gate, S: Sink, W: Write>(
+pub fn perform_test<G: Gate, S: EndFiles, W: Write>(
     test: &LitmusTest,
     command: &LitmusCommand<'_>,
     gate: &G,
@@ -83,11 +85,13 @@ pub fn perform_test<G: Gate, S: Sink, W: Write>(
 ) -> Result<u8, Refused>
     requires sound { IsWellFormed test.now }
     requires works { S.has_failed file.old ≡ false }
+    requires finished { S.is_finished file.old ≡ true }
     ensures refused { IfErr result (IsTestRefusal command.now) }
     ensures ended { IfOk result (TestComesTo test.now command.now
         (W.contents out.old) (W.contents out.new)) }
     ensures unwanted { writes_file command.now ≡ false → file.new ≡ file.old }
     ensures unbroken { OnOk result (S.has_failed file.new ≡ false) }
+    ensures finished { OnOk result (S.is_finished file.new ≡ true) }
     ensures unreported { S.has_failed file.new ≡ true
         → W.contents out.new ≡ W.contents out.old }
 {
@@ -108,16 +112,18 @@ pub fn perform_test<G: Gate, S: Sink, W: Write>(
 }
 
 /// Puts the ELF file of the image into the file, where it is wanted.
-fn put_image<S: Sink>(
+fn put_image<S: EndFiles>(
     image: &Image,
     command: &LitmusCommand<'_>,
     file: &mut S,
     alloc: Global,
 ) -> Result<(), Refused>
     requires works { S.has_failed file.old ≡ false }
+    requires finished { S.is_finished file.old ≡ true }
     ensures refused { IfErr result (IsTestRefusal command.now) }
     ensures unwanted { is_some command.now.image ≡ false → file.new ≡ file.old }
     ensures unbroken { OnOk result (S.has_failed file.new ≡ false) }
+    ensures finished { OnOk result (S.is_finished file.new ≡ true) }
 {
     if command.image.is_none() {
         return Ok(());
@@ -132,7 +138,7 @@ fn put_image<S: Sink>(
 }
 
 /// Says what was found, and draws why the condition holds of no state, where that is wanted.
-fn tell<S: Sink, W: Write>(
+fn tell<S: EndFiles, W: Write>(
     test: &LitmusTest,
     outcomes: &Outcomes,
     command: &LitmusCommand<'_>,
@@ -142,12 +148,14 @@ fn tell<S: Sink, W: Write>(
 ) -> Result<u8, Refused>
     requires sound { IsWellFormed test.now }
     requires works { S.has_failed file.old ≡ false }
+    requires finished { S.is_finished file.old ≡ true }
     ensures printed { OnOk result (IsTold test.now command.now outcomes.now.listed
         (W.contents out.old) (W.contents out.new)) }
     ensures zero { IfOk result (λ status. status ≡ 0) }
     ensures refused { IfErr result (IsTestRefusal command.now) }
     ensures unwanted { is_some command.now.svg ≡ false → file.new ≡ file.old }
     ensures unbroken { OnOk result (S.has_failed file.new ≡ false) }
+    ensures finished { OnOk result (S.is_finished file.new ≡ true) }
     ensures unreported { S.has_failed file.new ≡ true
         → W.contents out.new ≡ W.contents out.old }
 {
@@ -180,7 +188,7 @@ fn print<W: Write>(
 
 /// What is said of why the condition holds of no state, where that is wanted, and where a picture is, that
 /// drawn into the file.
-fn explained<S: Sink>(
+fn explained<S: EndFiles>(
     test: &LitmusTest,
     can_come: bool,
     command: &LitmusCommand<'_>,
@@ -189,10 +197,12 @@ fn explained<S: Sink>(
 ) -> Result<Vec<u8>, Refused>
     requires sound { IsWellFormed test.now }
     requires works { S.has_failed file.old ≡ false }
+    requires finished { S.is_finished file.old ≡ true }
     ensures why { IfOk result (λ why. IsWhy command.now.why can_come why.items) }
     ensures refused { IfErr result (IsTestRefusal command.now) }
     ensures unwanted { is_some command.now.svg ≡ false → file.new ≡ file.old }
     ensures unbroken { OnOk result (S.has_failed file.new ≡ false) }
+    ensures finished { OnOk result (S.is_finished file.new ≡ true) }
 {
     let explanation = explanation_of(test, can_come, command, alloc)?;
     let why = why_text(test, can_come, &explanation, command.why, alloc)?;
@@ -257,7 +267,7 @@ fn write_why<W: Write>(
 }
 
 /// Draws an explanation into the file, where a picture is wanted.
-fn put_picture<S: Sink>(
+fn put_picture<S: EndFiles>(
     test: &LitmusTest,
     explanation: &Option<Explanation>,
     command: &LitmusCommand<'_>,
@@ -265,9 +275,11 @@ fn put_picture<S: Sink>(
     alloc: Global,
 ) -> Result<(), Refused>
     requires works { S.has_failed file.old ≡ false }
+    requires finished { S.is_finished file.old ≡ true }
     ensures refused { IfErr result (IsTestRefusal command.now) }
     ensures unwanted { is_some command.now.svg ≡ false → file.new ≡ file.old }
     ensures unbroken { OnOk result (S.has_failed file.new ≡ false) }
+    ensures finished { OnOk result (S.is_finished file.new ≡ true) }
 {
     if command.svg.is_none() {
         return Ok(());

@@ -1,15 +1,17 @@
 //! The command `migrate`: the trace of version 3 that has the events of an older one.
 
-ghost use Rattle.std.specs.Prelude.{◌≡◌, IfOk, IfErr, OnOk, false};
+ghost use Rattle.std.specs.Prelude.{◌≡◌, ◌⊎◌, IfOk, IfErr, OnOk, true, false};
+ghost use Rattle.commands.specs.declared.refused.Refused.TheVariants.{Output};
 ghost use Rattle.event_text.specs.{Core.AreCoreSizes, Refusals.IsMigrated, Sinking.HasPut};
 ghost use Rattle.commands.specs.Migrate.{sizes_by, IsMigrateRefusal, MigrateComesTo};
 
 use crate::chart::put_text;
 use crate::refused::Refused;
-use event_text::{MigrateRefused, Sink, TraceHeader, migrate};
+use event_text::{MigrateRefused, TraceHeader, migrate};
 use sim_inputs::Settings;
 use smt_model::Config;
 use std::alloc::Global;
+use stress_runs::EndFiles;
 
 /// Puts the trace of version 3 that has the events of an older one into `file`; it says that they
 /// are of the core of which that says so, or else of one of these settings. Answers the exit
@@ -19,7 +21,7 @@ use std::alloc::Global;
 /// breaks a rule; then nothing is put. So it is where there isn't enough memory: the whole trace is
 /// made before any of it is put. `Output` is answered where `file` failed.
 #[inline(never)]
-pub fn perform_migrate<S: Sink>(
+pub fn perform_migrate<S: EndFiles>(
     text: &[u8],
     settings: &Settings,
     file: &mut S,
@@ -27,10 +29,13 @@ pub fn perform_migrate<S: Sink>(
 ) -> Result<u8, Refused>
     requires sizes { AreCoreSizes (sizes_by settings.now.config) }
     requires works { S.has_failed file.old ≡ false }
+    requires finished { S.is_finished file.old ≡ true }
     ensures refused { IfErr result (IsMigrateRefusal settings.now text.now) }
     ensures ended { IfOk result (MigrateComesTo settings.now text.now
         (HasPut S.written S.has_failed file.old file.new)) }
+    ensures left { IfErr result (λ why. (why ≡ Output) ⊎ (file.new ≡ file.old)) }
     ensures unbroken { OnOk result (S.has_failed file.new ≡ false) }
+    ensures finished { OnOk result (S.is_finished file.new ≡ true) }
 {
     let new = migrated(text, settings, alloc)?;
     put_text(new.as_slice(), file)

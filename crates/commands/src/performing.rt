@@ -1,7 +1,8 @@
 //! All that the program does with a line once its files are read.
 
-ghost use Rattle.std.specs.Prelude.{◌≡◌, ◌⊎◌, IsTrue, IfOk, IfErr, Err, None, true, false};
-ghost use Rattle.reports.specs.Statuses.{says_harts};
+ghost use Rattle.std.specs.Prelude.{◌≡◌, ◌⊎◌, IsTrue, IfOk, IfErr, OnOk, Err, None, true, false};
+ghost use Rattle.commands.specs.declared.refused.Refused.TheVariants.{Output};
+ghost use Rattle.report_lines.specs.Statuses.{says_harts};
 ghost use Rattle.commands.specs.declared.refused.Refused.{Refused as AnyRefused};
 ghost use Rattle.commands.specs.Refused.{exit_status_of, refusal_of};
 ghost use Rattle.sim_inputs.specs.declared.line.Command.TheVariants.{Run};
@@ -11,7 +12,7 @@ ghost use Rattle.commands.specs.Litmus.{writes_file};
 ghost use Rattle.commands.specs.Perform.{IsRefusal, LineComesTo, IsPerformed};
 ghost use Rattle.commands.specs.Perform.{IsProgramRefusal, ProgramComesTo};
 ghost use Rattle.commands.specs.Perform.{IsLitmusLineRefusal, LitmusLineComesTo};
-ghost use Rattle.commands.specs.Perform.{IsMigrateLineRefusal, MigrationComesTo};
+ghost use Rattle.commands.specs.Perform.{IsMigrateLineRefusal, MigrationComesTo, IsLeft};
 ghost use Rattle.event_text.specs.Sinking.{HasPut};
 ghost use Rattle.commands.specs.Written.{IsWritten};
 
@@ -34,7 +35,6 @@ use crate::stress::perform_stress;
 use crate::wanted::Wanted;
 use actors::Gate;
 use elf_image::Image;
-use event_text::Sink;
 use sim_inputs::{Command, Line, LitmusCommand, RunCommand, Settings};
 use smt_core::Predict;
 use std::alloc::Global;
@@ -51,9 +51,9 @@ use stress_runs::EndFiles;
 /// which command explains a refused configuration or image. All that is printed is flushed.
 ///
 /// The trace of a core goes into `trace`, a sink that hasn't failed, where the line names a file for it:
-/// behind the last ask, and before the tables and the report. Where the sink fails, neither is printed. So
-/// does a chart that is written to a file, and a migrated trace. A run of threads asks `gate` whether it
-/// may go on.
+/// behind the last ask, and before the tables and the report, and its file is finished. Where the sink fails,
+/// neither is printed. So does a chart that is written to a file, and a migrated trace, of which nothing is
+/// put where it is refused for anything else. A run of threads asks `gate` whether it may go on.
 pub fn perform<
     G: Gate + Sync,
     P: Predict + Copy + Send,
@@ -74,6 +74,7 @@ pub fn perform<
     alloc: Global,
 ) -> u8
     requires works { S.has_failed trace.old ≡ false }
+    requires finished { S.is_finished trace.old ≡ true }
     ensures known { IsTrue (says_harts result) ⊎ (result ≡ 2) ⊎ (result ≡ 4) ⊎ (result ≡ 5) }
     ensures unset { IfErr inputs.now.config (λ why. result ≡ 5) }
     ensures refused { says_harts result ≡ false → (reason : AnyRefused)
@@ -83,6 +84,11 @@ pub fn perform<
         (as_read inputs.now.config) (as_read inputs.now.image) (as_read inputs.now.second)
         (IsWritten S.begins S.written S.has_failed trace.old trace.new) (W.contents out.old)
         (W.contents out.new) result }
+    ensures left { says_harts result ≡ false → (reason : AnyRefused)
+        × (exit_status_of reason ≡ result) × IsRefusal line.now.command (as_read inputs.now.config)
+        (as_read inputs.now.image) (as_read inputs.now.second) reason
+        × IsLeft line.now.command trace.old trace.new reason }
+    ensures finished { IsTrue (says_harts result) → S.is_finished trace.new ≡ true }
     ensures unwanted { wants_trace line.now.command ≡ false → trace.new ≡ trace.old }
     ensures unreported { S.has_failed trace.new ≡ true → IsUnreported line.now.command
         (as_read inputs.now.second) (W.contents out.old) (W.contents out.new) }
@@ -128,6 +134,7 @@ fn perform_line<
     alloc: Global,
 ) -> Result<u8, Refused>
     requires works { S.has_failed trace.old ≡ false }
+    requires finished { S.is_finished trace.old ≡ true }
     ensures unset { IfErr inputs.now.config (λ why. result ≡ Err (refusal_of why)) }
     ensures refused { IfErr result (IsRefusal line.now.command (as_read inputs.now.config)
         (as_read inputs.now.image) (as_read inputs.now.second)) }
@@ -135,6 +142,8 @@ fn perform_line<
         (as_read inputs.now.image) (as_read inputs.now.second)
         (IsWritten S.begins S.written S.has_failed trace.old trace.new) (W.contents out.old)
         (W.contents out.new)) }
+    ensures left { IfErr result (IsLeft line.now.command trace.old trace.new) }
+    ensures finished { OnOk result (S.is_finished trace.new ≡ true) }
     ensures unwanted { wants_trace line.now.command ≡ false → trace.new ≡ trace.old }
     ensures unreported { S.has_failed trace.new ≡ true → IsUnreported line.now.command
         (as_read inputs.now.second) (W.contents out.old) (W.contents out.new) }
@@ -156,11 +165,13 @@ fn read_and_test<G: Gate, S: EndFiles, W: Write>(
     alloc: Global,
 ) -> Result<u8, Refused>
     requires works { S.has_failed file.old ≡ false }
+    requires finished { S.is_finished file.old ≡ true }
     ensures unset { IfErr inputs.now.config (λ why. result ≡ Err (refusal_of why)) }
     ensures refused { IfErr result (IsLitmusLineRefusal litmus.now (as_read inputs.now.config)
         (as_read inputs.now.image)) }
     ensures ended { IfOk result (LitmusLineComesTo litmus.now (as_read inputs.now.config)
         (as_read inputs.now.image) (W.contents out.old) (W.contents out.new)) }
+    ensures finished { OnOk result (S.is_finished file.new ≡ true) }
     ensures unwanted { writes_file litmus.now ≡ false → file.new ≡ file.old }
     ensures unreported { S.has_failed file.new ≡ true
         → W.contents out.new ≡ W.contents out.old }
@@ -179,17 +190,20 @@ fn read_and_test<G: Gate, S: EndFiles, W: Write>(
 }
 
 /// The exit status of a migration, which prints nothing.
-fn read_and_migrate<S: Sink>(
+fn read_and_migrate<S: EndFiles>(
     inputs: &Inputs<'_>,
     file: &mut S,
     alloc: Global,
 ) -> Result<u8, Refused>
     requires works { S.has_failed file.old ≡ false }
+    requires finished { S.is_finished file.old ≡ true }
     ensures unset { IfErr inputs.now.config (λ why. result ≡ Err (refusal_of why)) }
     ensures refused { IfErr result (IsMigrateLineRefusal (as_read inputs.now.config)
         (as_read inputs.now.second)) }
     ensures ended { IfOk result (MigrationComesTo (as_read inputs.now.config)
         (as_read inputs.now.second) (HasPut S.written S.has_failed file.old file.new)) }
+    ensures left { IfErr result (λ why. (why ≡ Output) ⊎ (file.new ≡ file.old)) }
+    ensures finished { OnOk result (S.is_finished file.new ≡ true) }
 {
     let sizes = inputs.config?;
     let settings = settings_of(sizes, alloc)?;
@@ -218,6 +232,7 @@ fn read_and_perform<
     alloc: Global,
 ) -> Result<u8, Refused>
     requires works { S.has_failed trace.old ≡ false }
+    requires finished { S.is_finished trace.old ≡ true }
     requires program { litmus_of line.now.command ≡ None }
     requires image { migrates line.now.command ≡ false }
     ensures unset { IfErr inputs.now.config (λ why. result ≡ Err (refusal_of why)) }
@@ -227,6 +242,7 @@ fn read_and_perform<
         (as_read inputs.now.image) (as_read inputs.now.second)
         (IsWritten S.begins S.written S.has_failed trace.old trace.new) (W.contents out.old)
         (W.contents out.new)) }
+    ensures finished { OnOk result (S.is_finished trace.new ≡ true) }
     ensures unwanted { wants_trace line.now.command ≡ false → trace.new ≡ trace.old }
     ensures unreported { S.has_failed trace.new ≡ true → IsUnreported line.now.command
         (as_read inputs.now.second) (W.contents out.old) (W.contents out.new) }
@@ -279,11 +295,12 @@ fn perform_command<
     alloc: Global,
 ) -> Result<u8, Refused>
     requires works { S.has_failed trace.old ≡ false }
+    requires finished { S.is_finished trace.old ≡ true }
     requires other { explains command.now ≡ false }
     requires program { litmus_of command.now ≡ None }
     requires image { migrates command.now ≡ false }
-    ensures { IsPerformed S.begins S.written S.has_failed trace.old trace.new command.now settings.now
-        image.now (as_read second.entry) (W.contents out.old) (W.contents out.new) result }
+    ensures { IsPerformed S.begins S.is_finished S.written S.has_failed trace.old trace.new command.now
+        settings.now image.now (as_read second.entry) (W.contents out.old) (W.contents out.new) result }
 {
     match command {
         Command::Step(step) => {
@@ -349,7 +366,8 @@ fn perform_runs<
     alloc: Global,
 ) -> Result<u8, Refused>
     requires works { S.has_failed files.old ≡ false }
-    ensures { (second : Read) → IsPerformed S.begins S.written S.has_failed files.old files.new
+    requires finished { S.is_finished files.old ≡ true }
+    ensures { (second : Read) → IsPerformed S.begins S.is_finished S.written S.has_failed files.old files.new
         (Run run.now) settings.now image.now second (W.contents out.old) (W.contents out.new)
         result }
 {

@@ -8,7 +8,7 @@ ghost use Rattle.commands.specs.declared.refused.Refused.TheVariants.{Output};
 use crate::refused::Refused;
 use actors::Gate;
 use elf_image::Image;
-use reports::{report_standing, status_of};
+use report_lines::{report_standing, status_of};
 use rounds::{Rounds, RoundsRun, RoundsStopped, Watch, count_going, run_rounds};
 use sc_machine::Plain;
 use sim_inputs::{PlainCommand, Settings};

@@ -2,7 +2,7 @@
 
 ghost use Rattle.std.specs.Prelude.{◌≡◌, ◌⊎◌, [], IsTrue, IfOk, IfErr, OnOk, Ok, Err, true, false};
 ghost use Rattle.std.specs.Prelude.{is_some};
-ghost use Rattle.reports.specs.Statuses.{says_harts};
+ghost use Rattle.report_lines.specs.Statuses.{says_harts};
 ghost use Rattle.sim_inputs.specs.declared.line.Command.TheVariants.{Step};
 ghost use Rattle.commands.specs.declared.refused.Refused.{Refused as AnyRefused};
 ghost use Rattle.commands.specs.Account.{IsTraceWritten};
@@ -19,17 +19,17 @@ use crate::performing::refuse_line;
 use crate::refused::Refused;
 use crate::wanted::Wanted;
 use elf_image::Image;
-use event_text::Sink;
 use prompts::{PromptRefused, Simulation, prompt};
 use sim_inputs::{Line, Settings, StepCommand};
 use smt_core::Predict;
 use std::alloc::Global;
 use std::io::{BufRead, Write};
+use stress_runs::EndFiles;
 
 /// Does all that the program does with a line of `step` whose script is typed, once its other files
 /// are read: as `perform` does, but each line of `reader` is asked as it comes. It is refused as an
 /// empty script is.
-pub fn perform_typed<P: Predict + Copy, R: BufRead, S: Sink, W: Write, E: Write>(
+pub fn perform_typed<P: Predict + Copy, R: BufRead, S: EndFiles, W: Write, E: Write>(
     line: &Line<'_>,
     step: &StepCommand<'_>,
     inputs: &Inputs<'_>,
@@ -42,6 +42,7 @@ pub fn perform_typed<P: Predict + Copy, R: BufRead, S: Sink, W: Write, E: Write>
     alloc: Global,
 ) -> u8
     requires works { S.has_failed trace.old ≡ false }
+    requires finished { S.is_finished trace.old ≡ true }
     ensures known { IsTrue (says_harts result) ⊎ (result ≡ 2) ⊎ (result ≡ 4) ⊎ (result ≡ 5) }
     ensures unset { IfErr inputs.now.config (λ why. result ≡ 5) }
     ensures refused { says_harts result ≡ false → (reason : AnyRefused)
@@ -52,6 +53,7 @@ pub fn perform_typed<P: Predict + Copy, R: BufRead, S: Sink, W: Write, E: Write>
         (step_wants step.now)
         (IsTraceWritten S.written S.has_failed trace.old trace.new (is_some step.now.trace))
         (W.contents out.old) (W.contents out.new) result }
+    ensures finished { IsTrue (says_harts result) → S.is_finished trace.new ≡ true }
     ensures unwanted { is_some step.now.trace ≡ false → trace.new ≡ trace.old }
 {
     match read_and_prompt(step, inputs, predict, reader, trace, out, alloc) {
@@ -61,7 +63,7 @@ pub fn perform_typed<P: Predict + Copy, R: BufRead, S: Sink, W: Write, E: Write>
 }
 
 /// The exit status of a typed script, with all flushed that it prints.
-fn read_and_prompt<P: Predict + Copy, R: BufRead, S: Sink, W: Write>(
+fn read_and_prompt<P: Predict + Copy, R: BufRead, S: EndFiles, W: Write>(
     step: &StepCommand<'_>,
     inputs: &Inputs<'_>,
     predict: P,
@@ -71,6 +73,7 @@ fn read_and_prompt<P: Predict + Copy, R: BufRead, S: Sink, W: Write>(
     alloc: Global,
 ) -> Result<u8, Refused>
     requires works { S.has_failed trace.old ≡ false }
+    requires finished { S.is_finished trace.old ≡ true }
     ensures unset { IfErr inputs.now.config (λ why. result ≡ Err (refusal_of why)) }
     ensures refused { IfErr result (IsRefusal (Step step.now) (as_read inputs.now.config)
         (as_read inputs.now.image) (Ok [])) }
@@ -78,6 +81,7 @@ fn read_and_prompt<P: Predict + Copy, R: BufRead, S: Sink, W: Write>(
         (as_read inputs.now.image) (R.remaining reader.old) (step_wants step.now)
         (IsTraceWritten S.written S.has_failed trace.old trace.new (is_some step.now.trace))
         (W.contents out.old) (W.contents out.new)) }
+    ensures finished { OnOk result (S.is_finished trace.new ≡ true) }
     ensures unwanted { is_some step.now.trace ≡ false → trace.new ≡ trace.old }
 {
     let config = inputs.config?;
@@ -105,7 +109,7 @@ fn read_and_prompt<P: Predict + Copy, R: BufRead, S: Sink, W: Write>(
 /// Refused is what is refused of an empty script. A line that isn't followed is complained of in its
 /// place, and changes nothing.
 #[inline(never)]
-pub fn perform_prompt<P: Predict + Copy, R: BufRead, S: Sink, W: Write>(
+pub fn perform_prompt<P: Predict + Copy, R: BufRead, S: EndFiles, W: Write>(
     image: &Image,
     settings: &Settings,
     why: bool,
@@ -117,6 +121,7 @@ pub fn perform_prompt<P: Predict + Copy, R: BufRead, S: Sink, W: Write>(
     alloc: Global,
 ) -> Result<u8, Refused>
     requires works { S.has_failed trace.old ≡ false }
+    requires finished { S.is_finished trace.old ≡ true }
     ensures refused { IfErr result (IsStepRefusal settings.now []) }
     ensures ended { IfOk result (PromptComesTo P.predicts predict settings.now image.now
         (R.remaining reader.old) wanted
@@ -124,6 +129,7 @@ pub fn perform_prompt<P: Predict + Copy, R: BufRead, S: Sink, W: Write>(
         (W.contents out.old) (W.contents out.new)) }
     ensures unwanted { wanted.trace ≡ false → trace.new ≡ trace.old }
     ensures unbroken { OnOk result (S.has_failed trace.new ≡ false) }
+    ensures finished { OnOk result (S.is_finished trace.new ≡ true) }
 {
     let simulation = Simulation {
         image,

@@ -1,7 +1,7 @@
 //! Why there is no report of a simulation, how that is said, and the exit status that goes with it.
 
 ghost use Rattle.std.specs.Prelude.{◌≡◌, false};
-ghost use Rattle.reports.specs.Statuses.{says_harts};
+ghost use Rattle.report_lines.specs.Statuses.{says_harts};
 ghost use Rattle.commands.specs.Refused.{exit_status_of, refusal_of};
 
 use litmus_reading::{Fault, Place};

@@ -15,13 +15,13 @@ use crate::refused::Refused;
 use crate::wanted::Wanted;
 use actors::{Gate, RunRefused};
 use elf_image::Image;
-use event_text::Sink;
 use sim_inputs::Settings;
 use smt_core::{Finished, Predict};
 use std::alloc::Global;
 use std::io::Write;
 use std::sync::Wait;
 use std::thread::Threads;
+use stress_runs::EndFiles;
 
 /// Runs the core of an image's file, with a thread for each actor of the configuration, until no hart
 /// is going or the history, the turns or the gate end it.
@@ -102,7 +102,7 @@ fn refused_run(why: RunRefused) -> Refused
 pub fn perform_run<
     G: Gate + Sync,
     P: Predict + Copy + Send,
-    S: Sink,
+    S: EndFiles,
     W: Write,
     R: Threads + Wait + Sync,
 >(
@@ -117,12 +117,14 @@ pub fn perform_run<
     alloc: Global,
 ) -> Result<u8, Refused>
     requires works { S.has_failed trace.old ≡ false }
+    requires finished { S.is_finished trace.old ≡ true }
     ensures refused { IfErr result (IsRunRefusal settings.now) }
     ensures ended { IfOk result (RunComesTo settings.now image.now wanted
         (IsTraceWritten S.written S.has_failed trace.old trace.new wanted.trace)
         (W.contents out.old) (W.contents out.new)) }
     ensures unwanted { wanted.trace ≡ false → trace.new ≡ trace.old }
     ensures unbroken { OnOk result (S.has_failed trace.new ≡ false) }
+    ensures finished { OnOk result (S.is_finished trace.new ≡ true) }
     ensures unreported { S.has_failed trace.new ≡ true
         → W.contents out.new ≡ W.contents out.old }
 {

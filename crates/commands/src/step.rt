@@ -20,13 +20,13 @@ use crate::inputs::image_of;
 use crate::refused::Refused;
 use crate::wanted::Wanted;
 use elf_image::Image;
-use event_text::Sink;
 use explained_asks::explain;
 use scripts::{ScriptRefused, ScriptWord, Unwritten, ask_core, read_script};
 use sim_inputs::Settings;
 use smt_core::{Core, CoreRefused, Finished, Predict};
 use std::alloc::{AllocError, Global};
 use std::io::Write;
+use stress_runs::EndFiles;
 
 /// Makes the asks of a script in order, each of them of one core of an image's file, and prints a
 /// line for each: what the core answers. The whole script is read before the first ask.
@@ -229,7 +229,7 @@ fn explained(
 /// Makes the asks of a script, writes the core's trace where it is wanted, and then what else is
 /// wanted of it and its report. Answers the exit status: how the harts stand.
 #[inline(never)]
-pub fn perform_step<P: Predict + Copy, S: Sink, W: Write>(
+pub fn perform_step<P: Predict + Copy, S: EndFiles, W: Write>(
     image: &Image,
     settings: &Settings,
     script: &[u8],
@@ -241,12 +241,14 @@ pub fn perform_step<P: Predict + Copy, S: Sink, W: Write>(
     alloc: Global,
 ) -> Result<u8, Refused>
     requires works { S.has_failed trace.old ≡ false }
+    requires finished { S.is_finished trace.old ≡ true }
     ensures refused { IfErr result (IsStepRefusal settings.now script.now) }
     ensures ended { IfOk result (StepComesTo settings.now image.now script.now why wanted
         (IsTraceWritten S.written S.has_failed trace.old trace.new wanted.trace)
         (W.contents out.old) (W.contents out.new)) }
     ensures unwanted { wanted.trace ≡ false → trace.new ≡ trace.old }
     ensures unbroken { OnOk result (S.has_failed trace.new ≡ false) }
+    ensures finished { OnOk result (S.is_finished trace.new ≡ true) }
     ensures unreported { S.has_failed trace.new ≡ true → (core : CoreView) × (idle : List ℕ)
         × Prints (W.contents out.old) (W.contents out.new) (ArePrinted why script.now core idle) }
 {

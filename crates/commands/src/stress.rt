@@ -47,12 +47,14 @@ pub fn perform_stress<
     alloc: Global,
 ) -> Result<u8, Refused>
     requires works { F.has_failed files.old ≡ false }
+    requires finished { F.is_finished files.old ≡ true }
     ensures refused { IfErr result (IsRunRefusal settings.now) }
     ensures ended { IfOk result (StressComesTo settings.now image.now times
         (AreEndsWritten F.begins F.written F.has_failed files.old files.new keep)
         (W.contents out.old) (W.contents out.new)) }
     ensures unwanted { keep ≡ false → files.new ≡ files.old }
     ensures unbroken { OnOk result (F.has_failed files.new ≡ false) }
+    ensures finished { OnOk result (F.is_finished files.new ≡ true) }
     ensures unreported { F.has_failed files.new ≡ true
         → W.contents out.new ≡ W.contents out.old }
 {
@@ -103,12 +105,14 @@ impl<G: Gate + Sync, P: Predict + Copy + Send, R: Threads + Wait + Sync> Runs<'_
     fn tally<F: EndFiles>(&self, count: u32, keep: bool, files: &mut F) -> Result<Tally, Refused>
         requires some { 1 ≤ count }
         requires works { F.has_failed files.old ≡ false }
+        requires finished { F.is_finished files.old ≡ true }
         ensures refused { IfErr result (IsRunRefusal self.now.settings.now) }
         ensures tallied { IfOk result (HasTallied self.now.settings.now self.now.image.now
             (AreEndsWritten F.begins F.written F.has_failed files.old files.new keep)
             count) }
         ensures unwanted { keep ≡ false → files.new ≡ files.old }
         ensures unbroken { OnOk result (F.has_failed files.new ≡ false) }
+        ensures finished { OnOk result (F.is_finished files.new ≡ true) }
     {
         let mut tally = Tally::new(self.alloc);
         self.run_once(keep, &mut tally, files)?;
@@ -125,13 +129,15 @@ impl<G: Gate + Sync, P: Predict + Copy + Send, R: Threads + Wait + Sync> Runs<'_
         tally: &mut Tally,
         files: &mut F,
     ) -> Result<(), Refused>
-        requires { F.has_failed files.old ≡ false }
+        requires works { F.has_failed files.old ≡ false }
+        requires finished { F.is_finished files.old ≡ true }
         ensures refused { IfErr result (IsRunRefusal self.now.settings.now) }
         ensures ran { OnOk result (HasRunOnce self.now.settings.now self.now.image.now
             (IsEndWritten F.begins F.written F.has_failed files.old files.new keep)
             tally.old tally.new) }
         ensures unwanted { keep ≡ false → files.new ≡ files.old }
         ensures unbroken { OnOk result (F.has_failed files.new ≡ false) }
+        ensures finished { OnOk result (F.is_finished files.new ≡ true) }
     {
         let finished = run_image(
             self.rt,
@@ -156,12 +162,14 @@ fn keep_first<F: EndFiles>(
     core: &Core,
     files: &mut F,
 ) -> Result<(), Refused>
-    requires { F.has_failed files.old ≡ false }
+    requires works { F.has_failed files.old ≡ false }
+    requires finished { F.is_finished files.old ≡ true }
     ensures refused { IfErr result (λ reason. reason ≡ Output) }
     ensures kept { OnOk result ((rows : List Row) → number ≡ next_number (end_of core.now) rows
         → IsEndWritten F.begins F.written F.has_failed files.old files.new keep rows core.now) }
     ensures unwanted { keep ≡ false → files.new ≡ files.old }
     ensures unbroken { OnOk result (F.has_failed files.new ≡ false) }
+    ensures finished { OnOk result (F.is_finished files.new ≡ true) }
 {
     let Some(number) = number else {
         return Ok(());

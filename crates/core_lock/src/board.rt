@@ -1,9 +1,9 @@
 //! A board of words, by which the threads of a run see how far the others are: a count for each
 //! actor that there may be, and a word that says whether to stop and why.
 //!
-//! Each call is a few single atomic steps on the words, and returns whatever other threads do. None
-//! takes the handle `Wait`, so nothing here can wait for a lock: a board behind a mutex can't be
-//! had.
+//! Each call is a few single atomic steps on the words, and returns whatever other threads do. `rest`
+//! alone takes the handle `Wait`, and sleeps: no longer than it is told, and no longer than nobody asks
+//! to stop. The others can't wait for a lock: a board behind a mutex can't be had.
 //!
 //! Read in this order: `reason` (why a run stops), `knowledge` (what a seat knows of the words, the
 //! rule that the words keep, and what each step tells), `seat` (who may write which word), `view`

@@ -12,7 +12,7 @@ use smt_core::{Config, Finished, Status};
 use std::alloc::Global;
 use std::sync::Wait;
 use std::thread::Threads;
-use test_cores::{Miscount, first_miscount};
+use test_support::{Miscount, first_miscount};
 
 /// More turns than any run here takes.
 const MANY_TURNS: u64 = 1_000_000_000;

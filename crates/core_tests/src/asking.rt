@@ -5,7 +5,7 @@ use event_text::{THIRD_RANGES, read_event_within};
 use events::Event;
 use smt_core::{Answer, CompleteAnswer, Config, Core, Done, IssueAnswer, Predict, Role, work};
 use std::alloc::Global;
-use test_files::{file_of, image_of};
+use test_support::{file_of, image_of};
 
 /// Sizes with so many actors, each a unit for arithmetic.
 pub fn config(harts: u8, extra: u16, queue: u8, actors: usize) -> Config {

@@ -8,7 +8,7 @@ use condensed_machine::{CondensedMachine, State};
 use searches::{Machine, Step};
 use smt_model::Status;
 use std::alloc::Global;
-use test_files::{file_of, image_of};
+use test_support::{file_of, image_of};
 
 /// `lui x5,0x80001`, `lw x7,0(x5)`, `addi x7,x7,1`, `sw x7,0(x5)`, `addi x10,x7,0`, `addi x17,x0,93`, `ecall`:
 /// a hart adds one to a word, and ends with what it has written.

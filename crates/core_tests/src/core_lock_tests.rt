@@ -1,7 +1,8 @@
-//! One core behind a lock, asked by two threads, and one that is asked without a lock; and in
-//! `posting` the board.
+//! One core behind a lock, asked by two threads, and one that is asked without a lock; in `posting` the
+//! board, and in `resting` how threads rest there.
 
 mod posting;
+mod resting;
 
 ghost use Rattle.std.specs.Prelude.{◌≡◌};
 ghost use Rattle.numbers.specs.Sizes.{most_actors};
@@ -20,7 +21,7 @@ use std::sync::Wait;
 use std::sync::ledger::Blank;
 use std::thread;
 use std::thread::Threads;
-use test_cores::{Behind, Miscount, first_miscount};
+use test_support::{Behind, Miscount, first_miscount};
 
 /// A reader that stores whether the pass has its actor's count and last event in the history.
 #[derive(Drop)]

@@ -6,8 +6,7 @@ use elf_image::Image;
 use events::Next;
 use smt_core::{Config, Core, Status};
 use std::alloc::Global;
-use test_cores::Behind;
-use test_files::{EXIT_WITH_5, image_of};
+use test_support::{Behind, EXIT_WITH_5, image_of};
 
 /// Its image, with 65536 bytes of RAM.
 pub fn first_image(alloc: Global) -> Option<Image> {

@@ -4,7 +4,7 @@ use crate::rows::holds;
 use decoded_code::Code;
 use live_registers::LiveTable;
 use std::alloc::Global;
-use test_files::{file_of, image_of};
+use test_support::{file_of, image_of};
 
 /// `addi x10,x0,5`, `addi x17,x0,93`, `ecall`.
 static EXIT: [u32; 3] = [0x0050_0513, 0x05d0_0893, 0x0000_0073];

@@ -6,7 +6,7 @@ use event_text::print_record;
 use plain_run::{OrderStopped, PlainRun, run_order};
 use sc_machine::Stopped;
 use std::alloc::Global;
-use test_files::{file_of, image_of};
+use test_support::{file_of, image_of};
 
 /// `lui x6,0x80001`, `lr.w x5,(x6)`, `sc.w x7,x10,(x6)`, `ebreak`.
 static CONDITIONAL: [u32; 4] = [0x8000_1337, 0x1003_22af, 0x18a3_23af, 0x0010_0073];

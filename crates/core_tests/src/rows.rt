@@ -2,7 +2,7 @@
 //! a message of its own costs more to prove than a call of one of these.
 
 use std::process::Abort;
-use test_cores::Miscount;
+use test_support::Miscount;
 
 /// Asserts what was found of a row, and names the row where it fails.
 pub fn holds(rt: &impl Abort, row: &str, is: bool) {

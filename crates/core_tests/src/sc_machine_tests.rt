@@ -6,7 +6,7 @@ use shared_memory::{AccessKind, Memory};
 use smt_core::Status;
 use std::alloc::Global;
 use std::test::Fail;
-use test_files::{EXIT_WITH_5, PATCHED, file_of, image_of, writable_file_of};
+use test_support::{EXIT_WITH_5, PATCHED, file_of, image_of, writable_file_of};
 
 /// The machine of a program's file, with 8192 bytes of RAM.
 fn machine_of(alloc: Global, file: &[u8], harts: u8, room: usize) -> Option<Plain> {

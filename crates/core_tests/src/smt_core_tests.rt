@@ -14,7 +14,7 @@ use events::{Event, Next, Outcome};
 use smt_core::{Answer, CompleteAnswer, Core, CoreRefused, Done, IssueAnswer};
 use std::alloc::Global;
 use std::process::Abort;
-use test_cores::{Always, Behind};
+use test_support::{Always, Behind};
 
 fn is_idle(answer: IssueAnswer) -> bool {
     match answer {

@@ -119,19 +119,18 @@ fn bytes_of(op: LoadOp) -> u8
     }
 }
 
-/// The last of the first `before` events that wrote one of these bytes.
+/// The last of the first `before` events that wrote one of these bytes. It is sought from the newest event
+/// back: what was written over what an instruction in flight has seen is no older than that instruction.
 fn writer_of(addr: u32, size: u8, made: &History, before: usize) -> Option<Writer> {
-    let mut writer = None;
-    for place in 0..before {
+    for place in (0..before).rev() {
         if let Some(seq) = writes_at(made.get(place), addr, size) {
-            writer = Some(seq);
+            return Some(Writer {
+                seq,
+                hart: hart_of(seq, made, place)?,
+            });
         }
     }
-    let seq = writer?;
-    Some(Writer {
-        seq,
-        hart: hart_of(seq, made)?,
-    })
+    None
 }
 
 /// The instruction of a retirement that wrote one of these bytes.
@@ -150,9 +149,9 @@ fn overlaps(write: Option<Written>, addr: u32, size: u8) -> bool {
         && u64::from(addr) < u64::from(write.addr) + u64::from(write.n)
 }
 
-/// The hart of an instruction: that of its fetch.
-fn hart_of(number: Seq, made: &History) -> Option<u8> {
-    for place in 0..made.len() {
+/// The hart of an instruction that was retired behind so many events: that of its fetch.
+fn hart_of(number: Seq, made: &History, before: usize) -> Option<u8> {
+    for place in (0..before).rev() {
         if let Some(hart) = fetches(made.get(place), number) {
             return Some(hart);
         }

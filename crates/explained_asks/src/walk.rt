@@ -1,5 +1,7 @@
 //! A core that is led through the history of another.
 
+ghost use Rattle.std.specs.Prelude.{◌<◌, IfSome};
+
 use crate::squash::{Cause, cause_of};
 use events::{Event, History};
 use numbers::Seq;
@@ -18,7 +20,7 @@ pub(crate) struct Walk<'a> {
     made: &'a History,
 }
 
-/// How many instructions of which hart an event squashes, and why.
+/// How many instructions of which hart an event squashes, at least one, and why.
 #[derive(Clone, Copy, PartialEq, Eq, Drop)]
 pub(crate) struct Squash {
     pub(crate) count: usize,
@@ -44,17 +46,19 @@ impl<'a> Walk<'a> {
         }
     }
 
-    /// Follows the next event, if there is one, and tells what it squashes.
-    pub(crate) fn follow(&mut self) -> Option<Squash> {
+    /// Follows the next event, if there is one, and tells what it squashes, if it does.
+    pub(crate) fn follow(&mut self) -> Option<Squash>
+        ensures { IfSome result (λ squash. 0 < squash.count) }
+    {
         let event = self.made.get(self.followed())?;
         let squash = self.squash_of(&event);
         self.core.follow(&event);
         let (hart, cause, before) = squash?;
-        Some(Squash {
-            count: before.saturating_sub(self.live(hart)),
-            hart,
-            cause,
-        })
+        let count = before.saturating_sub(self.live(hart));
+        if count == 0 {
+            return None;
+        }
+        Some(Squash { count, hart, cause })
     }
 
     /// How many events it has followed.
@@ -62,7 +66,7 @@ impl<'a> Walk<'a> {
         self.core.history().len()
     }
 
-    /// The hart of which an event squashes, why, and how many of its instructions there are beside
+    /// The hart of which an event squashes what there is, why, and how many of its instructions there are beside
     /// the one that retires.
     fn squash_of(&self, event: &Event) -> Option<(u8, Cause, usize)> {
         let (hart, active) = self.in_flight(event.seq())?;

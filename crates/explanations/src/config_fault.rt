@@ -7,6 +7,7 @@ use crate::lines::no_memory;
 use crate::near::{nearest, write_names};
 use crate::place::{Place, place_of_key, place_of_quoted};
 use numbers::sizes::MOST_ACTORS;
+use shown_text::write_shown;
 use sim_inputs::{ActorsFault, ConfigFault, KNOWN_KEYS, NumberKey, ROLE_NAMES};
 use std::alloc::Global;
 use std::io;
@@ -34,7 +35,8 @@ pub(crate) fn write_config_fault<W: Write>(
 
 fn write_no_document<W: Write>(place: Place, message: &str, out: &mut W) -> io::Result<()> {
     place.write(out)?;
-    writeln!(out, "{message}")?;
+    write_shown(message.as_bytes(), out)?;
+    out.write_all(b"\n")?;
     out.write_all(
         b"expected: a TOML document in UTF-8, with a line such as `harts = 1` for a key\n\
         usually: a text without its quotation marks, a list without its last bracket, or a key twice\n",
@@ -94,7 +96,9 @@ fn write_no_role<W: Write>(name: &str, text: &[u8], out: &mut W, alloc: Global) 
     if let Some(place) = place_of_quoted(text, name) {
         place.write(out)?;
     }
-    writeln!(out, "role `{name}`")?;
+    out.write_all(b"role ")?;
+    write_name(name, out)?;
+    out.write_all(b"\n")?;
     write_meant(name, &ROLE_NAMES, out, alloc)
 }
 
@@ -108,7 +112,9 @@ fn write_key_place<W: Write>(key: &str, text: &[u8], out: &mut W) -> io::Result<
     if let Some(place) = place_of_key(text, key) {
         place.write(out)?;
     }
-    writeln!(out, "key `{key}`")
+    out.write_all(b"key ")?;
+    write_name(key, out)?;
+    out.write_all(b"\n")
 }
 
 /// Writes which name was meant by another one, where one is near.
@@ -119,8 +125,18 @@ fn write_meant<W: Write>(
     alloc: Global,
 ) -> io::Result<()> {
     match nearest(other, names, alloc) {
-        Ok(Some(name)) => writeln!(out, "`{other}`: did you mean `{name}`?"),
+        Ok(Some(name)) => {
+            write_name(other, out)?;
+            writeln!(out, ": did you mean `{name}`?")
+        }
         Ok(None) => Ok(()),
         Err(_) => Err(no_memory()),
     }
+}
+
+/// Writes a name of the text in the marks of a name, without what a terminal would follow.
+fn write_name<W: Write>(name: &str, out: &mut W) -> io::Result<()> {
+    out.write_all(b"`")?;
+    write_shown(name.as_bytes(), out)?;
+    out.write_all(b"`")
 }

@@ -1,5 +1,6 @@
 -- The line of a final state. [herd's own form: Alglave, Maranget and Tautschnig 2014, "Herding Cats"]
-use Rattle.std.specs.Prelude.{ℕ, ◌==◌, if◌then◌else◌, List, [], ◌∷◌, ◌++◌, codes}
+use Rattle.std.specs.Prelude.{ℕ, ◌==◌, Bool, true, false, not, if◌then◌else◌, List, [], ◌∷◌, ◌++◌, codes, length}
+use Rattle.std.specs.Prelude.{Option, Some, None, position}
 use Rattle.std.specs.{Fmt.decimal}
 use Rattle.smt_model.specs.{declared.config.Status.Status, declared.config.Status.TheVariants.Going}
 use Rattle.smt_model.specs.{declared.config.Status.TheVariants.Ended}
@@ -23,19 +24,34 @@ abbrev pub part_text : LitmusTest → Ending → ℕ → Observed → List ℕ
 part_text test ending index observed = equation_text test index observed (final_state test ending observed)
 
 -- A hart that stopped otherwise than at its EBREAK, whose cause is 3.
-abbrev pub stopped_text : ℕ → List ℕ → ℕ → List ℕ
-stopped_text hart how number =
-    codes " P" ++ (decimal hart ++ (how ++ (decimal number ++ codes ";")))
+abbrev pub is_told : Status → Bool
+is_told Going = false
+is_told (Ended number) = true
+is_told (Stopped cause) = not (cause == 3)
 
-abbrev pub stop_text : ℕ → Status → List ℕ
-stop_text hart Going = []
-stop_text hart (Ended number) = stopped_text hart (codes " ended ") number
-stop_text hart (Stopped cause) = if cause == 3 then [] else stopped_text hart (codes " stopped ") cause
+-- The hart with which the line begins: where nothing is looked at, the first that is told of.
+abbrev pub first_told : LitmusTest → List Status → Option ℕ
+first_told test statuses = if length test.observed.items == 0 then position is_told statuses else None
+
+-- One space stands between it and what is before it.
+abbrev pub space_before : Option ℕ → ℕ → List ℕ
+space_before None hart = codes " "
+space_before (Some first) hart = if first == hart then [] else codes " "
+
+abbrev pub stopped_text : Option ℕ → ℕ → List ℕ → ℕ → List ℕ
+stopped_text first hart how number =
+    space_before first hart ++ (codes "P" ++ (decimal hart ++ (how ++ (decimal number ++ codes ";"))))
+
+abbrev pub stop_text : Option ℕ → ℕ → Status → List ℕ
+stop_text first hart Going = []
+stop_text first hart (Ended number) = stopped_text first hart (codes " ended ") number
+stop_text first hart (Stopped cause) =
+    if cause == 3 then [] else stopped_text first hart (codes " stopped ") cause
 
 -- The whole line.
 unfoldable pub state_line : LitmusTest → Ending → List ℕ
 state_line test ending = each_from (part_text test ending) 0 test.observed.items
-    ++ (each_from stop_text 0 ending.statuses ++ 10 ∷ [])
+    ++ (each_from (stop_text (first_told test ending.statuses)) 0 ending.statuses ++ 10 ∷ [])
 
 abbrev pub told_line : LitmusTest → ℕ → Told → List ℕ
 told_line test index told = state_line test told.ending

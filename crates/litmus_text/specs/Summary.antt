@@ -2,6 +2,7 @@
 -- Cats"]
 use Rattle.std.specs.Prelude.{ℕ, ◌-◌, ◌==◌, Bool, true, false, if◌then◌else◌, List, ◌++◌, codes}
 use Rattle.std.specs.{Fmt.decimal}
+use Rattle.shown_text.specs.Shown.{shown}
 use Rattle.litmus_tests.specs.declared.test.LitmusTest.{LitmusTest}
 use Rattle.litmus_tests.specs.declared.condition.Quantifier.{Quantifier}
 use Rattle.litmus_tests.specs.declared.condition.Quantifier.TheVariants.{Exists, NotExists, ForAll}
@@ -15,7 +16,7 @@ head_of ForAll = codes " Required\nStates "
 
 unfoldable pub head_text : LitmusTest → ℕ → List ℕ
 head_text test count =
-    codes "Test " ++ (test.name.items ++ (head_of test.quantifier ++ (decimal count ++ codes "\n")))
+    codes "Test " ++ (shown test.name.items ++ (head_of test.quantifier ++ (decimal count ++ codes "\n")))
 
 -- Whether they are as the test asks, and what stands before how many speak for it.
 abbrev pub verdict_of : Bool → List ℕ
@@ -58,7 +59,7 @@ numbers_text held count = decimal held ++ (codes " " ++ (decimal (count - held) 
 
 unfoldable pub observation_text : LitmusTest → ℕ → ℕ → List ℕ
 observation_text test held count =
-    test.name.items ++ (observation_of held count ++ numbers_text held count)
+    shown test.name.items ++ (observation_of held count ++ numbers_text held count)
 
 unfoldable pub summary_text : LitmusTest → Bool → ℕ → ℕ → List ℕ
 summary_text test asked held count = verdict_of asked

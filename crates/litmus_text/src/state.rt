@@ -1,10 +1,11 @@
 //! The line of a final state.
 
-ghost use Rattle.std.specs.Prelude.{◌≡◌, ◌<◌, ◌≤◌, OnOk, Some, length, slice_get};
+ghost use Rattle.std.specs.Prelude.{◌≡◌, ◌<◌, ◌≤◌, OnOk, Some, length, slice_get, position};
 ghost use Rattle.std.specs.Io.KnownBytes.{Appends};
 ghost use Rattle.litmus_tests.specs.declared.condition.Observed.{Observed as AnyObserved};
 ghost use Rattle.litmus_text.specs.Each.{each_from};
 ghost use Rattle.litmus_text.specs.State.{state_line, part_text, equation_text, space_of, stop_text, stopped_text};
+ghost use Rattle.litmus_text.specs.State.{is_told, first_told, space_before};
 
 use crate::value::{write_number, write_observed};
 use arrayvec::ArrayString;
@@ -17,7 +18,7 @@ use std::io::Write;
 use text_fields::push_decimal;
 
 /// Writes the line of a state: what is looked at, in the test's order, and each hart that stopped otherwise
-/// than at its EBREAK.
+/// than at its EBREAK; one space between two.
 #[tactic(auto, unfolding(crate::specs::State::state_line))]
 pub(crate) fn write_state<W: Write>(
     test: &LitmusTest,
@@ -28,8 +29,17 @@ pub(crate) fn write_state<W: Write>(
         (state_line test.now outcome.now)) }
 {
     write_parts(test, outcome, out)?;
-    write_stops(outcome.statuses.as_slice(), out)?;
+    write_told(test, outcome, out)?;
     out.write_all(b"\n")
+}
+
+/// Writes each hart that is told of.
+fn write_told<W: Write>(test: &LitmusTest, outcome: &Outcome, out: &mut W) -> io::Result<()>
+    ensures { OnOk result (Appends (W.contents out.old) (W.contents out.new)
+        (each_from (stop_text (first_told test.now outcome.now.statuses)) 0 outcome.now.statuses)) }
+{
+    let first = first_told(test, outcome.statuses.as_slice());
+    write_stops(first, outcome.statuses.as_slice(), out)
 }
 
 fn write_parts<W: Write>(test: &LitmusTest, outcome: &Outcome, out: &mut W) -> io::Result<()>
@@ -89,30 +99,76 @@ fn space_of(index: usize) -> &'static str
     if index == 0 { "" } else { " " }
 }
 
-fn write_stops<W: Write>(statuses: &[Status], out: &mut W) -> io::Result<()>
+fn write_stops<W: Write>(first: Option<usize>, statuses: &[Status], out: &mut W) -> io::Result<()>
     ensures { OnOk result (Appends (W.contents out.old) (W.contents out.new)
-        (each_from stop_text 0 statuses.now)) }
+        (each_from (stop_text first) 0 statuses.now)) }
 {
     for (index, status) in statuses.iter().enumerate() {
-        write_stop(index, *status, out)?;
+        write_stop(first, index, *status, out)?;
     }
     Ok(())
 }
 
-/// Writes how a hart stopped; nothing where it did so at its EBREAK.
-fn write_stop<W: Write>(hart: usize, status: Status, out: &mut W) -> io::Result<()>
+/// The hart with which the line begins; none where it begins with what is looked at.
+fn first_told(test: &LitmusTest, statuses: &[Status]) -> Option<usize>
+    ensures { result ≡ first_told test.now statuses.now }
+{
+    if observed_count(test) == 0 {
+        first_in(statuses)
+    } else {
+        None
+    }
+}
+
+fn first_in(statuses: &[Status]) -> Option<usize>
+    ensures { result ≡ position is_told statuses.now }
+{
+    statuses.iter().position(|status| is_told(*status))
+}
+
+/// Whether a hart stopped otherwise than at its EBREAK.
+fn is_told(status: Status) -> bool
+    ensures { result ≡ is_told status }
+{
+    match status {
+        Status::Going => false,
+        Status::Ended(_) => true,
+        Status::Stopped(cause) => cause != 3,
+    }
+}
+
+/// Writes how a hart stopped; nothing where it did so at its EBREAK. The line begins with `first`, where that is
+/// a hart.
+fn write_stop<W: Write>(
+    first: Option<usize>,
+    hart: usize,
+    status: Status,
+    out: &mut W,
+) -> io::Result<()>
     ensures { OnOk result (Appends (W.contents out.old) (W.contents out.new)
-        (stop_text hart status)) }
+        (stop_text first hart status)) }
 {
     match status {
         Status::Going => Ok(()),
-        Status::Ended(number) => write_stopped(hart, " ended ", number, out),
+        Status::Ended(number) => write_stopped(first, hart, " ended ", number, out),
         Status::Stopped(3) => Ok(()),
-        Status::Stopped(cause) => write_stopped(hart, " stopped ", u32::from(cause), out),
+        Status::Stopped(cause) => write_stopped(first, hart, " stopped ", u32::from(cause), out),
+    }
+}
+
+/// What stands between a hart and what is before it on the line.
+fn space_before(first: Option<usize>, hart: usize) -> &'static str
+    ensures spaced { result.now ≡ space_before first hart }
+    ensures short { length result.now ≤ 1 }
+{
+    match first {
+        None => " ",
+        Some(index) => { if index == hart { "" } else { " " } }
     }
 }
 
 fn write_stopped<W: Write>(
+    first: Option<usize>,
     hart: usize,
     how: &'static str,
     number: u32,
@@ -120,10 +176,11 @@ fn write_stopped<W: Write>(
 ) -> io::Result<()>
     requires { length how.now ≤ 9 }
     ensures { OnOk result (Appends (W.contents out.old) (W.contents out.new)
-        (stopped_text hart how.now number)) }
+        (stopped_text first hart how.now number)) }
 {
     let mut part = ArrayString::<64>::new();
-    part.push_str(" P");
+    part.push_str(space_before(first, hart));
+    part.push_str("P");
     push_decimal(&mut part, hart);
     part.push_str(how);
     push_decimal(&mut part, number);

@@ -12,6 +12,7 @@ ghost use Rattle.litmus_text.specs.Summary.{numbers_text, condition_end};
 use crate::condition::write_condition;
 use arrayvec::ArrayString;
 use litmus_tests::{LitmusTest, Quantifier};
+use shown_text::write_shown;
 use std::io;
 use std::io::Write;
 use text_fields::push_decimal;
@@ -32,7 +33,7 @@ pub(crate) fn write_head<W: Write>(test: &LitmusTest, count: usize, out: &mut W)
         (head_text test.now count)) }
 {
     out.write_all(b"Test ")?;
-    out.write_all(test.name.as_slice())?;
+    write_shown(test.name.as_slice(), out)?;
     out.write_all(head_of(test.quantifier).as_bytes())?;
     write_count(count, out)?;
     out.write_all(b"\n")
@@ -161,7 +162,7 @@ fn write_observation<W: Write>(
     ensures { OnOk result (Appends (W.contents out.old) (W.contents out.new)
         (observation_text test.now held count)) }
 {
-    out.write_all(test.name.as_slice())?;
+    write_shown(test.name.as_slice(), out)?;
     out.write_all(observation_of(held, count).as_bytes())?;
     write_numbers(held, count, out)
 }

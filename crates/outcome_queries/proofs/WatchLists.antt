@@ -1,14 +1,15 @@
 -- What is watched, a member of a list or a term at a time.
 use Rattle.std.proofs.Common.{◌≡◌, ℕ, zero, suc, ◌+◌, ◌≤◌, ◌<◌, List, [], ◌∷◌, ◌++◌, length, take, get_or, All, Contains}
 use Rattle.std.proofs.Common.{refl, sym, ap, subst, ◌∙◌, arith, append_assoc}
-use Rattle.std.proofs.Common.{append-nil}
-use Rattle.std.proofs.lemmas.List.{take_more, take_all}
+use Rattle.std.proofs.Common.{append-nil, inl, inr}
+use Rattle.std.proofs.lemmas.List.{take_more, take_all, flat_map_more}
 use Rattle.std.proofs.lemmas.List.Elements.{All-more, All-weaker, Contains-append_left}
 use Rattle.outcomes.specs.declared.watch.WatchedRegister.{WatchedRegister}
 use Rattle.outcome_queries.specs.{declared.term.Term.Term, declared.watched.Watched.Watched}
 use Rattle.outcome_queries.specs.declared.term.Term.TheVariants as terms
 use Rattle.outcome_queries.specs.declared.watched.Watched.TheVariants as watched
-use Rattle.outcome_queries.specs.Watches.{registers_in, words_in, Extends, IsWatchedFor}
+use Rattle.outcome_queries.specs.Watches.{registers_in, words_in, watched_of, watched_in}
+use Rattle.outcome_queries.specs.Watches.{Extends, IsOnceBehind, IsWatchedFor}
 
 pub registers_more : (xs ys : List Watched) → registers_in (xs ++ ys) ≡ registers_in xs ++ registers_in ys
 registers_more [] ys = refl
@@ -85,9 +86,45 @@ still_watched old new (terms.Stopped h c) more is = tt
 still_watched old new (terms.Holds w v) more is =
     subst (λ (t : List Watched). Contains t w) (sym more.1) (Contains-append_left old more.0 w is)
 
-pub extends_more : (a b c : List Watched) → Extends a b → Extends b c → Extends a c
-extends_more a b c first next =
-    (first.0 ++ next.0, next.1 ∙ ap (λ (t : List Watched). t ++ next.0) first.1 ∙ append_assoc a first.0 next.0)
+-- each once, of two lists in turn
+pub once_more : (a b c xs ys : List Watched) → IsOnceBehind a xs b → IsOnceBehind b ys c
+    → IsOnceBehind a (xs ++ ys) c
+once_more a b c [] ys same next = subst (λ (t : List Watched). IsOnceBehind t ys c) (sym same) next
+once_more a b c (x ∷ xs) ys (inl there) next = inl (there.0, once_more a b c xs ys there.1 next)
+once_more a b c (x ∷ xs) ys (inr new) next = inr (new.0, once_more (a ++ x ∷ []) b c xs ys new.1 next)
+
+-- a turn over the list, and one over the terms
+pub list_turn : (list old new : List Watched) (i : ℕ) (d : Watched) → i < length list
+    → IsOnceBehind [] (take i list) old → IsOnceBehind old (get_or list i d ∷ []) new
+    → IsOnceBehind [] (take (i + 1) list) new
+list_turn list old new i d inside once next =
+    subst (λ (t : List Watched). IsOnceBehind [] t new) (sym (take_more list i d inside))
+    (once_more [] old new (take i list) (get_or list i d ∷ []) once next)
+
+pub watched_more : (terms : List Term) (i : ℕ) (d : Term) → i < length terms
+    → watched_in (take (i + 1) terms) ≡ watched_in (take i terms) ++ watched_of (get_or terms i d)
+watched_more terms i d inside =
+    ap watched_in (take_more terms i d inside) ∙ sym (flat_map_more watched_of [] (take i terms) (get_or terms i d))
+
+pub terms_turn : (list old new : List Watched) (terms : List Term) (i : ℕ) (d : Term) → i < length terms
+    → IsOnceBehind [] (list ++ watched_in (take i terms)) old → IsOnceBehind old (watched_of (get_or terms i d)) new
+    → IsOnceBehind [] (list ++ watched_in (take (i + 1) terms)) new
+terms_turn list old new terms i d inside once next =
+    subst (λ (t : List Watched). IsOnceBehind [] t new)
+    (append_assoc list (watched_in (take i terms)) (watched_of (get_or terms i d))
+    ∙ ap (λ (t : List Watched). list ++ t) (sym (watched_more terms i d inside)))
+    (once_more [] old new (list ++ watched_in (take i terms)) (watched_of (get_or terms i d)) once next)
+
+pub all_once : (list all : List Watched) (terms : List Term) (i : ℕ) → length terms ≤ i
+    → IsOnceBehind [] (list ++ watched_in (take i terms)) all → IsOnceBehind [] (list ++ watched_in terms) all
+all_once list all terms i past once =
+    subst (λ (t : List Term). IsOnceBehind [] (list ++ watched_in t) all) (take_all i terms past) once
+
+-- before the first term
+pub none_yet : (list all : List Watched) (i : ℕ) → length list ≤ i → IsOnceBehind [] (take i list) all
+    → IsOnceBehind [] (list ++ []) all
+none_yet list all i past once = subst (λ (t : List Watched). IsOnceBehind [] t all)
+    (take_all i list past ∙ sym (append-nil list)) once
 
 pub terms_step : (list all new : List Watched) (terms : List Term) (i : ℕ) (d : Term) → i < length terms
     → All (IsWatchedFor all) (take i terms) → Extends all new → IsWatchedFor new (get_or terms i d)

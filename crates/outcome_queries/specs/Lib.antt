@@ -1,3 +1,4 @@
+pub mod Harts
 pub mod Holding
 pub mod Lists
 pub mod Names

@@ -1,5 +1,5 @@
 -- What is watched for a list and a condition.
-use Rattle.std.specs.Prelude.{◌≡◌, ℕ, List, [], ◌∷◌, ◌++◌, Contains}
+use Rattle.std.specs.Prelude.{◌≡◌, ◌⊎◌, ℕ, List, [], ◌∷◌, ◌++◌, Contains, flat_map}
 use Rattle.outcomes.specs.declared.watch.WatchedRegister.{WatchedRegister}
 use Rattle.outcome_queries.specs.{declared.term.Term.Term, declared.watched.Watched.Watched}
 use Rattle.outcome_queries.specs.declared.term.Term.TheVariants as terms
@@ -16,6 +16,22 @@ abbrev pub words_in : List Watched → List ℕ
 words_in [] = []
 words_in (watched.Register hart register ∷ others) = words_in others
 words_in (watched.Word address ∷ others) = address ∷ words_in others
+
+-- What a term asks for, if anything; and all that a condition asks for, in its order.
+abbrev pub watched_of : Term → List Watched
+watched_of (terms.Holds watched value) = watched ∷ []
+watched_of (terms.Ended hart number) = []
+watched_of (terms.Stopped hart cause) = []
+
+abbrev pub watched_in : List Term → List Watched
+watched_in terms = flat_map watched_of terms
+
+-- Each of these is put behind a list, in their order, but what is in it by then: so nothing is in it twice.
+abbrev pub IsOnceBehind : List Watched → List Watched → List Watched → Type 0
+IsOnceBehind before [] all = before ≡ all
+IsOnceBehind before (one ∷ others) all =
+    (Contains before one × IsOnceBehind before others all)
+    ⊎ ((Contains before one → ⊥) × IsOnceBehind (before ++ one ∷ []) others all)
 
 -- A list with others behind it.
 abbrev pub Extends : List Watched → List Watched → Type 0

@@ -3,11 +3,12 @@
 //!
 //! Read in this order: `names` (the names of registers), `watched` (a register at a hart, or a word),
 //! `refused` (why a text is refused), `list` (a list of what is watched), `term` (a term of a condition,
-//! with its `value`), `condition` (how one is read), `watching` (what is watched for both), `holding`
-//! (whether a condition holds of an outcome).
+//! with its `value`), `condition` (how one is read), `watching` (what is watched for both), `harts` (the
+//! harts that a condition names), `holding` (whether a condition holds of an outcome).
 #![tactic(auto)]
 
 mod condition;
+mod harts;
 mod holding;
 mod list;
 mod names;
@@ -18,6 +19,7 @@ mod watched;
 mod watching;
 
 pub use condition::{Condition, read_condition};
+pub use harts::absent_hart;
 pub use holding::holds;
 pub use list::{WatchList, read_watch_list};
 pub use names::{push_abi_name, register_named};

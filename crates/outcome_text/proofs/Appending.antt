@@ -2,7 +2,7 @@
 use Rattle.std.proofs.Common.{◌≡◌, ℕ, zero, suc, ◌+◌, ◌<◌, List, [], ◌∷◌, ◌++◌, length, take, get_or, Some, Option, sym, ap}
 use Rattle.std.proofs.Common.{subst, ◌∙◌, append_assoc, append-nil, arith, slice_get, slice_index}
 use Rattle.std.specs.Io.KnownBytes.{Appends}
-use Rattle.reports.proofs.Appending.{appends_more}
+use Rattle.report_lines.proofs.Appending.{appends_more}
 use Rattle.std.proofs.Common.{Bool, true, false, ◌||◌, refl}
 use Rattle.std.specs.List.{list_any}
 use Rattle.std.proofs.lemmas.List.Folds.{list_any_at, list_any_more}

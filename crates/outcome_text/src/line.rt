@@ -11,7 +11,7 @@ ghost use Rattle.outcome_text.specs.Line.{word_lead, output_lead, output_text, o
 use arrayvec::ArrayString;
 use outcome_queries::push_abi_name;
 use outcomes::{Outcome, Watch, WatchedRegister};
-use reports::write_bytes;
+use report_lines::write_bytes;
 use smt_model::Status;
 use std::io;
 use std::io::Write;

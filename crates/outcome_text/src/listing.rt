@@ -9,7 +9,7 @@ ghost use Rattle.outcome_text.specs.Listing.{told_line, ends_text, outcomes_text
 use crate::line::write_line;
 use arrayvec::ArrayString;
 use outcomes::{Outcomes, Watch};
-use reports::report_count;
+use report_lines::report_count;
 use std::io;
 use std::io::Write;
 use text_fields::push_decimal;

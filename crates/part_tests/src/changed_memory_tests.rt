@@ -13,7 +13,7 @@ use shared_memory::{AccessKind, Memory, fault};
 use std::alloc::{AllocError, Global};
 use std::process::Abort;
 use std::test::Fail;
-use test_files::{EXIT_WITH_5, image_of};
+use test_support::{EXIT_WITH_5, image_of};
 
 // Each has its address in x6, and what it writes in x7.
 const LBU: u32 = 0x0003_4283;

@@ -6,7 +6,7 @@ use rv_instr::{Instr, Op};
 use shared_memory::{AccessKind, Memory};
 use std::alloc::Global;
 use std::test::Fail;
-use test_files::{PATCHED, image_of, writable_file_of};
+use test_support::{PATCHED, image_of, writable_file_of};
 
 /// The code of three words, `addi x10,x0,5`, `addi x17,x0,93` and `ecall`, that may be written, and
 /// its memory.

@@ -9,7 +9,7 @@ use elf_image::Image;
 use std::alloc::Global;
 use std::process::Abort;
 use std::test::Fail;
-use test_files::{EXIT_WITH_5, image_of};
+use test_support::{EXIT_WITH_5, image_of};
 
 /// Compares the words and the bytes at some addresses.
 fn has(rt: &impl Abort, image: &Image, words: &[(u32, Option<u32>)], bytes: &[(u32, Option<u8>)]) {

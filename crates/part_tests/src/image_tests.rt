@@ -4,7 +4,7 @@ use crate::placing::{Placed, image_of_segments};
 use crate::rows::holds_at;
 use elf_image::RamSize;
 use std::alloc::Global;
-use test_files::{EXIT_WITH_5, image_of};
+use test_support::{EXIT_WITH_5, image_of};
 
 /// The bytes of a size of RAM, if there is one of so many.
 fn ram_of(bytes: u32) -> Option<u32> {

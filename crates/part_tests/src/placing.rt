@@ -2,7 +2,7 @@
 
 use elf_image::Image;
 use std::alloc::{AllocError, Global};
-use test_files::{image_of, push_words};
+use test_support::{image_of, push_words};
 
 /// What a segment's program header says: offset, address, file size, memory size, flags.
 pub type Placed = (u32, u32, u32, u32, u32);

@@ -8,7 +8,7 @@ mod memory;
 
 use shared_memory::{AccessKind, Memory};
 use std::alloc::Global;
-use test_files::{EXIT_WITH_5, PATCHED, image_of, writable_file_of};
+use test_support::{EXIT_WITH_5, PATCHED, image_of, writable_file_of};
 
 /// The memory of the program of three words at 80000000, with 8192 bytes of RAM.
 pub fn first_memory(alloc: Global) -> Option<Memory> {

@@ -4,7 +4,7 @@ use crate::placing::file_of_segments;
 use elf_image::write;
 use std::alloc::Global;
 use std::test::Fail;
-use test_files::{EXIT_WITH_5, image_of};
+use test_support::{EXIT_WITH_5, image_of};
 
 /// Whether these bytes, from a place on, are written of a file's image, and what is written is
 /// loaded as the same image.

@@ -8,7 +8,7 @@ use Rattle.sim_inputs.specs.declared.line.Command.{Command}
 use Rattle.sim_inputs.specs.declared.line.Command.TheVariants as commands
 use Rattle.sim_inputs.specs.declared.line.StepCommand.{StepCommand}
 use Rattle.sim_inputs.specs.Files.{files_of, is_standard_input}
-use Rattle.reports.specs.Statuses.{says_harts}
+use Rattle.report_lines.specs.Statuses.{says_harts}
 use Rattle.commands.specs.declared.refused.Refused.{Refused}
 use Rattle.commands.specs.{Inputs.Read, Refused.exit_status_of, Perform.IsRefusal}
 use Rattle.program.specs.Performed.{typed_step, IsReadAs, HasPerformed}

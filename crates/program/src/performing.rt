@@ -4,13 +4,14 @@ ghost use Rattle.std.specs.IoError.{error_kind};
 ghost use Rattle.std.specs.Vec.Iter.{into_iter_items};
 ghost use Rattle.sim_inputs.specs.CommandLine.{AreWordsRefusedFor};
 ghost use Rattle.commands.specs.Inputs.{as_read};
-ghost use Rattle.reports.specs.Statuses.{says_harts};
+ghost use Rattle.report_lines.specs.Statuses.{says_harts};
 ghost use Rattle.program.specs.Performed.{read_of, IsReadAs, HasPerformed, HavePerformed, HaveEnded};
 ghost use Rattle.program.specs.Performed.{typed_step};
 ghost use Rattle.program.specs.Words.{words_refused, IsWordsStatus};
 
 use crate::files::read_file;
-use crate::trace_file::{Places, TraceFile, file_to_write};
+use crate::output_files::{OutputFiles, Places};
+use crate::read_files::ReadFiles;
 use crate::words::{refuse_words, take_words, texts};
 use actors::Gate;
 use commands::{Inputs, Refused, Unread, perform, perform_typed, refuse};
@@ -147,22 +148,25 @@ impl<S: Files + Input + Threads + Wait + Sync, G: Gate + Sync, P: Predict + Copy
         let files = line.files();
         let read = ReadInputs::of(self.system, &files, self.alloc);
         let places = Places {
-            file: file_to_write(&files),
+            file: files.trace,
             folder: folder_of(line),
+            read: ReadFiles::of(&files),
         };
-        let mut trace = TraceFile::new(self.system, places, self.alloc);
-        perform(
+        let mut written = OutputFiles::new(self.system, places);
+        let status = perform(
             self.system,
             line,
             &read.lent(),
             self.gate,
             self.predict,
-            &mut trace,
+            &mut written,
             out,
             err,
             self.on_terminal,
             self.alloc,
-        )
+        );
+        written.discard();
+        status
     }
 
     /// Reads the files that a line of `step` names but its script, which is typed, and performs it.
@@ -181,23 +185,26 @@ impl<S: Files + Input + Threads + Wait + Sync, G: Gate + Sync, P: Predict + Copy
         files.second = None;
         let read = ReadInputs::of(self.system, &files, self.alloc);
         let places = Places {
-            file: file_to_write(&files),
+            file: files.trace,
             folder: None,
+            read: ReadFiles::of(&files),
         };
-        let mut trace = TraceFile::new(self.system, places, self.alloc);
+        let mut written = OutputFiles::new(self.system, places);
         let mut reader = self.system.reader();
-        perform_typed(
+        let status = perform_typed(
             line,
             step,
             &read.lent(),
             self.predict,
             &mut reader,
-            &mut trace,
+            &mut written,
             out,
             err,
             self.on_terminal,
             self.alloc,
-        )
+        );
+        written.discard();
+        status
     }
 }
 

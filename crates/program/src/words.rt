@@ -3,7 +3,7 @@ ghost use Rattle.std.specs.Vec.Iter.{into_iter_items};
 ghost use Rattle.std.specs.Io.KnownBytes.{Appends};
 ghost use Rattle.std.specs.IoError.{error_kind};
 ghost use Rattle.sim_inputs.specs.declared.line.WordsRefused.TheVariants.{Memory};
-ghost use Rattle.reports.specs.Statuses.{says_harts};
+ghost use Rattle.report_lines.specs.Statuses.{says_harts};
 ghost use Rattle.program.specs.Words.{words_refused, IsWordsStatus};
 
 use commands::{Refused, refuse};

@@ -10,7 +10,7 @@ use sim_inputs::read_config;
 use smt_core::{Core, Finished};
 use std::alloc::Global;
 use std::process::Abort;
-use test_files::EXIT_WITH_5;
+use test_support::EXIT_WITH_5;
 
 /// One hart and two actors, each an arithmetic unit.
 const ONE_HART: &[u8] = b"actors = [\"alu\", \"alu\"]\n";

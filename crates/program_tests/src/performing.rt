@@ -1,6 +1,6 @@
 //! Lines of the program, performed on files that are handed in.
 
-ghost use Rattle.std.specs.Prelude.{◌≡◌, false};
+ghost use Rattle.std.specs.Prelude.{◌≡◌, false, true};
 
 use actors::{Open, StaticPredictor};
 use commands::{Inputs, Unread, perform};
@@ -30,7 +30,8 @@ pub fn perform_into<P: Predict + Copy + Send, S: EndFiles, W: Write, R: Threads 
     out: &mut W,
     alloc: Global,
 ) -> Ending
-    requires { S.has_failed trace.old ≡ false }
+    requires works { S.has_failed trace.old ≡ false }
+    requires finished { S.is_finished trace.old ≡ true }
 {
     let mut err = Vec::new(alloc);
     let status = perform(

@@ -8,7 +8,7 @@ use sim_inputs::read_config;
 use std::alloc::Global;
 use std::io::Write;
 use std::process::Abort;
-use test_files::{EXIT_WITH_5, image_of};
+use test_support::{EXIT_WITH_5, image_of};
 
 /// One hart, and one actor that does all.
 const ONE_HART: &[u8] = b"actors = [\"alu\"]\n";

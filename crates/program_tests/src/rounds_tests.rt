@@ -3,7 +3,7 @@
 use crate::rows::{shows, text_of};
 use rounds::{Rounds, Unwatched, run_rounds};
 use std::alloc::Global;
-use test_files::{file_of, image_of};
+use test_support::{file_of, image_of};
 
 /// `addi x0,x0,0`.
 static NOTHING: [u32; 1] = [0x0000_0013];

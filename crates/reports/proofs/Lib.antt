@@ -1,4 +1,2 @@
-pub mod Appending
-pub mod RecordLines
 pub mod WordLines
 pub mod Latest

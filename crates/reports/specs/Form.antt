@@ -1,7 +1,8 @@
 -- A number under its word: in a line, or in a JSON object. (This project's own choice; JSON: RFC 8259.)
 use Rattle.std.specs.Prelude.{ℕ, List, ◌++◌, codes}
 use Rattle.std.specs.{Fmt.decimal}
-use Rattle.reports.specs.{Report.count_line, declared.form.Form.Form}
+use Rattle.report_lines.specs.Lines.{count_line}
+use Rattle.reports.specs.{declared.form.Form.Form}
 use Rattle.reports.specs.declared.form.Form.TheVariants.{Lines, Members}
 
 -- A member of an object: what stands before it, its name in quotes, a colon and the number.

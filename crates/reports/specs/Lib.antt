@@ -1,4 +1,3 @@
-pub mod Statuses
 pub mod Report
 pub mod Form
 pub mod Counts

@@ -4,15 +4,11 @@ ghost use Rattle.std.specs.Prelude.{◌≡◌, ◌≤◌, ◌++◌, length, OnOk
 ghost use Rattle.std.specs.Io.KnownBytes.{Appends};
 ghost use Rattle.arrayvec.specs.ArrayString.{array_string_len};
 ghost use Rattle.reports.specs.Form.{member_text, number_text};
-ghost use Rattle.reports.specs.Report.{count_line};
 
-use arrayvec::ArrayString;
+use report_lines::{Line, report_count};
 use std::io;
 use std::io::Write;
 use text_fields::{push_ascii, push_decimal};
-
-/// Room for a word with its number, or for the line of a hart.
-pub(crate) type Line = ArrayString<64>;
 
 /// As what numbers are written.
 #[derive(Clone, Copy, PartialEq, Eq, Drop)]
@@ -41,20 +37,6 @@ pub(crate) fn write_number<W: Write>(
         Form::Lines => report_count(name, number as u64, out),
         Form::Members => write_member(lead, name, number as u64, out),
     }
-}
-
-/// Writes a word, a number and a newline.
-pub fn report_count<W: Write>(name: &str, count: u64, out: &mut W) -> io::Result<()>
-    requires { length name.now ≤ 32 }
-    ensures { OnOk result
-        (Appends (W.contents out.old) (W.contents out.new) (count_line name.now count)) }
-{
-    let mut line = Line::new();
-    line.push_str(name);
-    push_ascii(&mut line, b' ');
-    push_decimal(&mut line, count);
-    push_ascii(&mut line, b'\n');
-    out.write_all(line.as_bytes())
 }
 
 /// Writes a member of a JSON object behind `lead`, which opens the object or parts it from the member

@@ -4,8 +4,8 @@ ghost use Rattle.std.specs.Prelude.{◌≡◌, OnOk};
 ghost use Rattle.std.specs.Io.KnownBytes.{Appends};
 ghost use Rattle.reports.specs.Counts.{idle_line, idle_lines};
 
-use crate::form::report_count;
 use arrayvec::ArrayString;
+use report_lines::report_count;
 use std::io;
 use std::io::Write;
 use text_fields::push_decimal;

@@ -3,17 +3,17 @@
 ghost use Rattle.std.specs.Prelude.{◌≡◌, ◌+◌, ◌≤◌, ◌++◌, codes, length, OnOk};
 ghost use Rattle.std.specs.Io.KnownBytes.{Appends};
 ghost use Rattle.arrayvec.specs.ArrayString.{array_string_len};
-ghost use Rattle.reports.specs.Report.{each_from};
+ghost use Rattle.report_lines.specs.Lines.{each_from};
 ghost use Rattle.reports.specs.Json.{counts_member, counts_object, hart_object, harts_member, json_text};
 ghost use Rattle.reports.specs.Json.{idle_array, idle_item, idle_member, lead_of, output_member};
 ghost use Rattle.reports.specs.Json.{sizes_text, status_members};
 
 use crate::counts::write_counts;
 use crate::form::{Form, write_member};
-use crate::reporting::write_bytes;
 use arrayvec::ArrayString;
 use events::Record;
 use history_counts::Counts;
+use report_lines::write_bytes;
 use smt_laws::Account;
 use smt_model::Status;
 use std::io;

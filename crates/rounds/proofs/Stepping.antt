@@ -11,7 +11,7 @@ use Rattle.sc_machine.specs.{Machine.Machine, Machine.Agrees, Machine.InEachStat
 use Rattle.sc_machine.specs.{Steps.run_on, Refusals.refusal}
 use Rattle.sc_machine.specs.declared.refused.Stopped.{Stopped}
 use Rattle.sc_machine.specs.declared.refused.Stopped.TheVariants.{NotGoing, OutputFull, NoHart}
-use Rattle.reports.specs.Report.{record_line, records_text}
+use Rattle.report_lines.specs.Lines.{record_line, records_text}
 use Rattle.rounds.specs.Steps.{HasMade}
 use Rattle.rounds.proofs.Printing.{printed_more}
 

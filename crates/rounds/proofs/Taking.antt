@@ -6,7 +6,7 @@ use Rattle.std.proofs.lemmas.Bool.{cases_lt}
 use Rattle.std.specs.Io.KnownBytes.{Appends}
 use Rattle.smt_model.specs.{Setup.Setup, Plain.Run, Plain.start, Plain.step, Plain.run, Plain.is_going_status}
 use Rattle.sc_machine.specs.{Machine.Machine, Machine.Agrees, Machine.InEachState, Steps.InEachRun, Steps.run_on}
-use Rattle.reports.specs.Report.{records_text}
+use Rattle.report_lines.specs.Lines.{records_text}
 use Rattle.rounds.specs.declared.rules.Rounds.{Rounds}
 use Rattle.rounds.specs.{Turns.Turn, Turns.order_of, Turns.going, Turns.last_of, Turns.next_number, Turns.number_for}
 use Rattle.rounds.specs.{Turns.chosen, Turns.whose, Rounds.IsTurn, Rounds.AreTurns, Steps.HasMade, Steps.HaveMade}

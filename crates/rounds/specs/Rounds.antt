@@ -5,7 +5,7 @@ use Rattle.std.specs.Io.KnownBytes.{Appends}
 use Rattle.smt_model.specs.{Basics.below, Setup.Setup, Plain.Run, Plain.run}
 use Rattle.smt_model.specs.{Plain.is_going_status}
 use Rattle.sc_machine.specs.Machine.{Agrees}
-use Rattle.reports.specs.Report.{records_text}
+use Rattle.report_lines.specs.Lines.{records_text}
 use Rattle.rounds.specs.declared.{rules.Rounds.Rounds, running.RoundsRun.RoundsRun}
 use Rattle.rounds.specs.Turns.{Turn, order_of, going, whose}
 

@@ -3,7 +3,7 @@ use Rattle.std.specs.Prelude.{◌≡◌, ℕ, ◌+◌, Bool, List, Option, Some,
 use Rattle.std.specs.{Prelude.replicate, Io.KnownBytes.Appends}
 use Rattle.smt_model.specs.{Setup.Setup, Plain.Run, Plain.start}
 use Rattle.sc_machine.specs.{Machine.Machine, Machine.Agrees, Steps.run_on}
-use Rattle.reports.specs.Report.{records_text}
+use Rattle.report_lines.specs.Lines.{records_text}
 use Rattle.rounds.specs.declared.rules.Rounds.{Rounds}
 use Rattle.rounds.specs.{Turns.Turn, Rounds.AreRounds}
 

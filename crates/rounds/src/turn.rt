@@ -5,13 +5,13 @@ ghost use Rattle.std.specs.Io.KnownBytes.{Appends};
 ghost use Rattle.smt_model.specs.Plain.{is_going_status};
 ghost use Rattle.sc_machine.specs.Machine.{InEachState};
 ghost use Rattle.sc_machine.specs.Steps.{InEachRun};
-ghost use Rattle.reports.specs.Report.{record_line};
+ghost use Rattle.report_lines.specs.Lines.{record_line};
 ghost use Rattle.rounds.specs.Steps.{HasMade};
 
 use crate::stopped::Broken;
 use crate::watch::Watch;
 use events::Record;
-use reports::write_record;
+use report_lines::write_record;
 use sc_machine::Plain;
 use std::io::Write;
 

@@ -1,6 +1,6 @@
 -- What the words of the command line ask for.
 use Rattle.std.specs.Prelude.{None, ◌≡◌, ◌≢◌, ℕ, ◌-◌, ◌^◌, nat_le, not, ◌&&◌, ◌||◌, Bool, true, false, List, [], ◌∷◌}
-use Rattle.std.specs.Prelude.{Option, Some, is_some}
+use Rattle.std.specs.Prelude.{Option, Some, is_some, length, ◌==◌}
 use Rattle.std.specs.Prelude.{IsSomeAnd, option_map, codes, if◌then◌else◌}
 use Rattle.std.specs.{Borrow.Bor, List.fold, Option.option_map_or, Result.result_ok, Str.bytes_eq}
 use Rattle.numbers.specs.Sizes.{most_events, most_harts}
@@ -116,14 +116,17 @@ pub record IsStep (rows : List Row) (step : StepCommand) : Type 0 where
   pub show : IsFlag rows (codes "show") step.show
   pub why : IsFlag rows (codes "why") step.why
 
--- A run has an option of its report. Many runs have none; there is one at least, and one alone has no
--- folder.
+-- A run has an option of its report. Many runs have none, and a folder of theirs has a name; there is one at
+-- least, and one alone has no folder.
 abbrev pub is_reported : RunCommand → Bool
 is_reported run = is_some run.trace || run.counts || run.json || run.records || run.why
 
+abbrev pub has_named_folder : RunCommand → Bool
+has_named_folder run = option_map_or (λ folder. not (length folder.now == 0)) run.keep true
+
 abbrev pub can_be_run : RunCommand → Bool
 can_be_run run = let once = not (is_some run.keep) in
-    option_map_or (λ times. nat_le 1 times && not (is_reported run)) run.times once
+    option_map_or (λ times. nat_le 1 times && not (is_reported run) && has_named_folder run) run.times once
 
 pub record IsRun (rows : List Row) (run : RunCommand) : Type 0 where
   pub image : IsFile rows (codes "IMAGE") run.image

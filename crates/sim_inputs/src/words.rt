@@ -4,6 +4,7 @@ ghost use Rattle.sim_inputs.specs.CommandLine.{is_flag_set, Finds, IsCommandOf, 
 ghost use Rattle.sim_inputs.specs.CommandLine.{IsStep, IsRun, IsCheck, IsPlain, IsSchedule, IsScript};
 ghost use Rattle.sim_inputs.specs.CommandLine.{IsList, IsChart, IsExplain, can_be_drawn, can_be_run};
 ghost use Rattle.sim_inputs.specs.CommandLine.{is_reported, can_be_plain, number_or, number_in};
+ghost use Rattle.sim_inputs.specs.CommandLine.{has_named_folder};
 ghost use Rattle.sim_inputs.specs.CommandLine.{IsOutcomes, can_be_searched, are_orders_together};
 ghost use Rattle.sim_inputs.specs.CommandLine.{has_one_file, IsLitmus, can_be_tested, IsMigrate};
 ghost use Rattle.sim_inputs.specs.CommandLine.{AreWordsRefusedFor, IsRefusalOf};
@@ -128,14 +129,24 @@ fn run_in<'a>(found: &ArgMatches<'a>) -> Option<RunCommand<'a>>
     Some(run)
 }
 
-/// Whether the options of a run go together: there is one run at least, only many have a folder, and
-/// only one has a report.
+/// Whether the options of a run go together: there is one run at least, only many have a folder, which has
+/// a name, and only one has a report.
 fn can_be_run(run: &RunCommand<'_>) -> bool
     ensures { result ≡ can_be_run run.now }
 {
     match run.times {
-        Some(times) => times >= 1 && !is_reported(run),
+        Some(times) => times >= 1 && !is_reported(run) && has_named_folder(run),
         None => run.keep.is_none(),
+    }
+}
+
+/// Whether the folder for the files of ends has a name, where there is one.
+fn has_named_folder(run: &RunCommand<'_>) -> bool
+    ensures { result ≡ has_named_folder run.now }
+{
+    match run.keep {
+        Some(folder) => !folder.is_empty(),
+        None => true,
     }
 }
 

@@ -1,14 +1,17 @@
 //! The program `smtsim`: hands its words, its files, standard output and standard error to
 //! `perform_words`, with the gate that shows on a terminal how far a run is, and the static predictor.
+//! Standard streams that are closed are held before.
 #![tactic(auto)]
 
 use actors::StaticPredictor;
-use program::{Progress, perform_words};
+use program::{Progress, hold_closed_streams, perform_words};
 use std::io::{BufWriter, IsTerminal};
 use std::process::ExitCode;
 use std::{env, io};
 
 fn main(rt: HostRuntime) -> ExitCode {
+    // Until the end no file that is opened is a standard stream, and so takes what is printed.
+    let _held = hold_closed_streams(&rt);
     let mut err = rt.stderr();
     // Only on a terminal is it shown how far a run is, so standard error in a file stays as it is.
     let on_terminal = err.is_terminal();

@@ -1,4 +1,5 @@
 pub mod Counting
+mod Staying
 pub mod Same
 pub mod Tallying
 pub mod Ordering

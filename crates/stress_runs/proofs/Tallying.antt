@@ -7,7 +7,7 @@ use Rattle.std.proofs.lemmas.Bool.{cases_Bool, false≢true}
 use Rattle.std.proofs.lemmas.List.Folds.{list_any-append}
 use Rattle.std.proofs.Math.Nat.{mod-eq_of_lt}
 use Rattle.smt_model.specs.{Basics.how_many, declared.config.Status.Status}
-use Rattle.reports.specs.Report.{status_number}
+use Rattle.report_lines.specs.Lines.{status_number}
 use Rattle.stress_runs.specs.declared.tally.Row.{Row}
 use Rattle.stress_runs.specs.End.{EndView}
 use Rattle.stress_runs.specs.Ends.{same_end, ends_of, has_come, times_of, row_of, rows_of, worst_of, TallyView, tally_of, Counts}

@@ -8,7 +8,7 @@ use Rattle.smt_model.specs.{declared.config.Status.Status, Basics.below, Basics.
 use Rattle.smt_model.specs.{Memory.status, Memory.output}
 use Rattle.smt_model.specs.contracts.config.StatusPartialEq.TheImpl.{eq-value as same_status}
 use Rattle.core_state.specs.View.{CoreView}
-use Rattle.reports.specs.Report.{status_number}
+use Rattle.report_lines.specs.Lines.{status_number}
 use Rattle.stress_runs.specs.declared.tally.Row.{Row}
 use Rattle.stress_runs.specs.End.{EndView}
 

@@ -2,7 +2,7 @@
 -- tools for litmus tests.)
 use Rattle.std.specs.Prelude.{ℕ, ◌+◌, List, [], ◌∷◌, ◌++◌, length, codes}
 use Rattle.std.specs.Fmt.{decimal}
-use Rattle.reports.specs.Report.{count_line, end_text}
+use Rattle.report_lines.specs.Lines.{count_line, end_text}
 use Rattle.stress_runs.specs.declared.tally.Row.{Row}
 
 -- The number of an end, and how often it came; and behind that line what a report tells of it.

@@ -4,7 +4,7 @@ ghost use Rattle.stress_runs.specs.Table.{came_line, row_text, row_texts, tally_
 
 use crate::tally::{Row, Tally};
 use arrayvec::ArrayString;
-use reports::{report_count, report_end};
+use report_lines::{report_count, report_end};
 use std::io;
 use std::io::Write;
 use text_fields::push_decimal;

@@ -3,7 +3,7 @@ ghost use Rattle.std.specs.List.{list_any};
 ghost use Rattle.stress_runs.specs.Ends.{end_of, has_end, counting, tally_of, Counts, next_number};
 
 use crate::end::End;
-use reports::status_of;
+use report_lines::status_of;
 use smt_core::Core;
 use smt_model::Status;
 use std::alloc::{AllocError, Global};

@@ -22,6 +22,9 @@ const MARGIN: u32 = 12;
 
 const LEGEND: u32 = 30;
 
+/// The width of a hart's part of the legend.
+const LEGEND_ENTRY: u32 = 84;
+
 const RULER: u32 = 22;
 
 const GAP: u32 = 18;
@@ -82,7 +85,7 @@ impl Page {
             .saturating_add(remark);
         Page {
             left,
-            width,
+            width: width.max(legend_width(rows, view)),
             height: height_of(rows, view, columns),
         }
     }
@@ -120,7 +123,7 @@ impl Page {
         out.write_all(b"<svg xmlns=\"http://www.w3.org/2000/svg\" ")?;
         write!(out, "width=\"{width}\" height=\"{height}\" ")?;
         writeln!(out, "viewBox=\"0 0 {width} {height}\">")?;
-        writeln!(out, "<title>Events {} to {}</title>", view.from, view.to)?;
+        write_title(view, out)?;
         out.write_all(STYLE.as_bytes())?;
         out.write_all(b"<rect class=\"page\" width=\"100%\" height=\"100%\"/>\n")?;
         write_legend(rows, view, out)
@@ -153,6 +156,14 @@ impl Page {
     }
 }
 
+/// The title of the picture: the first and the last event that it shows.
+fn write_title<W: Write>(view: &View, out: &mut W) -> io::Result<()> {
+    if view.span() == 0 {
+        return out.write_all(b"<title>No events</title>\n");
+    }
+    writeln!(out, "<title>Events {} to {}</title>", view.from, view.to)
+}
+
 /// The width of so many characters.
 fn width_of(characters: usize) -> u32 {
     u32::try_from(characters)
@@ -178,6 +189,17 @@ fn height_of(rows: &[Row], view: &View, columns: u32) -> u32
     height
 }
 
+/// The width of the legend, with the room at its left.
+fn legend_width(rows: &[Row], view: &View) -> u32 {
+    let mut width = MARGIN;
+    for hart in 0..MOST_HARTS {
+        if has_hart(rows, view, hart) {
+            width = width.saturating_add(LEGEND_ENTRY);
+        }
+    }
+    width
+}
+
 /// The colour of each hart of which there is a row.
 fn write_legend<W: Write>(rows: &[Row], view: &View, out: &mut W) -> io::Result<()> {
     let mut x = MARGIN;
@@ -187,7 +209,7 @@ fn write_legend<W: Write>(rows: &[Row], view: &View, out: &mut W) -> io::Result<
             write!(out, "<rect class=\"bar h{hart}\" x=\"{x}\" y=\"9\" ")?;
             out.write_all(b"width=\"12\" height=\"12\"/>\n")?;
             writeln!(out, "<text x=\"{text}\" y=\"19\">hart {hart}</text>")?;
-            x = x.saturating_add(84);
+            x = x.saturating_add(LEGEND_ENTRY);
         }
     }
     Ok(())

@@ -12,12 +12,17 @@ use crate::held::Pass;
 use atomic_table::Table;
 use numbers::sizes::MOST_ACTORS;
 use std::alloc::{AllocError, Global};
+use std::sync::Wait;
 use std::sync::ledger::Ledger;
+use std::time::Duration;
 
 type Token = atomic_table::Seat<u8, Knowledge>;
 
 /// Where the stop word stands. The words before it are the actors' counts.
 const STOP: usize = MOST_ACTORS;
+
+/// The low half of the stop word while nobody has asked to stop.
+const NOBODY: u32 = 0;
 
 // `Board::new` writes out the seats of so many actors, and the reader's: they have no default, so no loop
 // fills an array with them.
@@ -69,7 +74,8 @@ impl Board {
         self.write(seat, pass.count());
     }
 
-    /// Asks all threads to stop. Of all that was asked the stop word keeps the greatest reason.
+    /// Asks all threads to stop, and wakes those that rest. Of all that was asked the stop word keeps the
+    /// greatest reason.
     pub fn stop(&self, seat: &mut Seat, reason: Reason)
         requires board { board_of seat.old ≡ name_of self.now }
         ensures board { board_of seat.new ≡ board_of seat.old }
@@ -80,6 +86,25 @@ impl Board {
         ensures asked { asked_by seat.new ≡ max (asked_by seat.old) (number_of reason) }
     {
         self.raise(seat, reason.number());
+        self.wake();
+    }
+
+    /// Sleeps until somebody asks to stop, but no longer than `time`. It may return sooner for no
+    /// reason, and doesn't sleep where somebody has asked before. Answers the stop word as it stands
+    /// then.
+    pub fn rest<R: Wait>(&self, rt: &R, seat: &mut Seat, time: Duration) -> u64
+        requires board { board_of seat.old ≡ name_of self.now }
+        ensures board { board_of seat.new ≡ board_of seat.old }
+        ensures place { seat.new.place ≡ seat.old.place }
+        ensures posted { seat.new.posted ≡ seat.old.posted }
+        ensures asked { asked_by seat.new ≡ asked_by seat.old }
+        ensures seen { seen_by seat.new ≡ slice_set (seen_by seat.old) stop_word result }
+        ensures rises { NoneFalls (seen_by seat.old) (seen_by seat.new) }
+        ensures stop { asked_by seat.old ≤ result }
+        ensures reason { result ≤ 4 }
+    {
+        self.park(rt, time);
+        self.look(seat, STOP)
     }
 
     /// Loads all words, one after the other. What another seat has posted may come between two of
@@ -201,5 +226,16 @@ impl Board {
             token,
         } = seat;
         self.table.shared.fetch_max::<Stop>(token, STOP, number);
+    }
+    /// Sleeps on the stop word while nobody has asked to stop, but no longer than `time`. The system
+    /// compares the low 32 bits of the word alone, and reasons are numbers of 1 to 4: so each ask is
+    /// seen, and one that comes between a look at the word and the sleep is too.
+    fn park<R: Wait>(&self, rt: &R, time: Duration) {
+        self.table.shared.park_timeout(rt, STOP, NOBODY, time);
+    }
+
+    /// Wakes all that sleep on the stop word.
+    fn wake(&self) {
+        self.table.shared.wake_all(STOP);
     }
 }

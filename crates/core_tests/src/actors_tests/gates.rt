@@ -13,7 +13,7 @@ use std::alloc::{AllocError, Global};
 use std::sync::Wait;
 use std::sync::atomic::{AtomicU64, Ordering};
 use std::thread::Threads;
-use test_files::{file_of, image_of};
+use test_support::{file_of, image_of};
 
 /// Whether a gate lets an actor go on at both points.
 fn lets_on<G: Gate>(gate: &G) -> bool {

@@ -12,7 +12,7 @@ use smt_core::{Config, Core, Role};
 use std::alloc::Global;
 use std::marker::Brand;
 use std::sync::ledger::Blank;
-use test_cores::Behind;
+use test_support::Behind;
 
 /// A core of the first program, with as many actors as there may be, which fetch.
 fn core(alloc: Global) -> Option<Core> {

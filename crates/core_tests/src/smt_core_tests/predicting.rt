@@ -9,7 +9,7 @@ use crate::rows::is_none;
 use events::Event;
 use smt_core::{CompleteAnswer, Core, Done, Predict, Status};
 use std::alloc::Global;
-use test_cores::{Always, Behind};
+use test_support::{Always, Behind};
 
 /// A predictor that guesses the pc behind and address 0 by turns, and counts how often it is asked.
 #[derive(Drop)]

@@ -4,8 +4,7 @@ use crate::asking::{Step, first_other, one_of_each};
 use crate::rows::is_none;
 use smt_core::{Core, Status};
 use std::alloc::Global;
-use test_cores::Behind;
-use test_files::{PATCHED, image_of, writable_file_of};
+use test_support::{Behind, PATCHED, image_of, writable_file_of};
 
 /// A core of one hart for the program that patches its own fifth word.
 fn core_of_patched(alloc: Global) -> Option<Core> {

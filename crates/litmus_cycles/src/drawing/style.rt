@@ -2,6 +2,7 @@
 
 use crate::event::Relation;
 use crate::naming::relation_name;
+use shown_text::write_shown;
 use std::io;
 use std::io::Write;
 
@@ -87,14 +88,15 @@ pub(super) fn write_legend<W: Write>(out: &mut W) -> io::Result<()> {
     Ok(())
 }
 
-/// Writes a text of XML. What isn't printable ASCII is a question mark.
+/// Writes a text of XML, a control character as `\x` and its two hexadecimal digits. What isn't ASCII is a
+/// question mark.
 pub(super) fn write_escaped<W: Write>(text: &[u8], out: &mut W) -> io::Result<()> {
     for byte in text {
         match byte {
             b'<' => out.write_all(b"&lt;")?,
             b'&' => out.write_all(b"&amp;")?,
-            b' '..=b'~' => out.write_all(&[*byte])?,
-            _ => out.write_all(b"?")?,
+            0x80.. => out.write_all(b"?")?,
+            _ => write_shown(&[*byte], out)?,
         }
     }
     Ok(())

@@ -4,7 +4,7 @@ use crate::placing::{Placed, file_of_segments};
 use crate::rows::{refuses, says};
 use elf_image::{LoadRefused, RamSize, load};
 use std::alloc::Global;
-use test_files::EXIT_WITH_5;
+use test_support::EXIT_WITH_5;
 
 /// The number of the refusal, None where the file is accepted; 0 where there is no such size of
 /// RAM.

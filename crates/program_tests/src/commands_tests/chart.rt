@@ -12,7 +12,7 @@ use std::alloc::Global;
 use std::process::Abort;
 use std::sync::Wait;
 use std::thread::Threads;
-use test_files::file_of;
+use test_support::file_of;
 
 /// The trace of the first example.
 const TRACE: &str = "smt-trace 1

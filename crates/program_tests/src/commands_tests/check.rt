@@ -12,13 +12,14 @@ use actors::StaticPredictor;
 use commands::{Unread, step_bytes};
 use event_text::{Over, print_trace, read_trace};
 use events::History;
-use reports::{put_trace, report, status_of};
+use report_lines::status_of;
+use reports::{put_trace, report};
 use sim_inputs::read_config;
 use std::alloc::Global;
 use std::process::Abort;
 use std::sync::Wait;
 use std::thread::Threads;
-use test_files::file_of;
+use test_support::file_of;
 
 /// The words of a program under a script.
 #[derive(Clone, Copy, Drop)]

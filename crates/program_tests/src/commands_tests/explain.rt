@@ -8,7 +8,7 @@ use std::alloc::Global;
 use std::process::Abort;
 use std::sync::Wait;
 use std::thread::Threads;
-use test_files::file_of;
+use test_support::file_of;
 
 /// Asserts that a configuration and an image are explained by this text, with this exit status.
 fn explains<R: Threads + Wait + Abort + Sync>(

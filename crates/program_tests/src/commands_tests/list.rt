@@ -8,7 +8,7 @@ use std::alloc::Global;
 use std::process::Abort;
 use std::sync::Wait;
 use std::thread::Threads;
-use test_files::file_of;
+use test_support::file_of;
 
 /// Asserts that words with so many zeros behind them are listed as this text.
 fn lists<R: Threads + Wait + Abort + Sync>(

@@ -11,7 +11,7 @@ use sim_inputs::read_config;
 use std::alloc::Global;
 use std::sync::Wait;
 use std::thread::Threads;
-use test_files::file_of;
+use test_support::file_of;
 
 /// `lui x6,0x80001`, `bne x10,x0,0x80000014`, `lw x5,0(x6)`, `addi x7,x5,1`, `ebreak`; and for the
 /// other hart `addi x5,x0,7`, `sw x5,0(x6)`, `sw x0,0(x6)`, `ebreak`.

@@ -11,7 +11,7 @@ use std::sync::Wait;
 use std::sync::atomic::{AtomicBool, AtomicU64, Ordering};
 use std::thread;
 use std::thread::Threads;
-use test_files::file_of;
+use test_support::file_of;
 
 /// Two harts, an actor of each role, and a second arithmetic unit.
 const CONFIG: &[u8] = b"harts = 2

@@ -10,7 +10,7 @@ use std::alloc::Global;
 use std::process::Abort;
 use std::sync::Wait;
 use std::thread::Threads;
-use test_files::EXIT_WITH_5;
+use test_support::EXIT_WITH_5;
 
 /// The trace of the first example: a program that ends with 5, on a core of one hart and one actor.
 const FIRST: &str = "smt-trace 1

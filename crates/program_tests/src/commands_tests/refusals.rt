@@ -12,7 +12,7 @@ use std::alloc::Global;
 use std::process::Abort;
 use std::sync::Wait;
 use std::thread::Threads;
-use test_files::EXIT_WITH_5;
+use test_support::EXIT_WITH_5;
 
 /// A file as it was read.
 type File = Result<&'static [u8], Unread>;

@@ -13,8 +13,7 @@ use std::alloc::Global;
 use std::process::Abort;
 use std::sync::Wait;
 use std::thread::Threads;
-use test_cores::Always;
-use test_files::file_of;
+use test_support::{Always, file_of};
 
 /// A program's words that are run; what is printed, in which a star stands for any text, what is
 /// written to standard error, and the exit status.

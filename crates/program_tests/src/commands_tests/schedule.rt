@@ -13,8 +13,7 @@ use std::alloc::Global;
 use std::process::Abort;
 use std::sync::Wait;
 use std::thread::Threads;
-use test_cores::Always;
-use test_files::file_of;
+use test_support::{Always, file_of};
 
 /// An order of a configuration's harts, and its script.
 #[derive(Clone, Copy, Drop)]

@@ -12,7 +12,7 @@ use std::alloc::Global;
 use std::process::Abort;
 use std::sync::Wait;
 use std::thread::Threads;
-use test_files::file_of;
+use test_support::file_of;
 
 /// A trace, and its script, or what is written to standard error.
 #[derive(Clone, Copy, Drop)]

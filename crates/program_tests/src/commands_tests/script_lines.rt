@@ -9,8 +9,7 @@ use sim_inputs::read_config;
 use smt_core::{Finished, Predict};
 use std::alloc::Global;
 use std::process::Abort;
-use test_cores::{Always, Miscount, first_miscount};
-use test_files::file_of;
+use test_support::{Always, Miscount, file_of, first_miscount};
 
 /// A core that was asked, and the lines of the asks.
 #[derive(Drop)]

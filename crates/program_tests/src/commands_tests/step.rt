@@ -11,8 +11,7 @@ use std::alloc::Global;
 use std::process::Abort;
 use std::sync::Wait;
 use std::thread::Threads;
-use test_cores::Always;
-use test_files::file_of;
+use test_support::{Always, file_of};
 
 /// The exit status of a script's line, and what it printed.
 #[derive(Drop)]

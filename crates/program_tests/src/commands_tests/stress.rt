@@ -6,7 +6,7 @@ use crate::performing::{perform_into, read_inputs_of};
 use crate::rows::text_of;
 use actors::StaticPredictor;
 use event_text::Over;
-use test_files::file_of;
+use test_support::file_of;
 
 /// All of three runs end so.
 const TABLE: &str = "times 3

@@ -1,7 +1,7 @@
 //! Traces that are written: which lines write one, what stands in it, and what is printed where that
 //! fails.
 
-ghost use Rattle.std.specs.Prelude.{◌≡◌, false};
+ghost use Rattle.std.specs.Prelude.{◌≡◌, false, true};
 
 use super::{SINGLE, TO_THE_END};
 use crate::failing::Failing;
@@ -17,7 +17,7 @@ use std::process::Abort;
 use std::sync::Wait;
 use std::thread::Threads;
 use stress_runs::EndFiles;
-use test_files::{EXIT_WITH_5, image_of};
+use test_support::{EXIT_WITH_5, image_of};
 
 /// The history of these asks, as a trace.
 const TRACE: &str = "smt-trace 3
@@ -56,7 +56,8 @@ fn perform_traced<S: EndFiles, R: Threads + Wait + Sync>(
     trace: &mut S,
     alloc: Global,
 ) -> Traced
-    requires { S.has_failed trace.old ≡ false }
+    requires works { S.has_failed trace.old ≡ false }
+    requires finished { S.is_finished trace.old ≡ true }
 {
     let inputs = inputs_of(config, &EXIT_WITH_5, Ok(TO_THE_END.as_bytes()));
     let mut out = Vec::new(alloc);

@@ -27,6 +27,7 @@ smtsim run --looks a
 smtsim run --times 0 a
 smtsim run --times 1000001 a
 smtsim run --keep f a
+smtsim run --times 2 --keep= a
 smtsim run --times 2 --trace t a
 smtsim run --times 2 --records a
 smtsim run --times 2 --why a
@@ -124,6 +125,6 @@ fn other_words_are_refused(rt: HostRuntime) {
         holds(&rt, text, are_refused(text, rt.alloc()) == Ok(true));
         rows = rows.wrapping_add(1);
     }
-    assert!(rt; rows == 100);
+    assert!(rt; rows == 101);
     assert!(rt; is_refusal(read_words(&[], rt.alloc())));
 }

@@ -1,5 +1,5 @@
 use Rattle.std.proofs.Common.{refl}
-use Rattle.commands.proofs.OfOutcomes.{search_refused, of_each, filed_so}
+use Rattle.commands.proofs.OfOutcomes.{search_refused, hart_refused, of_each, filed_so}
 use Rattle.commands.proofs.all_outcomes.perform_outcomes.Goals as goal
 
 pub returns-in-Err : goal.returns-in-Err
@@ -11,6 +11,7 @@ returns-in-Err g c = record {
   unwanted = λ _. refl;
   filed = tt;
   unbroken = tt;
+  finished = tt;
   unreported = λ _. refl;
 }
 

@@ -19,6 +19,8 @@ returns-in-Ok g c =
       unset = was_read inputs.config _ _ _ has.unset;
       refused = λ none. absurd (true≢false (sym says ∙ none));
       ended = λ harts. has.ended;
+      left = λ none. absurd (true≢false (sym says ∙ none));
+      finished = λ harts. has.finished;
       unwanted = has.unwanted;
       unreported = has.unreported;
     }
@@ -31,6 +33,8 @@ returns-in-Err g c =
       unset = unset_refusal c.args.inputs.now.config _ c.in-Err.refused _ c.refuse_line.ensures has.unset;
       refused = λ none. (c.in-Err.refused, sym c.refuse_line.ensures, has.refused);
       ended = λ harts. absurd (refused_harts c.in-Err.refused _ c.refuse_line.ensures harts);
+      left = λ none. (c.in-Err.refused, sym c.refuse_line.ensures, has.refused, has.left);
+      finished = λ harts. absurd (refused_harts c.in-Err.refused _ c.refuse_line.ensures harts);
       unwanted = has.unwanted;
       unreported = has.unreported;
     }

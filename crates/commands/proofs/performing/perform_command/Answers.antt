@@ -15,5 +15,6 @@ returns-in_ok-script-in-Step g c =
       ended = rw wants at came.ended;
       unwanted = rw wants at came.unwanted;
       unbroken = came.unbroken;
+      finished = came.finished;
       unreported = came.unreported;
     }))

@@ -1,5 +1,5 @@
 use Rattle.std.proofs.Common.{ap, ◌∙◌}
-use Rattle.reports.specs.{Report.status_number}
+use Rattle.report_lines.specs.Lines.{status_number}
 use Rattle.commands.proofs.OfPlain.{output_refusal, comes_to}
 use Rattle.commands.proofs.plain.perform_plain.Goals as goal
 

@@ -36,4 +36,5 @@ returns g c =
           c.in-Ok.prompted.core c.in-Ok.prompted.idle _ _ _ status accepted came.prompted came.printed traced reported);
       unwanted = account.unwanted;
       unbroken = account.unbroken;
+      finished = account.finished;
     }

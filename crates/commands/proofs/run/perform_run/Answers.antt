@@ -21,5 +21,6 @@ returns g c =
           reported);
       unwanted = account.unwanted;
       unbroken = account.unbroken;
+      finished = account.finished;
       unreported = account.unreported;
     }

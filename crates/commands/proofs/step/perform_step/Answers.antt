@@ -21,6 +21,7 @@ returns g c =
           asked.accepted asked.script asked.setup asked.limit asked.shown asked.printed traced reported);
       unwanted = account.unwanted;
       unbroken = account.unbroken;
+      finished = account.finished;
       unreported = λ failed.
           unreported c.args.why c.args.script.now c.in_ok-finished.finished.core c.in_ok-finished.finished.idle _ _ _ asked.printed
           (account.unreported failed);

@@ -1,12 +1,23 @@
-use Rattle.outcome_queries.proofs.WatchLists.{extends_more, terms_step, all_told}
+use Rattle.outcome_queries.proofs.WatchLists.{list_turn, terms_turn, terms_step, all_told, all_once}
 use Rattle.outcome_queries.proofs.watching.with_terms.Goals as goal
+
+pub loop-watched-preserved : goal.loop-watched-preserved
+loop-watched-preserved c =
+    list_turn c.args.list.now _ _ c.loop-watched.watched-index _ c.loop-watched-test.true c.loop-watched.invariant
+    (c.add.ensures.once c.if-not-add.false)
 
 pub loop-term-preserved : goal.loop-term-preserved
 loop-term-preserved c = record {
-  extends = extends_more _ _ _ c.loop-term.invariant.extends c.add_term.ensures.extends;
-  told = terms_step c.args.list.now.items _ _ c.args.terms.now c.loop-term.term-index _ c.loop-term-test.true
+  once = terms_turn c.args.list.now _ _ c.args.terms.now c.loop-term.term-index _ c.loop-term-test.true
+      c.loop-term.invariant.once (c.add_term.ensures.once c.if-not-add_term.false);
+  told = terms_step c.args.list.now _ _ c.args.terms.now c.loop-term.term-index _ c.loop-term-test.true
       c.loop-term.invariant.told c.add_term.ensures.extends (c.add_term.ensures.watched c.if-not-add_term.false);
 }
+
+pub returns-clause-once : goal.returns-clause-once
+returns-clause-once c =
+    all_once c.args.list.now _ c.args.terms.now c.loop-term.term-index c.loop-term-test.false
+    c.loop-term.invariant.once
 
 pub returns-clause-watched : goal.returns-clause-watched
 returns-clause-watched c =

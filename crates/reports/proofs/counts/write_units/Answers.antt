@@ -1,5 +1,5 @@
 use Rattle.reports.specs.Counts.{hart_text}
-use Rattle.reports.proofs.Appending.{below_step}
+use Rattle.report_lines.proofs.Appending.{below_step}
 use Rattle.reports.proofs.counts.write_units.Goals as goal
 
 pub loop-hart-preserved : goal.loop-hart-preserved

@@ -1,5 +1,5 @@
 use Rattle.reports.specs.Counts.{idle_line}
-use Rattle.reports.proofs.Appending.{harts_step}
+use Rattle.report_lines.proofs.Appending.{harts_step}
 use Rattle.reports.proofs.idle.report_idle.Goals as goal
 
 pub loop-actor-preserved : goal.loop-actor-preserved

@@ -1,6 +1,7 @@
 use Rattle.std.proofs.Common.{take}
 use Rattle.std.specs.Io.KnownBytes.{Appends}
-use Rattle.reports.specs.{Counts.idle_line, Report.each_from}
+use Rattle.report_lines.specs.Lines.{each_from}
+use Rattle.reports.specs.{Counts.idle_line}
 use Rattle.reports.proofs.idle.report_idle.Given as goal
 
 -- those of the actors so far are written

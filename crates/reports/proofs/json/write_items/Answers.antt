@@ -1,5 +1,5 @@
 use Rattle.reports.specs.Json.{idle_item}
-use Rattle.reports.proofs.Appending.{harts_step}
+use Rattle.report_lines.proofs.Appending.{harts_step}
 use Rattle.reports.proofs.json.write_items.Goals as goal
 
 pub loop-actor-preserved : goal.loop-actor-preserved

@@ -1,6 +1,7 @@
 use Rattle.std.proofs.Common.{take}
 use Rattle.std.specs.Io.KnownBytes.{Appends}
-use Rattle.reports.specs.{Json.idle_item, Report.each_from}
+use Rattle.report_lines.specs.Lines.{each_from}
+use Rattle.reports.specs.{Json.idle_item}
 use Rattle.reports.proofs.json.write_items.Given as goal
 
 -- those of the actors so far are written

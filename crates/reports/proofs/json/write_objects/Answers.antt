@@ -1,5 +1,5 @@
 use Rattle.reports.specs.Json.{hart_object}
-use Rattle.reports.proofs.Appending.{harts_step}
+use Rattle.report_lines.proofs.Appending.{harts_step}
 use Rattle.reports.proofs.json.write_objects.Goals as goal
 
 pub loop-hart-preserved : goal.loop-hart-preserved

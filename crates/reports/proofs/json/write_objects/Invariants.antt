@@ -1,6 +1,7 @@
 use Rattle.std.proofs.Common.{take}
 use Rattle.std.specs.Io.KnownBytes.{Appends}
-use Rattle.reports.specs.{Json.hart_object, Report.each_from}
+use Rattle.report_lines.specs.Lines.{each_from}
+use Rattle.reports.specs.{Json.hart_object}
 use Rattle.reports.proofs.json.write_objects.Given as goal
 
 -- the objects of the harts so far are written

@@ -1,4 +1,4 @@
-use Rattle.reports.specs.Report.{record_line}
+use Rattle.report_lines.specs.Lines.{record_line}
 use Rattle.rounds.proofs.Printing.{appends_unwanted}
 use Rattle.rounds.proofs.turn.show.Goals as goal
 

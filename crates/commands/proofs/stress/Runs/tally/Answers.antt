@@ -10,6 +10,7 @@ loop-run-init g c =
       tallied = first_run g.F.EndFiles.begins g.F.Sink.written g.F.Sink.has_failed _ _ c.args.keep _ _ _ _
           c.new-tally.ensures once.ran;
       works = once.unbroken;
+      finished = once.finished;
       unwanted = once.unwanted;
     }
 
@@ -22,5 +23,6 @@ loop-run-preserved g c =
       tallied = one_more_run g.F.EndFiles.begins g.F.Sink.written g.F.Sink.has_failed _ _ c.args.keep _ _ _ c.loop-run._run _ _
           few so_far.tallied once.ran;
       works = once.unbroken;
+      finished = once.finished;
       unwanted = λ unkept. once.unwanted unkept ∙ so_far.unwanted unkept;
     }

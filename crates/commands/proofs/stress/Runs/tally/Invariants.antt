@@ -1,4 +1,4 @@
-use Rattle.std.proofs.Common.{◌≡◌, false}
+use Rattle.std.proofs.Common.{◌≡◌, false, true}
 use Rattle.commands.specs.Stress.{HasTallied, AreEndsWritten}
 use Rattle.commands.proofs.stress.Runs.tally.Given as goal
 
@@ -8,5 +8,6 @@ invariant-loop-run g l = record {
   tallied : HasTallied l.self.settings.now l.self.image.now
       (AreEndsWritten g.F.EndFiles.begins g.F.Sink.written g.F.Sink.has_failed l.fn.files l.files l.keep) l._run l.tally;
   works : g.F.Sink.has_failed l.files ≡ false;
+  finished : g.F.EndFiles.is_finished l.files ≡ true;
   unwanted : l.keep ≡ false → l.files ≡ l.fn.files;
 }

@@ -19,4 +19,4 @@ returns-clause-performed g c =
     (subst (λ (r : Read). IsReadAs files.second r) (sym c.lent.ensures.second)
     (subst (λ (f : Files). IsReadAs f.second (read_of c.of-read.result.second)) c.files-files.ensures
     c.of-read.ensures.second))
-    c.perform.ensures.refused
+    c.perform-status.ensures.refused

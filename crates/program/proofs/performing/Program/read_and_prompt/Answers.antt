@@ -16,4 +16,4 @@ returns-clause-performed g c =
     (subst (λ (r : Read). IsReadAs files.image r) (sym c.lent.ensures.image)
     (subst (λ (f : Files). IsReadAs f.image (read_of c.of-read.result.image)) c.files-files.ensures
     c.of-read.ensures.image))
-    c.perform_typed.ensures.refused
+    c.perform_typed-status.ensures.refused

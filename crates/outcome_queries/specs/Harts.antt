@@ -1,0 +1,27 @@
+-- The harts that a condition names.
+use Rattle.std.specs.Prelude.{◌≡◌, ◌<◌, ℕ, nat_lt, if◌then◌else◌, List, [], ◌∷◌, Option, Some, None}
+use Rattle.std.specs.Option.{option_or}
+use Rattle.outcome_queries.specs.declared.{term.Term.Term}
+use Rattle.outcome_queries.specs.declared.term.Term.TheVariants as terms
+use Rattle.outcome_queries.specs.declared.watched.Watched.TheVariants as watched
+
+-- The hart that a term names; none where it names a word.
+abbrev pub hart_named : Term → Option ℕ
+hart_named (terms.Ended hart number) = Some hart
+hart_named (terms.Stopped hart cause) = Some hart
+hart_named (terms.Holds (watched.Register hart register) value) = Some hart
+hart_named (terms.Holds (watched.Word address) value) = None
+
+-- The hart, unless it is one of so many.
+abbrev pub unless_there : ℕ → Option ℕ → Option ℕ
+unless_there harts None = None
+unless_there harts (Some hart) = if nat_lt hart harts then None else Some hart
+
+-- The first hart that the terms name and that isn't one of so many.
+abbrev pub absent_hart : ℕ → List Term → Option ℕ
+absent_hart harts [] = None
+absent_hart harts (term ∷ others) = option_or (unless_there harts (hart_named term)) (absent_hart harts others)
+
+-- The hart that a term names, if any, is one of so many.
+abbrev pub IsHartThere : ℕ → Term → Type 0
+IsHartThere harts term = (hart : ℕ) → hart_named term ≡ Some hart → hart < harts

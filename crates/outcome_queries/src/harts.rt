@@ -1,0 +1,41 @@
+//! The harts that a condition names.
+
+ghost use Rattle.std.specs.Prelude.{◌≡◌, All, None};
+ghost use Rattle.outcome_queries.specs.Harts.{hart_named, unless_there, absent_hart, IsHartThere};
+
+use crate::term::Term;
+use crate::watched::Watched;
+
+/// The first hart that a condition names and that isn't one of so many; none where each is.
+pub fn absent_hart(terms: &[Term], harts: u8) -> Option<u8>
+    ensures first { result ≡ absent_hart harts terms.now }
+    ensures there { result ≡ None → All (IsHartThere harts) terms.now }
+{
+    match terms {
+        [] => None,
+        [term, rest @ ..] => unless_there(hart_named(*term), harts).or(absent_hart(rest, harts)),
+    }
+}
+
+/// The hart that a term names; none where it names a word.
+fn hart_named(term: Term) -> Option<u8>
+    ensures { result ≡ hart_named term }
+{
+    match term {
+        Term::Ended { hart, .. } | Term::Stopped { hart, .. } => Some(hart),
+        Term::Holds { watched, .. } => match watched {
+            Watched::Register { hart, .. } => Some(hart),
+            Watched::Word(_) => None,
+        },
+    }
+}
+
+/// The hart, unless it is one of so many.
+fn unless_there(named: Option<u8>, harts: u8) -> Option<u8>
+    ensures { result ≡ unless_there harts named }
+{
+    match named {
+        Some(hart) if hart >= harts => Some(hart),
+        _ => None,
+    }
+}

@@ -1,7 +1,0 @@
-use Rattle.reports.specs.Report.{hart_line}
-use Rattle.reports.proofs.Appending.{harts_step}
-use Rattle.reports.proofs.reporting.report_harts.Goals as goal
-
-pub loop-hart-preserved : goal.loop-hart-preserved
-loop-hart-preserved g c =
-    harts_step hart_line _ _ _ _ _ _ c.loop-hart-test.true c.loop-hart.invariant c.in_ok-report_hart.ensures
