@@ -5,7 +5,8 @@ use mathlib.Core.Logic.{inl, inr}
 use Rattle.std.specs.Io.KnownBytes.{Keeps, Appends}
 use Rattle.elf_image.specs.Image.{ProgramImage}
 use Rattle.outcome_text.specs.Listing.{incomplete_text}
-use Rattle.outcomes.specs.{declared.watch.Watch.Watch, Found.Found, Found.InEachSetup, Found.AreAll}
+use Rattle.outcomes.specs.{Found.Found, Found.InEachSetup, Found.AreAll}
+use Rattle.watched_outcomes.specs.{declared.watch.Watch.Watch}
 use Rattle.outcomes.specs.{Found.CoversCores, Found.IsOnce, Refusals.IsRefusedFor}
 use Rattle.outcomes.specs.declared.refused.OutcomesRefused.TheVariants as search
 use Rattle.litmus_tests.specs.declared.test.LitmusTest.{LitmusTest}

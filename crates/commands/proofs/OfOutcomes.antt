@@ -7,7 +7,8 @@ use Rattle.std.proofs.{lemmas.List.take_more, lemmas.List.flat_map_more}
 use Rattle.report_lines.proofs.Appending.{appends_more}
 use Rattle.stress_runs.specs.Kept.{order_line, order_text}
 use Rattle.elf_image.specs.Image.{ProgramImage}
-use Rattle.outcomes.specs.{declared.watch.Watch.Watch, Found.Found}
+use Rattle.outcomes.specs.{Found.Found}
+use Rattle.watched_outcomes.specs.{declared.watch.Watch.Watch}
 use Rattle.core_state.specs.Setup.{setup_of}
 use Rattle.event_text.specs.Sinking.{HasPut}
 use Rattle.outcome_queries.specs.declared.term.Term.{Term}

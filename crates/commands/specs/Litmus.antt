@@ -3,7 +3,8 @@ use Rattle.std.specs.Prelude.{◌≡◌, ◌⊎◌, ℕ, nat_lt, Bool, true, fal
 use Rattle.std.specs.Prelude.{Option, codes, length}
 use Rattle.std.specs.Io.KnownBytes.{Appends}
 use Rattle.elf_image.specs.Image.{ProgramImage}
-use Rattle.outcomes.specs.{declared.watch.Watch.Watch, Found.Found, Found.Told}
+use Rattle.outcomes.specs.{Found.Found, Found.Told}
+use Rattle.watched_outcomes.specs.{declared.watch.Watch.Watch}
 use Rattle.outcomes.specs.{Found.InEachSetup, Found.AreAll, Found.CoversCores, Found.IsOnce, Refusals.IsRefusedFor}
 use Rattle.outcomes.specs.declared.refused.OutcomesRefused.TheVariants as search
 use Rattle.outcome_text.specs.Listing.{incomplete_text}

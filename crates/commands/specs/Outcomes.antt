@@ -5,9 +5,10 @@ use Rattle.std.specs.Io.KnownBytes.{Appends}
 use Rattle.elf_image.specs.Image.{ProgramImage}
 use Rattle.core_state.specs.Setup.{setup_of}
 use Rattle.smt_model.specs.Faults.{read_fault}
-use Rattle.outcomes.specs.{declared.watch.Watch.Watch, declared.watch.WatchedRegister.WatchedRegister}
+use Rattle.watched_outcomes.specs.{declared.watch.Watch.Watch, declared.watch.WatchedRegister.WatchedRegister}
 use Rattle.outcomes.specs.{Found.Found, Found.Told, Found.InEachSetup, Found.AreAll, Found.CoversCores, Found.IsOnce}
-use Rattle.outcomes.specs.{Refusals.IsRefusedFor, Refusals.AreWords, Watching.is_register_there, Watching.AreThere}
+use Rattle.outcomes.specs.{Refusals.IsRefusedFor, Refusals.AreWords}
+use Rattle.watched_outcomes.specs.{Watching.is_register_there, Watching.AreThere}
 use Rattle.outcomes.specs.Told.{order_listed}
 use Rattle.smt_model.specs.Setup.{Setup}
 use Rattle.event_text.specs.Sinking.{HasPut}

@@ -25,7 +25,7 @@ use reports::{
     write_tables,
 };
 use smt_core::Core;
-use smt_laws::Account;
+use smt_model::Account;
 use std::alloc::{AllocError, Global};
 use std::io;
 use std::io::Write;

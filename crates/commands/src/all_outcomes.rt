@@ -29,12 +29,13 @@ use outcome_queries::{
     Condition, WatchList, absent_hart, read_condition, read_watch_list, watch_of, with_terms,
 };
 use outcome_text::{write_exists, write_incomplete, write_outcomes};
-use outcomes::{Outcomes, OutcomesRefused, Watch};
+use outcomes::{Outcomes, OutcomesRefused};
 use sim_inputs::{OutcomesCommand, Settings};
 use std::alloc::{AllocError, Global};
 use std::io;
 use std::io::Write;
 use stress_runs::EndFiles;
+use watched_outcomes::Watch;
 
 /// Writes a line for each outcome of an image, for as many harts as the settings say, how many there are,
 /// whether each state can go on to an end, and of which outcomes a condition holds. An order that is

@@ -3,12 +3,13 @@
 ghost use Rattle.std.specs.Prelude.{IfOk, IfErr, OnOk};
 ghost use Rattle.outcomes.specs.Found.{InEachSetup, AreAll, CoversCores, IsOnce};
 ghost use Rattle.outcomes.specs.Refusals.{IsRefusedFor, AreWords};
-ghost use Rattle.outcomes.specs.Watching.{AreThere};
+ghost use Rattle.watched_outcomes.specs.Watching.{AreThere};
 
 use actors::Gate;
 use elf_image::Image;
-use outcomes::{Onlooker, Outcomes, OutcomesRefused, Watch, find_outcomes};
+use outcomes::{Onlooker, Outcomes, OutcomesRefused, find_outcomes};
 use std::alloc::Global;
+use watched_outcomes::Watch;
 
 /// Shows a gate how far a search is.
 #[derive(Drop)]

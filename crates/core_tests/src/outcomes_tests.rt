@@ -3,10 +3,11 @@
 use crate::rows::holds;
 use arrayvec::ArrayVec;
 use elf_image::Image;
-use outcomes::{Outcomes, OutcomesRefused, Watch, WatchedRegister, find_outcomes};
+use outcomes::{Outcomes, OutcomesRefused, find_outcomes};
 use smt_model::Status;
 use std::alloc::Global;
 use test_support::{file_of, image_of};
+use watched_outcomes::{Watch, WatchedRegister};
 
 /// `lui x5,0x80001`, `lw x7,0(x5)`, `addi x7,x7,1`, `sw x7,0(x5)`, `addi x10,x7,0`, `addi x17,x0,93`, `ecall`:
 /// a hart adds one to a word, and ends with what it has written.

@@ -1,7 +1,7 @@
 -- What tells the final states of a litmus test apart, and what an end of its image is as a final state.
 use Rattle.std.specs.Prelude.{ℕ, ◌==◌, ◌&&◌, List, map, position, slice_get, Option, Some, None, unwrap_or}
 use Rattle.std.specs.{Prelude.option_and_then, List.filter_map}
-use Rattle.outcomes.specs.{Endings.Ending, declared.watch.WatchedRegister.WatchedRegister}
+use Rattle.watched_outcomes.specs.{Endings.Ending, declared.watch.WatchedRegister.WatchedRegister}
 use Rattle.litmus_tests.specs.declared.condition.Observed.{Observed}
 use Rattle.litmus_tests.specs.declared.condition.Observed.TheVariants.{Register, Location}
 use Rattle.litmus_tests.specs.declared.test.LitmusTest.{LitmusTest}

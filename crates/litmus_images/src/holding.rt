@@ -11,7 +11,7 @@ use crate::constants::number_of;
 use crate::watching::{location_of, register_of};
 use litmus_tests::{Condition, LitmusTest, Observed};
 use numbers::Reg;
-use outcomes::Outcome;
+use watched_outcomes::Outcome;
 
 /// The place of a register among those that are watched.
 fn register_place(observed: &[Observed], hart: u8, register: Reg) -> Option<usize>

@@ -8,7 +8,7 @@ ghost use Rattle.litmus_images.specs.Watching.{words_observed};
 use crate::constants::address_of;
 use arrayvec::ArrayVec;
 use litmus_tests::{LitmusTest, Observed};
-use outcomes::{MOST_WATCHED, Watch, WatchedRegister};
+use watched_outcomes::{MOST_WATCHED, Watch, WatchedRegister};
 
 /// How many harts the test has: 1 to `MOST_HARTS`.
 pub fn harts_of(test: &LitmusTest) -> u8

@@ -5,7 +5,8 @@ use Rattle.std.specs.{Fmt.decimal}
 use Rattle.smt_model.specs.{declared.config.Status.Status, declared.config.Status.TheVariants.Going}
 use Rattle.smt_model.specs.{declared.config.Status.TheVariants.Ended}
 use Rattle.smt_model.specs.{declared.config.Status.TheVariants.Stopped}
-use Rattle.outcomes.specs.{Endings.Ending, Found.Told}
+use Rattle.outcomes.specs.{Found.Told}
+use Rattle.watched_outcomes.specs.{Endings.Ending}
 use Rattle.litmus_text.specs.Each.{each_from}
 use Rattle.litmus_tests.specs.declared.test.LitmusTest.{LitmusTest}
 use Rattle.litmus_tests.specs.declared.condition.Observed.{Observed}

@@ -11,11 +11,11 @@ use crate::value::{write_number, write_observed};
 use arrayvec::ArrayString;
 use litmus_images::value_in;
 use litmus_tests::{LitmusTest, Observed};
-use outcomes::Outcome;
 use smt_model::Status;
 use std::io;
 use std::io::Write;
 use text_fields::push_decimal;
+use watched_outcomes::Outcome;
 
 /// Writes the line of a state: what is looked at, in the test's order, and each hart that stopped otherwise
 /// than at its EBREAK; one space between two.

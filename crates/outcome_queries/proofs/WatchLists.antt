@@ -4,7 +4,7 @@ use Rattle.std.proofs.Common.{refl, sym, ap, subst, ◌∙◌, arith, append_ass
 use Rattle.std.proofs.Common.{append-nil, inl, inr}
 use Rattle.std.proofs.lemmas.List.{take_more, take_all, flat_map_more}
 use Rattle.std.proofs.lemmas.List.Elements.{All-more, All-weaker, Contains-append_left}
-use Rattle.outcomes.specs.declared.watch.WatchedRegister.{WatchedRegister}
+use Rattle.watched_outcomes.specs.declared.watch.WatchedRegister.{WatchedRegister}
 use Rattle.outcome_queries.specs.{declared.term.Term.Term, declared.watched.Watched.Watched}
 use Rattle.outcome_queries.specs.declared.term.Term.TheVariants as terms
 use Rattle.outcome_queries.specs.declared.watched.Watched.TheVariants as watched

@@ -2,7 +2,7 @@
 use Rattle.std.specs.Prelude.{ℕ, ◌==◌, Bool, ◌&&◌, false, List, Option, Some, None, position, slice_get}
 use Rattle.smt_model.specs.{declared.config.Status.Status, declared.config.Status.TheVariants.Ended}
 use Rattle.smt_model.specs.{declared.config.Status.TheVariants.Stopped}
-use Rattle.outcomes.specs.{Endings.Ending, declared.watch.Watch.Watch}
+use Rattle.watched_outcomes.specs.{Endings.Ending, declared.watch.Watch.Watch}
 use Rattle.outcome_queries.specs.declared.term.Term.{Term}
 use Rattle.outcome_queries.specs.declared.term.Term.TheVariants as terms
 use Rattle.outcome_queries.specs.declared.watched.Watched.TheVariants as watched

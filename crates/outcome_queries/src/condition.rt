@@ -8,8 +8,8 @@ ghost use Rattle.outcome_queries.specs.Lists.{IsSeparated, IsRefusedFor, IsPartR
 use crate::refused::{Expected, QueryRefused};
 use crate::term::{Term, read_term};
 use arrayvec::ArrayVec;
-use outcomes::MOST_WATCHED;
 use text_fields::{field_count, split_field};
+use watched_outcomes::MOST_WATCHED;
 
 /// A condition: its terms, all of which hold where it holds.
 pub type Condition = ArrayVec<Term, MOST_WATCHED>;

@@ -7,8 +7,8 @@ ghost use Rattle.outcome_queries.specs.Holding.{register_in, word_in, at_place, 
 
 use crate::term::Term;
 use crate::watched::Watched;
-use outcomes::{Outcome, Watch, WatchedRegister};
 use smt_model::Status;
+use watched_outcomes::{Outcome, Watch, WatchedRegister};
 
 /// Whether all terms of a condition hold of an outcome, of which these registers and words were watched.
 /// A hart that isn't there has no end, and what isn't watched no number.

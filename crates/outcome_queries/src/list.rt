@@ -9,8 +9,8 @@ ghost use Rattle.outcome_queries.specs.Lists.{IsSeparated, IsRefusedFor, IsPartR
 use crate::refused::{Expected, QueryRefused};
 use crate::watched::{Watched, read_watched};
 use arrayvec::ArrayVec;
-use outcomes::MOST_WATCHED;
 use text_fields::{field_count, split_field};
+use watched_outcomes::MOST_WATCHED;
 
 /// What is watched, in the order in which it was named.
 pub type WatchList = ArrayVec<Watched, MOST_WATCHED>;

@@ -1,5 +1,5 @@
-use outcomes::MOST_WATCHED;
 use std::fmt;
+use watched_outcomes::MOST_WATCHED;
 
 /// What was expected where a text is refused.
 #[derive(Clone, Copy, Debug, PartialEq, Eq, Drop)]

@@ -8,7 +8,7 @@ use crate::list::WatchList;
 use crate::term::Term;
 use crate::watched::Watched;
 use arrayvec::ArrayVec;
-use outcomes::{MOST_WATCHED, Watch, WatchedRegister};
+use watched_outcomes::{MOST_WATCHED, Watch, WatchedRegister};
 
 /// What a list names and behind it what the terms of a condition name, each once, where it is named first; none
 /// where that is more than can be watched.

@@ -6,9 +6,10 @@ use Rattle.report_lines.proofs.Appending.{appends_more}
 use Rattle.std.proofs.Common.{Bool, true, false, ◌||◌, refl}
 use Rattle.std.specs.List.{list_any}
 use Rattle.std.proofs.lemmas.List.Folds.{list_any_at, list_any_more}
-use Rattle.outcomes.specs.{declared.watch.Watch.Watch, Found.Told}
+use Rattle.outcomes.specs.{Found.Told}
+use Rattle.watched_outcomes.specs.{declared.watch.Watch.Watch}
 use Rattle.outcome_queries.specs.declared.term.Term.{Term}
-use Rattle.outcomes.specs.declared.watch.WatchedRegister.{WatchedRegister}
+use Rattle.watched_outcomes.specs.declared.watch.WatchedRegister.{WatchedRegister}
 use Rattle.outcome_text.specs.Line.{register_text, word_text}
 use Rattle.outcome_text.specs.{Line.each_from, Listing.holds_of, Listing.place_of, Listing.place_text}
 

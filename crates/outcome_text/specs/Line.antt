@@ -5,8 +5,8 @@ use Rattle.text_fields.specs.Spelling.{hex}
 use Rattle.smt_model.specs.{declared.config.Status.Status, declared.config.Status.TheVariants.Going}
 use Rattle.smt_model.specs.{declared.config.Status.TheVariants.Ended}
 use Rattle.smt_model.specs.{declared.config.Status.TheVariants.Stopped}
-use Rattle.outcomes.specs.{Endings.Ending, declared.watch.Watch.Watch}
-use Rattle.outcomes.specs.declared.watch.WatchedRegister.{WatchedRegister}
+use Rattle.watched_outcomes.specs.{Endings.Ending, declared.watch.Watch.Watch}
+use Rattle.watched_outcomes.specs.declared.watch.WatchedRegister.{WatchedRegister}
 use Rattle.outcome_queries.specs.Names.{abi_name}
 
 -- A text for each member of a list, of its index from `index` on.

@@ -3,7 +3,8 @@
 use Rattle.std.specs.Prelude.{ℕ, ◌+◌, Bool, true, false, if◌then◌else◌, List, [], ◌∷◌, ◌++◌, codes, length}
 use Rattle.std.specs.{Fmt.decimal, List.list_all, List.list_any}
 use Rattle.report_lines.specs.Lines.{count_line}
-use Rattle.outcomes.specs.{declared.watch.Watch.Watch, Found.Told, Found.Found}
+use Rattle.outcomes.specs.{Found.Told, Found.Found}
+use Rattle.watched_outcomes.specs.{declared.watch.Watch.Watch}
 use Rattle.outcome_queries.specs.{declared.term.Term.Term, Holding.term_holds}
 use Rattle.outcome_text.specs.Line.{each_from, outcome_line}
 

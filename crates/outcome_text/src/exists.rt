@@ -9,10 +9,11 @@ ghost use Rattle.outcomes.specs.Found.{Told};
 
 use arrayvec::ArrayString;
 use outcome_queries::{Term, holds};
-use outcomes::{Outcomes, Watch};
+use outcomes::Outcomes;
 use std::io;
 use std::io::Write;
 use text_fields::{push_ascii, push_decimal};
+use watched_outcomes::Watch;
 
 /// Writes of which outcomes a condition holds, by the numbers of their lines from 1.
 #[tactic(auto, unfolding(crate::specs::Listing::exists_text))]

@@ -10,12 +10,12 @@ ghost use Rattle.outcome_text.specs.Line.{word_lead, output_lead, output_text, o
 
 use arrayvec::ArrayString;
 use outcome_queries::push_abi_name;
-use outcomes::{Outcome, Watch, WatchedRegister};
 use report_lines::write_bytes;
 use smt_model::Status;
 use std::io;
 use std::io::Write;
 use text_fields::{push_ascii, push_decimal, push_hex, push_small_number};
+use watched_outcomes::{Outcome, Watch, WatchedRegister};
 
 /// Room for a part of a line.
 type Part = ArrayString<64>;

@@ -8,11 +8,12 @@ ghost use Rattle.outcome_text.specs.Listing.{told_line, ends_text, outcomes_text
 
 use crate::line::write_line;
 use arrayvec::ArrayString;
-use outcomes::{Outcomes, Watch};
+use outcomes::Outcomes;
 use report_lines::report_count;
 use std::io;
 use std::io::Write;
 use text_fields::push_decimal;
+use watched_outcomes::Watch;
 
 /// Writes all outcomes of a program, of which these registers and words were watched: a line for each, how
 /// many there are, how many states were looked at, and whether one of them can't go on to an end. Where it

@@ -5,8 +5,10 @@ use Rattle.std.proofs.lemmas.Bool.{cases_lt}
 use Rattle.std.proofs.lemmas.Option.{slice_get_within, slice_get-get_or}
 use Rattle.searches.proofs.Places.{same_element, contains_at, place_of}
 use Rattle.condensed_machine.specs.{Machine.Machine, declared.state.State.State}
-use Rattle.outcomes.specs.declared.{watch.Watch.Watch, listed.Listed.Listed}
-use Rattle.outcomes.specs.{Endings.Ending, Lists.HasEnding, Lists.IsPut}
+use Rattle.outcomes.specs.declared.{listed.Listed.Listed}
+use Rattle.watched_outcomes.specs.declared.{watch.Watch.Watch}
+use Rattle.outcomes.specs.{Lists.HasEnding, Lists.IsPut}
+use Rattle.watched_outcomes.specs.{Endings.Ending}
 use Rattle.outcomes.specs.Collected.{ending_at, IsOfEnd, AreOutcomes}
 
 -- Of the ends before a place each outcome is listed, and nothing else.

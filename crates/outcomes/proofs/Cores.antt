@@ -9,9 +9,9 @@ use Rattle.smt_model.specs.{Basics.below, Bytes.number_at, Rules.is_legal, Accou
 use Rattle.smt_model.specs.Memory.{byte_at, output, status}
 use Rattle.smt_laws.specs.Sequential.{IsSequential, EachIsSequential}
 use Rattle.outcome_laws.specs.Paths.{path, can_step, IsEnd, RunsArePaths}
-use Rattle.outcomes.specs.declared.watch.{Watch.Watch, WatchedRegister.WatchedRegister}
-use Rattle.outcomes.specs.{Endings.Ending, Endings.ending_of, Endings.watched_in, Endings.word_in, Watching.AreThere}
-use Rattle.outcomes.specs.{Watching.is_register_there}
+use Rattle.watched_outcomes.specs.declared.watch.{Watch.Watch, WatchedRegister.WatchedRegister}
+use Rattle.watched_outcomes.specs.{Endings.Ending, Endings.ending_of, Endings.watched_in, Endings.word_in, Watching.AreThere}
+use Rattle.watched_outcomes.specs.{Watching.is_register_there}
 use Rattle.outcomes.specs.Found.{Found, EndsSo, IsComplete, AllAreOver, CoversCores, committed_in, core_word, core_ending}
 use Rattle.outcomes.proofs.{Endings.map_members, Graph.none_behind}
 

@@ -7,9 +7,10 @@ use Rattle.smt_model.specs.{declared.config.Status.Status}
 use Rattle.smt_model.specs.{Basics.below, Plain.Plain, Bytes.number_at}
 use Rattle.outcome_laws.specs.Live.{AreAlike}
 use Rattle.condensed_machine.specs.Resting.{is_watched}
-use Rattle.outcomes.specs.declared.{watch.Watch.Watch, watch.WatchedRegister.WatchedRegister}
-use Rattle.outcomes.specs.{Endings.Ending, Endings.ending_of, Endings.watched_in, Endings.word_in}
-use Rattle.outcomes.specs.{Watching.AreThere, Watching.is_register_there, Refusals.AreWatched}
+use Rattle.watched_outcomes.specs.declared.{watch.Watch.Watch, watch.WatchedRegister.WatchedRegister}
+use Rattle.watched_outcomes.specs.{Endings.Ending, Endings.ending_of, Endings.watched_in, Endings.word_in}
+use Rattle.outcomes.specs.{Refusals.AreWatched}
+use Rattle.watched_outcomes.specs.{Watching.AreThere, Watching.is_register_there}
 
 -- Two functions that agree on each member map a list to the same.
 pub map_members : {X Y : Type 0} (f g : X → Y) (xs : List X)

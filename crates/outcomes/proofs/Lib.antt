@@ -3,7 +3,6 @@ mod Listing
 mod Endings
 mod Watching
 mod Growing
-mod Same
 mod Collected
 mod Telling
 mod Cores

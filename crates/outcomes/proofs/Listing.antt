@@ -7,7 +7,8 @@ use Rattle.std.proofs.lemmas.Bool.{cases_lt, cases_order}
 use Rattle.std.proofs.lemmas.Option.{slice_get-map, slice_get-get_or, get_or_from_slice_get, slice_get_cases}
 use Rattle.std.proofs.lemmas.List.{length-map}
 use Rattle.searches.proofs.Places.{contains_at, place_of}
-use Rattle.outcomes.specs.{Endings.Ending, Found.Told, Lists.HasEnding, Lists.IsPut, Lists.AreOnce}
+use Rattle.outcomes.specs.{Found.Told, Lists.HasEnding, Lists.IsPut, Lists.AreOnce}
+use Rattle.watched_outcomes.specs.{Endings.Ending}
 use Rattle.outcomes.specs.declared.listed.Listed.{Listed}
 
 pub contains_map : {X Y : Type 0} (f : X → Y) (xs : List X) (x : X) → Contains xs x → Contains (map f xs) (f x)

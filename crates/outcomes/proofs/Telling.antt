@@ -10,8 +10,10 @@ use Rattle.searches.specs.{Found.Found as Graph, Found.IsGraph, Ending.IsLeastSt
 use Rattle.condensed_machine.specs.{Machine.Machine, Machine.IsSound as IsSoundProgram, Decoded.state_of}
 use Rattle.condensed_machine.specs.Steps.{Steps, HasBegun}
 use Rattle.condensed_machine.specs.declared.{begun.Begun.Begun, state.State.State}
-use Rattle.outcomes.specs.declared.{watch.Watch.Watch, listed.Listed.Listed}
-use Rattle.outcomes.specs.{Endings.Ending, Endings.ending_of, Lists.HasEnding, Watching.AreThere, Refusals.AreWatched}
+use Rattle.outcomes.specs.declared.{listed.Listed.Listed}
+use Rattle.watched_outcomes.specs.declared.{watch.Watch.Watch}
+use Rattle.outcomes.specs.{Lists.HasEnding, Refusals.AreWatched}
+use Rattle.watched_outcomes.specs.{Endings.Ending, Endings.ending_of, Watching.AreThere}
 use Rattle.outcomes.specs.Collected.{ending_at, IsOfEnd, AreOutcomes}
 use Rattle.outcomes.specs.Found.{Found, Told, EndsSo, HasOutcome, IsComplete, IsSound, AreAll}
 use Rattle.outcomes.specs.Told.{told_of, order_at}

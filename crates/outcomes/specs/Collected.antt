@@ -1,8 +1,10 @@
 -- The outcomes of a search's ends.
 use Rattle.std.specs.Prelude.{◌≡◌, ℕ, List, Contains, Some, slice_get}
 use Rattle.condensed_machine.specs.{Machine.Machine, Decoded.state_of, declared.state.State.State}
-use Rattle.outcomes.specs.declared.{watch.Watch.Watch, listed.Listed.Listed}
-use Rattle.outcomes.specs.{Endings.Ending, Endings.ending_of, Lists.HasEnding}
+use Rattle.outcomes.specs.declared.{listed.Listed.Listed}
+use Rattle.watched_outcomes.specs.declared.{watch.Watch.Watch}
+use Rattle.outcomes.specs.{Lists.HasEnding}
+use Rattle.watched_outcomes.specs.{Endings.Ending, Endings.ending_of}
 
 -- What a state is as an end.
 abbrev pub ending_at : Machine → Watch → State → Ending

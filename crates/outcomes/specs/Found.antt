@@ -8,8 +8,8 @@ use Rattle.smt_model.specs.{Setup.Setup, Plain.Plain, Plain.start, Plain.is_goin
 use Rattle.smt_model.specs.{Basics.below, Bytes.number_at, Registers.committed, Registers.value}
 use Rattle.smt_model.specs.Memory.{byte_at, output, status}
 use Rattle.outcome_laws.specs.{Paths.path, Paths.IsEnd, Search.CanEnd}
-use Rattle.outcomes.specs.declared.{watch.Watch.Watch, watch.WatchedRegister.WatchedRegister}
-use Rattle.outcomes.specs.Endings.{Ending, ending_of}
+use Rattle.watched_outcomes.specs.declared.{watch.Watch.Watch, watch.WatchedRegister.WatchedRegister}
+use Rattle.watched_outcomes.specs.Endings.{Ending, ending_of}
 
 -- An outcome, and an order of harts that leads to it, the first step first.
 pub record Told : Type 0 where

@@ -1,5 +1,3 @@
-pub mod Watching
-pub mod Endings
 pub mod Lists
 pub mod Collected
 pub mod Found

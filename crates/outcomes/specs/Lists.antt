@@ -1,6 +1,6 @@
 -- Lists of outcomes.
 use Rattle.std.specs.Prelude.{◌≡◌, ◌≢◌, ◌⊎◌, ℕ, List, Contains, AllPairs}
-use Rattle.outcomes.specs.{Endings.Ending}
+use Rattle.watched_outcomes.specs.{Endings.Ending}
 use Rattle.outcomes.specs.declared.listed.Listed.{Listed}
 
 -- Some member of the list has this outcome.

@@ -8,10 +8,10 @@ use Rattle.searches.specs.Found.{Exceeds}
 use Rattle.condensed_machine.specs.Machine.{Machine}
 use Rattle.condensed_machine.specs.{Steps.Steps, Steps.HasBegun}
 use Rattle.condensed_machine.specs.declared.begun.Begun.{Begun}
-use Rattle.outcomes.specs.declared.{watch.Watch.Watch, watch.WatchedRegister.WatchedRegister}
+use Rattle.watched_outcomes.specs.declared.{watch.Watch.Watch, watch.WatchedRegister.WatchedRegister}
 use Rattle.outcomes.specs.declared.refused.OutcomesRefused.{OutcomesRefused}
 use Rattle.outcomes.specs.declared.refused.OutcomesRefused.TheVariants.{Harts, Register, Word, Budget, Memory}
-use Rattle.outcomes.specs.Watching.{IsAbsentRegister}
+use Rattle.watched_outcomes.specs.Watching.{IsAbsentRegister}
 
 -- A word can be loaded at each address that is watched.
 abbrev pub AreWords : ProgramImage → Watch → Type 0

@@ -7,7 +7,8 @@ use Rattle.searches.specs.Found.{moves_at}
 use Rattle.condensed_machine.specs.Steps.{turns}
 use Rattle.outcomes.specs.declared.listed.Listed.{Listed}
 use Rattle.outcomes.specs.declared.outcomes.Outcomes.TheInside.{Inside}
-use Rattle.outcomes.specs.{Endings.Ending, Found.Told, Found.Found}
+use Rattle.outcomes.specs.{Found.Told, Found.Found}
+use Rattle.watched_outcomes.specs.{Endings.Ending}
 
 -- The order of harts that moves come to: each hart's step, and the local ones behind it.
 abbrev pub moved : List (Move ℕ) → List ℕ

@@ -6,18 +6,17 @@ ghost use Rattle.condensed_machine.specs.Decoded.{Knows, state_of};
 ghost use Rattle.condensed_machine.specs.declared.state.State.{State};
 ghost use Rattle.smt_model.specs.Faults.{read_fault};
 ghost use Rattle.outcomes.specs.{Collected.AreOutcomes, Lists.AreOnce};
-ghost use Rattle.outcomes.specs.Endings.{ending_of, watched_in, word_in};
-ghost use Rattle.outcomes.specs.Watching.{AreThere};
+ghost use Rattle.watched_outcomes.specs.Endings.{ending_of, watched_in, word_in};
+ghost use Rattle.watched_outcomes.specs.Watching.{AreThere};
 
 use crate::listed::{Listed, put};
-use crate::outcome::Outcome;
-use crate::watch::Watch;
 use arrayvec::ArrayVec;
 use condensed_machine::{CondensedMachine, State};
 use numbers::sizes::HART_ROOM;
 use searches::Search;
 use smt_model::Status;
 use std::alloc::{AllocError, Global};
+use watched_outcomes::{Outcome, Watch};
 
 /// The outcomes of a search's ends, sorted, each with the place of the first end that has it. Errors: want of
 /// memory.

@@ -10,17 +10,17 @@ ghost use Rattle.searches.specs.Found.{IsGraph};
 ghost use Rattle.outcomes.specs.Found.{InEachSetup, AreAll, CoversCores, IsOnce};
 ghost use Rattle.outcomes.specs.Refusals.{IsRefusedFor, AreWords, AreWatched};
 ghost use Rattle.outcomes.specs.declared.refused.OutcomesRefused.TheVariants.{Memory};
-ghost use Rattle.outcomes.specs.Watching.{AreThere};
+ghost use Rattle.watched_outcomes.specs.Watching.{AreThere};
 
 use crate::collecting::list_outcomes;
 use crate::outcomes::Outcomes;
 use crate::refused::OutcomesRefused;
-use crate::watch::Watch;
 use condensed_machine::{Begun, CondensedMachine, State};
 use elf_image::Image;
 use sc_machine::PlainRefused;
 use searches::{Onlooker, Search, SearchStopped, explore};
 use std::alloc::Global;
+use watched_outcomes::Watch;
 
 /// Finds all outcomes of a program of 1 to `MOST_HARTS` harts, by a search over at most `budget` states of
 /// the plain machine. The onlooker is told now and then how far the search is.

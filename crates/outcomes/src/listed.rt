@@ -3,8 +3,9 @@
 ghost use Rattle.std.specs.Prelude.{◌≡◌, ◌≤◌, true, false, OnOk, length};
 ghost use Rattle.outcomes.specs.Lists.{HasEnding, IsPut, AreOnce};
 
-use crate::outcome::Outcome;
+use crate::ordering::comes_before;
 use std::alloc::AllocError;
+use watched_outcomes::Outcome;
 
 /// An outcome, and the place of the first state that was found to have it.
 #[derive(Drop)]
@@ -43,7 +44,7 @@ fn index_for(listed: &[Listed], outcome: &Outcome) -> usize
     ensures within { result ≤ length listed.now }
 {
     for index in 0..listed.len() {
-        if outcome.comes_before(&listed[index].outcome) {
+        if comes_before(outcome, &listed[index].outcome) {
             return index;
         }
     }

@@ -3,12 +3,12 @@ ghost use Rattle.numbers.specs.Sizes.{most_harts};
 ghost use Rattle.outcomes.specs.Told.{ending_listed, order_listed, order_at, moved};
 
 use crate::listed::Listed;
-use crate::outcome::Outcome;
 use condensed_machine::State;
 use numbers::sizes::HART_ROOM;
 use searches::{Move, Search};
 use std::alloc::{AllocError, Global};
 use std::marker::Model;
+use watched_outcomes::Outcome;
 
 /// All outcomes of a program, sorted, each once and each with an order of harts that leads to it.
 #[derive(Drop)]

@@ -5,7 +5,7 @@ ghost use Rattle.reports.specs.Report.{report_text};
 
 use plain_run::PlainRun;
 use report_lines::{report_count, report_end, report_records, report_standing};
-use smt_laws::Account;
+use smt_model::Account;
 use std::io;
 use std::io::Write;
 

@@ -7,7 +7,7 @@ use Rattle.std.proofs.lemmas.List.Concat.{flat_map-append}
 use Rattle.rv_instr.specs.declared.op.UnitKind.TheVariants.{Alu, Mul}
 use Rattle.events.specs.declared.role.Role.{Role}
 use Rattle.smt_model.specs.Asks.{Ask, AskFetch, AskDecode, AskRename, AskRetire}
-use Rattle.smt_laws.specs.{declared.turn.Turn.Turn}
+use Rattle.smt_model.specs.declared.turn.Turn.{Turn}
 use Rattle.smt_laws.specs.Scripts.{unit_of_kind, with_unit, fetch_asks, asks_in_turn, turns_script}
 use Rattle.scripts.specs.{declared.actions.ScriptWord.ScriptWord, Lines.words_in}
 use Rattle.scripts.specs.declared.actions.Action.TheVariants as action

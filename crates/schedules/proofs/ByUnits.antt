@@ -2,7 +2,7 @@
 use Rattle.std.specs.Prelude.{ℕ, Bool, true, false, List, [], ◌∷◌, ◌++◌, Option, Some, None}
 use Rattle.scripts.specs.{declared.actions.ScriptWord.ScriptWord, Lines.words_in}
 use Rattle.schedules.specs.{declared.units.Units.Units, Asks.HasNoIssue}
-use Rattle.smt_laws.specs.{declared.turn.Turn.Turn}
+use Rattle.smt_model.specs.declared.turn.Turn.{Turn}
 use Rattle.schedules.specs.Turns.{unit_words, fetch_words, turn_words, turn_lines, schedule_lines}
 
 both : (xs ys : List ScriptWord) → HasNoIssue xs → HasNoIssue ys → HasNoIssue (xs ++ ys)

@@ -17,7 +17,7 @@ use Rattle.smt_laws.specs.Shown.{Predictor, CanShow, IsShown, AcceptedCoresCanSh
 use Rattle.smt_laws.specs.Scripts.{ScriptsShowRuns, TurnsShowRuns, unit_of_kind, HasReplied, script, turn_asks}
 use Rattle.smt_laws.specs.Scripts.{is_stale}
 use Rattle.smt_laws.specs.Scripts.{turns_of, turns_script, refetching}
-use Rattle.smt_laws.specs.{declared.turn.Turn.Turn}
+use Rattle.smt_model.specs.declared.turn.Turn.{Turn}
 use Rattle.sc_machine.specs.Steps.{are_harts}
 use Rattle.scripts.specs.declared.actions.ScriptWord.{ScriptWord}
 use Rattle.scripts.specs.Lines.{IsWord, LinesAreScripts, words_in}

@@ -10,7 +10,7 @@ use Rattle.elf_image.specs.Image.{ProgramImage, code_writable}
 use Rattle.events.specs.declared.effect.Record.{Record}
 use Rattle.smt_model.specs.{Basics.same_number, Setup.Setup}
 use Rattle.smt_model.specs.Plain.{Run, run, start, advance, step, word_at_pc, is_going_status}
-use Rattle.smt_laws.specs.{declared.turn.Turn.Turn}
+use Rattle.smt_model.specs.declared.turn.Turn.{Turn}
 use Rattle.smt_laws.specs.Scripts.{turns_of, refetching, is_stale, waiting_word, word_after, goes_after}
 use Rattle.sc_machine.specs.{Machine.Machine, Machine.Agrees, Machine.InEachState, Steps.InEachRun, Steps.IsStep}
 use Rattle.plain_run.specs.Orders.{OfEachSetup}

@@ -5,7 +5,7 @@ use Rattle.std.proofs.Common.{sym, ap, subst, ◌∙◌, append-nil}
 use Rattle.std.proofs.{lemmas.List.map_more, lemmas.List.Concat.flat_map-append}
 use Rattle.scripts.specs.Lines.{line_text}
 use Rattle.scripts.proofs.Written.{appends_more}
-use Rattle.smt_laws.specs.{declared.turn.Turn.Turn}
+use Rattle.smt_model.specs.declared.turn.Turn.{Turn}
 use Rattle.schedules.specs.{declared.units.Units.Units, Turns.turn_words, Turns.turn_lines}
 
 pub turns_step : (old mid new : Option (List ℕ)) (units : Units) (turns : List Turn) (i : ℕ) (d : Turn)

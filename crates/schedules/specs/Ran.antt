@@ -3,7 +3,8 @@ use Rattle.std.specs.Prelude.{◌≡◌, ℕ, Bool, true, false, if◌then◌els
 use Rattle.std.specs.Prelude.{reverse}
 use Rattle.elf_image.specs.Image.{code_writable}
 use Rattle.smt_model.specs.{Setup.Setup, Plain.Run, Plain.run}
-use Rattle.smt_laws.specs.{declared.turn.Turn.Turn, Scripts.turns_of}
+use Rattle.smt_laws.specs.Scripts.{turns_of}
+use Rattle.smt_model.specs.declared.turn.Turn.{Turn}
 use Rattle.schedules.specs.declared.running.Ran.{Ran}
 
 abbrev pub whole_turn : ℕ → Turn

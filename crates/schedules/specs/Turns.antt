@@ -4,7 +4,8 @@ use Rattle.std.specs.Prelude.{◌≡◌, ℕ, Bool, true, false, List, [], ◌�
 use Rattle.std.specs.Prelude.{flat_map, map}
 use Rattle.rv_instr.specs.declared.op.UnitKind.TheVariants.{Alu, Mul, Mem}
 use Rattle.events.specs.declared.role.Role.{Role}
-use Rattle.smt_laws.specs.{declared.turn.Turn.Turn, Scripts.unit_of_kind}
+use Rattle.smt_laws.specs.Scripts.{unit_of_kind}
+use Rattle.smt_model.specs.declared.turn.Turn.{Turn}
 use Rattle.scripts.specs.{declared.actions.Action.Action, declared.actions.ScriptWord.ScriptWord}
 use Rattle.scripts.specs.{Lines.line_text}
 use Rattle.scripts.specs.declared.actions.Action.TheVariants as action

@@ -13,8 +13,7 @@ use elf_image::Image;
 use events::Record;
 use numbers::sizes::HART_ROOM;
 use sc_machine::{Plain, PlainRefused};
-use smt_laws::Turn;
-use smt_model::Status;
+use smt_model::{Status, Turn};
 use std::alloc::Global;
 
 /// What the plain machine has left when it has run an order.

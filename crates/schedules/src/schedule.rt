@@ -9,7 +9,7 @@ ghost use Rattle.schedules.specs.Turns.{turn_words, turn_lines, unit_words, fetc
 use crate::units::Units;
 use arrayvec::ArrayVec;
 use scripts::{Action, ScriptWord, write_line};
-use smt_laws::Turn;
+use smt_model::Turn;
 use std::io;
 use std::io::Write;
 use std::marker::Model;

@@ -32,9 +32,8 @@ use exec_units::Done;
 use numbers::Phys;
 use numbers::sizes::{HART_ROOM, MOST_REGISTERS};
 use shared_memory::Memory;
-use smt_laws::Account;
 use smt_laws::laws::refines_the_plain_machine;
-use smt_model::{Config, Status};
+use smt_model::{Account, Config, Status};
 use std::alloc::Global;
 use std::marker::Model;
 

@@ -21,5 +21,4 @@ pub use finished::Finished;
 pub use follow::Followed;
 pub use predict::Predict;
 pub use shown::show;
-pub use smt_laws::Account;
-pub use smt_model::{Config, Role, Status};
+pub use smt_model::{Account, Config, Role, Status};

@@ -15,7 +15,7 @@ use Rattle.smt_model.specs.Rules.{refused, is_allowed}
 use Rattle.smt_model.specs.Asks.{Ask, AskFetch, AskDecode, AskRename, AskIssue, AskComplete}
 use Rattle.smt_model.specs.Asks.{AskRetire, answers}
 use Rattle.smt_laws.specs.Shown.{Predictor, IsDecided, CanShow, HasEachKind, IsShown}
-use Rattle.smt_laws.specs.declared.turn.Turn.{Turn}
+use Rattle.smt_model.specs.declared.turn.Turn.{Turn}
 
 -- ---- Replies
 

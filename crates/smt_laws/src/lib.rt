@@ -3,15 +3,8 @@
 //!
 //! There is no code here. The statements stand in `specs`, to be read in this order: `Histories`,
 //! `Untouched`, `Sequential`, `Chain`, `Execution`, `Code`, `Shown`, `Scripts`, `PlainLaws`.
-//! `account` is the type of what a history comes to: who prints one knows the laws and no core; and
-//! `turn` that of a script's turn.
 #![tactic(auto)]
 
-mod account;
 pub mod histories;
 pub mod laws;
 pub mod shown;
-mod turn;
-
-pub use account::Account;
-pub use turn::Turn;

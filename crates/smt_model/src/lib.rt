@@ -6,9 +6,15 @@
 //! `Plain`; then, over lists of events, `Folds`, `Fates`, `Flights`, `Registers`, `Memory`, `Looks`,
 //! `Fetching`, `Jobs`, `Comparisons`, `Rules`, `Account`, `Picture`, `Frames`, `Steps`, `Asks`.
 //! What follows from them for every legal history stands in `smt_laws`.
+//! The types that these speak of are the code: `config`, `account` (what a history comes to) and `turn` (that of
+//! a script).
 #![tactic(auto)]
 
+mod account;
 pub mod config;
+mod turn;
 
+pub use account::Account;
 pub use config::{Config, Status};
 pub use events::Role;
+pub use turn::Turn;

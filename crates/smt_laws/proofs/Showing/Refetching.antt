@@ -17,7 +17,7 @@ use Rattle.smt_model.specs.Asks.{Ask, AskDecode, AskRename, AskRetire, AskFetch}
 use Rattle.smt_model.proofs.{Lists.member, Fates.Moves.same_number-self, Fates.Numbers.known}
 use Rattle.smt_model.proofs.{Fates.Numbers.known_fetched}
 use Rattle.smt_laws.specs.Shown.{Predictor, HasEachKind}
-use Rattle.smt_laws.specs.declared.turn.Turn.{Turn}
+use Rattle.smt_model.specs.declared.turn.Turn.{Turn}
 use Rattle.smt_laws.specs.Scripts.{turns_of, turns_script, turn_asks, last_asks, refetching, is_stale, waiting_word}
 use Rattle.smt_laws.specs.Scripts.{word_after, goes_after}
 use Rattle.smt_laws.proofs.{Done.some_one}

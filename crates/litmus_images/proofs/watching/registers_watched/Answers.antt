@@ -1,5 +1,5 @@
 use Rattle.std.proofs.Common.{arith, ap, sym, ◌∙◌, length, List, [], ◌∷◌, ◌++◌}
-use Rattle.outcomes.specs.declared.watch.WatchedRegister.{WatchedRegister}
+use Rattle.watched_outcomes.specs.declared.watch.WatchedRegister.{WatchedRegister}
 use Rattle.litmus_images.specs.Watching.{register_of}
 use Rattle.litmus_images.proofs.Watched.{some_more, none_more, room}
 use Rattle.litmus_images.proofs.watching.registers_watched.Goals as goal

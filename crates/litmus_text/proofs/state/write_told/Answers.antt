@@ -1,5 +1,5 @@
 use Rattle.std.proofs.Common.{◌∙◌, ap}
-use Rattle.outcomes.specs.{Endings.Ending}
+use Rattle.watched_outcomes.specs.{Endings.Ending}
 use Rattle.litmus_text.specs.State.{first_told}
 use Rattle.litmus_text.proofs.state.write_told.Goals as goal
 

@@ -1,6 +1,6 @@
 use Rattle.std.proofs.Common.{◌≡◌, map, take}
 use Rattle.condensed_machine.specs.Decoded.{state_of}
-use Rattle.outcomes.specs.Endings.{watched_in}
+use Rattle.watched_outcomes.specs.Endings.{watched_in}
 use Rattle.outcomes.proofs.collecting.registers_of.Given as goal
 
 -- those of the registers before this one

@@ -1,6 +1,6 @@
 use Rattle.std.proofs.Common.{◌≡◌, map, take}
 use Rattle.condensed_machine.specs.Decoded.{state_of}
-use Rattle.outcomes.specs.Endings.{word_in}
+use Rattle.watched_outcomes.specs.Endings.{word_in}
 use Rattle.outcomes.proofs.collecting.words_of.Given as goal
 
 -- those of the words before this one

@@ -2,7 +2,8 @@ use Rattle.std.proofs.lemmas.Option.{slice_get_within}
 use Rattle.smt_laws.proofs.Sequential.{sequential}
 use Rattle.outcome_laws.proofs.Paths.{runs_are_paths}
 use Rattle.std.proofs.Common.{refl, subst, sym}
-use Rattle.outcomes.specs.{Watching.AreThere, Told.found_of, Told.told_of}
+use Rattle.outcomes.specs.{Told.found_of, Told.told_of}
+use Rattle.watched_outcomes.specs.{Watching.AreThere}
 use Rattle.outcomes.proofs.Listing.{once_told}
 use Rattle.outcomes.proofs.{Telling.all_told, Telling.stuck_inside, Cores.covers_cores}
 use Rattle.outcomes.proofs.finding.tell.Goals as goal

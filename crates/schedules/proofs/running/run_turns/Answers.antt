@@ -3,7 +3,7 @@ use Rattle.std.proofs.Common.{subst, ◌∙◌, arith, List, Option, ℕ}
 use Rattle.std.proofs.lemmas.List.{length_push, length-set, take_all, take_more}
 use Rattle.events.specs.declared.effect.Record.{Record}
 use Rattle.smt_model.specs.Plain.{start, is_going_status}
-use Rattle.smt_laws.specs.declared.turn.Turn.{Turn}
+use Rattle.smt_model.specs.declared.turn.Turn.{Turn}
 use Rattle.elf_image.specs.Image.{code_writable}
 use Rattle.plain_run.proofs.Refusing.{stops_at}
 use Rattle.schedules.specs.Ran.{step_turns}

@@ -1,7 +1,7 @@
 -- How a program has ended.
 use Rattle.std.specs.Prelude.{ℕ, List, map}
 use Rattle.smt_model.specs.{Basics.below, Plain.Plain, Bytes.number_at, declared.config.Status.Status}
-use Rattle.outcomes.specs.declared.watch.{Watch.Watch, WatchedRegister.WatchedRegister}
+use Rattle.watched_outcomes.specs.declared.watch.{Watch.Watch, WatchedRegister.WatchedRegister}
 
 -- How each hart stands, what is watched, and what was put out.
 pub record Ending : Type 0 where

@@ -1,7 +1,7 @@
 -- What is looked at in an end.
 use Rattle.std.specs.Prelude.{◌≡◌, ℕ, Bool, true, false, ◌&&◌, nat_lt, Some, slice_get}
-use Rattle.outcomes.specs.declared.watch.Watch.{Watch}
-use Rattle.outcomes.specs.declared.watch.WatchedRegister.{WatchedRegister}
+use Rattle.watched_outcomes.specs.declared.watch.Watch.{Watch}
+use Rattle.watched_outcomes.specs.declared.watch.WatchedRegister.{WatchedRegister}
 
 -- It is a register, x1 to x31, of one of so many harts.
 abbrev pub is_register_there : ℕ → WatchedRegister → Bool

@@ -1,5 +1,5 @@
 ghost use Rattle.std.specs.Prelude.{◌≡◌, ◌<◌, ℕ, true, false, Some, None, IfSome, slice_get, slice_index_or};
-ghost use Rattle.outcomes.specs.Watching.{AreThere, IsAbsentRegister, is_register_there};
+ghost use Rattle.watched_outcomes.specs.Watching.{AreThere, IsAbsentRegister, is_register_there};
 
 use arrayvec::ArrayVec;
 use numbers::Reg;
@@ -24,7 +24,7 @@ pub struct Watch {
 
 impl Watch {
     /// The first register that isn't one of so many harts, by its index; none where all are.
-    pub(crate) fn absent_register(&self, harts: u8) -> Option<usize>
+    pub fn absent_register(&self, harts: u8) -> Option<usize>
         ensures there { result ≡ None → AreThere harts self.now }
         ensures absent { IfSome result (IsAbsentRegister harts self.now) }
     {
@@ -37,7 +37,7 @@ impl Watch {
     }
 
     /// For each number of a register, whether it is watched of some hart.
-    pub(crate) fn registers_watched(&self) -> [bool; 32]
+    pub fn registers_watched(&self) -> [bool; 32]
         ensures { (k : ℕ) (w : WatchedRegister) → slice_get self.now.registers.items k ≡ Some w
             → w.register < 32 → slice_index_or result w.register false ≡ true }
     {

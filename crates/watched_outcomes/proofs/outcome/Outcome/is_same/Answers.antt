@@ -1,7 +1,7 @@
 use Rattle.std.proofs.Common.{◌∙◌, sym, ap, arith}
-use Rattle.outcomes.specs.Endings.{Ending}
-use Rattle.outcomes.proofs.Same.{statuses_same, numbers_same, same_ending, statuses_equal, numbers_equal}
-use Rattle.outcomes.proofs.outcome.Outcome.is_same.Goals as goal
+use Rattle.watched_outcomes.specs.Endings.{Ending}
+use Rattle.watched_outcomes.proofs.Same.{statuses_same, numbers_same, same_ending, statuses_equal, numbers_equal}
+use Rattle.watched_outcomes.proofs.outcome.Outcome.is_same.Goals as goal
 
 pub returns-then-same_words-clause-same : goal.returns-then-same_words-clause-same
 returns-then-same_words-clause-same c same =

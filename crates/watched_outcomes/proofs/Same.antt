@@ -1,13 +1,13 @@
 -- Two outcomes that say the same are one.
 use Rattle.std.specs.Prelude.{◌≡◌, ℕ, Bool, true, nat_eq, List, Decides}
-use Rattle.std.proofs.Common.{◌∙◌, refl, sym, ap, arith}
+use Rattle.std.proofs.Common.{◌∙◌, refl, ap, arith}
 use Rattle.std.proofs.lemmas.Slice.Eq.{slice_eq-Decides}
 use Rattle.std.specs.Cmp.{unsigned_Decides}
 use Rattle.std.specs.Cmp.Lexicographic.{pointwise}
 use Rattle.smt_model.specs.{declared.config.Status.Status}
 use Rattle.smt_model.specs.declared.config.Status.TheVariants.{Going, Ended, Stopped}
 use Rattle.smt_model.specs.contracts.config.StatusPartialEq.TheImpl.{eq-value}
-use Rattle.outcomes.specs.Endings.{Ending}
+use Rattle.watched_outcomes.specs.Endings.{Ending}
 
 status_decides : (a b : Status) → Decides (eq-value.it a b) (a ≡ b)
 status_decides Going Going = (λ e. refl, λ e. refl)

@@ -1,5 +1,5 @@
-use Rattle.outcomes.proofs.Watching.{AreMarked}
-use Rattle.outcomes.proofs.watch.Watch.registers_watched.Given as goal
+use Rattle.watched_outcomes.proofs.Watching.{AreMarked}
+use Rattle.watched_outcomes.proofs.watch.Watch.registers_watched.Given as goal
 
 -- those before this one are marked
 abbrev pub invariant-loop-register : goal.invariant-loop-register

@@ -1,7 +1,7 @@
+use crate::config::Status;
 use arrayvec::ArrayVec;
 use events::Record;
 use numbers::sizes::HART_ROOM;
-use smt_model::Status;
 
 /// What a history comes to.
 #[derive(Drop)]

@@ -1,5 +1,5 @@
-use Rattle.outcomes.proofs.Watching.{AreThereBefore}
-use Rattle.outcomes.proofs.watch.Watch.absent_register.Given as goal
+use Rattle.watched_outcomes.proofs.Watching.{AreThereBefore}
+use Rattle.watched_outcomes.proofs.watch.Watch.absent_register.Given as goal
 
 -- those before this one are there
 abbrev pub invariant-loop-index : goal.invariant-loop-index
