@@ -14,9 +14,7 @@ ghost use Rattle.changed_memory.specs.Shared.{byte_at, reserved_at};
 
 use crate::shared::SharedState;
 use events::Effect;
-use rv_execute::{
-    Computed, access_size, effect_of, is_last, last_effect, read_value, reads_memory,
-};
+use rv_execute::{Computed, access_size, effect_of, last_effect, read_value, reads_memory};
 use rv_instr::Op;
 use shared_memory::{Memory, held_by, is_on_word};
 
@@ -31,7 +29,7 @@ impl SharedState {
             (holds_word (reserved_at self.now hart) computed.addr) }
         ensures allowed { IfSome result.write (CanWrite start.now.image) }
     {
-        if is_last(computed.next) {
+        if computed.next.is_last() {
             return last_effect(computed.next);
         }
         let now = self.read(start, op, computed.addr);

@@ -7,7 +7,6 @@ ghost use Rattle.smt_model.specs.Nexts.{is_last};
 ghost use Rattle.changed_memory.specs.Keeping.{KeepsShared, reserves};
 
 use events::{Effect, Next};
-use rv_execute::is_last;
 use rv_instr::{Kind, Op};
 
 /// Whether an instruction with this effect changes nothing that harts share, whichever hart's it is
@@ -30,5 +29,5 @@ fn is_quiet(effect: Effect) -> bool
 fn keeps_reservations(kind: Kind, next: Next) -> bool
     ensures { result ≡ (is_last next || not (reserves kind)) }
 {
-    is_last(next) || !matches!(kind, Kind::Reserving | Kind::Conditional)
+    next.is_last() || !matches!(kind, Kind::Reserving | Kind::Conditional)
 }

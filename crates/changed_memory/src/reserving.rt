@@ -6,7 +6,6 @@ ghost use Rattle.smt_model.specs.Reservations.{own_reservation, reservation_afte
 ghost use Rattle.smt_model.specs.Reservations.{reservation_after_write};
 
 use events::{Effect, Written};
-use rv_execute::is_last;
 use rv_instr::{Kind, Op};
 use shared_memory::{Reservations, end_on_word};
 
@@ -17,7 +16,7 @@ pub fn reserve(reserved: &mut Reservations, hart: u8, op: Op, addr: u32, effect:
     ensures { (h : ℕ) → slice_index_or reserved.new h None
         ≡ reservation_after op addr effect (h == hart) (slice_index_or reserved.old h None) }
 {
-    if is_last(effect.next) {
+    if effect.next.is_last() {
         return;
     }
     reserve_own(reserved, hart, op.kind(), addr);

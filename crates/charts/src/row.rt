@@ -1,9 +1,7 @@
 ghost use Rattle.std.specs.Prelude.{◌≡◌, false};
 ghost use Rattle.charts.specs.Moves.{is_replay, moved, cuts, cut, gone};
-ghost use Rattle.smt_model.specs.Nexts.{is_last, redirect_pc};
-ghost use Rattle.std.specs.Prelude.{is_some};
 
-use events::{Effect, Event, Next};
+use events::{Effect, Event};
 use numbers::Seq;
 use rv_decode::decode_op;
 
@@ -116,8 +114,10 @@ impl Row {
         ensures { result ≡ cuts event.now self }
     {
         match *event {
-            Event::Complete { outcome, .. } => is_mispredicted(outcome.next, self.predicted),
-            Event::Retire { effect, .. } => is_last(effect.next) || self.is_replay(effect),
+            Event::Complete { outcome, .. } => {
+                outcome.next.redirect_pc(self.predicted).is_some()
+            }
+            Event::Retire { effect, .. } => effect.next.is_last() || self.is_replay(effect),
             Event::Refetch { .. } => true,
             _ => false,
         }
@@ -151,23 +151,5 @@ impl Row {
         decode_op(self.word).kind().is_loading()
             && self.completed.is_some()
             && self.value != effect.value
-    }
-}
-
-fn is_mispredicted(next: Next, predicted: u32) -> bool
-    ensures { result ≡ is_some (redirect_pc next predicted) }
-{
-    match next {
-        Next::Pc(pc) => pc != predicted,
-        Next::Ended(_) | Next::Stopped(_) => false,
-    }
-}
-
-fn is_last(next: Next) -> bool
-    ensures { result ≡ is_last next }
-{
-    match next {
-        Next::Pc(_) => false,
-        Next::Ended(_) | Next::Stopped(_) => true,
     }
 }

@@ -9,7 +9,7 @@ ghost use Rattle.condensed_machine.specs.Settling.{StepsLocally};
 
 use decoded_code::Code;
 use events::Effect;
-use rv_execute::{Computed, effect_of, is_last, last_effect};
+use rv_execute::{Computed, effect_of, last_effect};
 use rv_instr::Op;
 use sc_machine::{Hart, compute};
 use shared_memory::Memory;
@@ -21,7 +21,7 @@ fn local_effect(op: Op, computed: Computed) -> Option<Effect>
     ensures effect { IfSome result (λ effect. (now : ℕ) (held : Bool)
         → effect ≡ effect_of op computed now held) }
 {
-    if is_last(computed.next) {
+    if computed.next.is_last() {
         return Some(last_effect(computed.next));
     }
     if op.kind().touches_memory() || computed.out.is_some() {

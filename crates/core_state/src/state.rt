@@ -31,7 +31,7 @@ use crate::sizes::is_core;
 use core_parts::Parts;
 use core_steps::{
     FetchPoint, choose, completion_of, fetch_slot, handed_back, in_flight, next_to_decode,
-    next_to_issue, next_to_rename, next_to_retire, unit_of,
+    next_to_issue, next_to_rename, next_to_retire,
 };
 use decoded_code::Code;
 use elf_image::Image;
@@ -274,7 +274,7 @@ impl State {
         ensures entry { IfSome result (IsEntry (picture self.now.setup self.now.past)) }
         ensures idle { IfNone result (AllowsNone self.now.setup (AskIssue actor) self.now.past) }
     {
-        let kind = unit_of(*self.config.roles.get(usize::from(actor))?)?;
+        let kind = self.config.roles.get(usize::from(actor))?.unit()?;
         next_to_issue(&self.parts, actor, kind)
     }
 

@@ -13,14 +13,13 @@ ghost use Rattle.smt_model.specs.Steps.{IsComplete, IsDrop, op_in};
 ghost use Rattle.core_parts.specs.Agree.{IsActive, PartsAgree, KeepsSizes, From};
 ghost use Rattle.core_steps.specs.Checkpoints.{released_by};
 ghost use Rattle.core_steps.specs.Complete.{IsSameJob, IsFinish};
-ghost use Rattle.smt_model.specs.Nexts.{redirect_pc};
 ghost use Rattle.core_parts.specs.declared.slot.OpenJob.{OpenJob as Open};
 
 use crate::accesses::resolve_access;
 use crate::checkpoints::{release_map, restore_map};
 use crate::fill::fill_register;
 use core_parts::{HartState, OpenJob, Parts};
-use events::{Next, Outcome};
+use events::Outcome;
 use exec_units::{Done, Job};
 use load_store::completion;
 use numbers::Seq;
@@ -132,7 +131,7 @@ pub fn finish(parts: &mut Parts, actor: u8, job: &OpenJob, active: &Active, outc
     ensures sizes { KeepsSizes parts.old parts.new }
 {
     let hart = job.hart;
-    let Some(pc) = redirect_pc(outcome.next, active.predicted) else {
+    let Some(pc) = outcome.next.redirect_pc(active.predicted) else {
         let pc = parts.harts[usize::from(hart)].fetch_pc;
         write_outcome(parts, actor, job, active, outcome, pc);
         return;
@@ -192,15 +191,5 @@ fn set_job(jobs: &mut [Option<OpenJob>; MOST_ACTORS], actor: usize, job: Option<
 {
     if actor < MOST_ACTORS {
         jobs[actor] = job;
-    }
-}
-
-/// Where a mispredicted instruction goes on.
-fn redirect_pc(next: Next, predicted: u32) -> Option<u32>
-    ensures { result ≡ redirect_pc next predicted }
-{
-    match next {
-        Next::Pc(pc) if pc != predicted => Some(pc),
-        Next::Pc(_) | Next::Ended(_) | Next::Stopped(_) => None,
     }
 }

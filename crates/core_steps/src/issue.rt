@@ -5,7 +5,6 @@ ghost use Rattle.issue_queue.specs.Entry.{has_values, is_value};
 ghost use Rattle.retire_squash.specs.Active.{with_stage};
 ghost use Rattle.retire_squash.specs.declared.active.Stage.TheVariants as stage;
 ghost use Rattle.smt_model.specs.Picture.{Picture};
-ghost use Rattle.smt_model.specs.Setup.{unit_of_role};
 ghost use Rattle.core_parts.specs.Agree.{PartsAgree, IsEntry, KeepsSizes, From};
 ghost use Rattle.core_steps.specs.Issuing.{CanIssue, IsIssuing, source_number, job_of};
 
@@ -83,17 +82,5 @@ fn number(source: Source) -> u32
     match source {
         Source::Value(value) => value,
         Source::Waits(_) => unreachable!(),
-    }
-}
-
-/// The kind of unit that an actor of this role is, where it is one.
-pub fn unit_of(role: Role) -> Option<UnitKind>
-    ensures { result ≡ unit_of_role role }
-{
-    match role {
-        Role::Fetch | Role::Front | Role::Retire => None,
-        Role::Alu => Some(UnitKind::Alu),
-        Role::Mul => Some(UnitKind::Mul),
-        Role::Mem => Some(UnitKind::Mem),
     }
 }

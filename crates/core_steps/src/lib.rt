@@ -23,7 +23,7 @@ mod retire;
 pub use complete::{completion_of, drop_job, finish, handed_back, in_flight};
 pub use decode::{decode_oldest, next_to_decode};
 pub use fetch::{choose, fetch_slot};
-pub use issue::{issue_entry, next_to_issue, unit_of};
+pub use issue::{issue_entry, next_to_issue};
 pub use point::FetchPoint;
 pub use rename::{next_to_rename, rename_oldest};
 pub use retire::{next_to_retire, refetch_oldest, retire_oldest};

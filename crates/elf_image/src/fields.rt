@@ -9,7 +9,7 @@ use std::alloc::AllocError;
 
 /// The field of two bytes at a place.
 #[tactic(auto, unfolding(crate::specs::Layout::half_at))]
-pub(crate) fn read_half(file: &[u8], place: usize) -> u16
+pub fn read_half(file: &[u8], place: usize) -> u16
     requires { place + 2 ≤ length file.now }
     ensures { result ≡ half_at file.now place }
 {
@@ -18,7 +18,7 @@ pub(crate) fn read_half(file: &[u8], place: usize) -> u16
 
 /// The field of four bytes at a place.
 #[tactic(auto, unfolding(crate::specs::Layout::word_at))]
-pub(crate) fn read_word(file: &[u8], place: usize) -> u32
+pub fn read_word(file: &[u8], place: usize) -> u32
     requires { place + 4 ≤ length file.now }
     ensures { result ≡ word_at file.now place }
 {

@@ -17,9 +17,10 @@ mod refusal;
 mod segment;
 mod writer;
 
+pub use fields::{read_half, read_word};
 pub use image::Image;
 pub use loader::load;
-pub use program_header::ProgramHeader;
+pub use program_header::{LOADABLE, ProgramHeader, read_header};
 pub use ram_size::{RAM_START, RamSize};
 pub use refusal::LoadRefused;
 pub use segment::Segment;

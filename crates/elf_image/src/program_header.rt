@@ -10,7 +10,7 @@ use arrayvec::ArrayVec;
 pub(crate) const MOST_SEGMENTS: usize = 8;
 
 /// The type of a loadable segment, PT_LOAD.
-const LOADABLE: u32 = 1;
+pub const LOADABLE: u32 = 1;
 
 /// The fields of a program header, without p_paddr and p_align, which nothing here reads.
 #[derive(Clone, Copy, Default)]
@@ -25,7 +25,7 @@ pub struct ProgramHeader {
 
 /// The program header at a place.
 #[tactic(auto, unfolding(crate::specs::Layout::header_at))]
-fn read_header(file: &[u8], place: usize) -> ProgramHeader
+pub fn read_header(file: &[u8], place: usize) -> ProgramHeader
     requires { place + 32 ≤ length file.now }
     ensures { result ≡ header_at file.now place }
 {

@@ -2,9 +2,7 @@
 -- of a trace, whether it has lines of refetches, and the events that are within that. (This
 -- project's own choice.)
 
-use Rattle.std.specs.Prelude.{◌≡◌, ℕ, ◌+◌, ◌-◌, ◌≤◌, Bool, true, false, IfSome}
-use Rattle.numbers.specs.{Layout.first_extra, Sizes.most_actors, Sizes.most_events, Sizes.most_extra}
-use Rattle.numbers.specs.{Sizes.most_harts}
+use Rattle.std.specs.Prelude.{◌≡◌, ℕ, ◌≤◌, Bool, true, false, IfSome}
 use Rattle.events.specs.{declared.event.Event.Event, Range.IsEffect, Range.IsOutcome, Range.IsWord}
 use Rattle.events.specs.declared.event.Event.TheVariants.{Fetch, Decode, Rename, Issue, Complete}
 use Rattle.events.specs.declared.event.Event.TheVariants.{Drop, Retire, Refetch}
@@ -16,15 +14,9 @@ use Rattle.event_text.specs.declared.head.TraceHead.TheVariants.{First, Later}
 abbrev pub first_ranges : Ranges
 first_ranges = record { actor = 15; hart = 7; seq = 16777215; phys = 503; refetches = false }
 
--- of the later versions: what a core of the greatest size has
+-- of versions 2 and 3, for ever: 32 actors, 16 harts, as many instructions, and 1024 registers
 abbrev pub later_ranges : Bool → Ranges
-later_ranges refetches = record {
-  actor = most_actors - 1;
-  hart = most_harts - 1;
-  seq = most_events - 1;
-  phys = first_extra most_harts + most_extra - 1;
-  refetches = refetches;
-}
+later_ranges refetches = record { actor = 31; hart = 15; seq = 16777215; phys = 1023; refetches = refetches }
 
 abbrev pub ranges_of : TraceHead → Ranges
 ranges_of First = first_ranges

@@ -1,13 +1,13 @@
 //! How a trace begins: its version, and of what core a trace of version 2 or 3 says that it is.
 
-ghost use Rattle.std.specs.Prelude.{◌≡◌, ◌≢◌, ◌≤◌, length, false, IfSome, IfNone};
+ghost use Rattle.std.specs.Prelude.{◌≡◌, ◌≢◌, length, false, IfSome, IfNone};
 ghost use Rattle.event_text.specs.declared.head.LaterVersion.{LaterVersion as AnyVersion};
-ghost use Rattle.numbers.specs.Sizes.{are_core_sizes, most_actors};
+ghost use Rattle.numbers.specs.Sizes.{are_core_sizes};
 ghost use Rattle.event_text.specs.Core.{AreCoreSizes};
 ghost use Rattle.event_text.specs.Heads.{head_count, later_header};
 
 use arrayvec::ArrayVec;
-use events::Role;
+use events::{Role, copied_roles};
 use numbers::sizes::{MOST_ACTORS, are_core_sizes};
 use std::marker::Model;
 
@@ -51,7 +51,7 @@ impl TraceHeader {
             harts,
             extra,
             queue,
-            roles: copy_of(roles),
+            roles: copied_roles(roles),
         })
     }
 
@@ -86,17 +86,6 @@ impl TraceHeader {
     {
         self.roles.as_slice()
     }
-}
-
-fn copy_of(roles: &[Role]) -> ArrayVec<Role, MOST_ACTORS>
-    requires { length roles.now ≤ most_actors }
-    ensures { result.items ≡ roles.now }
-{
-    let mut copy = ArrayVec::new();
-    for role in roles {
-        copy.push(*role);
-    }
-    copy
 }
 
 /// A version whose traces say of what core they are.

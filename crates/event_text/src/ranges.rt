@@ -27,20 +27,30 @@ pub const FIRST_RANGES: Ranges = Ranges {
     refetches: false,
 };
 
-/// Those of version 2: what a core of the greatest size has. `later_ranges` in `specs/Ranges`.
+/// Those of version 2, for ever. `later_ranges` in `specs/Ranges`.
 pub const SECOND_RANGES: Ranges = Ranges {
-    actor: (MOST_ACTORS - 1) as u8,
-    hart: MOST_HARTS - 1,
-    seq: MOST_EVENTS - 1,
-    phys: RENAMED_REGISTERS * MOST_HARTS as u16 + MOST_EXTRA - 1,
+    actor: 31,
+    hart: 15,
+    seq: 16_777_215,
+    phys: 1023,
     refetches: false,
 };
 
-/// Those of version 3: the same, and the lines of refetches.
+/// Those of version 3, for ever: the same, and the lines of refetches.
 pub const THIRD_RANGES: Ranges = Ranges {
     refetches: true,
     ..SECOND_RANGES
 };
+
+// The newest version has what a core of the greatest size has. Where a size is another, the lines of
+// its events want a new version: those before it stay as they are.
+const _: () = prove!(THIRD_RANGES.actor as usize == MOST_ACTORS - 1);
+
+const _: () = prove!(THIRD_RANGES.hart == MOST_HARTS - 1);
+
+const _: () = prove!(THIRD_RANGES.seq == MOST_EVENTS - 1);
+
+const _: () = prove!(THIRD_RANGES.phys == RENAMED_REGISTERS * MOST_HARTS as u16 + MOST_EXTRA - 1);
 
 impl TraceHead {
     /// The ranges of its version.

@@ -2,6 +2,7 @@ pub mod Event
 pub mod History
 pub mod HistoryInside
 pub mod Kind
+pub mod Nexts
 pub mod Packed
 pub mod Range
 pub mod Roles

@@ -1,3 +1,5 @@
+ghost use Rattle.std.specs.Prelude.{◌≡◌};
+
 /// Why a hart stopped, 0 to 8.
 ///
 /// 0: a jump to an address that isn't a multiple of 4. 1: no word at the pc. 2: an illegal word. 3:
@@ -15,6 +17,33 @@ pub enum Next {
     Ended(u32),
     /// The hart has stopped for this cause.
     Stopped(Cause),
+}
+
+impl Next {
+    ghost use Rattle.events.specs.Nexts.{is_last, redirect_pc};
+
+    /// Whether its hart ends or stops.
+    #[inline]
+    pub fn is_last(self) -> bool
+        ensures { result ≡ is_last self }
+    {
+        match self {
+            Next::Pc(_) => false,
+            Next::Ended(_) | Next::Stopped(_) => true,
+        }
+    }
+
+    /// Where the hart is fetched from, if another pc was predicted than the one at which it goes
+    /// on. None where it was predicted, and where the hart ends or stops.
+    #[inline]
+    pub fn redirect_pc(self, predicted: u32) -> Option<u32>
+        ensures { result ≡ redirect_pc self predicted }
+    {
+        match self {
+            Next::Pc(pc) if pc != predicted => Some(pc),
+            Next::Pc(_) | Next::Ended(_) | Next::Stopped(_) => None,
+        }
+    }
 }
 
 /// A write to memory: `n` is 1, 2 or 4 bytes from `addr`, which is a multiple of it, and `datum`

@@ -2,7 +2,7 @@
 //! history that grows by them.
 //!
 //! Read in this order: `effect` (results and records), `kind`, `event`, `history`; `role` (what the
-//! actor of an event is).
+//! actor of an event is, and whether it is a unit).
 #![tactic(auto)]
 
 pub mod effect;
@@ -15,4 +15,4 @@ pub use effect::{Cause, Effect, Next, Outcome, Record, Written};
 pub use event::{Event, Phys, Seq};
 pub use history::{Events, Full, History};
 pub use kind::EventKind;
-pub use role::Role;
+pub use role::{Role, copied_roles};

@@ -1,6 +1,11 @@
-ghost use Rattle.std.specs.Prelude.{◌≡◌, Some, IfSome};
+ghost use Rattle.std.specs.Prelude.{◌≡◌, ◌≤◌, Some, IfSome, length};
+ghost use Rattle.numbers.specs.Sizes.{most_actors};
 ghost use Rattle.events.specs.declared.role.Role.{Role as AnyRole};
-ghost use Rattle.events.specs.Roles.{role_name, role_of_name};
+ghost use Rattle.events.specs.Roles.{role_name, role_of_name, unit_of_role};
+
+use arrayvec::ArrayVec;
+use numbers::sizes::MOST_ACTORS;
+use rv_instr::UnitKind;
 
 /// What an actor does in its turns. Only `Alu`, `Mul` and `Mem` issue instructions, each for its
 /// own kind of unit; every other step may be made by any actor.
@@ -30,6 +35,18 @@ impl Role {
         }
     }
 
+    /// The kind of unit that an actor of this role is, where it is one.
+    pub fn unit(self) -> Option<UnitKind>
+        ensures { result ≡ unit_of_role self }
+    {
+        match self {
+            Role::Fetch | Role::Front | Role::Retire => None,
+            Role::Alu => Some(UnitKind::Alu),
+            Role::Mul => Some(UnitKind::Mul),
+            Role::Mem => Some(UnitKind::Mem),
+        }
+    }
+
     /// The role of this name, if there is one.
     pub fn named(name: &[u8]) -> Option<Role>
         ensures named { result ≡ role_of_name name.now }
@@ -52,4 +69,16 @@ impl Role {
             return None;
         })
     }
+}
+
+/// A copy of the roles of a core's actors.
+pub fn copied_roles(roles: &[Role]) -> ArrayVec<Role, MOST_ACTORS>
+    requires { length roles.now ≤ most_actors }
+    ensures { result.items ≡ roles.now }
+{
+    let mut copy = ArrayVec::new();
+    for role in roles {
+        copy.push(*role);
+    }
+    copy
 }

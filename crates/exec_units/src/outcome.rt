@@ -5,7 +5,7 @@ ghost use Rattle.smt_model.specs.Kinds.{writes_register};
 ghost use Rattle.smt_model.specs.Outcomes.{outcome_of};
 
 use events::Outcome;
-use rv_execute::{Computed, is_last, last_outcome};
+use rv_execute::{Computed, last_outcome};
 use rv_instr::{Kind, Op};
 
 /// What the completion says before memory is looked at: an instruction that ends or stops its hart
@@ -21,7 +21,7 @@ pub fn outcome(op: Op, computed: Computed) -> Outcome
         datum,
         out,
     } = computed;
-    if is_last(next) {
+    if next.is_last() {
         return last_outcome(next);
     }
     match op.kind() {

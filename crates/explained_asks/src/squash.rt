@@ -72,9 +72,9 @@ fn word_at(memory: &Memory, addr: u32) -> Option<u32> {
 }
 
 fn misprediction(outcome: Outcome, predicted: u32) -> Option<Cause> {
-    match outcome.next {
-        Next::Pc(pc) if pc != predicted => Some(Cause::Mispredicted { predicted }),
-        Next::Pc(_) | Next::Ended(_) | Next::Stopped(_) => None,
+    match outcome.next.redirect_pc(predicted) {
+        Some(_) => Some(Cause::Mispredicted { predicted }),
+        None => None,
     }
 }
 

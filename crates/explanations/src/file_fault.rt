@@ -2,8 +2,7 @@
 
 ghost use Rattle.std.specs.Prelude.{◌≤◌, length};
 
-use crate::headers::{read_half, read_word};
-use elf_image::LoadRefused;
+use elf_image::{LoadRefused, read_half, read_word};
 use std::io;
 use std::io::Write;
 

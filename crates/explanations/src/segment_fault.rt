@@ -3,9 +3,8 @@
 ghost use Rattle.std.specs.Prelude.{◌+◌, ◌<◌, ◌≤◌, ◌↔◌, length, IsTrue, IfSome, All};
 ghost use Rattle.elf_image.specs.Image.{ram_start};
 
-use crate::headers::read_word;
 use crate::segments::{write_ram, write_segment, write_segments};
-use elf_image::{LoadRefused, ProgramHeader, RAM_START, RamSize};
+use elf_image::{LoadRefused, ProgramHeader, RAM_START, RamSize, read_word};
 use std::io;
 use std::io::Write;
 

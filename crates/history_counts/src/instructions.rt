@@ -3,8 +3,6 @@
 ghost use Rattle.std.specs.Prelude.{◌≡◌, reverse, IfOk};
 ghost use Rattle.events.specs.declared.event.Event.{Event as AnyEvent};
 ghost use Rattle.smt_model.specs.Basics.{how_many};
-ghost use Rattle.smt_model.specs.Nexts.{redirect_pc};
-ghost use Rattle.std.specs.Prelude.{is_some};
 ghost use Rattle.charts.specs.Rows.{AreRows};
 ghost use Rattle.history_counts.specs.Numbers.{mispredictions, replays, squashed_for, squashes_for};
 ghost use Rattle.history_counts.specs.Numbers.{is_next_for, is_misprediction, is_refetch};
@@ -91,17 +89,8 @@ fn goes_elsewhere(event: &Event, predicted: u32) -> bool
     ensures { result ≡ goes_elsewhere predicted event.now }
 {
     match event {
-        Event::Complete { outcome, .. } => is_redirected(outcome.next, predicted),
+        Event::Complete { outcome, .. } => outcome.next.redirect_pc(predicted).is_some(),
         _ => false,
-    }
-}
-
-fn is_redirected(next: Next, predicted: u32) -> bool
-    ensures { result ≡ is_some (redirect_pc next predicted) }
-{
-    match next {
-        Next::Pc(pc) => pc != predicted,
-        Next::Ended(_) | Next::Stopped(_) => false,
     }
 }
 

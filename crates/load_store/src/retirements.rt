@@ -15,7 +15,7 @@ ghost use Rattle.load_store.specs.Queues.{needs_look, queues_of};
 
 use crate::queues::LoadStore;
 use events::{Effect, Next, Outcome, Seq};
-use rv_execute::{Computed, effect_of, is_last, last_effect};
+use rv_execute::{Computed, effect_of, last_effect};
 use rv_instr::Op;
 use shared_memory::{Memory, fault, read};
 
@@ -125,5 +125,5 @@ pub fn looks_after(
 pub fn gives_loaded(op: Op, effect: &Effect) -> bool
     ensures { result ≡ gives_loaded op effect.now }
 {
-    (op.kind().is_loading() && op.writes_register()) && !is_last(effect.next)
+    (op.kind().is_loading() && op.writes_register()) && !effect.next.is_last()
 }

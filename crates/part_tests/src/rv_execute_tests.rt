@@ -4,7 +4,7 @@
 use crate::rows::holds;
 use events::{Effect, Next, Written};
 use rv_execute::{
-    access_size, atomic_result, effect_of, execute, is_last, last_effect, last_outcome, read_value,
+    access_size, atomic_result, effect_of, execute, last_effect, last_outcome, read_value,
     reads_memory,
 };
 use rv_instr::{Instr, Kind, LoadOp, Op, Ordering, StoreOp};
@@ -166,7 +166,7 @@ fn what_ends_its_hart_says_no_more(rt: HostRuntime) {
     let ended = Next::Ended(5);
     let illegal = execute(Op::Illegal, PC, 1, 2);
     let stopped = effect_of(Op::Illegal, illegal, 9, true);
-    assert!(rt; [is_last(ended), is_last(BEHIND)] == [true, false]);
+    assert!(rt; [ended.is_last(), BEHIND.is_last()] == [true, false]);
     assert!(rt; stopped == last_effect(Next::Stopped(2)));
     let outcome = last_outcome(ended);
     assert!(rt; outcome.next == ended && outcome.value.is_none() && outcome.addr.is_none());

@@ -6,7 +6,6 @@ ghost use Rattle.smt_model.specs.Basics.{below, how_many};
 ghost use Rattle.smt_model.specs.Fetching.{may_fetch};
 ghost use Rattle.smt_model.specs.Jobs.{is_actor, job, unit_of_actor};
 ghost use Rattle.smt_model.specs.Picture.{picture};
-ghost use Rattle.smt_model.specs.Setup.{unit_of_role};
 ghost use Rattle.reasons.specs.Reasons.{no_actor, no_unit};
 
 use crate::reason::Reason;
@@ -14,7 +13,7 @@ use core_parts::{HartState, OpenJob};
 use numbers::Seq;
 use rv_instr::UnitKind;
 use smt_core::Core;
-use smt_model::{Role, Status};
+use smt_model::Status;
 
 /// That there is no such actor, where there is none.
 pub(crate) fn no_actor(core: &Core, actor: u8) -> Option<Reason>
@@ -46,18 +45,7 @@ pub(crate) fn no_unit(core: &Core, actor: u8) -> Option<Reason>
 pub(crate) fn unit_of(core: &Core, actor: u8) -> Option<UnitKind>
     ensures { result ≡ unit_of_actor core.now.setup actor }
 {
-    unit_of_role(*core.config().roles.get(usize::from(actor))?)
-}
-
-fn unit_of_role(role: Role) -> Option<UnitKind>
-    ensures { result ≡ unit_of_role role }
-{
-    match role {
-        Role::Fetch | Role::Front | Role::Retire => None,
-        Role::Alu => Some(UnitKind::Alu),
-        Role::Mul => Some(UnitKind::Mul),
-        Role::Mem => Some(UnitKind::Mem),
-    }
+    core.config().roles.get(usize::from(actor))?.unit()
 }
 
 /// The instruction of the job that an actor has.

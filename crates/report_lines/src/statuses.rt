@@ -26,22 +26,13 @@ pub fn status_of(statuses: &[Status]) -> u8
 fn is_one_going(statuses: &[Status]) -> bool
     ensures { result ≡ list_any is_going_status statuses.now }
 {
-    statuses.iter().any(|status| is_going(*status))
+    statuses.iter().any(|status| status.is_going())
 }
 
 fn have_all_ended_well(statuses: &[Status]) -> bool
     ensures { result ≡ list_all has_ended_well statuses.now }
 {
     statuses.iter().all(|status| has_ended_well(*status))
-}
-
-fn is_going(status: Status) -> bool
-    ensures { result ≡ is_going_status status }
-{
-    match status {
-        Status::Going => true,
-        Status::Ended(_) | Status::Stopped(_) => false,
-    }
 }
 
 fn has_ended_well(status: Status) -> bool

@@ -3,14 +3,12 @@
 ghost use Rattle.std.specs.Prelude.{◌≡◌, ◌<◌, ◌≤◌, ◌++◌, [], ◌∷◌, if◌then◌else◌, length};
 ghost use Rattle.std.specs.Prelude.{nat_lt, find, option_map};
 ghost use Rattle.numbers.specs.Sizes.{most_harts};
-ghost use Rattle.smt_model.specs.Plain.{is_going_status};
 ghost use Rattle.sc_machine.specs.Machine.{InEachState};
 ghost use Rattle.rounds.specs.Turns.{going, next_number, drawn, in_turn, chosen};
 
 use arrayvec::ArrayVec;
 use numbers::sizes::HART_ROOM;
 use sc_machine::Plain;
-use smt_model::Status;
 
 /// What the generator of the draws multiplies a number by.
 const MULTIPLIER: u64 = 6_364_136_223_846_793_005;
@@ -101,7 +99,7 @@ fn going_harts(machine: &Plain) -> ArrayVec<u8, HART_ROOM>
 {
     let mut going = ArrayVec::new();
     for hart in 0..machine.harts() {
-        push_if(is_going(machine.status(hart)), hart, &mut going);
+        push_if(machine.status(hart).is_going(), hart, &mut going);
     }
     going
 }
@@ -113,15 +111,5 @@ fn push_if(goes: bool, hart: u8, going: &mut ArrayVec<u8, HART_ROOM>)
 {
     if goes {
         going.push(hart);
-    }
-}
-
-/// Whether a hart goes on that stands so.
-fn is_going(status: Status) -> bool
-    ensures { result ≡ is_going_status status }
-{
-    match status {
-        Status::Going => true,
-        Status::Ended(_) | Status::Stopped(_) => false,
     }
 }

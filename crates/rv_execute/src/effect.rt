@@ -8,7 +8,7 @@ ghost use Rattle.rv_execute.specs.Access.{reads_memory};
 
 use crate::access::{access_size, atomic_result};
 use crate::computed::Computed;
-use crate::last::{is_last, last_effect};
+use crate::last::last_effect;
 use events::{Effect, Written};
 use rv_instr::{Kind, Op};
 
@@ -29,7 +29,7 @@ pub fn effect_of(op: Op, computed: Computed, now: u32, held: bool) -> Effect
         out,
     } = computed;
     let only = last_effect(next);
-    if is_last(next) {
+    if next.is_last() {
         return only;
     }
     let writes = op.writes_register();

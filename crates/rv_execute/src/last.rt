@@ -2,20 +2,9 @@
 
 ghost use Rattle.std.specs.Prelude.{◌≡◌};
 ghost use Rattle.smt_model.specs.Effects.{last_effect};
-ghost use Rattle.smt_model.specs.Nexts.{is_last};
 ghost use Rattle.smt_model.specs.Outcomes.{last_outcome};
 
 use events::{Effect, Next, Outcome};
-
-/// Whether the hart ends or stops.
-pub fn is_last(next: Next) -> bool
-    ensures { result ≡ is_last next }
-{
-    match next {
-        Next::Pc(_) => false,
-        Next::Ended(_) | Next::Stopped(_) => true,
-    }
-}
 
 /// The outcome that says only what comes next.
 pub fn last_outcome(next: Next) -> Outcome

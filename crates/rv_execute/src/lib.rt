@@ -18,4 +18,4 @@ pub use access::{access_size, atomic_result, read_value, reads_memory};
 pub use computed::Computed;
 pub use effect::effect_of;
 pub use execution::execute;
-pub use last::{is_last, last_effect, last_outcome};
+pub use last::{last_effect, last_outcome};

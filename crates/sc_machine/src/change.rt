@@ -8,7 +8,6 @@ ghost use Rattle.shared_memory.specs.Contents.{CanWrite, byte_of, reserved_of};
 ghost use Rattle.sc_machine.specs.Access.{WritesAlone};
 
 use events::Effect;
-use rv_execute::is_last;
 use rv_instr::Op;
 use shared_memory::{Memory, commit_access};
 
@@ -23,7 +22,7 @@ pub fn change_memory(memory: &mut Memory, hart: u8, op: Op, addr: u32, effect: E
     ensures reserved { (h : ℕ) → reserved_of memory.new h
         ≡ reservation_after op addr effect (h == hart) (reserved_of memory.old h) }
 {
-    if is_last(effect.next) {
+    if effect.next.is_last() {
         return;
     }
     commit_access(memory, hart, op, addr, effect.write);

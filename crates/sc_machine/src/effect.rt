@@ -10,7 +10,7 @@ ghost use Rattle.shared_memory.specs.Contents.{CanWrite, byte_of, reserved_of};
 ghost use Rattle.sc_machine.specs.Access.{HasNoFault, WritesAlone};
 
 use events::{Effect, Next};
-use rv_execute::{Computed, effect_of, is_last, last_effect};
+use rv_execute::{Computed, effect_of, last_effect};
 use rv_instr::Op;
 use shared_memory::{Memory, fault, read};
 
@@ -21,7 +21,7 @@ pub fn stop_at_fault(memory: &Memory, op: Op, computed: Computed) -> Computed
     ensures value { result ≡ checked memory.now.image op computed }
     ensures no_fault { HasNoFault memory.now.image op result }
 {
-    if is_last(computed.next) {
+    if computed.next.is_last() {
         return computed;
     }
     match fault(memory, op, computed.addr) {
@@ -43,7 +43,7 @@ pub fn effect_here(memory: &Memory, hart: u8, op: Op, computed: Computed) -> Eff
     ensures allowed { IfSome result.write (CanWrite memory.now.image) }
     ensures alone { WritesAlone result }
 {
-    if is_last(computed.next) {
+    if computed.next.is_last() {
         return last_effect(computed.next);
     }
     let now = read(memory, op, computed.addr);

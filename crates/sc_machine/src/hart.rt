@@ -34,10 +34,7 @@ impl Hart {
     pub fn is_going(&self) -> bool
         ensures { result ≡ is_going_status self.now.status }
     {
-        match self.status {
-            Status::Going => true,
-            Status::Ended(_) | Status::Stopped(_) => false,
-        }
+        self.status.is_going()
     }
 
     /// What a register holds.

@@ -13,7 +13,7 @@ use elf_image::Image;
 use events::Record;
 use numbers::sizes::HART_ROOM;
 use sc_machine::{Plain, PlainRefused};
-use smt_model::{Status, Turn};
+use smt_model::Turn;
 use std::alloc::Global;
 
 /// What the plain machine has left when it has run an order.
@@ -88,16 +88,7 @@ fn fetches(machine: &Plain, hart: u8, writable: bool) -> bool
     ensures { InEachState machine.now
         (λ setup s. result ≡ (not writable || is_going_status (s.statuses hart))) }
 {
-    !writable || is_going(machine.status(hart))
-}
-
-fn is_going(status: Status) -> bool
-    ensures { result ≡ is_going_status status }
-{
-    match status {
-        Status::Going => true,
-        Status::Ended(_) | Status::Stopped(_) => false,
-    }
+    !writable || machine.status(hart).is_going()
 }
 
 /// The turns of a step, with one to refetch a stale word.

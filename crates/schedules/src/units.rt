@@ -114,10 +114,8 @@ fn place_of_unit(roles: &[Role], kind: UnitKind) -> Option<usize>
 fn is_unit(role: Role, kind: UnitKind) -> bool
     ensures { result ≡ holds_of (λ u. same_unit u kind) (unit_of_role role) }
 {
-    match role {
-        Role::Fetch | Role::Front | Role::Retire => false,
-        Role::Alu => kind == UnitKind::Alu,
-        Role::Mul => kind == UnitKind::Mul,
-        Role::Mem => kind == UnitKind::Mem,
+    match role.unit() {
+        Some(own) => own == kind,
+        None => false,
     }
 }

@@ -4,11 +4,8 @@ use Rattle.std.specs.Prelude.{Option, Some, None}
 use Rattle.numbers.specs.Sizes.{are_core_sizes, most_events}
 use Rattle.numbers.specs.Layout.{first_extra}
 use Rattle.elf_image.specs.Image.{ProgramImage}
-use Rattle.rv_instr.specs.declared.op.UnitKind.{UnitKind}
-use Rattle.rv_instr.specs.declared.op.UnitKind.TheVariants as unit
 use Rattle.events.specs.declared.role.Role.{Role}
-use Rattle.smt_model.specs.{Words.ProgramImage, Words.UnitKind}
-use Rattle.events.specs.declared.role.Role.TheVariants as role
+pub use Rattle.events.specs.Roles.{unit_of_role}
 
 -- A program image and the sizes of a core: its harts, the physical registers beyond 31 a hart, the
 -- entries of the issue queue, and the role of each actor.
@@ -33,10 +30,3 @@ is_accepted setup limit =
 -- there are, all others 0.
 abbrev pub first_number : ℕ → ℕ → ℕ → ℕ
 first_number harts h r = if r == 10 then h else (if r == 11 then harts else 0)
-
--- The kind of unit that an actor of this role is, where it is one.
-abbrev pub unit_of_role : Role → Option UnitKind
-unit_of_role role.Alu = Some unit.Alu
-unit_of_role role.Mul = Some unit.Mul
-unit_of_role role.Mem = Some unit.Mem
-unit_of_role _ = None

@@ -1,8 +1,8 @@
-ghost use Rattle.std.specs.Prelude.{◌≡◌, ◌≤◌, length};
-ghost use Rattle.numbers.specs.Sizes.{most_actors};
+ghost use Rattle.std.specs.Prelude.{◌≡◌};
+ghost use Rattle.smt_model.specs.Plain.{is_going_status};
 
 use arrayvec::ArrayVec;
-use events::{Cause, Role};
+use events::{Cause, Role, copied_roles};
 use numbers::sizes::MOST_ACTORS;
 
 /// The sizes of a core: its harts, the physical registers beside those that the harts begin with,
@@ -27,20 +27,9 @@ impl Config {
             harts: self.harts,
             extra: self.extra,
             queue: self.queue,
-            roles: copy_of(self.roles.as_slice()),
+            roles: copied_roles(self.roles.as_slice()),
         }
     }
-}
-
-fn copy_of(roles: &[Role]) -> ArrayVec<Role, MOST_ACTORS>
-    requires { length roles.now ≤ most_actors }
-    ensures { result.items ≡ roles.now }
-{
-    let mut copy = ArrayVec::new();
-    for role in roles {
-        copy.push(*role);
-    }
-    copy
 }
 
 /// How a hart stands.
@@ -51,6 +40,19 @@ pub enum Status {
     Ended(u32),
     /// It has stopped for this cause.
     Stopped(Cause),
+}
+
+impl Status {
+    /// Whether the hart goes on.
+    #[inline]
+    pub fn is_going(self) -> bool
+        ensures { result ≡ is_going_status self }
+    {
+        match self {
+            Status::Going => true,
+            Status::Ended(_) | Status::Stopped(_) => false,
+        }
+    }
 }
 
 /// A hart goes until it ends or stops.

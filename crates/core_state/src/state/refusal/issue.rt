@@ -11,7 +11,6 @@ ghost use Rattle.core_state.specs.Refusals.{idle_unit, IsEntryOf};
 
 use super::first_failing;
 use crate::state::State;
-use core_steps::unit_of;
 use issue_queue::{Entry, SlabQueue};
 use numbers::Seq;
 use rv_instr::{Op, UnitKind};
@@ -45,7 +44,7 @@ impl State {
         if self.open_job(actor).is_some() {
             return None;
         }
-        unit_of(self.config.roles[usize::from(actor)])
+        self.config.roles[usize::from(actor)].unit()
     }
 
     /// The entry of instruction `seq`, where it waits in the queue.

@@ -20,9 +20,9 @@ returns-in_err-get-clause-idle c =
 pub returns-in_err-kind-clause-idle : goal.returns-in_err-kind-clause-idle
 returns-in_err-kind-clause-idle c =
     let i = c.self.inside in
-    let unit = unit_now i c.args.actor c.from.result c.deref.result.now c.in_ok-get.field-0.now c.unit_of.result
+    let unit = unit_now i c.args.actor c.from.result c.deref.result.now c.in_ok-get.field-0.now c.unit.result
     c.deref.ensures.0 c.from.ensures
-    c.in_ok-get.ensures.lookup.3.0 c.in_ok-get.ensures.lookup.1 c.unit_of.ensures in
+    c.in_ok-get.ensures.lookup.3.0 c.in_ok-get.ensures.lookup.1 c.unit.ensures in
     rw c.from_residual-in_err-kind.ensures
     (subst (λ (v : CoreView). AllowsNone v.setup (AskIssue c.args.actor) v.past) c.self.view_is
     (no_unit i c.args.actor (unit.1 ∙ c.in_err-kind.was)))
@@ -30,27 +30,27 @@ returns-in_err-kind-clause-idle c =
 pub returns-clause-allowed : goal.returns-clause-allowed
 returns-clause-allowed c =
     let i = c.self.inside in
-    let unit = unit_now i c.args.actor c.from.result c.deref.result.now c.in_ok-get.field-0.now c.unit_of.result
+    let unit = unit_now i c.args.actor c.from.result c.deref.result.now c.in_ok-get.field-0.now c.unit.result
     c.deref.ensures.0 c.from.ensures
-    c.in_ok-get.ensures.lookup.3.0 c.in_ok-get.ensures.lookup.1 c.unit_of.ensures in
+    c.in_ok-get.ensures.lookup.3.0 c.in_ok-get.ensures.lookup.1 c.unit.ensures in
     next_allowed i c.self.invariant c.args.self.now c.self.view_is c.args.actor c.in_ok-kind.kind unit.0
     (unit.1 ∙ c.in_ok-kind.was) c.next_to_issue.result c.next_to_issue.ensures.some
 
 pub returns-clause-entry : goal.returns-clause-entry
 returns-clause-entry c =
     let i = c.self.inside in
-    let unit = unit_now i c.args.actor c.from.result c.deref.result.now c.in_ok-get.field-0.now c.unit_of.result
+    let unit = unit_now i c.args.actor c.from.result c.deref.result.now c.in_ok-get.field-0.now c.unit.result
     c.deref.ensures.0 c.from.ensures
-    c.in_ok-get.ensures.lookup.3.0 c.in_ok-get.ensures.lookup.1 c.unit_of.ensures in
+    c.in_ok-get.ensures.lookup.3.0 c.in_ok-get.ensures.lookup.1 c.unit.ensures in
     next_entry i c.self.invariant c.args.self.now c.self.view_is c.args.actor c.in_ok-kind.kind unit.0
     (unit.1 ∙ c.in_ok-kind.was) c.next_to_issue.result c.next_to_issue.ensures.some
 
 pub returns-clause-idle : goal.returns-clause-idle
 returns-clause-idle c =
     let i = c.self.inside in
-    let unit = unit_now i c.args.actor c.from.result c.deref.result.now c.in_ok-get.field-0.now c.unit_of.result
+    let unit = unit_now i c.args.actor c.from.result c.deref.result.now c.in_ok-get.field-0.now c.unit.result
     c.deref.ensures.0 c.from.ensures
-    c.in_ok-get.ensures.lookup.3.0 c.in_ok-get.ensures.lookup.1 c.unit_of.ensures in
+    c.in_ok-get.ensures.lookup.3.0 c.in_ok-get.ensures.lookup.1 c.unit.ensures in
     next_none i c.self.invariant c.args.self.now c.self.view_is c.args.actor c.in_ok-kind.kind unit.0
     (unit.1 ∙ c.in_ok-kind.was) c.next_to_issue.result c.next_to_issue.ensures.none
 
@@ -58,9 +58,9 @@ pub returns-clause-alone : goal.returns-clause-alone
 returns-clause-alone c =
     let i = c.self.inside in
     let v = c.args.self.now in
-    let unit = unit_now i c.args.actor c.from.result c.deref.result.now c.in_ok-get.field-0.now c.unit_of.result
+    let unit = unit_now i c.args.actor c.from.result c.deref.result.now c.in_ok-get.field-0.now c.unit.result
     c.deref.ensures.0 c.from.ensures
-    c.in_ok-get.ensures.lookup.3.0 c.in_ok-get.ensures.lookup.1 c.unit_of.ensures in
+    c.in_ok-get.ensures.lookup.3.0 c.in_ok-get.ensures.lookup.1 c.unit.ensures in
     alone v.setup v.past (is_legal_view i c.self.invariant v c.self.view_is) c.args.actor c.next_to_issue.result
     (next_allowed i c.self.invariant v c.self.view_is c.args.actor c.in_ok-kind.kind unit.0
     (unit.1 ∙ c.in_ok-kind.was) c.next_to_issue.result c.next_to_issue.ensures.some)

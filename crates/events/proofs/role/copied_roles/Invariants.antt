@@ -1,5 +1,5 @@
 use Rattle.std.proofs.Common.{◌≡◌, take}
-use Rattle.event_text.proofs.head.copy_of.Given as goal
+use Rattle.events.proofs.role.copied_roles.Given as goal
 
 abbrev pub invariant-loop-role : goal.invariant-loop-role
 invariant-loop-role l = l.copy.items ≡ take l.role-index l.roles
