@@ -5,7 +5,7 @@ use Rattle.std.specs.Io.KnownBytes.{Appends}
 use Rattle.elf_image.specs.Image.{ProgramImage}
 use Rattle.outcomes.specs.{Found.Found, Found.Told}
 use Rattle.watched_outcomes.specs.{declared.watch.Watch.Watch}
-use Rattle.outcomes.specs.{Found.InEachSetup, Found.AreAll, Found.CoversCores, Found.IsOnce, Refusals.IsRefusedFor}
+use Rattle.outcomes.specs.{Found.InEachSetup, Found.IsExactList, Found.CoversCores, Found.IsOnce, Refusals.IsRefusedFor}
 use Rattle.outcomes.specs.declared.refused.OutcomesRefused.TheVariants as search
 use Rattle.outcome_text.specs.Listing.{incomplete_text}
 use Rattle.litmus_tests.specs.declared.test.LitmusTest.{LitmusTest}
@@ -49,7 +49,7 @@ pub record IsComplete (test : LitmusTest) (command : LitmusCommand) (old new : O
   pub watch : Watch
   pub searched : IsSearched test image watch
   pub found : Found
-  pub all : InEachSetup image (length test.threads.items) (λ setup. AreAll setup watch found)
+  pub all : InEachSetup image (length test.threads.items) (λ setup. IsExactList setup watch found)
   pub cores : InEachSetup image (length test.threads.items) (λ setup. CoversCores setup watch found)
   pub once : IsOnce found
   pub told : IsTold test command found.listed old new

@@ -6,7 +6,7 @@ use Rattle.elf_image.specs.Image.{ProgramImage}
 use Rattle.core_state.specs.Setup.{setup_of}
 use Rattle.smt_model.specs.Faults.{read_fault}
 use Rattle.watched_outcomes.specs.{declared.watch.Watch.Watch, declared.watch.WatchedRegister.WatchedRegister}
-use Rattle.outcomes.specs.{Found.Found, Found.Told, Found.InEachSetup, Found.AreAll, Found.CoversCores, Found.IsOnce}
+use Rattle.outcomes.specs.{Found.Found, Found.Told, Found.InEachSetup, Found.IsExactList, Found.CoversCores, Found.IsOnce}
 use Rattle.outcomes.specs.{Refusals.IsRefusedFor, Refusals.AreWords}
 use Rattle.watched_outcomes.specs.{Watching.is_register_there, Watching.AreThere}
 use Rattle.outcomes.specs.Told.{order_listed}
@@ -56,7 +56,7 @@ pub record IsAsked (command : OutcomesCommand) (watch : Watch) (terms : List Ter
 -- What was found is every outcome of the program, each once and with an order that leads to it, and every core
 -- ends as one of them says. All that is watched is there.
 pub record IsFound (settings : Settings) (image : ProgramImage) (watch : Watch) (found : Found) : Type 0 where
-  pub all : InEachSetup image settings.config.harts (λ setup. AreAll setup watch found)
+  pub all : InEachSetup image settings.config.harts (λ setup. IsExactList setup watch found)
   pub cores : InEachSetup image settings.config.harts (λ setup. CoversCores setup watch found)
   pub once : IsOnce found
   pub registers : AreThere settings.config.harts watch

@@ -9,7 +9,7 @@ use crate::refused::Refused;
 use actors::Gate;
 use elf_image::Image;
 use report_lines::{report_standing, status_of};
-use rounds::{Rounds, RoundsRun, RoundsStopped, Watch, count_going, run_rounds};
+use rounds::{Rounds, RoundsRun, RoundsStopped, StepObserver, count_going, run_rounds};
 use sc_machine::Plain;
 use sim_inputs::{PlainCommand, Settings};
 use std::alloc::Global;
@@ -51,7 +51,7 @@ struct Shown<'a, G: Gate> {
     steps: u64,
 }
 
-impl<G: Gate> Watch for Shown<'_, G> {
+impl<G: Gate> StepObserver for Shown<'_, G> {
     fn before_step(&mut self, machine: &Plain) {
         if self.steps % STEPS_A_LOOK == 0 {
             self.gate.at_step(self.steps, count_going(machine));

@@ -1,7 +1,7 @@
 //! The search for all outcomes, and who is shown how far it is.
 
 ghost use Rattle.std.specs.Prelude.{IfOk, IfErr, OnOk};
-ghost use Rattle.outcomes.specs.Found.{InEachSetup, AreAll, CoversCores, IsOnce};
+ghost use Rattle.outcomes.specs.Found.{InEachSetup, IsExactList, CoversCores, IsOnce};
 ghost use Rattle.outcomes.specs.Refusals.{IsRefusedFor, AreWords};
 ghost use Rattle.watched_outcomes.specs.Watching.{AreThere};
 
@@ -33,7 +33,7 @@ pub(crate) fn find_shown<G: Gate>(
     alloc: Global,
 ) -> Result<Outcomes, OutcomesRefused>
     ensures all { IfOk result (λ found.
-        InEachSetup image.now harts (λ setup. AreAll setup watch.now found)) }
+        InEachSetup image.now harts (λ setup. IsExactList setup watch.now found)) }
     ensures cores { IfOk result (λ found.
         InEachSetup image.now harts (λ setup. CoversCores setup watch.now found)) }
     ensures once { IfOk result IsOnce }

@@ -21,7 +21,7 @@ use crate::refused::Refused;
 use crate::wanted::Wanted;
 use elf_image::Image;
 use explained_asks::explain;
-use scripts::{ScriptRefused, ScriptWord, Unwritten, ask_core, read_script};
+use scripts::{ScriptRefused, ScriptWord, Unwritten, read_script, run_script};
 use sim_inputs::Settings;
 use smt_core::{Core, CoreRefused, Finished, Predict};
 use std::alloc::{AllocError, Global};
@@ -96,7 +96,7 @@ fn step_image<P: Predict, W: Write>(
 {
     let core = new_core(image, settings, alloc)?;
     let words = words_of(script, alloc)?;
-    match ask_core(
+    match run_script(
         core,
         words.as_slice(),
         image,

@@ -10,7 +10,7 @@ use std::alloc::{AllocError, Global};
 use std::io;
 use std::io::Write;
 
-/// The explained lines of these words' asks: `lines` are theirs as `ask_core` prints them, `made`
+/// The explained lines of these words' asks: `lines` are theirs as `run_script` prints them, `made`
 /// is the history that the asks have left, and `core` is of the same image and configuration and
 /// has made no step. Behind them stands how often each reason came.
 ///

@@ -15,7 +15,7 @@ use Rattle.watched_outcomes.specs.declared.{watch.Watch.Watch}
 use Rattle.outcomes.specs.{Lists.HasEnding, Refusals.AreWatched}
 use Rattle.watched_outcomes.specs.{Endings.Ending, Endings.ending_of, Watching.AreThere}
 use Rattle.outcomes.specs.Collected.{ending_at, IsOfEnd, AreOutcomes}
-use Rattle.outcomes.specs.Found.{Found, Told, EndsSo, HasOutcome, IsComplete, IsSound, AreAll}
+use Rattle.outcomes.specs.Found.{Found, Told, EndsSo, HasOutcome, IsComplete, IsSound, IsExactList}
 use Rattle.outcomes.specs.Told.{told_of, order_at}
 use Rattle.outcomes.proofs.{Listing.contains_map, Listing.mapped_from, Endings.alike_ends}
 use Rattle.outcomes.proofs.Graph.{watched, live, visited, table, enough, start_settles, state_at, is_listed, is_end}
@@ -92,7 +92,7 @@ module _ (setup : Setup) (m : Machine) (begun : Begun) (graph_of : Graph State �
       let from = mapped_from (told_of begun.ways m.program.harts graph_of.origins) listed t c in
       subst (λ (t : Told). EndsSo setup watch t.order t.ending) from.2 (ends_so from.0 (outcomes.each from.0 from.1))
 
-  pub are_all : AreAll setup watch found
+  pub are_all : IsExactList setup watch found
   are_all = record {
     complete = complete;
     sound = is_sound;
@@ -106,13 +106,13 @@ pub all_told : (setup : Setup) (m : Machine) (begun : Begun) (graph_of : Graph S
     → AreThere m.program.harts watch → (listed : List Listed)
     → AreOutcomes m watch graph_of.states graph_of.ends listed → (stuck : Option ℕ) → IsLeastStuck graph_of stuck
     → (n : ℕ) → n ≡ m.program.harts
-    → AreAll setup watch (record {
+    → IsExactList setup watch (record {
       listed = map (told_of begun.ways n graph_of.origins) listed;
       states = length graph_of.states;
       stuck = option_map (order_at begun.ways n graph_of.origins) stuck;
     })
 all_told setup m begun graph_of sound graph begins image harts watch marked there listed outcomes stuck least n same =
-    subst (λ k. AreAll setup watch (record {
+    subst (λ k. IsExactList setup watch (record {
       listed = map (told_of begun.ways k graph_of.origins) listed;
       states = length graph_of.states;
       stuck = option_map (order_at begun.ways k graph_of.origins) stuck;

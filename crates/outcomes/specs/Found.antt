@@ -57,7 +57,7 @@ IsStuckTold setup (Some order) =
     (s : Plain) × (path setup order (start setup) ≡ Some s) × (CanEnd setup s → ⊥)
 
 -- All of it.
-pub record AreAll (setup : Setup) (watch : Watch) (found : Found) : Type 0 where
+pub record IsExactList (setup : Setup) (watch : Watch) (found : Found) : Type 0 where
   pub complete : IsComplete setup watch found
   pub sound : IsSound setup watch found
   pub stuck : IsStuckTold setup found.stuck

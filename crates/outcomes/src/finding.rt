@@ -7,7 +7,7 @@ ghost use Rattle.condensed_machine.specs.Steps.{Steps, HasBegun};
 ghost use Rattle.condensed_machine.specs.declared.begun.Begun.{Begun};
 ghost use Rattle.condensed_machine.specs.declared.state.State.{State};
 ghost use Rattle.searches.specs.Found.{IsGraph};
-ghost use Rattle.outcomes.specs.Found.{InEachSetup, AreAll, CoversCores, IsOnce};
+ghost use Rattle.outcomes.specs.Found.{InEachSetup, IsExactList, CoversCores, IsOnce};
 ghost use Rattle.outcomes.specs.Refusals.{IsRefusedFor, AreWords, AreWatched};
 ghost use Rattle.outcomes.specs.declared.refused.OutcomesRefused.TheVariants.{Memory};
 ghost use Rattle.watched_outcomes.specs.Watching.{AreThere};
@@ -37,7 +37,7 @@ pub fn find_outcomes<O: Onlooker>(
     alloc: Global,
 ) -> Result<Outcomes, OutcomesRefused>
     ensures all { IfOk result (λ found.
-        InEachSetup image.now harts (λ setup. AreAll setup watch.now found)) }
+        InEachSetup image.now harts (λ setup. IsExactList setup watch.now found)) }
     ensures cores { IfOk result (λ found.
         InEachSetup image.now harts (λ setup. CoversCores setup watch.now found)) }
     ensures once { IfOk result IsOnce }
@@ -83,7 +83,7 @@ fn search_all<O: Onlooker>(
     requires sound { IsSound machine.program }
     requires watched { AreWatched machine.program.watched watch.now }
     ensures all { IfOk result (λ found. InEachSetup machine.program.image machine.program.harts
-        (λ setup. AreAll setup watch.now found)) }
+        (λ setup. IsExactList setup watch.now found)) }
     ensures cores { IfOk result (λ found. InEachSetup machine.program.image machine.program.harts
         (λ setup. CoversCores setup watch.now found)) }
     ensures once { IfOk result IsOnce }
@@ -166,7 +166,7 @@ fn tell(
     requires graph { IsGraph (Steps machine.now) machine.now.program.harts begun.state search }
     requires known { (s : State) → Contains search.states s → Knows machine.now s }
     ensures all { IfOk result (λ found. InEachSetup machine.now.program.image machine.now.program.harts
-        (λ setup. AreAll setup watch.now found)) }
+        (λ setup. IsExactList setup watch.now found)) }
     ensures cores { IfOk result (λ found. InEachSetup machine.now.program.image machine.now.program.harts
         (λ setup. CoversCores setup watch.now found)) }
     ensures once { IfOk result IsOnce }

@@ -58,7 +58,7 @@ pub enum PromptRefused {
 struct Unwritten;
 
 /// Reads lines and answers each, until one says `quit` or there are no more (docs/FORMATS.md). A line
-/// of words is asked, and each of its asks answered as `ask_core` does; with `why` its asks are
+/// of words is asked, and each of its asks answered as `run_script` does; with `why` its asks are
 /// explained.
 ///
 /// What is answered has the core that was asked the words of all lines that are kept, one after

@@ -11,7 +11,7 @@ ghost use Rattle.prompts.specs.Kept.{IsAskedAll, AreInRange, kept_in};
 
 use elf_image::Image;
 use numbers::sizes::MOST_ACTORS;
-use scripts::{ScriptWord, ask_core};
+use scripts::{ScriptWord, run_script};
 use smt_core::{Config, Core, CoreRefused, Predict};
 use std::alloc::{AllocError, Global};
 
@@ -69,7 +69,7 @@ impl<P: Predict + Copy> Simulation<'_, P> {
         let mut predict = self.predict;
         let mut text = Vec::new(self.alloc);
         // What holds the answers fails for want of memory alone.
-        match ask_core(
+        match run_script(
             core,
             words,
             self.image,

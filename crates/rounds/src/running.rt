@@ -8,10 +8,10 @@ ghost use Rattle.rounds.specs.Steps.{IsAtAStart, OfEachStart, HaveMade};
 ghost use Rattle.rounds.specs.declared.stopped.RoundsStopped.TheVariants.{Harts};
 
 use crate::next::{first_number, following, next_hart};
+use crate::observer::StepObserver;
 use crate::rules::Rounds;
 use crate::stopped::{Broken, RoundsStopped};
 use crate::turn::take_turn;
-use crate::watch::Watch;
 use arrayvec::ArrayVec;
 use elf_image::Image;
 use numbers::sizes::HART_ROOM;
@@ -34,16 +34,16 @@ pub struct RoundsRun {
 
 /// Runs the plain machine of an image: the harts take turns, until none of them goes or all steps are
 /// made. The record of each step is written as it is made, where that is wanted, and not kept. Before
-/// each step the machine is shown to `watch`.
+/// each step the machine is shown to `observer`.
 ///
 /// Refused are no harts and more than `MOST_HARTS`, before any memory is taken. Room for the output is
 /// taken as it grows.
-pub fn run_rounds<T: Watch, W: Write>(
+pub fn run_rounds<T: StepObserver, W: Write>(
     image: &Image,
     harts: u8,
     rounds: Rounds,
     records: bool,
-    watch: &mut T,
+    observer: &mut T,
     out: &mut W,
     alloc: Global,
 ) -> Result<RoundsRun, RoundsStopped>
@@ -57,7 +57,7 @@ pub fn run_rounds<T: Watch, W: Write>(
         Err(PlainRefused::Harts) => return Err(RoundsStopped::Harts),
         Err(PlainRefused::Memory) => return Err(RoundsStopped::Memory),
     };
-    let retired = match take_turns(&mut machine, rounds, records, watch, out) {
+    let retired = match take_turns(&mut machine, rounds, records, observer, out) {
         Ok(made) => made,
         Err(Broken::Memory) => return Err(RoundsStopped::Memory),
         Err(Broken::Output) => return Err(RoundsStopped::Output),
@@ -71,11 +71,11 @@ pub fn run_rounds<T: Watch, W: Write>(
 }
 
 /// Takes turn after turn from the start of a machine, and answers how many steps were made.
-fn take_turns<T: Watch, W: Write>(
+fn take_turns<T: StepObserver, W: Write>(
     machine: &mut Plain,
     rounds: Rounds,
     records: bool,
-    watch: &mut T,
+    observer: &mut T,
     out: &mut W,
 ) -> Result<u64, Broken>
     requires some { 0 < rounds.each }
@@ -91,7 +91,7 @@ fn take_turns<T: Watch, W: Write>(
             return Ok(rounds.steps - left);
         };
         let limit = left.min(u64::from(rounds.each));
-        left -= take_turn(machine, hart, limit, records, watch, out)?;
+        left -= take_turn(machine, hart, limit, records, observer, out)?;
         last = Some(hart);
         number = following(number);
     }

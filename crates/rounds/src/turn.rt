@@ -8,21 +8,21 @@ ghost use Rattle.sc_machine.specs.Steps.{InEachRun};
 ghost use Rattle.report_lines.specs.Lines.{record_line};
 ghost use Rattle.rounds.specs.Steps.{HasMade};
 
+use crate::observer::StepObserver;
 use crate::stopped::Broken;
-use crate::watch::Watch;
 use events::Record;
 use report_lines::write_record;
 use sc_machine::Plain;
 use std::io::Write;
 
 /// Makes steps of a hart, as many as `limit` while it goes, and writes the record of each where that is
-/// wanted. Before each of them the machine is shown to `watch`. Answers how many it has made.
-pub fn take_turn<T: Watch, W: Write>(
+/// wanted. Before each of them the machine is shown to `observer`. Answers how many it has made.
+pub fn take_turn<T: StepObserver, W: Write>(
     machine: &mut Plain,
     hart: u8,
     limit: u64,
     records: bool,
-    watch: &mut T,
+    observer: &mut T,
     out: &mut W,
 ) -> Result<u64, Broken>
     ensures within { IfOk result (λ made. made ≤ limit) }
@@ -32,7 +32,7 @@ pub fn take_turn<T: Watch, W: Write>(
         (λ setup s. hart < setup.harts → is_going_status (s.statuses hart) ≡ false)) }
 {
     for made in 0..limit {
-        watch.before_step(machine);
+        observer.before_step(machine);
         if machine.make_room().is_err() {
             return Err(Broken::Memory);
         }

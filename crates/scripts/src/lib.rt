@@ -24,4 +24,4 @@ pub use actions::{Action, ScriptWord};
 pub use order::{OrderRefused, read_order};
 pub use printing::write_line;
 pub use script::{ScriptRefused, read_script};
-pub use session::{Unwritten, ask_core};
+pub use session::{Unwritten, run_script};

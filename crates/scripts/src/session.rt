@@ -43,7 +43,7 @@ struct Session<L: Origin> {
 /// the core is finished, whose `own` says whether it is of this image and this configuration.
 /// Its `idle` says how many asks of each actor were answered idle. `Unwritten` is answered where `out`
 /// failed; then the core is lost.
-pub fn ask_core<P: Predict, W: Write>(
+pub fn run_script<P: Predict, W: Write>(
     core: Core,
     words: &[ScriptWord],
     image: &Image,
@@ -68,7 +68,7 @@ pub fn ask_core<P: Predict, W: Write>(
         (λ finished. HasGuessed P.predicts core.past finished.core.past
         predict.old predict.new) }
 {
-    ask_dealt::<Brand, P, W>(
+    run_dealt::<Brand, P, W>(
         core,
         Blank::new(MOST_ACTORS as u64),
         words,
@@ -80,7 +80,7 @@ pub fn ask_core<P: Predict, W: Write>(
 }
 
 /// Makes the asks with the passes of this blank ledger.
-fn ask_dealt<L: Origin, P: Predict, W: Write>(
+fn run_dealt<L: Origin, P: Predict, W: Write>(
     core: Core,
     blank: Blank,
     words: &[ScriptWord],

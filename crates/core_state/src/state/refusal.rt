@@ -13,6 +13,7 @@ mod fetch;
 mod issue;
 mod rename;
 mod retire;
+mod rules;
 mod same;
 
 use super::State;

@@ -11,6 +11,7 @@ ghost use Rattle.core_parts.specs.Place.{InActiveList};
 ghost use Rattle.core_state.specs.Refusals.{IsJobWith, open_view};
 ghost use Rattle.exec_units.specs.Job.{outcome_of_job};
 
+use super::rules::{CompleteRule, DropRule};
 use super::same::is_same_outcome;
 use crate::state::State;
 use core_parts::OpenJob;
@@ -35,17 +36,17 @@ impl State {
             (λ r. InActiveList self.now.setup self.now.past r.0.hart seq r.1) }
     {
         if !self.has_actor(actor) {
-            return Err(1);
+            return Err(CompleteRule::Actor as u8);
         }
         let Some(job) = self.job_with(actor, seq) else {
-            return Err(2);
+            return Err(CompleteRule::Job as u8);
         };
         let Some(active) = in_flight(&self.parts, &job) else {
-            return Err(3);
+            return Err(CompleteRule::InFlight as u8);
         };
         let now = completion_of(&self.parts, &job, worked(&job));
         if !is_same_outcome(outcome, now) {
-            return Err(4);
+            return Err(CompleteRule::Outcome as u8);
         }
         Ok((job, active))
     }
@@ -55,13 +56,13 @@ impl State {
         ensures { result ≡ refused self.now.setup self.now.past (Event.Drop actor seq) }
     {
         if !self.has_actor(actor) {
-            return Some(1);
+            return Some(DropRule::Actor as u8);
         }
         let Some(job) = self.job_with(actor, seq) else {
-            return Some(2);
+            return Some(DropRule::Job as u8);
         };
         if in_flight(&self.parts, &job).is_some() {
-            return Some(3);
+            return Some(DropRule::Squashed as u8);
         }
         None
     }

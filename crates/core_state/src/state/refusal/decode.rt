@@ -5,6 +5,7 @@ ghost use Rattle.smt_model.specs.Fates.{is_of};
 ghost use Rattle.smt_model.specs.Rules.{refused, is_first};
 
 use super::first_failing;
+use super::rules::DecodeRule;
 use crate::state::State;
 use core_parts::Slot;
 use numbers::Seq;
@@ -19,15 +20,21 @@ impl State {
         ensures of_hart { IfOk result (λ h. is_of self.now.past h seq ≡ true) }
     {
         if !self.has_actor(actor) {
-            return Err(1);
+            return Err(DecodeRule::Actor as u8);
         }
         let Some(hart) = self.in_decode_latch(seq) else {
-            return Err(2);
+            return Err(DecodeRule::Fetched as u8);
         };
         let state = self.hart(hart);
         let broken = first_failing(&[
-            (3, is_oldest(&state.decode_latch, seq)),
-            (4, state.rename_latch.len() < LATCH_ROOM),
+            (
+                DecodeRule::Oldest as u8,
+                is_oldest(&state.decode_latch, seq),
+            ),
+            (
+                DecodeRule::Room as u8,
+                state.rename_latch.len() < LATCH_ROOM,
+            ),
         ]);
         match broken {
             Some(rule) => Err(rule),

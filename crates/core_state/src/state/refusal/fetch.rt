@@ -5,6 +5,7 @@ ghost use Rattle.smt_model.specs.Fetching.{choice};
 ghost use Rattle.smt_model.specs.Rules.{refused};
 
 use super::first_failing;
+use super::rules::FetchRule;
 use super::same::is_same_number;
 use crate::state::State;
 use core_steps::{FetchPoint, choose};
@@ -24,15 +25,21 @@ impl State {
             (Fetch actor point.hart seq point.pc point.word predicted) }
     {
         if !self.has_actor(actor) {
-            return Some(1);
+            return Some(FetchRule::Actor as u8);
         }
         if !self.is_chosen(point.hart) {
-            return Some(2);
+            return Some(FetchRule::Chosen as u8);
         }
         first_failing(&[
-            (3, seq == self.fetched),
-            (4, point.pc == self.hart(point.hart).fetch_pc),
-            (5, is_same_number(point.word, self.code.word_at(point.pc))),
+            (FetchRule::Number as u8, seq == self.fetched),
+            (
+                FetchRule::Pc as u8,
+                point.pc == self.hart(point.hart).fetch_pc,
+            ),
+            (
+                FetchRule::Word as u8,
+                is_same_number(point.word, self.code.word_at(point.pc)),
+            ),
         ])
     }
 

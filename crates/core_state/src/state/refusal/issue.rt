@@ -10,6 +10,7 @@ ghost use Rattle.smt_model.specs.Rules.{refused};
 ghost use Rattle.core_state.specs.Refusals.{idle_unit, IsEntryOf};
 
 use super::first_failing;
+use super::rules::IssueRule;
 use crate::state::State;
 use issue_queue::{Entry, SlabQueue};
 use numbers::Seq;
@@ -21,18 +22,21 @@ impl State {
         ensures { result ≡ refused self.now.setup self.now.past (Issue actor seq) }
     {
         if !self.has_actor(actor) {
-            return Some(1);
+            return Some(IssueRule::Actor as u8);
         }
         let Some(kind) = self.idle_unit(actor) else {
-            return Some(2);
+            return Some(IssueRule::IdleUnit as u8);
         };
         let Some(entry) = self.entry_of(seq) else {
-            return Some(3);
+            return Some(IssueRule::Waiting as u8);
         };
         first_failing(&[
-            (4, is_for(kind, entry.op)),
-            (5, entry.is_ready()),
-            (6, is_oldest_ready(&self.parts.queue, kind, seq)),
+            (IssueRule::Kind as u8, is_for(kind, entry.op)),
+            (IssueRule::Ready as u8, entry.is_ready()),
+            (
+                IssueRule::Oldest as u8,
+                is_oldest_ready(&self.parts.queue, kind, seq),
+            ),
         ])
     }
 

@@ -11,6 +11,7 @@ ghost use Rattle.core_state.specs.Refusals.{is_free_or_none};
 
 use super::decode::is_oldest;
 use super::first_failing;
+use super::rules::RenameRule;
 use crate::state::State;
 use load_store::LoadStore;
 use numbers::{Phys, Seq};
@@ -30,20 +31,29 @@ impl State {
         ensures of_hart { IfOk result (λ h. is_of self.now.past h seq ≡ true) }
     {
         if !self.has_actor(actor) {
-            return Err(1);
+            return Err(RenameRule::Actor as u8);
         }
         let Some((hart, slot)) = self.in_rename_latch(seq) else {
-            return Err(2);
+            return Err(RenameRule::Decoded as u8);
         };
         let state = self.hart(hart);
         let broken = first_failing(&[
-            (3, is_oldest(&state.rename_latch, seq)),
-            (4, !self.parts.queue.is_full()),
-            (5, !state.active.is_full()),
-            (6, has_load_room(&self.parts.accesses, hart, slot.op)),
-            (7, has_store_room(&self.parts.accesses, hart, slot.op)),
-            (8, is_fitting(phys, slot.op)),
-            (9, self.may_take(phys)),
+            (
+                RenameRule::Oldest as u8,
+                is_oldest(&state.rename_latch, seq),
+            ),
+            (RenameRule::QueueRoom as u8, !self.parts.queue.is_full()),
+            (RenameRule::FlightRoom as u8, !state.active.is_full()),
+            (
+                RenameRule::LoadRoom as u8,
+                has_load_room(&self.parts.accesses, hart, slot.op),
+            ),
+            (
+                RenameRule::StoreRoom as u8,
+                has_store_room(&self.parts.accesses, hart, slot.op),
+            ),
+            (RenameRule::Fitting as u8, is_fitting(phys, slot.op)),
+            (RenameRule::Free as u8, self.may_take(phys)),
         ]);
         match broken {
             Some(rule) => Err(rule),

@@ -1,4 +1,4 @@
-use Rattle.outcomes.specs.Found.{InEachSetup, AreAll, CoversCores}
+use Rattle.outcomes.specs.Found.{InEachSetup, IsExactList, CoversCores}
 use Rattle.outcomes.proofs.Programs.{of_same}
 use Rattle.outcomes.proofs.finding.find_outcomes.Goals as goal
 
@@ -7,5 +7,5 @@ returns-in-Err-clause-refused g c = c.in-Err.ensures.refused c.args.budget
 
 pub returns-clause-all : goal.returns-clause-all
 returns-clause-all g c =
-    of_same (λ image harts found. InEachSetup image harts (λ setup. AreAll setup c.args.watch.now found)) _ _ _ _
+    of_same (λ image harts found. InEachSetup image harts (λ setup. IsExactList setup c.args.watch.now found)) _ _ _ _
     c.search_all.result c.in-Ok.ensures.image c.in-Ok.ensures.harts c.search_all.ensures.all

@@ -1,6 +1,6 @@
 use Rattle.std.proofs.Common.{◌∙◌, ap, sym, subst}
 use Rattle.condensed_machine.specs.Machine.{Program}
-use Rattle.outcomes.specs.Found.{InEachSetup, AreAll, CoversCores}
+use Rattle.outcomes.specs.Found.{InEachSetup, IsExactList, CoversCores}
 use Rattle.outcomes.specs.Refusals.{IsRefusedFor}
 use Rattle.outcomes.proofs.Programs.{of_same, for_memory}
 use Rattle.outcomes.proofs.finding.search_all.Goals as goal
@@ -17,7 +17,7 @@ returns-in-Err-search_from-clause-refused g c =
 pub returns-clause-all : goal.returns-clause-all
 returns-clause-all g c =
     let same = c.in-Ok-search_from.ensures.program ∙ c.in-Ok-begin.ensures.grows.program in
-    of_same (λ image harts found. InEachSetup image harts (λ setup. AreAll setup c.args.watch.now found)) _ _ _ _
+    of_same (λ image harts found. InEachSetup image harts (λ setup. IsExactList setup c.args.watch.now found)) _ _ _ _
     c.tell.result (ap (λ (p : Program). p.image) same) (ap (λ (p : Program). p.harts) same) c.tell.ensures.all
 
 pub returns-clause-cores : goal.returns-clause-cores

@@ -1,6 +1,6 @@
 use Rattle.smt_core.specs.{Counts.AreCounts, Shown.Shown}
 use Rattle.scripts.proofs.Sessions.{whole, asked_whole, asked_plain}
-use Rattle.scripts.proofs.session.ask_dealt.Goals as goal
+use Rattle.scripts.proofs.session.run_dealt.Goals as goal
 
 pub returns-clause-counts : goal.returns-clause-counts
 returns-clause-counts g c =

@@ -3,15 +3,15 @@
 use sc_machine::Plain;
 
 /// Who sees how far rounds are: it is shown the machine before each step.
-pub trait Watch {
+pub trait StepObserver {
     /// The machine before its next step, if it makes one.
     fn before_step(&mut self, machine: &Plain);
 }
 
 /// Nobody looks on.
 #[derive(Clone, Copy, PartialEq, Eq, Drop)]
-pub struct Unwatched;
+pub struct Unobserved;
 
-impl Watch for Unwatched {
+impl StepObserver for Unobserved {
     fn before_step(&mut self, _machine: &Plain) {}
 }
