@@ -1,0 +1,149 @@
+//! An explanation as lines of text.
+
+use crate::naming::{
+    instruction_of, relation_name, write_access, write_event_name, write_location,
+};
+use litmus_cycles::{Broken, Edge, Explanation, MemoryEvent, Relation, Shown};
+use litmus_tests::LitmusTest;
+use std::io;
+use std::io::Write;
+
+/// Writes the explanation of a test's state as lines (docs/FORMATS.md). An error is the one that `out`
+/// answered.
+pub fn write_explanation<W: Write>(
+    test: &LitmusTest,
+    explanation: &Explanation,
+    out: &mut W,
+) -> io::Result<()> {
+    write_counts(explanation, out)?;
+    match &explanation.shown {
+        Shown::Nothing => Ok(()),
+        Shown::Cycle { events, edges } => {
+            write_cycle(edges.as_slice(), out)?;
+            write_events(test, events.as_slice(), out)?;
+            write_edges(test, events.as_slice(), edges.as_slice(), out)
+        }
+        Shown::Atomicity { events, broken } => {
+            write_broken(*broken, out)?;
+            write_events(test, events.as_slice(), out)
+        }
+        Shown::Execution { events, order } => {
+            write_order(order.as_slice(), out)?;
+            write_events(test, events.as_slice(), out)
+        }
+    }
+}
+
+fn write_counts<W: Write>(explanation: &Explanation, out: &mut W) -> io::Result<()> {
+    writeln!(out, "candidates {}", explanation.candidates)?;
+    writeln!(out, "looked at {}", explanation.looked_at)?;
+    if !explanation.is_whole {
+        out.write_all(b"not all were looked at\n")?;
+    }
+    writeln!(out, "{}", verdict(explanation))?;
+    if is_mixed(explanation) {
+        writeln!(out, "with a cycle {}", explanation.cyclic)?;
+        writeln!(out, "excluded by atomicity {}", explanation.not_atomic)?;
+    }
+    Ok(())
+}
+
+/// Whether some candidates have a cycle, and others are excluded by atomicity.
+fn is_mixed(explanation: &Explanation) -> bool {
+    explanation.cyclic > 0 && explanation.not_atomic > 0
+}
+
+/// What is found, in a few words.
+pub(crate) fn verdict(explanation: &Explanation) -> &'static str {
+    match explanation.shown {
+        Shown::Nothing => "no execution with such numbers was found",
+        Shown::Execution { .. } => "one has no cycle",
+        Shown::Atomicity { .. } => "each is excluded by atomicity",
+        Shown::Cycle { .. } if explanation.not_atomic == 0 => "each has a cycle",
+        Shown::Cycle { .. } => "each has a cycle or is excluded by atomicity",
+    }
+}
+
+fn write_cycle<W: Write>(edges: &[Edge], out: &mut W) -> io::Result<()> {
+    out.write_all(b"cycle ")?;
+    write_way(edges, out)?;
+    out.write_all(b"\n")
+}
+
+/// Writes the events of a cycle with the relations between them, the first again at the end.
+pub(crate) fn write_way<W: Write>(edges: &[Edge], out: &mut W) -> io::Result<()> {
+    if let Some(first) = edges.first() {
+        write_event_name(first.from, out)?;
+    }
+    for edge in edges {
+        write!(out, " {} ", relation_name(edge.relation))?;
+        write_event_name(edge.to, out)?;
+    }
+    Ok(())
+}
+
+fn write_events<W: Write>(
+    test: &LitmusTest,
+    events: &[MemoryEvent],
+    out: &mut W,
+) -> io::Result<()> {
+    for (index, event) in events.iter().enumerate() {
+        write_event_name(index, out)?;
+        write!(out, " hart {} ", event.hart)?;
+        write_access(test, event, out)?;
+        let instruction = instruction_of(test, event);
+        writeln!(out, " {instruction}")?;
+    }
+    Ok(())
+}
+
+fn write_edges<W: Write>(
+    test: &LitmusTest,
+    events: &[MemoryEvent],
+    edges: &[Edge],
+    out: &mut W,
+) -> io::Result<()> {
+    for edge in edges {
+        write_event_name(edge.from, out)?;
+        write!(out, " -{}", relation_name(edge.relation))?;
+        write_edge_location(test, events, edge, out)?;
+        out.write_all(b"-> ")?;
+        write_event_name(edge.to, out)?;
+        out.write_all(b"\n")?;
+    }
+    Ok(())
+}
+
+/// Writes the location of an edge, which po has none of.
+fn write_edge_location<W: Write>(
+    test: &LitmusTest,
+    events: &[MemoryEvent],
+    edge: &Edge,
+    out: &mut W,
+) -> io::Result<()> {
+    match (edge.relation, events.get(edge.to)) {
+        (Relation::ProgramOrder, _) | (_, None) => Ok(()),
+        (_, Some(event)) => {
+            out.write_all(b" ")?;
+            write_location(test, event.location, out)
+        }
+    }
+}
+
+fn write_broken<W: Write>(broken: Broken, out: &mut W) -> io::Result<()> {
+    write_event_name(broken.between, out)?;
+    out.write_all(b" lies between ")?;
+    write_event_name(broken.load, out)?;
+    out.write_all(b" and ")?;
+    write_event_name(broken.store, out)?;
+    out.write_all(b"\n")
+}
+
+fn write_order<W: Write>(order: &[usize], out: &mut W) -> io::Result<()> {
+    out.write_all(b"order")?;
+    for index in order {
+        out.write_all(b" ")?;
+        write_event_name(*index, out)?;
+    }
+    out.write_all(b"\n")
+}

@@ -1,7 +1,0 @@
-use Rattle.std.proofs.Common.{ℕ, ◌≤◌}
-use Rattle.outcome_queries.specs.Names.{IsNameOf}
-use Rattle.outcome_queries.proofs.names.register_named.Given as goal
-
--- none of the registers so far has the name
-abbrev pub invariant-loop-register : goal.invariant-loop-register
-invariant-loop-register l = (r : ℕ) → IsNameOf r l.name → l.register ≤ r
