@@ -1,14 +1,11 @@
 -- The command `migrate`: what is refused of it, behind a configuration, and the sizes of its core.
 use Rattle.std.specs.Prelude.{◌≡◌, ◌&&◌, Bool, true, false, List, ℕ, Ok}
-use Rattle.std.proofs.Common.{refl, sym, ◌∙◌}
-use Rattle.std.proofs.lemmas.Bool.{true≢false}
+use Rattle.std.proofs.Common.{refl}
 use Rattle.event_text.specs.Core.{AreCoreSizes}
 use Rattle.sim_inputs.specs.{declared.settings.Settings.Settings, Configuration.IsConfiguration}
 use Rattle.commands.specs.declared.refused.Refused.{Refused}
 use Rattle.commands.specs.declared.refused.Refused.TheVariants as reason
-use Rattle.sim_inputs.specs.{declared.line.Command.Command}
 use Rattle.commands.specs.{Migrate.IsMigrateRefusal, Migrate.sizes_by, Perform.IsMigrateLineRefusal}
-use Rattle.commands.specs.{Commands.migrates, Perform.IsLeft}
 
 first_true : (x y : Bool) → (x && y) ≡ true → x ≡ true
 first_true true y is = refl
@@ -48,8 +45,3 @@ module _ (text file : List ℕ) (settings : Settings) (configured : IsConfigurat
   migrate_refusal reason.Thread is = absurd is
   migrate_refusal reason.File is = absurd is
   migrate_refusal reason.Output is = (settings, configured, is)
-
--- Of a command that isn't a migration, nothing is said of what it left.
-pub other_left : {S : Type 0} (command : Command) (before after : S) (reason : Refused) → migrates command ≡ false
-    → IsLeft command before after reason
-other_left command before after reason other migration = absurd (true≢false (sym migration ∙ other))

@@ -15,7 +15,7 @@ use Rattle.stress_runs.specs.{Ends.rows_of, Ends.worst_of, Kept.AreKept, Kept.Is
 use Rattle.stress_runs.specs.{Kept.IsNextKept, Table.tally_text}
 use Rattle.std.specs.Prelude.{Result, IfOk, IfErr, OnOk, is_some}
 use Rattle.sim_inputs.specs.declared.line.RunCommand.{RunCommand}
-use Rattle.sim_inputs.specs.declared.line.Command.TheVariants as commands
+use Rattle.sim_inputs.specs.declared.line.ProgramCommand.TheVariants as commands
 use Rattle.commands.specs.{declared.refused.Refused.Refused, Refused.AreAccepted, Inputs.Read, Account.IsTraceWritten}
 use Rattle.commands.specs.{Run.LackARole, Run.IsRunRefusal, Run.RunComesTo, Commands.RunsComeTo}
 use Rattle.commands.specs.{Perform.IsPerformed, Written.IsWritten}

@@ -1,15 +1,11 @@
 -- The command `chart`: the pipeline of a trace, drawn. (This project's own choice.)
-use Rattle.std.specs.Prelude.{◌≡◌, ◌≤◌, ℕ, Bool, true, ◌||◌, nat_lt, List, Option, Some, None, is_some}
+use Rattle.std.specs.Prelude.{◌≡◌, ◌≤◌, ℕ, Bool, true, nat_lt, List, Option, Some, None, is_some}
 use Rattle.elf_image.specs.Image.{ProgramImage}
 use Rattle.sim_inputs.specs.{declared.line.ChartCommand.ChartCommand}
 use Rattle.sim_inputs.specs.{declared.settings.Settings.Settings}
 use Rattle.commands.specs.{declared.refused.Refused.Refused}
 use Rattle.commands.specs.declared.refused.Refused.TheVariants as refused
 use Rattle.commands.specs.Check.{IsCheckRefusal, OfEvents, AreHistory}
-
--- The chart goes into a file, and nothing is printed.
-abbrev pub has_file : ChartCommand → Bool
-has_file chart = is_some chart.svg || is_some chart.kanata
 
 -- A core of so many harts has the one that is to be drawn.
 abbrev pub hart_fits : ℕ → Option ℕ → Bool

@@ -1,5 +1,5 @@
 -- The command `litmus`: every final state of a litmus test. (This project's own choice, after herd.)
-use Rattle.std.specs.Prelude.{◌≡◌, ◌⊎◌, ℕ, nat_lt, Bool, true, false, is_some, if◌then◌else◌, List, [], ◌++◌}
+use Rattle.std.specs.Prelude.{◌≡◌, ◌⊎◌, ℕ, nat_lt, Bool, true, false, is_some, List, [], ◌++◌}
 use Rattle.std.specs.Prelude.{Option, codes, length}
 use Rattle.std.specs.Io.KnownBytes.{Appends}
 use Rattle.elf_image.specs.Image.{ProgramImage}
@@ -16,10 +16,6 @@ use Rattle.litmus_text.specs.States.{states_text, states_in}
 use Rattle.sim_inputs.specs.declared.line.LitmusCommand.{LitmusCommand}
 use Rattle.commands.specs.declared.refused.Refused.{Refused}
 use Rattle.commands.specs.declared.refused.Refused.TheVariants as reasons
-
--- A file is written: the image, or a picture.
-abbrev pub writes_file : LitmusCommand → Bool
-writes_file command = if is_some command.image then true else is_some command.svg
 
 -- The test's image, and what is watched of it.
 pub record IsSearched (test : LitmusTest) (image : ProgramImage) (watch : Watch) : Type 0 where

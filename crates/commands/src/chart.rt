@@ -1,12 +1,13 @@
 //! The command `chart`: the pipeline of a trace, drawn.
 
-ghost use Rattle.std.specs.Prelude.{◌≡◌, IfOk, IfErr, OnOk, reverse, true, false};
+ghost use Rattle.std.specs.Prelude.{◌≡◌, IfOk, IfErr, OnOk, is_some, reverse, true, false};
+ghost use Rattle.sim_inputs.specs.Files.{written_chart};
 ghost use Rattle.charts.specs.Rows.{AreRows};
 ghost use Rattle.event_text.specs.Sinking.{HasPut};
 ghost use Rattle.commands.specs.declared.refused.Refused.TheVariants.{Output};
 ghost use Rattle.commands.specs.Check.{IsHistoryRefusal, AreHistory, setup_by};
 ghost use Rattle.commands.specs.Chart.{IsChartRefusal, ChartComesTo, IsDrawingRefusal};
-ghost use Rattle.commands.specs.Chart.{has_file, hart_fits, IsHartRefusal, IsPictureRefusal};
+ghost use Rattle.commands.specs.Chart.{hart_fits, IsHartRefusal, IsPictureRefusal};
 
 use crate::check::{config_by, follow_all, read_events};
 use crate::refused::Refused;
@@ -40,7 +41,7 @@ pub fn perform_chart<S: EndFiles, W: Write>(
     requires finished { S.is_finished file.old ≡ true }
     ensures refused { IfErr result (IsChartRefusal settings.now image.now trace.now chart.now) }
     ensures ended { IfOk result (ChartComesTo settings.now image.now trace.now chart.now) }
-    ensures unwanted { has_file chart.now ≡ false → file.new ≡ file.old }
+    ensures unwanted { is_some (written_chart chart.now) ≡ false → file.new ≡ file.old }
     ensures unbroken { OnOk result (S.has_failed file.new ≡ false) }
     ensures finished { OnOk result (S.is_finished file.new ≡ true) }
     ensures unreported { S.has_failed file.new ≡ true
@@ -139,7 +140,7 @@ fn put_chart<S: EndFiles, W: Write>(
     requires finished { S.is_finished file.old ≡ true }
     ensures refused { IfErr result (λ reason. reason ≡ Output) }
     ensures zero { IfOk result (λ status. status ≡ 0) }
-    ensures unwanted { has_file chart.now ≡ false → file.new ≡ file.old }
+    ensures unwanted { is_some (written_chart chart.now) ≡ false → file.new ≡ file.old }
     ensures unbroken { OnOk result (S.has_failed file.new ≡ false) }
     ensures finished { OnOk result (S.is_finished file.new ≡ true) }
     ensures unreported { S.has_failed file.new ≡ true

@@ -16,7 +16,8 @@ use std::alloc::Global;
 pub struct Inputs<'a> {
     /// The configuration; empty where the line names none.
     pub config: Result<&'a [u8], Unread>,
-    pub image: Result<&'a [u8], Unread>,
+    /// The image, or the litmus test; empty where the line names none.
+    pub program: Result<&'a [u8], Unread>,
     /// The script, the trace that is read, or the order; empty where the line names none.
     pub second: Result<&'a [u8], Unread>,
 }

@@ -4,9 +4,10 @@ ghost use Rattle.std.specs.Prelude.{◌≡◌, ◌++◌, IfOk, IfErr, OnOk, is_s
 ghost use Rattle.std.specs.Io.KnownBytes.{Appends};
 ghost use Rattle.litmus_tests.specs.WellFormed.{IsWellFormed};
 ghost use Rattle.litmus_text.specs.States.{states_text};
+ghost use Rattle.sim_inputs.specs.Files.{written_for_test};
 ghost use Rattle.commands.specs.declared.refused.Refused.TheVariants.{Memory, Output};
 ghost use Rattle.commands.specs.Litmus.{IsLitmusRefusal, LitmusComesTo, IsTestRefusal, TestComesTo};
-ghost use Rattle.commands.specs.Litmus.{IsTextRefusal, IsPictureRefusal, IsWhy, IsTold, writes_file};
+ghost use Rattle.commands.specs.Litmus.{IsTextRefusal, IsPictureRefusal, IsWhy, IsTold};
 
 use crate::chart::put_text;
 use crate::refused::Refused;
@@ -40,7 +41,7 @@ pub fn perform_litmus<G: Gate, S: EndFiles, W: Write>(
     requires finished { S.is_finished file.old ≡ true }
     ensures refused { IfErr result (IsLitmusRefusal text.now command.now) }
     ensures ended { IfOk result (LitmusComesTo command.now (W.contents out.old) (W.contents out.new)) }
-    ensures unwanted { writes_file command.now ≡ false → file.new ≡ file.old }
+    ensures unwanted { is_some (written_for_test command.now) ≡ false → file.new ≡ file.old }
     ensures unbroken { OnOk result (S.has_failed file.new ≡ false) }
     ensures finished { OnOk result (S.is_finished file.new ≡ true) }
     ensures unreported { S.has_failed file.new ≡ true
@@ -89,7 +90,7 @@ pub fn perform_test<G: Gate, S: EndFiles, W: Write>(
     ensures refused { IfErr result (IsTestRefusal command.now) }
     ensures ended { IfOk result (TestComesTo test.now command.now
         (W.contents out.old) (W.contents out.new)) }
-    ensures unwanted { writes_file command.now ≡ false → file.new ≡ file.old }
+    ensures unwanted { is_some (written_for_test command.now) ≡ false → file.new ≡ file.old }
     ensures unbroken { OnOk result (S.has_failed file.new ≡ false) }
     ensures finished { OnOk result (S.is_finished file.new ≡ true) }
     ensures unreported { S.has_failed file.new ≡ true

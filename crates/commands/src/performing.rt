@@ -1,18 +1,19 @@
 //! All that the program does with a line once its files are read.
 
-ghost use Rattle.std.specs.Prelude.{◌≡◌, ◌⊎◌, IsTrue, IfOk, IfErr, OnOk, Err, None, true, false};
+ghost use Rattle.std.specs.Prelude.{◌≡◌, ◌⊎◌, IsTrue, IfOk, IfErr, OnOk, Err, is_some, true, false};
 ghost use Rattle.commands.specs.declared.refused.Refused.TheVariants.{Output};
 ghost use Rattle.report_lines.specs.Statuses.{says_harts};
 ghost use Rattle.commands.specs.declared.refused.Refused.{Refused as AnyRefused};
 ghost use Rattle.commands.specs.Refused.{exit_status_of, refusal_of};
-ghost use Rattle.sim_inputs.specs.declared.line.Command.TheVariants.{Run};
+ghost use Rattle.sim_inputs.specs.declared.line.ProgramCommand.TheVariants.{Run};
+ghost use Rattle.sim_inputs.specs.Files.{written_for_test};
 ghost use Rattle.commands.specs.Inputs.{as_read, Read};
-ghost use Rattle.commands.specs.Commands.{IsUnreported, wants_trace, explains, litmus_of, migrates};
-ghost use Rattle.commands.specs.Litmus.{writes_file};
-ghost use Rattle.commands.specs.Perform.{IsRefusal, LineComesTo, IsPerformed};
-ghost use Rattle.commands.specs.Perform.{IsProgramRefusal, ProgramComesTo};
+ghost use Rattle.commands.specs.Commands.{IsProgramUnreported, program_writes_file};
+ghost use Rattle.commands.specs.Perform.{IsRefusal, LineComesTo, IsLeft, IsUnreported, writes_file};
+ghost use Rattle.commands.specs.Perform.{IsProgramRefusal, ProgramComesTo, IsPerformed};
+ghost use Rattle.commands.specs.Perform.{IsExplainLineRefusal, ExplainLineComesTo};
 ghost use Rattle.commands.specs.Perform.{IsLitmusLineRefusal, LitmusLineComesTo};
-ghost use Rattle.commands.specs.Perform.{IsMigrateLineRefusal, MigrationComesTo, IsLeft};
+ghost use Rattle.commands.specs.Perform.{IsMigrateLineRefusal, MigrationComesTo};
 ghost use Rattle.event_text.specs.Sinking.{HasPut};
 ghost use Rattle.commands.specs.Written.{IsWritten};
 
@@ -35,7 +36,7 @@ use crate::stress::perform_stress;
 use crate::wanted::Wanted;
 use actors::Gate;
 use elf_image::Image;
-use sim_inputs::{Command, Line, LitmusCommand, RunCommand, Settings};
+use sim_inputs::{Command, Line, LitmusCommand, ProgramCommand, RunCommand, Settings};
 use smt_core::Predict;
 use std::alloc::Global;
 use std::io::Write;
@@ -79,17 +80,17 @@ pub fn perform<
     ensures unset { IfErr inputs.now.config (λ why. result ≡ 5) }
     ensures refused { says_harts result ≡ false → (reason : AnyRefused)
         × (exit_status_of reason ≡ result) × IsRefusal line.now.command
-        (as_read inputs.now.config) (as_read inputs.now.image) (as_read inputs.now.second) reason }
+        (as_read inputs.now.config) (as_read inputs.now.program) (as_read inputs.now.second) reason }
     ensures ended { IsTrue (says_harts result) → LineComesTo line.now.command
-        (as_read inputs.now.config) (as_read inputs.now.image) (as_read inputs.now.second)
+        (as_read inputs.now.config) (as_read inputs.now.program) (as_read inputs.now.second)
         (IsWritten S.begins S.written S.has_failed trace.old trace.new) (W.contents out.old)
         (W.contents out.new) result }
     ensures left { says_harts result ≡ false → (reason : AnyRefused)
         × (exit_status_of reason ≡ result) × IsRefusal line.now.command (as_read inputs.now.config)
-        (as_read inputs.now.image) (as_read inputs.now.second) reason
+        (as_read inputs.now.program) (as_read inputs.now.second) reason
         × IsLeft line.now.command trace.old trace.new reason }
     ensures finished { IsTrue (says_harts result) → S.is_finished trace.new ≡ true }
-    ensures unwanted { wants_trace line.now.command ≡ false → trace.new ≡ trace.old }
+    ensures unwanted { writes_file line.now.command ≡ false → trace.new ≡ trace.old }
     ensures unreported { S.has_failed trace.new ≡ true → IsUnreported line.now.command
         (as_read inputs.now.second) (W.contents out.old) (W.contents out.new) }
 {
@@ -110,7 +111,7 @@ pub(crate) fn refuse_line<E: Write>(
     ensures { result ≡ exit_status_of refused }
 {
     let status = refuse(refused, err);
-    if on_terminal && !explains(&line.command) {
+    if on_terminal {
         point_to_explain(refused, line, err);
     }
     status
@@ -137,22 +138,42 @@ fn perform_line<
     requires finished { S.is_finished trace.old ≡ true }
     ensures unset { IfErr inputs.now.config (λ why. result ≡ Err (refusal_of why)) }
     ensures refused { IfErr result (IsRefusal line.now.command (as_read inputs.now.config)
-        (as_read inputs.now.image) (as_read inputs.now.second)) }
+        (as_read inputs.now.program) (as_read inputs.now.second)) }
     ensures ended { IfOk result (LineComesTo line.now.command (as_read inputs.now.config)
-        (as_read inputs.now.image) (as_read inputs.now.second)
+        (as_read inputs.now.program) (as_read inputs.now.second)
         (IsWritten S.begins S.written S.has_failed trace.old trace.new) (W.contents out.old)
         (W.contents out.new)) }
     ensures left { IfErr result (IsLeft line.now.command trace.old trace.new) }
     ensures finished { OnOk result (S.is_finished trace.new ≡ true) }
-    ensures unwanted { wants_trace line.now.command ≡ false → trace.new ≡ trace.old }
+    ensures unwanted { writes_file line.now.command ≡ false → trace.new ≡ trace.old }
     ensures unreported { S.has_failed trace.new ≡ true → IsUnreported line.now.command
         (as_read inputs.now.second) (W.contents out.old) (W.contents out.new) }
 {
     match &line.command {
+        Command::OfProgram(command) => {
+            read_and_perform(rt, command, inputs, gate, predict, trace, out, alloc)
+        }
+        Command::Explain(_) => read_and_explain(inputs, out, alloc),
         Command::Litmus(litmus) => read_and_test(litmus, inputs, gate, trace, out, alloc),
         Command::Migrate(_) => read_and_migrate(inputs, trace, alloc),
-        _ => read_and_perform(rt, line, inputs, gate, predict, trace, out, alloc),
     }
+}
+
+/// The exit status of a line that explains its files, with all flushed that it prints of them. They are
+/// taken before they are refused.
+fn read_and_explain<W: Write>(
+    inputs: &Inputs<'_>,
+    out: &mut W,
+    alloc: Global,
+) -> Result<u8, Refused>
+    ensures unset { IfErr inputs.now.config (λ why. result ≡ Err (refusal_of why)) }
+    ensures refused { IfErr result (IsExplainLineRefusal (as_read inputs.now.config)
+        (as_read inputs.now.program)) }
+    ensures ended { IfOk result (ExplainLineComesTo (as_read inputs.now.config)
+        (as_read inputs.now.program) (W.contents out.old) (W.contents out.new)) }
+{
+    let text = inputs.config?;
+    perform_explain(text, inputs.program, out, alloc)
 }
 
 /// The exit status of a litmus test, with all flushed that is printed of it.
@@ -168,17 +189,17 @@ fn read_and_test<G: Gate, S: EndFiles, W: Write>(
     requires finished { S.is_finished file.old ≡ true }
     ensures unset { IfErr inputs.now.config (λ why. result ≡ Err (refusal_of why)) }
     ensures refused { IfErr result (IsLitmusLineRefusal litmus.now (as_read inputs.now.config)
-        (as_read inputs.now.image)) }
+        (as_read inputs.now.program)) }
     ensures ended { IfOk result (LitmusLineComesTo litmus.now (as_read inputs.now.config)
-        (as_read inputs.now.image) (W.contents out.old) (W.contents out.new)) }
+        (as_read inputs.now.program) (W.contents out.old) (W.contents out.new)) }
     ensures finished { OnOk result (S.is_finished file.new ≡ true) }
-    ensures unwanted { writes_file litmus.now ≡ false → file.new ≡ file.old }
+    ensures unwanted { is_some (written_for_test litmus.now) ≡ false → file.new ≡ file.old }
     ensures unreported { S.has_failed file.new ≡ true
         → W.contents out.new ≡ W.contents out.old }
 {
     let sizes = inputs.config?;
     settings_of(sizes, alloc)?;
-    let text = inputs.image?;
+    let text = inputs.program?;
     let status = match perform_litmus(text, litmus, gate, file, out, alloc) {
         Ok(status) => status,
         Err(refused) => return Err(refused),
@@ -214,7 +235,7 @@ fn read_and_migrate<S: EndFiles>(
     }
 }
 
-/// The exit status of a line with an image, with all flushed that it prints.
+/// The exit status of a command of a program, with all flushed that it prints.
 fn read_and_perform<
     G: Gate + Sync,
     P: Predict + Copy + Send,
@@ -223,7 +244,7 @@ fn read_and_perform<
     R: Threads + Wait + Sync,
 >(
     rt: &R,
-    line: &Line<'_>,
+    command: &ProgramCommand<'_>,
     inputs: &Inputs<'_>,
     gate: &G,
     predict: P,
@@ -233,28 +254,23 @@ fn read_and_perform<
 ) -> Result<u8, Refused>
     requires works { S.has_failed trace.old ≡ false }
     requires finished { S.is_finished trace.old ≡ true }
-    requires program { litmus_of line.now.command ≡ None }
-    requires image { migrates line.now.command ≡ false }
     ensures unset { IfErr inputs.now.config (λ why. result ≡ Err (refusal_of why)) }
-    ensures refused { IfErr result (IsProgramRefusal line.now.command (as_read inputs.now.config)
-        (as_read inputs.now.image) (as_read inputs.now.second)) }
-    ensures ended { IfOk result (ProgramComesTo line.now.command (as_read inputs.now.config)
-        (as_read inputs.now.image) (as_read inputs.now.second)
+    ensures refused { IfErr result (IsProgramRefusal command.now (as_read inputs.now.config)
+        (as_read inputs.now.program) (as_read inputs.now.second)) }
+    ensures ended { IfOk result (ProgramComesTo command.now (as_read inputs.now.config)
+        (as_read inputs.now.program) (as_read inputs.now.second)
         (IsWritten S.begins S.written S.has_failed trace.old trace.new) (W.contents out.old)
         (W.contents out.new)) }
     ensures finished { OnOk result (S.is_finished trace.new ≡ true) }
-    ensures unwanted { wants_trace line.now.command ≡ false → trace.new ≡ trace.old }
-    ensures unreported { S.has_failed trace.new ≡ true → IsUnreported line.now.command
+    ensures unwanted { program_writes_file command.now ≡ false → trace.new ≡ trace.old }
+    ensures unreported { S.has_failed trace.new ≡ true → IsProgramUnreported command.now
         (as_read inputs.now.second) (W.contents out.old) (W.contents out.new) }
 {
     let config = inputs.config?;
-    if explains(&line.command) {
-        return perform_explain(config, inputs.image, out, alloc);
-    }
     let settings = settings_of(config, alloc)?;
-    let file = inputs.image?;
+    let file = inputs.program?;
     let image = image_of(file, settings.ram, alloc)?;
-    let (command, second) = (&line.command, inputs.second);
+    let second = inputs.second;
     // Handed on as it is: a `?` would leave the prover to find what the refusal becomes.
     let status = match perform_command(
         rt, command, &settings, &image, second, gate, predict, trace, out, alloc,
@@ -268,14 +284,7 @@ fn read_and_perform<
     }
 }
 
-/// Whether a command explains its files, and so takes them before they are refused.
-fn explains(command: &Command<'_>) -> bool
-    ensures { result ≡ explains command.now }
-{
-    matches!(command, Command::Explain(_))
-}
-
-/// Does what any other command asks for, of its settings, its image and its second file.
+/// Does what a command of a program asks for, of its settings, its image and its second file.
 fn perform_command<
     G: Gate + Sync,
     P: Predict + Copy + Send,
@@ -284,7 +293,7 @@ fn perform_command<
     R: Threads + Wait + Sync,
 >(
     rt: &R,
-    command: &Command<'_>,
+    command: &ProgramCommand<'_>,
     settings: &Settings,
     image: &Image,
     second: Result<&[u8], Unread>,
@@ -296,51 +305,45 @@ fn perform_command<
 ) -> Result<u8, Refused>
     requires works { S.has_failed trace.old ≡ false }
     requires finished { S.is_finished trace.old ≡ true }
-    requires other { explains command.now ≡ false }
-    requires program { litmus_of command.now ≡ None }
-    requires image { migrates command.now ≡ false }
     ensures { IsPerformed S.begins S.is_finished S.written S.has_failed trace.old trace.new command.now
         settings.now image.now (as_read second.entry) (W.contents out.old) (W.contents out.new) result }
 {
     match command {
-        Command::Step(step) => {
+        ProgramCommand::Step(step) => {
             let wanted = Wanted::of_step(step);
             let script = second?;
             perform_step(
                 image, settings, script, step.why, wanted, predict, trace, out, alloc,
             )
         }
-        Command::Run(run) => perform_runs(
+        ProgramCommand::Run(run) => perform_runs(
             rt, image, settings, run, gate, predict, trace, out, alloc,
         ),
-        Command::Check(check) => {
+        ProgramCommand::Check(check) => {
             let wanted = Wanted::of_check(check);
             let text = second?;
             perform_check(image, settings, text, wanted, out, alloc)
         }
-        Command::Plain(plain) => {
+        ProgramCommand::Plain(plain) => {
             if let Some(rounds) = rounds_of(plain) {
                 return perform_rounds(image, settings, rounds, plain.records, gate, out, alloc);
             }
             let order = second?;
             perform_plain(image, settings, order, plain.records, out, alloc)
         }
-        Command::Schedule(_) => {
+        ProgramCommand::Schedule(_) => {
             let order = second?;
             perform_schedule(image, settings, order, out, alloc)
         }
-        Command::Script(_) => {
+        ProgramCommand::Script(_) => {
             let text = second?;
             perform_script(image, settings, text, out, alloc)
         }
-        Command::List(_) => perform_list(image, out),
-        Command::Explain(_) => unreachable!(),
-        Command::Litmus(_) => unreachable!(),
-        Command::Migrate(_) => unreachable!(),
-        Command::Outcomes(outcomes) => {
+        ProgramCommand::List(_) => perform_list(image, out),
+        ProgramCommand::Outcomes(outcomes) => {
             perform_outcomes(image, settings, outcomes, gate, trace, out, alloc)
         }
-        Command::Chart(chart) => {
+        ProgramCommand::Chart(chart) => {
             let text = second?;
             perform_chart(image, settings, text, chart, trace, out, alloc)
         }

@@ -3,7 +3,8 @@
 ghost use Rattle.std.specs.Prelude.{◌≡◌, ◌⊎◌, [], IsTrue, IfOk, IfErr, OnOk, Ok, Err, true, false};
 ghost use Rattle.std.specs.Prelude.{is_some};
 ghost use Rattle.report_lines.specs.Statuses.{says_harts};
-ghost use Rattle.sim_inputs.specs.declared.line.Command.TheVariants.{Step};
+ghost use Rattle.sim_inputs.specs.declared.line.Command.TheVariants.{OfProgram};
+ghost use Rattle.sim_inputs.specs.declared.line.ProgramCommand.TheVariants.{Step};
 ghost use Rattle.commands.specs.declared.refused.Refused.{Refused as AnyRefused};
 ghost use Rattle.commands.specs.Account.{IsTraceWritten};
 ghost use Rattle.commands.specs.Inputs.{as_read};
@@ -46,10 +47,10 @@ pub fn perform_typed<P: Predict + Copy, R: BufRead, S: EndFiles, W: Write, E: Wr
     ensures known { IsTrue (says_harts result) ⊎ (result ≡ 2) ⊎ (result ≡ 4) ⊎ (result ≡ 5) }
     ensures unset { IfErr inputs.now.config (λ why. result ≡ 5) }
     ensures refused { says_harts result ≡ false → (reason : AnyRefused)
-        × (exit_status_of reason ≡ result) × IsRefusal (Step step.now)
-        (as_read inputs.now.config) (as_read inputs.now.image) (Ok []) reason }
+        × (exit_status_of reason ≡ result) × IsRefusal (OfProgram (Step step.now))
+        (as_read inputs.now.config) (as_read inputs.now.program) (Ok []) reason }
     ensures ended { IsTrue (says_harts result) → TypedComesTo P.predicts predict
-        (as_read inputs.now.config) (as_read inputs.now.image) (R.remaining reader.old)
+        (as_read inputs.now.config) (as_read inputs.now.program) (R.remaining reader.old)
         (step_wants step.now)
         (IsTraceWritten S.written S.has_failed trace.old trace.new (is_some step.now.trace))
         (W.contents out.old) (W.contents out.new) result }
@@ -75,10 +76,10 @@ fn read_and_prompt<P: Predict + Copy, R: BufRead, S: EndFiles, W: Write>(
     requires works { S.has_failed trace.old ≡ false }
     requires finished { S.is_finished trace.old ≡ true }
     ensures unset { IfErr inputs.now.config (λ why. result ≡ Err (refusal_of why)) }
-    ensures refused { IfErr result (IsRefusal (Step step.now) (as_read inputs.now.config)
-        (as_read inputs.now.image) (Ok [])) }
+    ensures refused { IfErr result (IsRefusal (OfProgram (Step step.now)) (as_read inputs.now.config)
+        (as_read inputs.now.program) (Ok [])) }
     ensures ended { IfOk result (TypedComesTo P.predicts predict (as_read inputs.now.config)
-        (as_read inputs.now.image) (R.remaining reader.old) (step_wants step.now)
+        (as_read inputs.now.program) (R.remaining reader.old) (step_wants step.now)
         (IsTraceWritten S.written S.has_failed trace.old trace.new (is_some step.now.trace))
         (W.contents out.old) (W.contents out.new)) }
     ensures finished { OnOk result (S.is_finished trace.new ≡ true) }
@@ -86,7 +87,7 @@ fn read_and_prompt<P: Predict + Copy, R: BufRead, S: EndFiles, W: Write>(
 {
     let config = inputs.config?;
     let settings = settings_of(config, alloc)?;
-    let file = inputs.image?;
+    let file = inputs.program?;
     let image = image_of(file, settings.ram, alloc)?;
     let wanted = Wanted::of_step(step);
     // Handed on as it is: a `?` would leave the prover to find what the refusal becomes.

@@ -6,6 +6,7 @@ use mathlib.Core.Logic.{inl, inr}
 use Rattle.sim_inputs.specs.declared.line.Line.{Line}
 use Rattle.sim_inputs.specs.declared.line.Command.{Command}
 use Rattle.sim_inputs.specs.declared.line.Command.TheVariants as commands
+use Rattle.sim_inputs.specs.declared.line.ProgramCommand.TheVariants as program
 use Rattle.sim_inputs.specs.declared.line.StepCommand.{StepCommand}
 use Rattle.sim_inputs.specs.Files.{files_of, is_standard_input}
 use Rattle.report_lines.specs.Statuses.{says_harts}
@@ -14,40 +15,40 @@ use Rattle.commands.specs.{Inputs.Read, Refused.exit_status_of, Perform.IsRefusa
 use Rattle.program.specs.Performed.{typed_step, IsReadAs, HasPerformed}
 
 typed_command : (at_terminal : Bool) (command : Command) (step : StepCommand)
-    → typed_step at_terminal command ≡ Some step → command ≡ commands.Step step
-typed_command at_terminal (commands.Step s) step is =
+    → typed_step at_terminal command ≡ Some step → command ≡ commands.OfProgram (program.Step step)
+typed_command at_terminal (commands.OfProgram (program.Step s)) step is =
     elim (cases_Bool (at_terminal && is_standard_input s.script.now)) [
       | inl typed ↦
           let found : ◌≡◌ {A = Option StepCommand} (Some s) (Some step) = rw typed at is in
           let same : s ≡ step = cc in
-          ap commands.Step same
+          ap (λ (t : StepCommand). commands.OfProgram (program.Step t)) same
       | inr read ↦ let none : ◌≡◌ {A = Option StepCommand} None (Some step) = rw read at is in absurd (cc)
     ]
-typed_command at_terminal (commands.Run run) step is = absurd (cc)
-typed_command at_terminal (commands.Check check) step is = absurd (cc)
-typed_command at_terminal (commands.Plain plain) step is = absurd (cc)
-typed_command at_terminal (commands.Schedule schedule) step is = absurd (cc)
-typed_command at_terminal (commands.Script script) step is = absurd (cc)
-typed_command at_terminal (commands.List list) step is = absurd (cc)
-typed_command at_terminal (commands.Chart chart) step is = absurd (cc)
+typed_command at_terminal (commands.OfProgram (program.Run run)) step is = absurd (cc)
+typed_command at_terminal (commands.OfProgram (program.Check check)) step is = absurd (cc)
+typed_command at_terminal (commands.OfProgram (program.Plain plain)) step is = absurd (cc)
+typed_command at_terminal (commands.OfProgram (program.Schedule schedule)) step is = absurd (cc)
+typed_command at_terminal (commands.OfProgram (program.Script script)) step is = absurd (cc)
+typed_command at_terminal (commands.OfProgram (program.List list)) step is = absurd (cc)
+typed_command at_terminal (commands.OfProgram (program.Chart chart)) step is = absurd (cc)
+typed_command at_terminal (commands.OfProgram (program.Outcomes outcomes)) step is = absurd (cc)
 typed_command at_terminal (commands.Explain explain) step is = absurd (cc)
-typed_command at_terminal (commands.Outcomes outcomes) step is = absurd (cc)
 typed_command at_terminal (commands.Litmus litmus) step is = absurd (cc)
 typed_command at_terminal (commands.Migrate migrate) step is = absurd (cc)
 
 -- It is performed with its other files as they were read, and refused as an empty script is.
 pub typed_performed : (at_terminal : Bool) (line : Line) (step : StepCommand) (status : ℕ) (config image : Read)
     → typed_step at_terminal line.command ≡ Some step
-    → IsReadAs (files_of line).config config → IsReadAs (files_of line).image image
+    → IsReadAs (files_of line).config config → IsReadAs (files_of line).program image
     → (says_harts status ≡ false → (reason : Refused) × (exit_status_of reason ≡ status)
-    × IsRefusal (commands.Step step) config image (Ok []) reason)
+    × IsRefusal (commands.OfProgram (program.Step step)) config image (Ok []) reason)
     → HasPerformed at_terminal line status
-typed_performed at_terminal line step status config image typed has_config has_image refused = record {
+typed_performed at_terminal line step status config image typed has_config has_program refused = record {
   config = config;
-  image = image;
+  program = image;
   second = Ok [];
   has_config = has_config;
-  has_image = has_image;
+  has_program = has_program;
   has_second = rw typed refl;
   refused = λ none.
       let why = refused none in
@@ -58,18 +59,18 @@ typed_performed at_terminal line step status config image typed has_config has_i
 -- Where no script is typed, a line is performed with all its files as they were read.
 pub read_performed : (at_terminal : Bool) (line : Line) (typed : Option StepCommand) (status : ℕ)
     (config image second : Read) → typed ≡ typed_step at_terminal line.command → typed ≡ None
-    → IsReadAs (files_of line).config config → IsReadAs (files_of line).image image
+    → IsReadAs (files_of line).config config → IsReadAs (files_of line).program image
     → IsReadAs (files_of line).second second
     → (says_harts status ≡ false → (reason : Refused) × (exit_status_of reason ≡ status)
     × IsRefusal line.command config image second reason)
     → HasPerformed at_terminal line status
-read_performed at_terminal line typed status config image second found none has_config has_image has_second refused =
+read_performed at_terminal line typed status config image second found none has_config has_program has_second refused =
     record {
       config = config;
-      image = image;
+      program = image;
       second = second;
       has_config = has_config;
-      has_image = has_image;
+      has_program = has_program;
       has_second = rw (sym found ∙ none) has_second;
       refused = refused;
     }

@@ -5,7 +5,8 @@ use Rattle.std.specs.Borrow.{Bor}
 use Rattle.sim_inputs.specs.{declared.line.Line.Line, declared.line.WordsRefused.WordsRefused}
 use Rattle.sim_inputs.specs.CommandLine.{Asks, AreWordsRefusedFor}
 use Rattle.sim_inputs.specs.declared.line.Command.{Command}
-use Rattle.sim_inputs.specs.declared.line.Command.TheVariants as commands
+use Rattle.sim_inputs.specs.declared.line.Command.TheVariants.{OfProgram}
+use Rattle.sim_inputs.specs.declared.line.ProgramCommand.TheVariants.{Step}
 use Rattle.sim_inputs.specs.declared.line.StepCommand.{StepCommand}
 use Rattle.sim_inputs.specs.Files.{files_of, is_standard_input}
 use Rattle.report_lines.specs.Statuses.{says_harts}
@@ -24,7 +25,7 @@ IsReadAs name read = IfNone name (read ≡ Ok [])
 
 -- The command of a line whose script is typed: in its place stands standard input, which is a terminal.
 abbrev pub typed_step : Bool → Command → Option StepCommand
-typed_step at_terminal (commands.Step step) =
+typed_step at_terminal (OfProgram (Step step)) =
     if at_terminal && is_standard_input step.script.now then Some step else None
 typed_step at_terminal _ = None
 
@@ -37,13 +38,13 @@ second_of at_terminal line =
 -- one of this line, with its files as they were read.
 pub record HasPerformed (at_terminal : Bool) (line : Line) (status : ℕ) : Type 0 where
   pub config : Read
-  pub image : Read
+  pub program : Read
   pub second : Read
   pub has_config : IsReadAs (files_of line).config config
-  pub has_image : IsReadAs (files_of line).image image
+  pub has_program : IsReadAs (files_of line).program program
   pub has_second : IsReadAs (second_of at_terminal line) second
   pub refused : says_harts status ≡ false → (reason : Refused)
-      × (exit_status_of reason ≡ status) × IsRefusal line.command config image second reason
+      × (exit_status_of reason ≡ status) × IsRefusal line.command config program second reason
 
 -- Words asked for a line, and it was performed with this exit status.
 pub record HavePerformed (at_terminal : Bool) (words : List (List ℕ)) (status : ℕ) : Type 0 where

@@ -13,4 +13,4 @@ IsNamed file path = is_named (option_map (λ name. name.now) file) path ≡ true
 
 -- One of the files that are read has just this name.
 abbrev pub IsReadAsNamed : ReadFiles → List ℕ → Type 0
-IsReadAsNamed read path = IsNamed read.config path ⊎ IsNamed read.image path ⊎ IsNamed read.second path
+IsReadAsNamed read path = IsNamed read.config path ⊎ IsNamed read.program path ⊎ IsNamed read.second path

@@ -16,7 +16,8 @@ use crate::words::{refuse_words, take_words, texts};
 use actors::Gate;
 use commands::{Inputs, Refused, Unread, perform, perform_typed, refuse};
 use sim_inputs::{
-    Command, Files as NamedFiles, Line, StepCommand, WordsRefused, is_standard_input, read_words,
+    Command, Files as NamedFiles, Line, ProgramCommand, StepCommand, WordsRefused,
+    is_standard_input, read_words,
 };
 use smt_core::Predict;
 use std::alloc::{AllocError, Global};
@@ -148,7 +149,7 @@ impl<S: Files + Input + Threads + Wait + Sync, G: Gate + Sync, P: Predict + Copy
         let files = line.files();
         let read = ReadInputs::of(self.system, &files, self.alloc);
         let places = Places {
-            file: files.trace,
+            file: files.written,
             folder: folder_of(line),
             read: ReadFiles::of(&files),
         };
@@ -185,7 +186,7 @@ impl<S: Files + Input + Threads + Wait + Sync, G: Gate + Sync, P: Predict + Copy
         files.second = None;
         let read = ReadInputs::of(self.system, &files, self.alloc);
         let places = Places {
-            file: files.trace,
+            file: files.written,
             folder: None,
             read: ReadFiles::of(&files),
         };
@@ -214,7 +215,8 @@ fn typed_step<'a>(line: &Line<'a>, at_terminal: bool) -> Option<StepCommand<'a>>
     ensures { result ≡ typed_step at_terminal line.now.command }
 {
     match line.command {
-        Command::Step(step) if at_terminal && is_standard_input(step.script) => Some(step),
+        Command::OfProgram(ProgramCommand::Step(step))
+            if at_terminal && is_standard_input(step.script) => { Some(step) }
         _ => None,
     }
 }
@@ -222,7 +224,7 @@ fn typed_step<'a>(line: &Line<'a>, at_terminal: bool) -> Option<StepCommand<'a>>
 /// The folder that a line names for the files of ends.
 fn folder_of<'a>(line: &Line<'a>) -> Option<&'a str> {
     match line.command {
-        Command::Run(run) => run.keep,
+        Command::OfProgram(ProgramCommand::Run(run)) => run.keep,
         _ => None,
     }
 }
@@ -231,7 +233,7 @@ fn folder_of<'a>(line: &Line<'a>) -> Option<&'a str> {
 #[derive(Drop)]
 struct ReadInputs {
     config: Result<Vec<u8>, Unread>,
-    image: Result<Vec<u8>, Unread>,
+    program: Result<Vec<u8>, Unread>,
     second: Result<Vec<u8>, Unread>,
 }
 
@@ -239,12 +241,12 @@ impl ReadInputs {
     /// Reads the files, in their order.
     fn of<S: Files + Input>(system: &S, files: &NamedFiles<'_>, alloc: Global) -> ReadInputs
         ensures config { IsReadAs files.now.config (read_of result.config) }
-        ensures image { IsReadAs files.now.image (read_of result.image) }
+        ensures program { IsReadAs files.now.program (read_of result.program) }
         ensures second { IsReadAs files.now.second (read_of result.second) }
     {
         ReadInputs {
             config: read_named(system, files.config, alloc),
-            image: read_named(system, files.image, alloc),
+            program: read_named(system, files.program, alloc),
             second: read_named(system, files.second, alloc),
         }
     }
@@ -252,12 +254,12 @@ impl ReadInputs {
     /// The bytes that were read, lent.
     fn lent(&self) -> Inputs<'_>
         ensures config { as_read result.config ≡ read_of self.now.config }
-        ensures image { as_read result.image ≡ read_of self.now.image }
+        ensures program { as_read result.program ≡ read_of self.now.program }
         ensures second { as_read result.second ≡ read_of self.now.second }
     {
         Inputs {
             config: lent(&self.config),
-            image: lent(&self.image),
+            program: lent(&self.program),
             second: lent(&self.second),
         }
     }

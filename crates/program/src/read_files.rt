@@ -15,7 +15,7 @@ const STANDARD_INPUT: &str = "/dev/stdin";
 #[derive(Clone, Copy, Drop)]
 pub struct ReadFiles<'a> {
     config: Option<&'a str>,
-    image: Option<&'a str>,
+    program: Option<&'a str>,
     second: Option<&'a str>,
 }
 
@@ -24,7 +24,7 @@ impl<'a> ReadFiles<'a> {
     pub fn of(files: &NamedFiles<'a>) -> Self {
         ReadFiles {
             config: files.config,
-            image: files.image,
+            program: files.program,
             second: files.second,
         }
     }
@@ -38,7 +38,7 @@ pub(crate) fn is_read<S: Files>(files: &S, read: &ReadFiles<'_>, path: &str) -> 
     if is_one(files, read.config, path) {
         return true;
     }
-    if is_one(files, read.image, path) {
+    if is_one(files, read.program, path) {
         return true;
     }
     is_one(files, read.second, path)

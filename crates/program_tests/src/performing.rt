@@ -62,7 +62,7 @@ pub fn inputs_of<'a>(
 ) -> Inputs<'a> {
     Inputs {
         config: Ok(config),
-        image: Ok(image),
+        program: Ok(image),
         second,
     }
 }

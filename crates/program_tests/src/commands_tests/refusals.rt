@@ -186,7 +186,7 @@ fn refuses_with<R: Threads + Wait + Abort + Sync>(
 ) {
     let inputs = Inputs {
         config: refusal.config,
-        image,
+        program: image,
         second: refusal.second,
     };
     let line = line_of(refusal.list);

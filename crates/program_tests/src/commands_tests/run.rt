@@ -188,7 +188,7 @@ fn no_prediction_changes_an_end(rt: HostRuntime) {
 fn a_run_needs_its_image(rt: HostRuntime) {
     let inputs = Inputs {
         config: Ok(SINGLE),
-        image: Err(Unread::File),
+        program: Err(Unread::File),
         second: Ok(b""),
     };
     let line = run_line(false, None);

@@ -10,7 +10,7 @@ pub returns-in-Ok : goal.returns-in-Ok
 returns-in-Ok g c =
     let has = c.in-Ok.ensures in
     let inputs = c.args.inputs.now in
-    let says = status_says c.args.line.now.command (as_read inputs.config) (as_read inputs.image)
+    let says = status_says c.args.line.now.command (as_read inputs.config) (as_read inputs.program)
     (as_read inputs.second)
     (IsWritten g.S.EndFiles.begins g.S.Sink.written g.S.Sink.has_failed c.args.trace.now c.perform_line.new.trace)
     _ _ _ has.ended in

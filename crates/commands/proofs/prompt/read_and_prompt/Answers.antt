@@ -1,6 +1,6 @@
 -- Behind what is refused, and before and behind the flush.
 use Rattle.std.specs.Prelude.{[], Ok}
-use Rattle.sim_inputs.specs.declared.line.Command.TheVariants.{Step}
+use Rattle.sim_inputs.specs.declared.line.ProgramCommand.TheVariants.{Step}
 use Rattle.commands.specs.declared.refused.Refused.TheVariants.{Output}
 use Rattle.commands.specs.Wanted.{step_wants}
 use Rattle.commands.proofs.OfLine.{accepted_of, command_refusal}

@@ -9,13 +9,13 @@ pub returns-clause-performed : goal.returns-clause-performed
 returns-clause-performed g c =
     let files = files_of c.args.line.now in
     read_performed c.args.self.now.at_terminal c.args.line.now c.typed_step.result _ (as_read c.lent.result.config)
-    (as_read c.lent.result.image) (as_read c.lent.result.second) c.typed_step.ensures c.in_default.is
+    (as_read c.lent.result.program) (as_read c.lent.result.second) c.typed_step.ensures c.in_default.is
     (subst (λ (r : Read). IsReadAs files.config r) (sym c.lent.ensures.config)
     (subst (λ (f : Files). IsReadAs f.config (read_of c.of-read.result.config)) c.files-files.ensures
     c.of-read.ensures.config))
-    (subst (λ (r : Read). IsReadAs files.image r) (sym c.lent.ensures.image)
-    (subst (λ (f : Files). IsReadAs f.image (read_of c.of-read.result.image)) c.files-files.ensures
-    c.of-read.ensures.image))
+    (subst (λ (r : Read). IsReadAs files.program r) (sym c.lent.ensures.program)
+    (subst (λ (f : Files). IsReadAs f.program (read_of c.of-read.result.program)) c.files-files.ensures
+    c.of-read.ensures.program))
     (subst (λ (r : Read). IsReadAs files.second r) (sym c.lent.ensures.second)
     (subst (λ (f : Files). IsReadAs f.second (read_of c.of-read.result.second)) c.files-files.ensures
     c.of-read.ensures.second))

@@ -9,11 +9,11 @@ pub returns-clause-performed : goal.returns-clause-performed
 returns-clause-performed g c =
     let files = files_of c.args.line.now in
     typed_performed c.args.self.now.at_terminal c.args.line.now c.args.step.now _ (as_read c.lent.result.config)
-    (as_read c.lent.result.image) c.requires
+    (as_read c.lent.result.program) c.requires
     (subst (λ (r : Read). IsReadAs files.config r) (sym c.lent.ensures.config)
     (subst (λ (f : Files). IsReadAs f.config (read_of c.of-read.result.config)) c.files-files.ensures
     c.of-read.ensures.config))
-    (subst (λ (r : Read). IsReadAs files.image r) (sym c.lent.ensures.image)
-    (subst (λ (f : Files). IsReadAs f.image (read_of c.of-read.result.image)) c.files-files.ensures
-    c.of-read.ensures.image))
+    (subst (λ (r : Read). IsReadAs files.program r) (sym c.lent.ensures.program)
+    (subst (λ (f : Files). IsReadAs f.program (read_of c.of-read.result.program)) c.files-files.ensures
+    c.of-read.ensures.program))
     c.perform_typed-status.ensures.refused
