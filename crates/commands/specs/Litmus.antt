@@ -39,7 +39,7 @@ pub record IsTold (test : LitmusTest) (command : LitmusCommand) (listed : List T
 
 -- All final states are printed: those in which the test's image can end, whatever order its harts take, each
 -- of them an end of some order, and listed once; and every core that runs the image ends in one of them.
-pub record IsComplete (test : LitmusTest) (command : LitmusCommand) (old new : Option (List ℕ))
+pub record PrintsAllStates (test : LitmusTest) (command : LitmusCommand) (old new : Option (List ℕ))
     (exit_status : ℕ) : Type 0 where
   pub image : ProgramImage
   pub watch : Watch
@@ -52,7 +52,7 @@ pub record IsComplete (test : LitmusTest) (command : LitmusCommand) (old new : O
   pub zero : exit_status ≡ 0
 
 -- There are more states than were to be looked at, and that is printed.
-pub record IsIncomplete (test : LitmusTest) (command : LitmusCommand) (old new : Option (List ℕ))
+pub record PrintsIncompleteTest (test : LitmusTest) (command : LitmusCommand) (old new : Option (List ℕ))
     (exit_status : ℕ) : Type 0 where
   pub image : ProgramImage
   pub watch : Watch
@@ -64,7 +64,7 @@ pub record IsIncomplete (test : LitmusTest) (command : LitmusCommand) (old new :
 -- What the command comes to with a test.
 abbrev pub TestComesTo : LitmusTest → LitmusCommand → Option (List ℕ) → Option (List ℕ) → ℕ → Type 0
 TestComesTo test command old new status =
-    IsComplete test command old new status ⊎ IsIncomplete test command old new status
+    PrintsAllStates test command old new status ⊎ PrintsIncompleteTest test command old new status
 
 -- So it does with the test that was read.
 pub record LitmusComesTo (command : LitmusCommand) (old new : Option (List ℕ)) (exit_status : ℕ)

@@ -67,7 +67,7 @@ condition_text command watch terms listed =
     if is_some command.exists then exists_text watch terms listed else []
 
 -- All outcomes are printed. Each hart that the condition names is there.
-pub record IsComplete (settings : Settings) (image : ProgramImage) (command : OutcomesCommand)
+pub record PrintsAllOutcomes (settings : Settings) (image : ProgramImage) (command : OutcomesCommand)
     (old new : Option (List ℕ)) (exit_status : ℕ) : Type 0 where
   pub watch : Watch
   pub terms : List Term
@@ -80,7 +80,7 @@ pub record IsComplete (settings : Settings) (image : ProgramImage) (command : Ou
   pub zero : exit_status ≡ 0
 
 -- There are more states than were to be looked at, and that is printed. Each hart that the condition names is there.
-pub record IsIncomplete (settings : Settings) (image : ProgramImage) (command : OutcomesCommand)
+pub record PrintsIncomplete (settings : Settings) (image : ProgramImage) (command : OutcomesCommand)
     (old new : Option (List ℕ)) (exit_status : ℕ) : Type 0 where
   pub watch : Watch
   pub terms : List Term
@@ -94,7 +94,7 @@ pub record IsIncomplete (settings : Settings) (image : ProgramImage) (command : 
 abbrev pub OutcomesComeTo : Settings → ProgramImage → OutcomesCommand → Option (List ℕ)
     → Option (List ℕ) → ℕ → Type 0
 OutcomesComeTo settings image command old new status =
-    IsComplete settings image command old new status ⊎ IsIncomplete settings image command old new status
+    PrintsAllOutcomes settings image command old new status ⊎ PrintsIncomplete settings image command old new status
 
 -- The order that is wanted of what was found.
 abbrev pub order_wanted : Option ℕ → Found → Option (List ℕ)

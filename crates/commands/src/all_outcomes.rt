@@ -77,7 +77,7 @@ pub fn perform_outcomes<G: Gate, S: EndFiles, W: Write>(
         Ok(outcomes) => {
             let stuck = stuck_order(&outcomes, alloc)?;
             put_order(image, settings, command, &outcomes, &stuck, file, alloc)?;
-            tell(&outcomes, &watch, stuck.is_some(), command, &terms, out)
+            print_found(&outcomes, &watch, stuck.is_some(), command, &terms, out)
         }
         Err(OutcomesRefused::Budget) => match write_incomplete(command.states, out) {
             Ok(()) => Ok(3),
@@ -285,7 +285,7 @@ fn write_hart<W: Write>(hart: u8, out: &mut W) -> io::Result<()>
 }
 
 /// Prints what was found.
-fn tell<W: Write>(
+fn print_found<W: Write>(
     outcomes: &Outcomes,
     watch: &Watch,
     is_stuck: bool,

@@ -102,7 +102,7 @@ pub fn perform_test<G: Gate, S: EndFiles, W: Write>(
     put_image(&image, command, file, alloc)?;
     let watch = watch_of(test);
     match find_shown(&image, harts_of(test), &watch, command.states, gate, alloc) {
-        Ok(outcomes) => tell(test, &outcomes, command, file, out, alloc),
+        Ok(outcomes) => draw_and_print(test, &outcomes, command, file, out, alloc),
         Err(OutcomesRefused::Budget) => match write_incomplete(command.states, out) {
             Ok(()) => Ok(3),
             Err(_) => Err(Refused::Output),
@@ -138,8 +138,8 @@ fn put_image<S: EndFiles>(
     }
 }
 
-/// Says what was found, and draws why the condition holds of no state, where that is wanted.
-fn tell<S: EndFiles, W: Write>(
+/// Draws why the condition holds of no state, where that is wanted, and prints what was found.
+fn draw_and_print<S: EndFiles, W: Write>(
     test: &LitmusTest,
     outcomes: &Outcomes,
     command: &LitmusCommand<'_>,

@@ -58,7 +58,7 @@ impl<'a> LitmusCommand<'a> {
 impl<'a> ProgramCommand<'a> {
     /// The files that the command names, beside this configuration.
     fn files_with(&self, config: Option<&'a str>) -> Files<'a>
-        ensures { result ≡ program_files config self.now }
+        ensures { result ≡ program_files config.entry self.now }
     {
         let (image, second, written) = match *self {
             ProgramCommand::Step(step) => (step.image, Some(step.script), step.trace),

@@ -4,7 +4,7 @@
 #![tactic(auto)]
 
 use actors::StaticPredictor;
-use program::{Progress, hold_closed_streams, perform_words};
+use program_io::{Progress, hold_closed_streams, perform_words};
 use std::io::{BufWriter, IsTerminal};
 use std::process::ExitCode;
 use std::{env, io};

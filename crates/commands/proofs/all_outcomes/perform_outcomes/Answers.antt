@@ -18,7 +18,7 @@ returns-in-Err g c = record {
 pub returns-in_ok-put_order-in-Ok-clause-filed : goal.returns-in_ok-put_order-in-Ok-clause-filed
 returns-in_ok-put_order-in-Ok-clause-filed g c =
     let found = c.in-Ok.ensures in
-    of_each c.tell.result _
+    of_each c.print_found.result _
     (λ status zero wanted. filed_so g.S.Sink.written g.S.Sink.has_failed _ _ c.args.settings.now c.args.image.now
     c.args.command.now c.in-Ok.outcomes c.in_ok-watch.watch _ c.in_ok-watch.ensures.asked
     (record {
