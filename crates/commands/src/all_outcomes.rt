@@ -20,6 +20,7 @@ ghost use Rattle.outcome_text.specs.Listing.{outcomes_text};
 ghost use Rattle.commands.specs.declared.refused.Refused.TheVariants.{Memory};
 
 use crate::chart::put_text;
+use crate::context::Context;
 use crate::refused::Refused;
 use crate::schedule::schedule_of;
 use crate::searching::find_shown;
@@ -39,47 +40,52 @@ use watched_outcomes::Watch;
 
 /// Writes a line for each outcome of an image, for as many harts as the settings say, how many there are,
 /// whether each state can go on to an end, and of which outcomes a condition holds. An order that is
-/// wanted goes into `file` first, or its script.
+/// wanted goes into `files` first, or its script.
 ///
 /// Answers the exit status: 0, or 3 where there are more states than were to be looked at; then only that
-/// is said, and nothing goes into `file`. Refused are, in this order, a condition or a list that is
+/// is said, and nothing goes into `files`. Refused are, in this order, a condition or a list that is
 /// misspelled, a hart that isn't there (of the condition first), a word that isn't, an outcome and a stuck
 /// state that aren't there, and what `perform_schedule` refuses; then nothing is printed. `Output` is
-/// answered where `out` or `file` failed. `gate` is shown how far the search is.
+/// answered where `out` or `files` failed. The gate is shown how far the search is.
 #[inline(never)]
-pub fn perform_outcomes<G: Gate, S: EndFiles, W: Write>(
+pub fn perform_outcomes<R, G: Gate, P, S: EndFiles, W: Write>(
+    context: &mut Context<'_, R, G, P, S, W>,
     image: &Image,
     settings: &Settings,
     command: &OutcomesCommand<'_>,
-    gate: &G,
-    file: &mut S,
-    out: &mut W,
-    alloc: Global,
 ) -> Result<u8, Refused>
-    requires works { S.has_failed file.old ≡ false }
-    requires finished { S.is_finished file.old ≡ true }
+    requires works { S.has_failed context.old.files ≡ false }
+    requires finished { S.is_finished context.old.files ≡ true }
     ensures refused { IfErr result (IsOutcomesRefusal settings.now image.now command.now) }
     ensures ended { IfOk result (OutcomesComeTo settings.now image.now command.now
-        (W.contents out.old) (W.contents out.new)) }
-    ensures unwanted { wants_order command.now ≡ false → file.new ≡ file.old }
+        (W.contents context.old.out) (W.contents context.new.out)) }
+    ensures unwanted { wants_order command.now ≡ false → context.new.files ≡ context.old.files }
     ensures filed { IfOk result (λ status. status ≡ 0 → wants_order command.now ≡ true
-        → IsFiled S.written S.has_failed file.old file.new settings.now image.now command.now) }
-    ensures unbroken { OnOk result (S.has_failed file.new ≡ false) }
-    ensures finished { OnOk result (S.is_finished file.new ≡ true) }
-    ensures unreported { S.has_failed file.new ≡ true
-        → W.contents out.new ≡ W.contents out.old }
+        → IsFiled S.written S.has_failed context.old.files context.new.files settings.now image.now command.now) }
+    ensures unbroken { OnOk result (S.has_failed context.new.files ≡ false) }
+    ensures finished { OnOk result (S.is_finished context.new.files ≡ true) }
+    ensures unreported { S.has_failed context.new.files ≡ true
+        → W.contents context.new.out ≡ W.contents context.old.out }
 {
     let terms = condition_of(command)?;
     let watch = watch_for(command, &terms)?;
     let harts = settings.config.harts;
     see_harts(&terms, harts)?;
+    let (gate, alloc) = (context.gate, context.alloc);
     match find_shown(image, harts, &watch, command.states, gate, alloc) {
         Ok(outcomes) => {
             let stuck = stuck_order(&outcomes, alloc)?;
-            put_order(image, settings, command, &outcomes, &stuck, file, alloc)?;
-            print_found(&outcomes, &watch, stuck.is_some(), command, &terms, out)
+            put_order(context, image, settings, command, &outcomes, &stuck)?;
+            print_found(
+                &outcomes,
+                &watch,
+                stuck.is_some(),
+                command,
+                &terms,
+                &mut context.out,
+            )
         }
-        Err(OutcomesRefused::Budget) => match write_incomplete(command.states, out) {
+        Err(OutcomesRefused::Budget) => match write_incomplete(command.states, &mut context.out) {
             Ok(()) => Ok(3),
             Err(_) => Err(Refused::Output),
         },
@@ -170,26 +176,28 @@ fn stuck_order(outcomes: &Outcomes, alloc: Global) -> Result<Option<Vec<u8>>, Re
 }
 
 /// Puts the order that is wanted into the file, or its script.
-fn put_order<S: EndFiles>(
+fn put_order<R, G, P, S: EndFiles, W>(
+    context: &mut Context<'_, R, G, P, S, W>,
     image: &Image,
     settings: &Settings,
     command: &OutcomesCommand<'_>,
     outcomes: &Outcomes,
     stuck: &Option<Vec<u8>>,
-    file: &mut S,
-    alloc: Global,
 ) -> Result<(), Refused>
-    requires works { S.has_failed file.old ≡ false }
-    requires finished { S.is_finished file.old ≡ true }
+    requires works { S.has_failed context.old.files ≡ false }
+    requires finished { S.is_finished context.old.files ≡ true }
     requires stuck { option_map (λ it. it.items) stuck.now ≡ outcomes.now.stuck }
     ensures refused { IfErr result
         (IsPutRefusal settings.now image.now command.now outcomes.now) }
-    ensures unwanted { wants_order command.now ≡ false → file.new ≡ file.old }
+    ensures unwanted { wants_order command.now ≡ false → context.new.files ≡ context.old.files }
     ensures put { OnOk result (wants_order command.now ≡ true → IsOrderPut S.written S.has_failed
-        file.old file.new settings.now image.now command.now outcomes.now) }
-    ensures unbroken { OnOk result (S.has_failed file.new ≡ false) }
-    ensures finished { OnOk result (S.is_finished file.new ≡ true) }
+        context.old.files context.new.files settings.now image.now command.now outcomes.now) }
+    ensures unbroken { OnOk result (S.has_failed context.new.files ≡ false) }
+    ensures finished { OnOk result (S.is_finished context.new.files ≡ true) }
+    ensures unprinted { context.new.out ≡ context.old.out }
 {
+    let alloc = context.alloc;
+    let file = &mut context.files;
     if let Some(number) = command.outcome {
         let order = order_of(outcomes, number, alloc)?;
         return put_written(image, settings, command, order.as_slice(), file, alloc);

@@ -10,6 +10,7 @@ ghost use Rattle.commands.specs.Chart.{IsChartRefusal, ChartComesTo, IsDrawingRe
 ghost use Rattle.commands.specs.Chart.{hart_fits, IsHartRefusal, IsPictureRefusal};
 
 use crate::check::{config_by, follow_all, read_events};
+use crate::context::Context;
 use crate::refused::Refused;
 use charts::{Row, View, last_pictured, rows_of, write_kanata, write_svg, write_text};
 use elf_image::Image;
@@ -21,37 +22,36 @@ use std::io::Write;
 use stress_runs::{EndFiles, put_file};
 
 /// Checks a trace as `perform_check` does, and draws its history: as text on `out`, or as a picture
-/// or a log into `file`. Answers the exit status, 0.
+/// or a log into `files`. Answers the exit status, 0.
 ///
 /// Refused are, in this order, what `perform_check` refuses, a hart that the core hasn't, and a
 /// picture of too many instructions; then nothing is written. So it is where there isn't enough
 /// memory: the whole chart is made before any of it is written. `Output` is answered where `out` or
-/// `file` failed.
+/// `files` failed.
 #[inline(never)]
-pub fn perform_chart<S: EndFiles, W: Write>(
+pub fn perform_chart<R, G, P, S: EndFiles, W: Write>(
+    context: &mut Context<'_, R, G, P, S, W>,
     image: &Image,
     settings: &Settings,
     trace: &[u8],
     chart: &ChartCommand<'_>,
-    file: &mut S,
-    out: &mut W,
-    alloc: Global,
 ) -> Result<u8, Refused>
-    requires works { S.has_failed file.old ≡ false }
-    requires finished { S.is_finished file.old ≡ true }
+    requires works { S.has_failed context.old.files ≡ false }
+    requires finished { S.is_finished context.old.files ≡ true }
     ensures refused { IfErr result (IsChartRefusal settings.now image.now trace.now chart.now) }
     ensures ended { IfOk result (ChartComesTo settings.now image.now trace.now chart.now) }
-    ensures unwanted { is_some (written_chart chart.now) ≡ false → file.new ≡ file.old }
-    ensures unbroken { OnOk result (S.has_failed file.new ≡ false) }
-    ensures finished { OnOk result (S.is_finished file.new ≡ true) }
-    ensures unreported { S.has_failed file.new ≡ true
-        → W.contents out.new ≡ W.contents out.old }
+    ensures unwanted { is_some (written_chart chart.now) ≡ false → context.new.files ≡ context.old.files }
+    ensures unbroken { OnOk result (S.has_failed context.new.files ≡ false) }
+    ensures finished { OnOk result (S.is_finished context.new.files ≡ true) }
+    ensures unreported { S.has_failed context.new.files ≡ true
+        → W.contents context.new.out ≡ W.contents context.old.out }
 {
+    let alloc = context.alloc;
     let trace = read_events(trace, alloc)?;
     let rows = history_rows(image, settings, &trace, alloc)?;
     let harts = config_by(settings, trace.head()).harts;
     let text = drawn(rows.as_slice(), trace.events(), chart, harts, alloc)?;
-    put_chart(text.as_slice(), chart, file, out)
+    put_chart(text.as_slice(), chart, &mut context.files, &mut context.out)
 }
 
 /// The rows of the history of a trace, in the core that it is of.

@@ -20,6 +20,7 @@ ghost use Rattle.commands.specs.Written.{IsWritten};
 use crate::all_outcomes::perform_outcomes;
 use crate::chart::perform_chart;
 use crate::check::perform_check;
+use crate::context::Context;
 use crate::explain::{perform_explain, point_to_explain};
 use crate::inputs::{Inputs, image_of, settings_of};
 use crate::list::perform_list;
@@ -62,20 +63,9 @@ pub fn perform<
     W: Write,
     E: Write,
     R: Threads + Wait + Sync,
->(
-    rt: &R,
-    line: &Line<'_>,
-    inputs: &Inputs<'_>,
-    gate: &G,
-    predict: P,
-    trace: &mut S,
-    out: &mut W,
-    err: &mut E,
-    on_terminal: bool,
-    alloc: Global,
-) -> u8
-    requires works { S.has_failed trace.old ≡ false }
-    requires finished { S.is_finished trace.old ≡ true }
+>(context: &mut Context<'_, R, G, P, S, W>, line: &Line<'_>, inputs: &Inputs<'_>, err: &mut E) -> u8
+    requires works { S.has_failed context.old.files ≡ false }
+    requires finished { S.is_finished context.old.files ≡ true }
     ensures known { IsTrue (says_harts result) ⊎ (result ≡ 2) ⊎ (result ≡ 4) ⊎ (result ≡ 5) }
     ensures unset { IfErr inputs.now.config (λ why. result ≡ 5) }
     ensures refused { says_harts result ≡ false → (reason : AnyRefused)
@@ -83,20 +73,20 @@ pub fn perform<
         (as_read inputs.now.config) (as_read inputs.now.program) (as_read inputs.now.second) reason }
     ensures ended { IsTrue (says_harts result) → LineComesTo line.now.command
         (as_read inputs.now.config) (as_read inputs.now.program) (as_read inputs.now.second)
-        (IsWritten S.begins S.written S.has_failed trace.old trace.new) (W.contents out.old)
-        (W.contents out.new) result }
+        (IsWritten S.begins S.written S.has_failed context.old.files context.new.files) (W.contents context.old.out)
+        (W.contents context.new.out) result }
     ensures left { says_harts result ≡ false → (reason : AnyRefused)
         × (exit_status_of reason ≡ result) × IsRefusal line.now.command (as_read inputs.now.config)
         (as_read inputs.now.program) (as_read inputs.now.second) reason
-        × IsLeft line.now.command trace.old trace.new reason }
-    ensures finished { IsTrue (says_harts result) → S.is_finished trace.new ≡ true }
-    ensures unwanted { writes_file line.now.command ≡ false → trace.new ≡ trace.old }
-    ensures unreported { S.has_failed trace.new ≡ true → IsUnreported line.now.command
-        (as_read inputs.now.second) (W.contents out.old) (W.contents out.new) }
+        × IsLeft line.now.command context.old.files context.new.files reason }
+    ensures finished { IsTrue (says_harts result) → S.is_finished context.new.files ≡ true }
+    ensures unwanted { writes_file line.now.command ≡ false → context.new.files ≡ context.old.files }
+    ensures unreported { S.has_failed context.new.files ≡ true → IsUnreported line.now.command
+        (as_read inputs.now.second) (W.contents context.old.out) (W.contents context.new.out) }
 {
-    match perform_line(rt, line, inputs, gate, predict, trace, out, alloc) {
+    match perform_line(context, line, inputs) {
         Ok(status) => status,
-        Err(refused) => refuse_line(refused, line, on_terminal, err),
+        Err(refused) => refuse_line(refused, line, context.on_terminal, err),
     }
 }
 
@@ -125,37 +115,38 @@ fn perform_line<
     W: Write,
     R: Threads + Wait + Sync,
 >(
-    rt: &R,
+    context: &mut Context<'_, R, G, P, S, W>,
     line: &Line<'_>,
     inputs: &Inputs<'_>,
-    gate: &G,
-    predict: P,
-    trace: &mut S,
-    out: &mut W,
-    alloc: Global,
 ) -> Result<u8, Refused>
-    requires works { S.has_failed trace.old ≡ false }
-    requires finished { S.is_finished trace.old ≡ true }
+    requires works { S.has_failed context.old.files ≡ false }
+    requires finished { S.is_finished context.old.files ≡ true }
     ensures unset { IfErr inputs.now.config (λ why. result ≡ Err (refusal_of why)) }
     ensures refused { IfErr result (IsRefusal line.now.command (as_read inputs.now.config)
         (as_read inputs.now.program) (as_read inputs.now.second)) }
     ensures ended { IfOk result (LineComesTo line.now.command (as_read inputs.now.config)
         (as_read inputs.now.program) (as_read inputs.now.second)
-        (IsWritten S.begins S.written S.has_failed trace.old trace.new) (W.contents out.old)
-        (W.contents out.new)) }
-    ensures left { IfErr result (IsLeft line.now.command trace.old trace.new) }
-    ensures finished { OnOk result (S.is_finished trace.new ≡ true) }
-    ensures unwanted { writes_file line.now.command ≡ false → trace.new ≡ trace.old }
-    ensures unreported { S.has_failed trace.new ≡ true → IsUnreported line.now.command
-        (as_read inputs.now.second) (W.contents out.old) (W.contents out.new) }
+        (IsWritten S.begins S.written S.has_failed context.old.files context.new.files) (W.contents context.old.out)
+        (W.contents context.new.out)) }
+    ensures left { IfErr result (IsLeft line.now.command context.old.files context.new.files) }
+    ensures finished { OnOk result (S.is_finished context.new.files ≡ true) }
+    ensures unwanted { writes_file line.now.command ≡ false → context.new.files ≡ context.old.files }
+    ensures unreported { S.has_failed context.new.files ≡ true → IsUnreported line.now.command
+        (as_read inputs.now.second) (W.contents context.old.out) (W.contents context.new.out) }
 {
+    let alloc = context.alloc;
     match &line.command {
-        Command::OfProgram(command) => {
-            read_and_perform(rt, command, inputs, gate, predict, trace, out, alloc)
-        }
-        Command::Explain(_) => read_and_explain(inputs, out, alloc),
-        Command::Litmus(litmus) => read_and_test(litmus, inputs, gate, trace, out, alloc),
-        Command::Migrate(_) => read_and_migrate(inputs, trace, alloc),
+        Command::OfProgram(command) => read_and_perform(context, command, inputs),
+        Command::Explain(_) => read_and_explain(inputs, &mut context.out, alloc),
+        Command::Litmus(litmus) => read_and_test(
+            litmus,
+            inputs,
+            context.gate,
+            &mut context.files,
+            &mut context.out,
+            alloc,
+        ),
+        Command::Migrate(_) => read_and_migrate(inputs, &mut context.files, alloc),
     }
 }
 
@@ -243,42 +234,35 @@ fn read_and_perform<
     W: Write,
     R: Threads + Wait + Sync,
 >(
-    rt: &R,
+    context: &mut Context<'_, R, G, P, S, W>,
     command: &ProgramCommand<'_>,
     inputs: &Inputs<'_>,
-    gate: &G,
-    predict: P,
-    trace: &mut S,
-    out: &mut W,
-    alloc: Global,
 ) -> Result<u8, Refused>
-    requires works { S.has_failed trace.old ≡ false }
-    requires finished { S.is_finished trace.old ≡ true }
+    requires works { S.has_failed context.old.files ≡ false }
+    requires finished { S.is_finished context.old.files ≡ true }
     ensures unset { IfErr inputs.now.config (λ why. result ≡ Err (refusal_of why)) }
     ensures refused { IfErr result (IsProgramRefusal command.now (as_read inputs.now.config)
         (as_read inputs.now.program) (as_read inputs.now.second)) }
     ensures ended { IfOk result (ProgramComesTo command.now (as_read inputs.now.config)
         (as_read inputs.now.program) (as_read inputs.now.second)
-        (IsWritten S.begins S.written S.has_failed trace.old trace.new) (W.contents out.old)
-        (W.contents out.new)) }
-    ensures finished { OnOk result (S.is_finished trace.new ≡ true) }
-    ensures unwanted { program_writes_file command.now ≡ false → trace.new ≡ trace.old }
-    ensures unreported { S.has_failed trace.new ≡ true → IsProgramUnreported command.now
-        (as_read inputs.now.second) (W.contents out.old) (W.contents out.new) }
+        (IsWritten S.begins S.written S.has_failed context.old.files context.new.files) (W.contents context.old.out)
+        (W.contents context.new.out)) }
+    ensures finished { OnOk result (S.is_finished context.new.files ≡ true) }
+    ensures unwanted { program_writes_file command.now ≡ false → context.new.files ≡ context.old.files }
+    ensures unreported { S.has_failed context.new.files ≡ true → IsProgramUnreported command.now
+        (as_read inputs.now.second) (W.contents context.old.out) (W.contents context.new.out) }
 {
     let config = inputs.config?;
-    let settings = settings_of(config, alloc)?;
+    let settings = settings_of(config, context.alloc)?;
     let file = inputs.program?;
-    let image = image_of(file, settings.ram, alloc)?;
+    let image = image_of(file, settings.ram, context.alloc)?;
     let second = inputs.second;
     // Handed on as it is: a `?` would leave the prover to find what the refusal becomes.
-    let status = match perform_command(
-        rt, command, &settings, &image, second, gate, predict, trace, out, alloc,
-    ) {
+    let status = match perform_command(context, command, &settings, &image, second) {
         Ok(status) => status,
         Err(refused) => return Err(refused),
     };
-    match out.flush() {
+    match context.out.flush() {
         Ok(()) => Ok(status),
         Err(_) => Err(Refused::Output),
     }
@@ -292,60 +276,57 @@ fn perform_command<
     W: Write,
     R: Threads + Wait + Sync,
 >(
-    rt: &R,
+    context: &mut Context<'_, R, G, P, S, W>,
     command: &ProgramCommand<'_>,
     settings: &Settings,
     image: &Image,
     second: Result<&[u8], Unread>,
-    gate: &G,
-    predict: P,
-    trace: &mut S,
-    out: &mut W,
-    alloc: Global,
 ) -> Result<u8, Refused>
-    requires works { S.has_failed trace.old ≡ false }
-    requires finished { S.is_finished trace.old ≡ true }
-    ensures { IsPerformed S.begins S.is_finished S.written S.has_failed trace.old trace.new command.now
-        settings.now image.now (as_read second.entry) (W.contents out.old) (W.contents out.new) result }
+    requires works { S.has_failed context.old.files ≡ false }
+    requires finished { S.is_finished context.old.files ≡ true }
+    ensures { IsPerformed S.begins S.is_finished S.written S.has_failed context.old.files context.new.files command.now
+        settings.now image.now (as_read second.entry) (W.contents context.old.out) (W.contents context.new.out) result }
 {
+    let alloc = context.alloc;
     match command {
         ProgramCommand::Step(step) => {
             let wanted = Wanted::of_step(step);
             let script = second?;
-            perform_step(
-                image, settings, script, step.why, wanted, predict, trace, out, alloc,
-            )
+            perform_step(context, image, settings, script, step.why, wanted)
         }
-        ProgramCommand::Run(run) => perform_runs(
-            rt, image, settings, run, gate, predict, trace, out, alloc,
-        ),
+        ProgramCommand::Run(run) => perform_runs(context, image, settings, run),
         ProgramCommand::Check(check) => {
             let wanted = Wanted::of_check(check);
             let text = second?;
-            perform_check(image, settings, text, wanted, out, alloc)
+            perform_check(image, settings, text, wanted, &mut context.out, alloc)
         }
         ProgramCommand::Plain(plain) => {
             if let Some(rounds) = rounds_of(plain) {
-                return perform_rounds(image, settings, rounds, plain.records, gate, out, alloc);
+                return perform_rounds(context, image, settings, rounds, plain.records);
             }
             let order = second?;
-            perform_plain(image, settings, order, plain.records, out, alloc)
+            perform_plain(
+                image,
+                settings,
+                order,
+                plain.records,
+                &mut context.out,
+                alloc,
+            )
         }
         ProgramCommand::Schedule(_) => {
             let order = second?;
-            perform_schedule(image, settings, order, out, alloc)
+            perform_schedule(image, settings, order, &mut context.out, alloc)
         }
         ProgramCommand::Script(_) => {
             let text = second?;
-            perform_script(image, settings, text, out, alloc)
+            perform_script(image, settings, text, &mut context.out, alloc)
         }
-        ProgramCommand::List(_) => perform_list(image, out),
-        ProgramCommand::Outcomes(outcomes) => {
-            perform_outcomes(image, settings, outcomes, gate, trace, out, alloc)
-        }
+        ProgramCommand::List(_) => perform_list(image, &mut context.out),
+        ProgramCommand::Outcomes(outcomes) => perform_outcomes(context, image, settings, outcomes),
         ProgramCommand::Chart(chart) => {
             let text = second?;
-            perform_chart(image, settings, text, chart, trace, out, alloc)
+            perform_chart(context, image, settings, text, chart)
         }
     }
 }
@@ -358,30 +339,21 @@ fn perform_runs<
     W: Write,
     R: Threads + Wait + Sync,
 >(
-    rt: &R,
+    context: &mut Context<'_, R, G, P, S, W>,
     image: &Image,
     settings: &Settings,
     run: &RunCommand<'_>,
-    gate: &G,
-    predict: P,
-    files: &mut S,
-    out: &mut W,
-    alloc: Global,
 ) -> Result<u8, Refused>
-    requires works { S.has_failed files.old ≡ false }
-    requires finished { S.is_finished files.old ≡ true }
-    ensures { (second : Read) → IsPerformed S.begins S.is_finished S.written S.has_failed files.old files.new
-        (Run run.now) settings.now image.now second (W.contents out.old) (W.contents out.new)
+    requires works { S.has_failed context.old.files ≡ false }
+    requires finished { S.is_finished context.old.files ≡ true }
+    ensures { (second : Read) → IsPerformed S.begins S.is_finished S.written S.has_failed context.old.files context.new.files
+        (Run run.now) settings.now image.now second (W.contents context.old.out) (W.contents context.new.out)
         result }
 {
     if let Some(times) = run.times {
         let keep = run.keep.is_some();
-        return perform_stress(
-            rt, image, settings, times, keep, gate, predict, files, out, alloc,
-        );
+        return perform_stress(context, image, settings, times, keep);
     }
     let wanted = Wanted::of_run(run);
-    perform_run(
-        rt, image, settings, wanted, gate, predict, files, out, alloc,
-    )
+    perform_run(context, image, settings, wanted)
 }

@@ -5,6 +5,7 @@ ghost use Rattle.commands.specs.PlainRounds.{rounds_of, rounds_refusal, IsReport
 ghost use Rattle.commands.specs.PlainRounds.{IsRoundsRefusal, RoundsComeTo};
 ghost use Rattle.commands.specs.declared.refused.Refused.TheVariants.{Output};
 
+use crate::context::Context;
 use crate::refused::Refused;
 use actors::Gate;
 use elf_image::Image;
@@ -62,38 +63,46 @@ impl<G: Gate> Watch for Shown<'_, G> {
 
 /// Runs the plain machine of an image in rounds, and writes what it comes to: the records where they
 /// are wanted, as they are made, and the report. Answers the exit status: how the harts stand. Where no
-/// records are wanted, `gate` is shown how far it is.
+/// records are wanted, the gate is shown how far it is.
 ///
 /// Refused is a number of harts that the machine doesn't have; then nothing is printed. `Output` is
 /// answered where `out` failed.
 #[inline(never)]
-pub fn perform_rounds<G: Gate, W: Write>(
+pub fn perform_rounds<R, G: Gate, P, S, W: Write>(
+    context: &mut Context<'_, R, G, P, S, W>,
     image: &Image,
     settings: &Settings,
     rounds: Rounds,
     records: bool,
-    gate: &G,
-    out: &mut W,
-    alloc: Global,
 ) -> Result<u8, Refused>
     requires { 0 < rounds.each }
     ensures refused { IfErr result (IsRoundsRefusal settings.now) }
     ensures ended { IfOk result (RoundsComeTo settings.now image.now rounds records
-        (W.contents out.old) (W.contents out.new)) }
+        (W.contents context.old.out) (W.contents context.new.out)) }
+    ensures unwritten { context.new.files ≡ context.old.files }
 {
     let harts = settings.config.harts;
+    let gate = context.gate;
     let mut shown = Shown { gate, steps: 0 };
     // Records on a terminal show how far it is, and a line among them would be in their way.
     if !records {
         gate.begin_rounds();
     }
-    let ran = run_rounds(image, harts, rounds, records, &mut shown, out, alloc);
+    let ran = run_rounds(
+        image,
+        harts,
+        rounds,
+        records,
+        &mut shown,
+        &mut context.out,
+        context.alloc,
+    );
     gate.end();
     let left = match ran {
         Ok(left) => left,
         Err(why) => return Err(refused_rounds(why)),
     };
-    report_left(&left, out)
+    report_left(&left, &mut context.out)
 }
 
 /// Writes the report of what rounds have left, and answers the exit status.

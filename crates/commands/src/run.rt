@@ -10,6 +10,7 @@ ghost use Rattle.commands.specs.Run.{IsRunRefusal, RunComesTo, LackARole, run_re
 ghost use Rattle.commands.specs.Account.{IsTraceWritten};
 
 use crate::account::{idle_of, write_account};
+use crate::context::Context;
 use crate::inputs::image_of;
 use crate::refused::Refused;
 use crate::wanted::Wanted;
@@ -106,29 +107,38 @@ pub fn perform_run<
     W: Write,
     R: Threads + Wait + Sync,
 >(
-    rt: &R,
+    context: &mut Context<'_, R, G, P, S, W>,
     image: &Image,
     settings: &Settings,
     wanted: Wanted,
-    gate: &G,
-    predict: P,
-    trace: &mut S,
-    out: &mut W,
-    alloc: Global,
 ) -> Result<u8, Refused>
-    requires works { S.has_failed trace.old ≡ false }
-    requires finished { S.is_finished trace.old ≡ true }
+    requires works { S.has_failed context.old.files ≡ false }
+    requires finished { S.is_finished context.old.files ≡ true }
     ensures refused { IfErr result (IsRunRefusal settings.now) }
     ensures ended { IfOk result (RunComesTo settings.now image.now wanted
-        (IsTraceWritten S.written S.has_failed trace.old trace.new wanted.trace)
-        (W.contents out.old) (W.contents out.new)) }
-    ensures unwanted { wanted.trace ≡ false → trace.new ≡ trace.old }
-    ensures unbroken { OnOk result (S.has_failed trace.new ≡ false) }
-    ensures finished { OnOk result (S.is_finished trace.new ≡ true) }
-    ensures unreported { S.has_failed trace.new ≡ true
-        → W.contents out.new ≡ W.contents out.old }
+        (IsTraceWritten S.written S.has_failed context.old.files context.new.files wanted.trace)
+        (W.contents context.old.out) (W.contents context.new.out)) }
+    ensures unwanted { wanted.trace ≡ false → context.new.files ≡ context.old.files }
+    ensures unbroken { OnOk result (S.has_failed context.new.files ≡ false) }
+    ensures finished { OnOk result (S.is_finished context.new.files ≡ true) }
+    ensures unreported { S.has_failed context.new.files ≡ true
+        → W.contents context.new.out ≡ W.contents context.old.out }
 {
-    let finished = run_image(rt, image, settings, gate, predict, alloc)?;
+    let finished = run_image(
+        context.rt,
+        image,
+        settings,
+        context.gate,
+        context.predict,
+        context.alloc,
+    )?;
     let idle = idle_of(&finished.core, &finished.idle);
-    write_account(&finished.core, idle, wanted, trace, out, alloc)
+    write_account(
+        &finished.core,
+        idle,
+        wanted,
+        &mut context.files,
+        &mut context.out,
+        context.alloc,
+    )
 }

@@ -16,6 +16,7 @@ ghost use Rattle.commands.specs.Step.{ArePrinted};
 ghost use Rattle.commands.specs.Account.{IsTraceWritten};
 
 use crate::account::{idle_of, write_account};
+use crate::context::Context;
 use crate::inputs::image_of;
 use crate::refused::Refused;
 use crate::wanted::Wanted;
@@ -139,14 +140,12 @@ fn words_of(script: &[u8], alloc: Global) -> Result<Vec<ScriptWord>, Refused>
 
 /// Makes the asks of a script of one core of an image, and prints their lines, explained where that
 /// is wanted.
-fn print_asks<P: Predict, W: Write>(
+fn print_asks<R, G, P: Predict, S, W: Write>(
+    context: &mut Context<'_, R, G, P, S, W>,
     image: &Image,
     settings: &Settings,
     script: &[u8],
     why: bool,
-    predict: &mut P,
-    out: &mut W,
-    alloc: Global,
 ) -> Result<Finished, Refused>
     ensures refused { IfErr result (IsStepRefusal settings.now script.now) }
     ensures accepted { OnOk result (AreAccepted settings.now) }
@@ -156,13 +155,15 @@ fn print_asks<P: Predict, W: Write>(
     ensures limit { IfOk result (λ finished. finished.core.limit ≡ settings.now.limit) }
     ensures shown { IfOk result (λ finished. Shown finished.core) }
     ensures printed { IfOk result
-        (λ finished. Prints (W.contents out.old) (W.contents out.new)
+        (λ finished. Prints (W.contents context.old.out) (W.contents context.new.out)
         (ArePrinted why script.now finished.core finished.idle)) }
+    ensures unwritten { context.new.files ≡ context.old.files }
 {
+    let (predict, out) = (&mut context.predict, &mut context.out);
     if why {
-        explain_asks(image, settings, script, predict, out, alloc)
+        explain_asks(image, settings, script, predict, out, context.alloc)
     } else {
-        step_image(image, settings, script, predict, out, alloc)
+        step_image(image, settings, script, predict, out, context.alloc)
     }
 }
 
@@ -229,31 +230,34 @@ fn explained(
 /// Makes the asks of a script, writes the core's trace where it is wanted, and then what else is
 /// wanted of it and its report. Answers the exit status: how the harts stand.
 #[inline(never)]
-pub fn perform_step<P: Predict + Copy, S: EndFiles, W: Write>(
+pub fn perform_step<R, G, P: Predict + Copy, S: EndFiles, W: Write>(
+    context: &mut Context<'_, R, G, P, S, W>,
     image: &Image,
     settings: &Settings,
     script: &[u8],
     why: bool,
     wanted: Wanted,
-    predict: P,
-    trace: &mut S,
-    out: &mut W,
-    alloc: Global,
 ) -> Result<u8, Refused>
-    requires works { S.has_failed trace.old ≡ false }
-    requires finished { S.is_finished trace.old ≡ true }
+    requires works { S.has_failed context.old.files ≡ false }
+    requires finished { S.is_finished context.old.files ≡ true }
     ensures refused { IfErr result (IsStepRefusal settings.now script.now) }
     ensures ended { IfOk result (StepComesTo settings.now image.now script.now why wanted
-        (IsTraceWritten S.written S.has_failed trace.old trace.new wanted.trace)
-        (W.contents out.old) (W.contents out.new)) }
-    ensures unwanted { wanted.trace ≡ false → trace.new ≡ trace.old }
-    ensures unbroken { OnOk result (S.has_failed trace.new ≡ false) }
-    ensures finished { OnOk result (S.is_finished trace.new ≡ true) }
-    ensures unreported { S.has_failed trace.new ≡ true → (core : CoreView) × (idle : List ℕ)
-        × Prints (W.contents out.old) (W.contents out.new) (ArePrinted why script.now core idle) }
+        (IsTraceWritten S.written S.has_failed context.old.files context.new.files wanted.trace)
+        (W.contents context.old.out) (W.contents context.new.out)) }
+    ensures unwanted { wanted.trace ≡ false → context.new.files ≡ context.old.files }
+    ensures unbroken { OnOk result (S.has_failed context.new.files ≡ false) }
+    ensures finished { OnOk result (S.is_finished context.new.files ≡ true) }
+    ensures unreported { S.has_failed context.new.files ≡ true → (core : CoreView) × (idle : List ℕ)
+        × Prints (W.contents context.old.out) (W.contents context.new.out) (ArePrinted why script.now core idle) }
 {
-    let mut predict = predict;
-    let finished = print_asks(image, settings, script, why, &mut predict, out, alloc)?;
+    let finished = print_asks(context, image, settings, script, why)?;
     let idle = idle_of(&finished.core, &finished.idle);
-    write_account(&finished.core, idle, wanted, trace, out, alloc)
+    write_account(
+        &finished.core,
+        idle,
+        wanted,
+        &mut context.files,
+        &mut context.out,
+        context.alloc,
+    )
 }

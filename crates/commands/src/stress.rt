@@ -8,6 +8,7 @@ ghost use Rattle.commands.specs.Run.{IsRunRefusal};
 ghost use Rattle.commands.specs.Stress.{StressComesTo, HasTallied, HasRunOnce, runs_of};
 ghost use Rattle.commands.specs.Stress.{AreEndsWritten, IsEndWritten};
 
+use crate::context::Context;
 use crate::refused::Refused;
 use crate::run::run_image;
 use actors::Gate;
@@ -35,47 +36,42 @@ pub fn perform_stress<
     W: Write,
     R: Threads + Wait + Sync,
 >(
-    rt: &R,
+    context: &mut Context<'_, R, G, P, F, W>,
     image: &Image,
     settings: &Settings,
     times: u32,
     keep: bool,
-    gate: &G,
-    predict: P,
-    files: &mut F,
-    out: &mut W,
-    alloc: Global,
 ) -> Result<u8, Refused>
-    requires works { F.has_failed files.old ≡ false }
-    requires finished { F.is_finished files.old ≡ true }
+    requires works { F.has_failed context.old.files ≡ false }
+    requires finished { F.is_finished context.old.files ≡ true }
     ensures refused { IfErr result (IsRunRefusal settings.now) }
     ensures ended { IfOk result (StressComesTo settings.now image.now times
-        (AreEndsWritten F.begins F.written F.has_failed files.old files.new keep)
-        (W.contents out.old) (W.contents out.new)) }
-    ensures unwanted { keep ≡ false → files.new ≡ files.old }
-    ensures unbroken { OnOk result (F.has_failed files.new ≡ false) }
-    ensures finished { OnOk result (F.is_finished files.new ≡ true) }
-    ensures unreported { F.has_failed files.new ≡ true
-        → W.contents out.new ≡ W.contents out.old }
+        (AreEndsWritten F.begins F.written F.has_failed context.old.files context.new.files keep)
+        (W.contents context.old.out) (W.contents context.new.out)) }
+    ensures unwanted { keep ≡ false → context.new.files ≡ context.old.files }
+    ensures unbroken { OnOk result (F.has_failed context.new.files ≡ false) }
+    ensures finished { OnOk result (F.is_finished context.new.files ≡ true) }
+    ensures unreported { F.has_failed context.new.files ≡ true
+        → W.contents context.new.out ≡ W.contents context.old.out }
 {
     let count = runs_of(times);
     let runs = Runs {
-        rt,
+        rt: context.rt,
         image,
         settings,
-        gate,
-        predict,
-        alloc,
+        gate: context.gate,
+        predict: context.predict,
+        alloc: context.alloc,
     };
-    gate.begin_all(count);
-    let tallied = runs.tally(count, keep, files);
-    gate.end_all();
+    context.gate.begin_all(count);
+    let tallied = runs.tally(count, keep, &mut context.files);
+    context.gate.end_all();
     // Handed on as it is: a `?` would leave the prover to find what the refusal becomes.
     let tally = match tallied {
         Ok(tally) => tally,
         Err(refused) => return Err(refused),
     };
-    match report_tally(count, &tally, out) {
+    match report_tally(count, &tally, &mut context.out) {
         Ok(()) => Ok(tally.status()),
         Err(_) => Err(Refused::Output),
     }

@@ -14,7 +14,7 @@ use crate::output_files::{OutputFiles, Places};
 use crate::read_files::ReadFiles;
 use crate::words::{refuse_words, take_words, texts};
 use actors::Gate;
-use commands::{Inputs, Refused, Unread, perform, perform_typed, refuse};
+use commands::{Context, Inputs, Refused, Unread, perform, perform_typed, refuse};
 use sim_inputs::{
     Command, Files as NamedFiles, Line, ProgramCommand, StepCommand, WordsRefused,
     is_standard_input, read_words,
@@ -28,62 +28,45 @@ use std::rt::Files;
 use std::sync::Wait;
 use std::thread::Threads;
 
+/// What the program does its work with.
+#[derive(Drop)]
+pub struct Program<'a, S, G, P> {
+    /// Where files are, and threads.
+    pub system: &'a S,
+    pub gate: &'a G,
+    pub predict: P,
+    /// Whether standard input is a terminal.
+    pub at_terminal: bool,
+    /// Whether standard error is a terminal.
+    pub on_terminal: bool,
+    pub alloc: Global,
+}
+
 /// Does all that the program does with its words, its own name first, and answers its exit status:
 /// what the words ask for is printed on `out`, and why it isn't on `err`. 0 for help, 2 for a wrong
 /// command line, 5 for want of memory and where `out` fails; else that of the command that is
-/// performed, with this gate and this predictor. Words that are no text are a wrong command line. A
-/// trace is written to the file that the words name. The file named by a dash is standard input; a
-/// script is typed there, and asked as it comes, where that is a terminal (`at_terminal`). Where `err`
-/// is a terminal (`on_terminal`), a refused configuration or image is told of on two lines.
+/// performed. Words that are no text are a wrong command line. A trace is written to the file that the
+/// words name. The file named by a dash is standard input; a script is typed there, and asked as it comes,
+/// where that is a terminal. Where `err` is a terminal, a refused configuration or image is told of on two
+/// lines.
 pub fn perform_words<
     S: Files + Input + Threads + Wait + Sync,
     G: Gate + Sync,
     P: Predict + Copy + Send,
     W: Write + Drop,
     E: Write,
->(
-    system: &S,
-    words: io::Result<Args>,
-    gate: &G,
-    predict: P,
-    out: io::Result<W>,
-    err: &mut E,
-    at_terminal: bool,
-    on_terminal: bool,
-    alloc: Global,
-) -> u8
+>(program: &Program<'_, S, G, P>, words: io::Result<Args>, out: io::Result<W>, err: &mut E) -> u8
     ensures known { IsTrue (says_harts result) ⊎ (result ≡ 2) ⊎ (result ≡ 4) ⊎ (result ≡ 5) }
     ensures unopened { IfErr out (λ error. result ≡ 5) }
     ensures unread { IfOk out (λ opened. IfErr words
         (λ error. IsWordsStatus (words_refused (error_kind error)) result)) }
     ensures read { IfOk out (λ opened. IfOk words
-        (λ args. HaveEnded at_terminal (map string_bytes (into_iter_items args)) result)) }
+        (λ args. HaveEnded program.now.at_terminal (map string_bytes (into_iter_items args)) result)) }
 {
-    let program = Program {
-        system,
-        gate,
-        predict,
-        at_terminal,
-        on_terminal,
-        alloc,
-    };
     match out {
         Ok(mut out) => program.answer_words(words, &mut out, err),
         Err(_) => refuse(Refused::Memory, err),
     }
-}
-
-/// What the program does its work with.
-#[derive(Drop)]
-struct Program<'a, S, G, P> {
-    system: &'a S,
-    gate: &'a G,
-    predict: P,
-    /// Whether standard input is a terminal.
-    at_terminal: bool,
-    /// Whether standard error is a terminal.
-    on_terminal: bool,
-    alloc: Global,
 }
 
 impl<S: Files + Input + Threads + Wait + Sync, G: Gate + Sync, P: Predict + Copy + Send> Program<
@@ -153,20 +136,17 @@ impl<S: Files + Input + Threads + Wait + Sync, G: Gate + Sync, P: Predict + Copy
             folder: folder_of(line),
             read: ReadFiles::of(&files),
         };
-        let mut written = OutputFiles::new(self.system, places);
-        let status = perform(
-            self.system,
-            line,
-            &read.lent(),
-            self.gate,
-            self.predict,
-            &mut written,
+        let mut context = Context {
+            rt: self.system,
+            gate: self.gate,
+            predict: self.predict,
+            files: OutputFiles::new(self.system, places),
             out,
-            err,
-            self.on_terminal,
-            self.alloc,
-        );
-        written.discard();
+            on_terminal: self.on_terminal,
+            alloc: self.alloc,
+        };
+        let status = perform(&mut context, line, &read.lent(), err);
+        context.files.discard();
         status
     }
 
@@ -190,21 +170,18 @@ impl<S: Files + Input + Threads + Wait + Sync, G: Gate + Sync, P: Predict + Copy
             folder: None,
             read: ReadFiles::of(&files),
         };
-        let mut written = OutputFiles::new(self.system, places);
-        let mut reader = self.system.reader();
-        let status = perform_typed(
-            line,
-            step,
-            &read.lent(),
-            self.predict,
-            &mut reader,
-            &mut written,
+        let mut context = Context {
+            rt: self.system,
+            gate: self.gate,
+            predict: self.predict,
+            files: OutputFiles::new(self.system, places),
             out,
-            err,
-            self.on_terminal,
-            self.alloc,
-        );
-        written.discard();
+            on_terminal: self.on_terminal,
+            alloc: self.alloc,
+        };
+        let mut reader = self.system.reader();
+        let status = perform_typed(&mut context, line, step, &read.lent(), &mut reader, err);
+        context.files.discard();
         status
     }
 }

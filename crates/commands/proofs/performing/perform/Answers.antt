@@ -12,7 +12,8 @@ returns-in-Ok g c =
     let inputs = c.args.inputs.now in
     let says = status_says c.args.line.now.command (as_read inputs.config) (as_read inputs.program)
     (as_read inputs.second)
-    (IsWritten g.S.EndFiles.begins g.S.Sink.written g.S.Sink.has_failed c.args.trace.now c.perform_line.new.trace)
+    (IsWritten g.S.EndFiles.begins g.S.Sink.written g.S.Sink.has_failed c.args.context.now.files
+    c.perform_line.new.context.files)
     _ _ _ has.ended in
     record {
       known = inl says;

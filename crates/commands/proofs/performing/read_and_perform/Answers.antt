@@ -16,14 +16,16 @@ returns-clause-refused g c =
     rw (c.in_ok-config.was, c.in_ok-file.was)
     (output_refusal c.args.command.now _ _ _ _ (as_read c.args.inputs.now.second) c.in_ok-settings.ensures.settings
     c.in_ok-image.ensures.passed c.in_ok-image.ensures.image
-    (IsWritten g.S.EndFiles.begins g.S.Sink.written g.S.Sink.has_failed c.args.trace.now c.perform_command.new.trace)
-    (g.W.Write.contents c.args.out.now) (g.W.Write.contents c.perform_command.new.out) _ c.in-Ok.ensures.ended)
+    (IsWritten g.S.EndFiles.begins g.S.Sink.written g.S.Sink.has_failed c.args.context.now.files
+    c.perform_command.new.context.files)
+    (g.W.Write.contents c.args.context.now.out) (g.W.Write.contents c.perform_command.new.context.out) _ c.in-Ok.ensures.ended)
 
 pub returns-in-Ok-flush-clause-ended : goal.returns-in-Ok-flush-clause-ended
 returns-in-Ok-flush-clause-ended g c =
     rw (c.in_ok-config.was, c.in_ok-file.was)
     (comes_to c.args.command.now _ _ _ _ (as_read c.args.inputs.now.second) c.in_ok-settings.ensures.settings
     c.in_ok-image.ensures.passed c.in_ok-image.ensures.image
-    (IsWritten g.S.EndFiles.begins g.S.Sink.written g.S.Sink.has_failed c.args.trace.now c.perform_command.new.trace)
-    (g.W.Write.contents c.args.out.now) (g.W.Write.contents c.perform_command.new.out) _ c.in-Ok.ensures.ended
+    (IsWritten g.S.EndFiles.begins g.S.Sink.written g.S.Sink.has_failed c.args.context.now.files
+    c.perform_command.new.context.files)
+    (g.W.Write.contents c.args.context.now.out) (g.W.Write.contents c.perform_command.new.context.out) _ c.in-Ok.ensures.ended
     _ c.flush.ensures.bytes)

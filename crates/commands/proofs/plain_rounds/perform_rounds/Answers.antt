@@ -24,6 +24,6 @@ returns-clause-ended g c =
     c.run_rounds-ran.ensures.harts c.in-Ok.is (λ same. absurd (cc)) in
     IfOk-weaker c.report_left.result _ _
     (λ status reported. comes_to c.args.settings.now c.args.image.now c.args.rounds c.args.records c.in-Ok.left
-    (g.W.Write.contents c.args.out.now) (g.W.Write.contents c.run_rounds-ran.new.out)
+    (g.W.Write.contents c.args.context.now.out) (g.W.Write.contents c.run_rounds-ran.new.out)
     (g.W.Write.contents c.report_left.new.out) status accepted c.in-Ok.ensures.ran reported)
     c.report_left.ensures.reported

@@ -24,7 +24,7 @@ pub returns-in-Ok-flush-clause-ended : goal.returns-in-Ok-flush-clause-ended
 returns-in-Ok-flush-clause-ended g c =
     let ended = rw c.of_step-wanted.ensures at c.in-Ok.ensures.ended in
     rw (c.in_ok-config.was, c.in_ok-file.was)
-    (typed_flushed g.P.Predict.predicts c.args.predict c.in_ok-settings.settings
-    (g.R.Read.remaining c.args.reader.now) (step_wants c.args.step.now) _ _ _ _ _ _ _ _
+    (typed_flushed g.P.Predict.predicts c.args.context.now.predict c.in_ok-settings.settings
+    (g.B.Read.remaining c.args.reader.now) (step_wants c.args.step.now) _ _ _ _ _ _ _ _
     c.in_ok-settings.ensures.settings c.in_ok-image.ensures.passed c.in_ok-image.ensures.image ended
     c.flush.ensures.bytes)
