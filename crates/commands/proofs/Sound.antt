@@ -13,11 +13,11 @@ use Rattle.sim_inputs.specs.declared.line.ProgramCommand.{ProgramCommand}
 use Rattle.sim_inputs.specs.{declared.settings.Settings.Settings}
 use Rattle.report_lines.specs.Lines.{status_number, has_ended_well}
 use Rattle.report_lines.specs.Statuses.{says_harts}
-use Rattle.commands.specs.declared.refused.Refused.TheVariants.{Image, Config, Output}
-use Rattle.commands.specs.declared.refused.Unread.{Unread}
-use Rattle.commands.specs.declared.refused.Unread.TheVariants as unread
-use Rattle.commands.specs.Refused.{AreAccepted, refusal_of}
-use Rattle.commands.specs.Inputs.{Read}
+use Rattle.command_parts.specs.declared.refused.Refused.TheVariants.{Image, Config, Output}
+use Rattle.command_parts.specs.declared.refused.Unread.{Unread}
+use Rattle.command_parts.specs.declared.refused.Unread.TheVariants as unread
+use Rattle.command_parts.specs.Refused.{AreAccepted, refusal_of}
+use Rattle.command_parts.specs.Inputs.{Read}
 use Rattle.commands.specs.Commands.{IsCommandRefusal, CommandComesTo, AreUnfit}
 
 pub record IsSound (command : ProgramCommand) (settings : Settings) (program : ProgramImage) (second : Read)

@@ -22,13 +22,15 @@ use Rattle.sim_inputs.specs.declared.line.ChartCommand.{ChartCommand}
 use Rattle.sim_inputs.specs.declared.line.OutcomesCommand.{OutcomesCommand}
 use Rattle.report_lines.specs.{Lines.status_number, Statuses.says_harts}
 use Rattle.stress_runs.specs.{End.EndView, Ends.end_of, Ends.worst_of}
-use Rattle.commands.specs.Refused.{AreAccepted, AreRefused}
-use Rattle.commands.specs.{Commands.RunsComeTo, Run.LackARole, Written.ToWrite}
-use Rattle.commands.specs.Inputs.{Read}
-use Rattle.commands.specs.{Account.statuses_of, Plain.standing}
-use Rattle.commands.specs.declared.refused.Refused.TheVariants.{Output}
-use Rattle.commands.specs.PlainRounds.{rounds_of, IsRoundsRefusal, RoundsComeTo}
-use Rattle.commands.proofs.OfRounds.{from_rounds, in_rounds}
+use Rattle.command_parts.specs.Refused.{AreAccepted, AreRefused}
+use Rattle.commands.specs.{Commands.RunsComeTo, Written.ToWrite}
+use Rattle.core_commands.specs.{Run.LackARole}
+use Rattle.command_parts.specs.Inputs.{Read}
+use Rattle.core_commands.specs.{Account.statuses_of}
+use Rattle.plain_commands.specs.{Plain.standing}
+use Rattle.command_parts.specs.declared.refused.Refused.TheVariants.{Output}
+use Rattle.plain_commands.specs.PlainRounds.{rounds_of, IsRoundsRefusal, RoundsComeTo}
+use Rattle.plain_commands.proofs.OfRounds.{from_rounds, in_rounds}
 use Rattle.commands.proofs.Sound.{IsSound, no_unread_image, no_unread_config, kept, prints_kept, status_says, zero_says}
 
 -- Sizes of a core aren't refused, nor are its harts too few or too many for the plain machine.

@@ -8,21 +8,22 @@ use Rattle.text_fields.specs.{Printing.Prints}
 use Rattle.sim_inputs.specs.{declared.settings.Settings.Settings, Files.written_chart}
 use Rattle.sim_inputs.specs.declared.line.ProgramCommand.{ProgramCommand}
 use Rattle.sim_inputs.specs.declared.line.ProgramCommand.TheVariants as commands
-use Rattle.commands.specs.{declared.refused.Refused.Refused}
-use Rattle.commands.specs.Inputs.{Read, OfFile, BehindFile}
-use Rattle.commands.specs.Wanted.{step_wants, run_wants, check_wants}
-use Rattle.commands.specs.Step.{IsStepRefusal, StepComesTo, ArePrinted}
+use Rattle.command_parts.specs.{declared.refused.Refused.Refused}
+use Rattle.command_parts.specs.Inputs.{Read, OfFile, BehindFile}
+use Rattle.core_commands.specs.Wanted.{step_wants, run_wants, check_wants}
+use Rattle.core_commands.specs.Step.{IsStepRefusal, StepComesTo, ArePrinted}
 use Rattle.sim_inputs.specs.declared.line.RunCommand.{RunCommand}
-use Rattle.commands.specs.Run.{IsRunRefusal, RunComesTo, LackARole}
-use Rattle.commands.specs.{Stress.StressComesTo, Written.ToWrite, Written.TraceOf, Written.EndsOf}
-use Rattle.commands.specs.Check.{IsCheckRefusal, CheckComesTo, OfEvents, AreTooMany}
-use Rattle.commands.specs.Chart.{IsChartRefusal, ChartComesTo}
-use Rattle.commands.specs.Plain.{IsPlainRefusal, PlainComesTo}
-use Rattle.commands.specs.PlainRounds.{rounds_of, InRounds, IsRoundsRefusal, RoundsComeTo}
-use Rattle.commands.specs.Schedule.{IsScheduleRefusal, ScheduleComesTo}
-use Rattle.commands.specs.Script.{IsScriptingRefusal, ScriptComesTo}
+use Rattle.core_commands.specs.Run.{IsRunRefusal, RunComesTo, LackARole}
+use Rattle.core_commands.specs.{Stress.StressComesTo}
+use Rattle.commands.specs.{Written.ToWrite, Written.TraceOf, Written.EndsOf}
+use Rattle.core_commands.specs.Check.{IsCheckRefusal, CheckComesTo, OfEvents, AreTooMany}
+use Rattle.core_commands.specs.Chart.{IsChartRefusal, ChartComesTo}
+use Rattle.plain_commands.specs.Plain.{IsPlainRefusal, PlainComesTo}
+use Rattle.plain_commands.specs.PlainRounds.{rounds_of, InRounds, IsRoundsRefusal, RoundsComeTo}
+use Rattle.plain_commands.specs.Schedule.{IsScheduleRefusal, ScheduleComesTo}
+use Rattle.core_commands.specs.Script.{IsScriptingRefusal, ScriptComesTo}
 use Rattle.commands.specs.List.{IsListRefusal, ListComesTo}
-use Rattle.commands.specs.Outcomes.{IsOutcomesRefusal, OutcomesComeTo, wants_order}
+use Rattle.plain_commands.specs.Outcomes.{IsOutcomesRefusal, OutcomesComeTo, wants_order}
 
 -- When each refusal of a command comes. One that has a second file is refused where that is unread;
 -- rounds have none.

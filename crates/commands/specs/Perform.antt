@@ -4,14 +4,14 @@ use Rattle.std.specs.Prelude.{◌≡◌, ◌⊎◌, ℕ, Bool, true, false, List
 use Rattle.std.specs.Prelude.{OnOk, IfOk, IfErr}
 use Rattle.elf_image.specs.Image.{ProgramImage}
 use Rattle.sim_inputs.specs.{declared.line.Command.Command, declared.settings.Settings.Settings}
-use Rattle.commands.specs.{declared.refused.Refused.Refused}
-use Rattle.commands.specs.declared.refused.Refused.TheVariants.{Image, Config, Memory, File, Output}
-use Rattle.commands.specs.declared.refused.Unread.TheVariants as unread
-use Rattle.commands.specs.Refused.{IsFirstFailed, AreAccepted}
-use Rattle.commands.specs.Inputs.{Read, OfFile, BehindFile, OfSettings, OfProgram, IsNoConfiguration}
+use Rattle.command_parts.specs.{declared.refused.Refused.Refused}
+use Rattle.command_parts.specs.declared.refused.Refused.TheVariants.{Image, Config, Memory, File, Output}
+use Rattle.command_parts.specs.declared.refused.Unread.TheVariants as unread
+use Rattle.command_parts.specs.Refused.{IsFirstFailed, AreAccepted}
+use Rattle.command_parts.specs.Inputs.{Read, OfFile, BehindFile, OfSettings, OfProgram, IsNoConfiguration}
 use Rattle.stress_runs.specs.declared.keeping.Part.{Part}
 use Rattle.commands.specs.Written.{ToWrite, TextOf, IsWritten}
-use Rattle.commands.specs.Migrate.{IsMigrateRefusal, MigrateComesTo}
+use Rattle.core_commands.specs.Migrate.{IsMigrateRefusal, MigrateComesTo}
 use Rattle.commands.specs.Commands.{IsCommandRefusal, CommandComesTo, AreUnfit, IsProgramUnreported}
 use Rattle.commands.specs.Commands.{program_writes_file}
 use Rattle.commands.specs.Explain.{IsExplainRefusal, ExplainComesTo}
@@ -19,7 +19,7 @@ use Rattle.sim_inputs.specs.Files.{written_for_test}
 use Rattle.sim_inputs.specs.declared.line.LitmusCommand.{LitmusCommand}
 use Rattle.sim_inputs.specs.declared.line.ProgramCommand.{ProgramCommand}
 use Rattle.sim_inputs.specs.declared.line.Command.TheVariants as commands
-use Rattle.commands.specs.Litmus.{IsLitmusRefusal, LitmusComesTo}
+use Rattle.plain_commands.specs.Litmus.{IsLitmusRefusal, LitmusComesTo}
 
 -- When each refusal comes of a command of a program: the configuration is looked at first, then the image, then
 -- what the command needs. A file that can't be read is refused where it is looked at.

@@ -7,12 +7,12 @@ ghost use Rattle.elf_image.specs.Loaded.{IsImageOf};
 ghost use Rattle.sim_inputs.specs.Configuration.{IsConfiguration};
 ghost use Rattle.explanations.specs.Explained.{Begins, config_head, image_head};
 ghost use Rattle.explanations.specs.Explained.{IsRefusedBy, IsAccepted};
-ghost use Rattle.commands.specs.declared.refused.Refused.TheVariants.{Output};
-ghost use Rattle.commands.specs.Inputs.{as_read, OfProgram, IsNoConfiguration};
+ghost use Rattle.command_parts.specs.declared.refused.Refused.TheVariants.{Output};
+ghost use Rattle.command_parts.specs.Inputs.{as_read, OfProgram, IsNoConfiguration};
 ghost use Rattle.commands.specs.Explain.{IsExplainRefusal, IsExplanationOf, ExplainComesTo};
 ghost use Rattle.commands.specs.Explain.{IsWritingRefusal, PrintsSome};
 
-use crate::refused::{Refused, Unread};
+use command_parts::{Refused, Unread};
 use elf_image::{LoadRefused, RamSize};
 use explanations::{explain_config, explain_image};
 use shown_text::write_file_name;

@@ -1,13 +1,13 @@
 //! All that the program does with a line once its files are read.
 
 ghost use Rattle.std.specs.Prelude.{◌≡◌, ◌⊎◌, IsTrue, IfOk, IfErr, OnOk, Err, is_some, true, false};
-ghost use Rattle.commands.specs.declared.refused.Refused.TheVariants.{Output};
+ghost use Rattle.command_parts.specs.declared.refused.Refused.TheVariants.{Output};
 ghost use Rattle.report_lines.specs.Statuses.{says_harts};
-ghost use Rattle.commands.specs.declared.refused.Refused.{Refused as AnyRefused};
-ghost use Rattle.commands.specs.Refused.{exit_status_of, refusal_of};
+ghost use Rattle.command_parts.specs.declared.refused.Refused.{Refused as AnyRefused};
+ghost use Rattle.command_parts.specs.Refused.{exit_status_of, refusal_of};
 ghost use Rattle.sim_inputs.specs.declared.line.ProgramCommand.TheVariants.{Run};
 ghost use Rattle.sim_inputs.specs.Files.{written_for_test};
-ghost use Rattle.commands.specs.Inputs.{as_read, Read};
+ghost use Rattle.command_parts.specs.Inputs.{as_read, Read};
 ghost use Rattle.commands.specs.Commands.{IsProgramUnreported, program_writes_file};
 ghost use Rattle.commands.specs.Perform.{IsRefusal, LineComesTo, IsLeft, IsUnreported, writes_file};
 ghost use Rattle.commands.specs.Perform.{IsProgramRefusal, ProgramComesTo, IsPerformed};
@@ -17,26 +17,18 @@ ghost use Rattle.commands.specs.Perform.{IsMigrateLineRefusal, MigrationComesTo}
 ghost use Rattle.event_text.specs.Sinking.{HasPut};
 ghost use Rattle.commands.specs.Written.{IsWritten};
 
-use crate::all_outcomes::perform_outcomes;
-use crate::chart::perform_chart;
-use crate::check::perform_check;
-use crate::context::Context;
 use crate::explain::{perform_explain, point_to_explain};
-use crate::inputs::{Inputs, image_of, settings_of};
 use crate::list::perform_list;
-use crate::litmus::perform_litmus;
-use crate::migrate::perform_migrate;
-use crate::plain::perform_plain;
-use crate::plain_rounds::{perform_rounds, rounds_of};
-use crate::refused::{Refused, Unread, refuse};
-use crate::run::perform_run;
-use crate::schedule::perform_schedule;
-use crate::script::perform_script;
-use crate::step::perform_step;
-use crate::stress::perform_stress;
-use crate::wanted::Wanted;
 use actors::Gate;
+use command_parts::{Context, Inputs, Refused, Unread, image_of, refuse, settings_of};
+use core_commands::{
+    Wanted, perform_chart, perform_check, perform_migrate, perform_run, perform_script,
+    perform_step, perform_stress,
+};
 use elf_image::Image;
+use plain_commands::{
+    perform_litmus, perform_outcomes, perform_plain, perform_rounds, perform_schedule, rounds_of,
+};
 use sim_inputs::{Command, Line, LitmusCommand, ProgramCommand, RunCommand, Settings};
 use smt_core::Predict;
 use std::alloc::Global;
@@ -52,10 +44,10 @@ use stress_runs::EndFiles;
 /// that couldn't be read is refused where it is looked at. Where `err` is a terminal, a second line says
 /// which command explains a refused configuration or image. All that is printed is flushed.
 ///
-/// The trace of a core goes into `trace`, a sink that hasn't failed, where the line names a file for it:
+/// The trace of a core goes into `files`, a sink that hasn't failed, where the line names a file for it:
 /// behind the last ask, and before the tables and the report, and its file is finished. Where the sink fails,
 /// neither is printed. So does a chart that is written to a file, and a migrated trace, of which nothing is
-/// put where it is refused for anything else. A run of threads asks `gate` whether it may go on.
+/// put where it is refused for anything else. A run of threads asks the gate whether it may go on.
 pub fn perform<
     G: Gate + Sync,
     P: Predict + Copy + Send,

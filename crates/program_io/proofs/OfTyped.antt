@@ -10,8 +10,9 @@ use Rattle.sim_inputs.specs.declared.line.ProgramCommand.TheVariants as program
 use Rattle.sim_inputs.specs.declared.line.StepCommand.{StepCommand}
 use Rattle.sim_inputs.specs.Files.{files_of, is_standard_input}
 use Rattle.report_lines.specs.Statuses.{says_harts}
-use Rattle.commands.specs.declared.refused.Refused.{Refused}
-use Rattle.commands.specs.{Inputs.Read, Refused.exit_status_of, Perform.IsRefusal}
+use Rattle.command_parts.specs.declared.refused.Refused.{Refused}
+use Rattle.command_parts.specs.{Inputs.Read, Refused.exit_status_of}
+use Rattle.commands.specs.{Perform.IsRefusal}
 use Rattle.program_io.specs.Performed.{typed_step, IsReadAs, HasPerformed}
 
 typed_command : (at_terminal : Bool) (command : Command) (step : StepCommand)

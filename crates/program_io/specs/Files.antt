@@ -2,8 +2,8 @@
 use Rattle.std.specs.Prelude.{ℕ, ◌<◌, List, length, Option, IfSome}
 use Rattle.std.specs.{declared.io.ErrorKind.ErrorKind}
 use Rattle.std.specs.{declared.io.ErrorKind.TheVariants.OutOfMemory}
-use Rattle.commands.specs.{declared.refused.Unread.Unread}
-use Rattle.commands.specs.declared.refused.Unread.TheVariants as unread
+use Rattle.command_parts.specs.{declared.refused.Unread.Unread}
+use Rattle.command_parts.specs.declared.refused.Unread.TheVariants as unread
 use Rattle.program_io.specs.{declared.files.ReadRefused.ReadRefused}
 use Rattle.program_io.specs.declared.files.ReadRefused.TheVariants as refused
 

@@ -4,7 +4,7 @@ ghost use Rattle.std.specs.IoError.{error_kind};
 ghost use Rattle.std.specs.declared.io.ErrorKind.TheVariants.{Interrupted};
 ghost use Rattle.program_io.specs.Files.{why_unread, why_refused, unread_for, IsRefusedFor};
 
-use commands::Unread;
+use command_parts::Unread;
 use sim_inputs::is_standard_input;
 use std::alloc::Global;
 use std::fs;

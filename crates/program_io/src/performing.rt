@@ -3,7 +3,7 @@ ghost use Rattle.std.specs.Prelude.{map, string_bytes, vec_len};
 ghost use Rattle.std.specs.IoError.{error_kind};
 ghost use Rattle.std.specs.Vec.Iter.{into_iter_items};
 ghost use Rattle.sim_inputs.specs.CommandLine.{AreWordsRefusedFor};
-ghost use Rattle.commands.specs.Inputs.{as_read};
+ghost use Rattle.command_parts.specs.Inputs.{as_read};
 ghost use Rattle.report_lines.specs.Statuses.{says_harts};
 ghost use Rattle.program_io.specs.Performed.{read_of, IsReadAs, HasPerformed, HavePerformed, HaveEnded};
 ghost use Rattle.program_io.specs.Performed.{typed_step};
@@ -14,7 +14,8 @@ use crate::output_files::{OutputFiles, Places};
 use crate::read_files::ReadFiles;
 use crate::words::{refuse_words, take_words, texts};
 use actors::Gate;
-use commands::{Context, Inputs, Refused, Unread, perform, perform_typed, refuse};
+use command_parts::{Context, Inputs, Refused, Unread, refuse};
+use commands::{perform, perform_typed};
 use sim_inputs::{
     Command, Files as NamedFiles, Line, ProgramCommand, StepCommand, WordsRefused,
     is_standard_input, read_words,

@@ -6,7 +6,7 @@ ghost use Rattle.sim_inputs.specs.declared.line.WordsRefused.TheVariants.{Memory
 ghost use Rattle.report_lines.specs.Statuses.{says_harts};
 ghost use Rattle.program_io.specs.Words.{words_refused, IsWordsStatus};
 
-use commands::{Refused, refuse};
+use command_parts::{Refused, refuse};
 use sim_inputs::WordsRefused;
 use std::alloc::{AllocError, Global};
 use std::env::Args;

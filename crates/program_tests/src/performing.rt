@@ -3,7 +3,8 @@
 ghost use Rattle.std.specs.Prelude.{◌≡◌, false, true};
 
 use actors::{Open, StaticPredictor};
-use commands::{Context, Inputs, Unread, perform};
+use command_parts::{Context, Inputs, Unread};
+use commands::perform;
 use event_text::Over;
 use sim_inputs::Line;
 use smt_core::Predict;

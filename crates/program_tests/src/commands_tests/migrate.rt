@@ -5,7 +5,7 @@ use crate::lines::{check_line, migrate_line};
 use crate::performing::{Ending, Performed, context_of, inputs_of, perform_whole, perform_with};
 use crate::rows::{ends, holds, shows, text_of};
 use actors::StaticPredictor;
-use commands::Context;
+use command_parts::Context;
 use event_text::Over;
 use std::alloc::Global;
 use std::process::Abort;

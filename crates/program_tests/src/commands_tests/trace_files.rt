@@ -9,7 +9,7 @@ use crate::lines::{run_line, step_line};
 use crate::performing::{Ending, context_of, inputs_of, perform_with};
 use crate::rows::{ends, holds, shows, text_of};
 use actors::StaticPredictor;
-use commands::Context;
+use command_parts::Context;
 use event_text::{Over, read_trace};
 use history_check::check;
 use sim_inputs::{Line, read_config};

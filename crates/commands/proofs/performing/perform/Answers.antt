@@ -2,7 +2,8 @@
 use Rattle.std.proofs.Common.{sym, ◌∙◌}
 use Rattle.std.proofs.lemmas.Bool.{true≢false}
 use mathlib.Core.Logic.{inl}
-use Rattle.commands.specs.{Inputs.as_read, Written.IsWritten}
+use Rattle.command_parts.specs.{Inputs.as_read}
+use Rattle.commands.specs.{Written.IsWritten}
 use Rattle.commands.proofs.OfLine.{known_refusal, unset_refusal, refused_harts, was_read, status_says}
 use Rattle.commands.proofs.performing.perform.Goals as goal
 

@@ -1,4 +1,4 @@
-use Rattle.commands.specs.Inputs.{as_read}
+use Rattle.command_parts.specs.Inputs.{as_read}
 use Rattle.commands.proofs.OfExplain.{line_ended}
 use Rattle.commands.proofs.performing.read_and_explain.Goals as goal
 

@@ -1,5 +1,5 @@
 -- Behind a command that is refused, and before and behind the flush.
-use Rattle.commands.specs.Inputs.{as_read}
+use Rattle.command_parts.specs.Inputs.{as_read}
 use Rattle.commands.specs.Written.{IsWritten}
 use Rattle.commands.proofs.OfLine.{command_refusal, output_refusal, comes_to}
 use Rattle.commands.proofs.performing.read_and_perform.Goals as goal

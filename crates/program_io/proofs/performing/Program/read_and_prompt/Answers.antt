@@ -1,6 +1,6 @@
 use Rattle.std.proofs.Common.{sym, subst}
 use Rattle.sim_inputs.specs.{declared.files.Files.Files, Files.files_of}
-use Rattle.commands.specs.Inputs.{Read, as_read}
+use Rattle.command_parts.specs.Inputs.{Read, as_read}
 use Rattle.program_io.specs.Performed.{read_of, IsReadAs}
 use Rattle.program_io.proofs.OfTyped.{typed_performed}
 use Rattle.program_io.proofs.performing.Program.read_and_prompt.Goals as goal
