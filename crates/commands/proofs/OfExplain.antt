@@ -7,24 +7,22 @@ use mathlib.Core.Logic.{inl, inr}
 use Rattle.std.specs.Io.KnownBytes.{Appends}
 use Rattle.text_fields.specs.{Printing.Prints}
 use Rattle.elf_image.specs.{declared.refusal.LoadRefused.LoadRefused, Refusal.reason_number}
-use Rattle.commands.specs.Written.{ToWrite}
 use Rattle.explanations.specs.Explained.{Begins, IsRefusedBy, IsAccepted, refused_line, config_head, image_head}
-use Rattle.sim_inputs.specs.{declared.line.Command.Command, declared.settings.Settings.Settings}
-use Rattle.sim_inputs.specs.declared.line.Command.TheVariants as commands
+use Rattle.sim_inputs.specs.{declared.settings.Settings.Settings}
 use Rattle.sim_inputs.specs.{Configuration.IsConfiguration}
-use Rattle.commands.specs.declared.refused.Refused.{Refused}
-use Rattle.commands.specs.declared.refused.Refused.TheVariants.{Image, Config, Script, Order, Step, Memory, File}
-use Rattle.commands.specs.declared.refused.Refused.TheVariants.{Output, Thread, Trace, Version, Event, NoUnit, Limit, NoHart}
-use Rattle.commands.specs.declared.refused.Refused.TheVariants.{Prediction, Register, Picture}
-use Rattle.commands.specs.declared.refused.Refused.TheVariants.{Watch, Condition, ManyWatched, NoWord}
-use Rattle.commands.specs.declared.refused.Refused.TheVariants.{NoOutcome, NotStuck, Litmus, NothingToDraw}
-use Rattle.commands.specs.declared.refused.Unread.{Unread}
-use Rattle.commands.specs.declared.refused.Unread.TheVariants as unread
-use Rattle.commands.specs.Refused.{refusal_of, IsFirstFailed, AreAccepted}
-use Rattle.commands.specs.Inputs.{Read, OfProgram}
+use Rattle.command_parts.specs.declared.refused.Refused.{Refused}
+use Rattle.command_parts.specs.declared.refused.Refused.TheVariants.{Image, Config, Script, Order, Step, Memory, File}
+use Rattle.command_parts.specs.declared.refused.Refused.TheVariants.{Output, Thread, Trace, Version, Event, NoUnit, Limit, NoHart}
+use Rattle.command_parts.specs.declared.refused.Refused.TheVariants.{Prediction, Register, Picture}
+use Rattle.command_parts.specs.declared.refused.Refused.TheVariants.{Watch, Condition, ManyWatched, NoWord}
+use Rattle.command_parts.specs.declared.refused.Refused.TheVariants.{NoOutcome, NotStuck, Litmus, NothingToDraw}
+use Rattle.command_parts.specs.declared.refused.Unread.{Unread}
+use Rattle.command_parts.specs.declared.refused.Unread.TheVariants as unread
+use Rattle.command_parts.specs.Refused.{refusal_of, IsFirstFailed, AreAccepted}
+use Rattle.command_parts.specs.Inputs.{Read, OfProgram}
 use Rattle.commands.specs.Explain.{IsExplainRefusal, IsExplanationOf, IsWritingRefusal, ExplainComesTo}
 use Rattle.commands.specs.Explain.{Tells, PrintsSome}
-use Rattle.commands.specs.{Commands.explains, Perform.IsProgramRefusal, Perform.ProgramComesTo}
+use Rattle.commands.specs.{Perform.ExplainLineComesTo}
 use Rattle.commands.proofs.OfLine.{accepted_of}
 
 -- ---- What is printed
@@ -167,62 +165,19 @@ both_accepted config settings file old new status is accepted told =
 
 -- ---- Of a line
 
-pub line_refusal : (command : Command) (config : List ℕ) (image second : Read) (reason : Refused)
-    → explains command ≡ true → IsExplainRefusal config image reason
-    → IsProgramRefusal command (Ok config) image second reason
-line_refusal command config image second (Image number) explains is = is
-line_refusal command config image second Config explains is = inl is
-line_refusal command config image second (Script number) explains is = absurd is
-line_refusal command config image second (Order index) explains is = absurd is
-line_refusal command config image second (Step index why) explains is = absurd is
-line_refusal command config image second (Trace line rule) explains is = absurd is
-line_refusal command config image second Version explains is = absurd is
-line_refusal command config image second (Event index rule) explains is = absurd is
-line_refusal command config image second (Prediction index) explains is = absurd is
-line_refusal command config image second (Register index) explains is = absurd is
-line_refusal command config image second (NoUnit kind) explains is = absurd is
-line_refusal command config image second (Limit least) explains is = absurd is
-line_refusal command config image second (NoHart hart) explains is = absurd is
-line_refusal command config image second (Picture last) explains is = absurd is
-line_refusal command config image second (Watch why) explains is = absurd is
-line_refusal command config image second (Condition why) explains is = absurd is
-line_refusal command config image second ManyWatched explains is = absurd is
-line_refusal command config image second (NoWord address) explains is = absurd is
-line_refusal command config image second (NoOutcome number) explains is = absurd is
-line_refusal command config image second NotStuck explains is = absurd is
-line_refusal command config image second (Litmus place fault) explains is = absurd is
-line_refusal command config image second NothingToDraw explains is = absurd is
-line_refusal command config image second Memory explains is = tt
-line_refusal command config image second Thread explains is = absurd is
-line_refusal command config image second File explains is = inr (inl is)
-line_refusal command config image second Output explains is = inr explains
-
-pub line_comes_to : (command : Command) (config : List ℕ) (image second : Read) (Traced : ToWrite → Type 0)
-    (old new : Option (List ℕ)) (status : ℕ) → explains command ≡ true
+-- Both are accepted, and so the settings are a core's.
+line_comes_to : (config : List ℕ) (image : Read) (old new : Option (List ℕ)) (status : ℕ)
     → OfProgram (Ok config) image (λ settings program. ExplainComesTo old new status)
-    → ProgramComesTo command (Ok config) image second Traced old new status
-line_comes_to (commands.Explain explain) config (Ok file) second Traced old new status is told = (
+    → ExplainLineComesTo (Ok config) image old new status
+line_comes_to config (Ok file) old new status told = (
   told.0,
   told.1,
   (told.2.0, told.2.1, told.2.2, (accepted_of config told.0 told.1, told.2.3)),
 )
-line_comes_to (commands.Explain explain) config (Err why) second Traced old new status is told = absurd told.2
-line_comes_to (commands.Step step) config image second Traced old new status is told = absurd (cc)
-line_comes_to (commands.Run run) config image second Traced old new status is told = absurd (cc)
-line_comes_to (commands.Check check) config image second Traced old new status is told = absurd (cc)
-line_comes_to (commands.Plain plain) config image second Traced old new status is told = absurd (cc)
-line_comes_to (commands.Schedule schedule) config image second Traced old new status is told = absurd (cc)
-line_comes_to (commands.Script script) config image second Traced old new status is told = absurd (cc)
-line_comes_to (commands.List list) config image second Traced old new status is told = absurd (cc)
-line_comes_to (commands.Outcomes outcomes) config image second Traced old new status is told = absurd (cc)
-line_comes_to (commands.Litmus litmus) config image second Traced old new status is told = absurd (cc)
-line_comes_to (commands.Migrate migrate) config image second Traced old new status is told = absurd (cc)
-line_comes_to (commands.Chart chart) config image second Traced old new status is told = absurd (cc)
+line_comes_to config (Err why) old new status told = absurd told.2
 
-pub line_ended : (answer : Result ℕ Refused) (command : Command) (config : List ℕ) (image second : Read)
-    (Traced : ToWrite → Type 0) (old new : Option (List ℕ)) → explains command ≡ true
+pub line_ended : (answer : Result ℕ Refused) (config : List ℕ) (image : Read) (old new : Option (List ℕ))
     → IfOk answer (λ status. OfProgram (Ok config) image (λ settings program. ExplainComesTo old new status))
-    → IfOk answer (ProgramComesTo command (Ok config) image second Traced old new)
-line_ended (Ok status) command config image second Traced old new is told =
-    line_comes_to command config image second Traced old new status is told
-line_ended (Err why) command config image second Traced old new is told = tt
+    → IfOk answer (ExplainLineComesTo (Ok config) image old new)
+line_ended (Ok status) config image old new told = line_comes_to config image old new status told
+line_ended (Err why) config image old new told = tt

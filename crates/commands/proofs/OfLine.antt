@@ -1,5 +1,5 @@
 -- What a line is refused for and what it comes to, from the same of its files and of its command.
-use Rattle.std.specs.Prelude.{◌≡◌, ◌⊎◌, ℕ, Bool, true, false, IsTrue, List, Option, Some, None, Result, Ok, Err, IfErr}
+use Rattle.std.specs.Prelude.{◌≡◌, ◌⊎◌, ℕ, true, false, IsTrue, List, Option, Some, None, Result, Ok, Err, IfErr}
 use Rattle.std.specs.Borrow.{Bor}
 use Rattle.std.proofs.Common.{refl, sym, ap, ◌∙◌}
 use Rattle.std.proofs.lemmas.Bool.{true≢false}
@@ -11,21 +11,22 @@ use Rattle.commands.specs.Written.{ToWrite}
 use Rattle.sim_inputs.specs.{declared.line.Command.Command, declared.settings.Settings.Settings}
 use Rattle.sim_inputs.specs.{Configuration.IsConfiguration}
 use Rattle.report_lines.specs.Statuses.{says_harts}
-use Rattle.commands.specs.declared.refused.Refused.{Refused}
-use Rattle.commands.specs.declared.refused.Refused.TheVariants.{Image, Config, Script, Order, Step, Memory, File}
-use Rattle.commands.specs.declared.refused.Refused.TheVariants.{Output, Thread, Trace, Version, Event, NoUnit, Limit, NoHart}
-use Rattle.commands.specs.declared.refused.Refused.TheVariants.{Prediction, Register, Picture}
-use Rattle.commands.specs.declared.refused.Refused.TheVariants.{Watch, Condition, ManyWatched, NoWord}
-use Rattle.commands.specs.declared.refused.Refused.TheVariants.{NoOutcome, NotStuck, Litmus, NothingToDraw}
-use Rattle.commands.specs.declared.refused.Unread.{Unread}
-use Rattle.commands.specs.declared.refused.Unread.TheVariants as unread
-use Rattle.commands.specs.Refused.{exit_status_of, refusal_of, AreAccepted, PassesAll}
-use Rattle.commands.specs.Inputs.{Read}
+use Rattle.command_parts.specs.declared.refused.Refused.{Refused}
+use Rattle.command_parts.specs.declared.refused.Refused.TheVariants.{Image, Config, Script, Order, Step, Memory, File}
+use Rattle.command_parts.specs.declared.refused.Refused.TheVariants.{Output, Thread, Trace, Version, Event, NoUnit, Limit, NoHart}
+use Rattle.command_parts.specs.declared.refused.Refused.TheVariants.{Prediction, Register, Picture}
+use Rattle.command_parts.specs.declared.refused.Refused.TheVariants.{Watch, Condition, ManyWatched, NoWord}
+use Rattle.command_parts.specs.declared.refused.Refused.TheVariants.{NoOutcome, NotStuck, Litmus, NothingToDraw}
+use Rattle.command_parts.specs.declared.refused.Unread.{Unread}
+use Rattle.command_parts.specs.declared.refused.Unread.TheVariants as unread
+use Rattle.command_parts.specs.Refused.{exit_status_of, refusal_of, AreAccepted, PassesAll}
+use Rattle.command_parts.specs.Inputs.{Read}
 use Rattle.commands.specs.Commands.{IsCommandRefusal, CommandComesTo}
 use Rattle.commands.specs.Perform.{IsProgramRefusal, ProgramComesTo, LineComesTo, LitmusLineComesTo}
-use Rattle.commands.specs.Perform.{MigrateLineComesTo}
+use Rattle.commands.specs.Perform.{ExplainLineComesTo, MigrateLineComesTo}
+use Rattle.sim_inputs.specs.declared.line.Command.TheVariants as commands
+use Rattle.sim_inputs.specs.declared.line.ProgramCommand.{ProgramCommand}
 use Rattle.sim_inputs.specs.declared.line.LitmusCommand.{LitmusCommand}
-use Rattle.commands.specs.Commands.{litmus_of, migrates, ForTest, ForMigration}
 use Rattle.commands.proofs.Sound.{zero_says}
 use Rattle.commands.proofs.SoundCommands.{sound}
 
@@ -36,7 +37,7 @@ accepted_of text settings is = λ image. is.sets.in_range.accepted
 -- ---- Refusals
 
 -- A configuration and an image that make these settings and this program image.
-module _ (command : Command) (text : List ℕ) (settings : Settings) (file : List ℕ) (program : ProgramImage)
+module _ (command : ProgramCommand) (text : List ℕ) (settings : Settings) (file : List ℕ) (program : ProgramImage)
     (second : Read) (configured : IsConfiguration text settings) (passes : PassesAll file settings.ram)
     (loaded : IsImageOf file settings.ram program) where
   pub command_refusal : (reason : Refused) → IsCommandRefusal command settings program second reason
@@ -68,7 +69,7 @@ module _ (command : Command) (text : List ℕ) (settings : Settings) (file : Lis
   command_refusal Memory is = tt
   command_refusal Thread is = (settings, configured, (passes, program, loaded, is))
   command_refusal File is = inr (inr (settings, configured, (passes, program, loaded, is)))
-  command_refusal Output is = inl (settings, configured, (passes, program, loaded, is))
+  command_refusal Output is = (settings, configured, (passes, program, loaded, is))
 
   -- Behind what the command comes to, only the output may still be refused; and once that is flushed, the
   -- line has come to it.
@@ -96,7 +97,7 @@ module _ (command : Command) (text : List ℕ) (settings : Settings) (file : Lis
 
 -- ---- The exit status
 
-program_says : (command : Command) (config image second : Read) (Traced : ToWrite → Type 0)
+program_says : (command : ProgramCommand) (config image second : Read) (Traced : ToWrite → Type 0)
     (old new : Option (List ℕ)) (status : ℕ) → ProgramComesTo command config image second Traced old new status
     → IsTrue (says_harts status)
 program_says command (Ok text) (Ok file) second Traced old new status is =
@@ -119,30 +120,23 @@ migration_says (Ok text) (Ok file) Traced old new status is = zero_says status i
 migration_says (Ok text) (Err why) Traced old new status is = absurd is.1.2
 migration_says (Err why) trace Traced old new status is = absurd is.1
 
-other_says : (of_migration : Bool) (OfMigration OfOther : Type 0) (status : ℕ)
-    → (OfMigration → IsTrue (says_harts status)) → (OfOther → IsTrue (says_harts status))
-    → ForMigration of_migration OfMigration OfOther → IsTrue (says_harts status)
-other_says true OfMigration OfOther status migration other is = migration is
-other_says false OfMigration OfOther status migration other is = other is
-
-either_says : (found : Option LitmusCommand) (OfTest : LitmusCommand → Type 0) (OfOther : Type 0) (status : ℕ)
-    → ((litmus : LitmusCommand) → OfTest litmus → IsTrue (says_harts status))
-    → (OfOther → IsTrue (says_harts status)) → ForTest found OfTest OfOther → IsTrue (says_harts status)
-either_says None OfTest OfOther status test other is = other is
-either_says (Some litmus) OfTest OfOther status test other is = test litmus is
+explain_says : (config image : Read) (old new : Option (List ℕ)) (status : ℕ)
+    → ExplainLineComesTo config image old new status → IsTrue (says_harts status)
+explain_says (Ok text) (Ok file) old new status is = zero_says status is.2.2.2.1.zero
+explain_says (Ok text) (Err why) old new status is = absurd is.2
+explain_says (Err why) image old new status is = absurd is
 
 pub status_says : (command : Command) (config image second : Read) (Traced : ToWrite → Type 0)
     (old new : Option (List ℕ)) (status : ℕ) → LineComesTo command config image second Traced old new status
     → IsTrue (says_harts status)
-status_says command config image second Traced old new status is =
-    either_says (litmus_of command) (λ litmus. LitmusLineComesTo litmus config image old new status)
-    (ForMigration (migrates command) (MigrateLineComesTo config second Traced old new status)
-    (ProgramComesTo command config image second Traced old new status)) status
-    (λ litmus. litmus_says litmus config image old new status)
-    (other_says (migrates command) (MigrateLineComesTo config second Traced old new status)
-    (ProgramComesTo command config image second Traced old new status) status
-    (migration_says config second Traced old new status)
-    (program_says command config image second Traced old new status)) is
+status_says (commands.OfProgram command) config image second Traced old new status is =
+    program_says command config image second Traced old new status is
+status_says (commands.Explain explain) config image second Traced old new status is =
+    explain_says config image old new status is
+status_says (commands.Litmus litmus) config test second Traced old new status is =
+    litmus_says litmus config test old new status is
+status_says (commands.Migrate migrate) config none trace Traced old new status is =
+    migration_says config trace Traced old new status is
 
 -- A refusal's exit status is 2, 4 or 5, and so never one that says how harts stand; it is 5 for a
 -- file that is unread.

@@ -9,17 +9,18 @@ use Rattle.elf_image.specs.Image.{ProgramImage}
 use Rattle.commands.specs.Written.{ToWrite}
 use Rattle.smt_model.specs.{declared.config.Status.Status, Plain.is_going_status}
 use Rattle.text_fields.specs.{Printing.Prints}
-use Rattle.sim_inputs.specs.{declared.line.Command.Command, declared.settings.Settings.Settings}
+use Rattle.sim_inputs.specs.declared.line.ProgramCommand.{ProgramCommand}
+use Rattle.sim_inputs.specs.{declared.settings.Settings.Settings}
 use Rattle.report_lines.specs.Lines.{status_number, has_ended_well}
 use Rattle.report_lines.specs.Statuses.{says_harts}
-use Rattle.commands.specs.declared.refused.Refused.TheVariants.{Image, Config, Output}
-use Rattle.commands.specs.declared.refused.Unread.{Unread}
-use Rattle.commands.specs.declared.refused.Unread.TheVariants as unread
-use Rattle.commands.specs.Refused.{AreAccepted, refusal_of}
-use Rattle.commands.specs.Inputs.{Read}
+use Rattle.command_parts.specs.declared.refused.Refused.TheVariants.{Image, Config, Output}
+use Rattle.command_parts.specs.declared.refused.Unread.{Unread}
+use Rattle.command_parts.specs.declared.refused.Unread.TheVariants as unread
+use Rattle.command_parts.specs.Refused.{AreAccepted, refusal_of}
+use Rattle.command_parts.specs.Inputs.{Read}
 use Rattle.commands.specs.Commands.{IsCommandRefusal, CommandComesTo, AreUnfit}
 
-pub record IsSound (command : Command) (settings : Settings) (program : ProgramImage) (second : Read)
+pub record IsSound (command : ProgramCommand) (settings : Settings) (program : ProgramImage) (second : Read)
     : Type 1 where
   -- It never refuses the image, and of settings that are a core's it refuses those that are unfit.
   pub no_image : (number : ℕ) → IsCommandRefusal command settings program second (Image number) → ⊥

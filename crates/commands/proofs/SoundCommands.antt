@@ -8,8 +8,9 @@ use mathlib.Core.Logic.{inl, inr}
 use Rattle.elf_image.specs.Image.{ProgramImage}
 use Rattle.sc_machine.specs.Steps.{are_harts}
 use Rattle.smt_model.specs.{Setup.is_accepted, Rules.is_legal}
-use Rattle.sim_inputs.specs.{declared.line.Command.Command, declared.settings.Settings.Settings}
-use Rattle.sim_inputs.specs.declared.line.Command.TheVariants as commands
+use Rattle.sim_inputs.specs.{declared.settings.Settings.Settings}
+use Rattle.sim_inputs.specs.declared.line.ProgramCommand.{ProgramCommand}
+use Rattle.sim_inputs.specs.declared.line.ProgramCommand.TheVariants as commands
 use Rattle.sim_inputs.specs.declared.line.StepCommand.{StepCommand}
 use Rattle.sim_inputs.specs.declared.line.RunCommand.{RunCommand}
 use Rattle.sim_inputs.specs.declared.line.CheckCommand.{CheckCommand}
@@ -18,19 +19,18 @@ use Rattle.sim_inputs.specs.declared.line.ScheduleCommand.{ScheduleCommand}
 use Rattle.sim_inputs.specs.declared.line.ScriptCommand.{ScriptCommand}
 use Rattle.sim_inputs.specs.declared.line.ListCommand.{ListCommand}
 use Rattle.sim_inputs.specs.declared.line.ChartCommand.{ChartCommand}
-use Rattle.sim_inputs.specs.declared.line.ExplainCommand.{ExplainCommand}
 use Rattle.sim_inputs.specs.declared.line.OutcomesCommand.{OutcomesCommand}
-use Rattle.sim_inputs.specs.declared.line.LitmusCommand.{LitmusCommand}
-use Rattle.sim_inputs.specs.declared.line.MigrateCommand.{MigrateCommand}
 use Rattle.report_lines.specs.{Lines.status_number, Statuses.says_harts}
 use Rattle.stress_runs.specs.{End.EndView, Ends.end_of, Ends.worst_of}
-use Rattle.commands.specs.Refused.{AreAccepted, AreRefused}
-use Rattle.commands.specs.{Commands.RunsComeTo, Run.LackARole, Written.ToWrite}
-use Rattle.commands.specs.Inputs.{Read}
-use Rattle.commands.specs.{Account.statuses_of, Plain.standing}
-use Rattle.commands.specs.declared.refused.Refused.TheVariants.{Output}
-use Rattle.commands.specs.PlainRounds.{rounds_of, IsRoundsRefusal, RoundsComeTo}
-use Rattle.commands.proofs.OfRounds.{from_rounds, in_rounds}
+use Rattle.command_parts.specs.Refused.{AreAccepted, AreRefused}
+use Rattle.commands.specs.{Commands.RunsComeTo, Written.ToWrite}
+use Rattle.core_commands.specs.{Run.LackARole}
+use Rattle.command_parts.specs.Inputs.{Read}
+use Rattle.core_commands.specs.{Account.statuses_of}
+use Rattle.plain_commands.specs.{Plain.standing}
+use Rattle.command_parts.specs.declared.refused.Refused.TheVariants.{Output}
+use Rattle.plain_commands.specs.PlainRounds.{rounds_of, IsRoundsRefusal, RoundsComeTo}
+use Rattle.plain_commands.proofs.OfRounds.{from_rounds, in_rounds}
 use Rattle.commands.proofs.Sound.{IsSound, no_unread_image, no_unread_config, kept, prints_kept, status_says, zero_says}
 
 -- Sizes of a core aren't refused, nor are its harts too few or too many for the plain machine.
@@ -280,17 +280,6 @@ of_list list settings program second = record {
   says = λ Traced old new status is. zero_says status is.zero;
 }
 
-of_explain : (explain : ExplainCommand) (settings : Settings) (program : ProgramImage) (second : Read)
-    → IsSound (commands.Explain explain) settings program second
-of_explain explain settings program second = record {
-  no_image = λ number is. is;
-  unfit = λ accepted is. is;
-  output = λ Traced old new status is. tt;
-  flushed = λ Traced old mid new status flushed is.
-      record { printed = prints_kept old mid new _ is.printed flushed; zero = is.zero };
-  says = λ Traced old new status is. zero_says status is.zero;
-}
-
 of_chart : (chart : ChartCommand) (settings : Settings) (program : ProgramImage) (second : Read)
     → IsSound (commands.Chart chart) settings program second
 of_chart chart settings program (Ok trace) = record {
@@ -344,29 +333,7 @@ of_outcomes outcomes settings program second = record {
   ];
 }
 
--- A litmus test is never performed with an image of its own.
-of_litmus : (litmus : LitmusCommand) (settings : Settings) (program : ProgramImage) (second : Read)
-    → IsSound (commands.Litmus litmus) settings program second
-of_litmus litmus settings program second = record {
-  no_image = λ number is. is;
-  unfit = λ accepted is. is;
-  output = λ Traced old new status is. is;
-  flushed = λ Traced old mid new status flushed is. is;
-  says = λ Traced old new status is. absurd is;
-}
-
--- Nor is a migration performed with an image.
-of_migrate : (migrate : MigrateCommand) (settings : Settings) (program : ProgramImage) (second : Read)
-    → IsSound (commands.Migrate migrate) settings program second
-of_migrate migrate settings program second = record {
-  no_image = λ number is. is;
-  unfit = λ accepted is. is;
-  output = λ Traced old new status is. is;
-  flushed = λ Traced old mid new status flushed is. is;
-  says = λ Traced old new status is. absurd is;
-}
-
-pub sound : (command : Command) (settings : Settings) (program : ProgramImage) (second : Read)
+pub sound : (command : ProgramCommand) (settings : Settings) (program : ProgramImage) (second : Read)
     → IsSound command settings program second
 sound (commands.Step step) settings program second = of_step step settings program second
 sound (commands.Run run) settings program second = of_run run settings program second
@@ -375,8 +342,5 @@ sound (commands.Plain plain) settings program second = of_plain plain settings p
 sound (commands.Schedule schedule) settings program second = of_schedule schedule settings program second
 sound (commands.Script script) settings program second = of_script script settings program second
 sound (commands.List list) settings program second = of_list list settings program second
-sound (commands.Explain explain) settings program second = of_explain explain settings program second
 sound (commands.Outcomes outcomes) settings program second = of_outcomes outcomes settings program second
-sound (commands.Litmus litmus) settings program second = of_litmus litmus settings program second
-sound (commands.Migrate migrate) settings program second = of_migrate migrate settings program second
 sound (commands.Chart chart) settings program second = of_chart chart settings program second

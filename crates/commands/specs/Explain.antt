@@ -4,11 +4,11 @@ use Rattle.std.specs.Prelude.{◌≡◌, ℕ, List, ◌++◌, Option, Ok, Err, c
 use Rattle.elf_image.specs.{declared.refusal.LoadRefused.LoadRefused, Refusal.reason_number}
 use Rattle.text_fields.specs.{Printing.Prints}
 use Rattle.explanations.specs.Explained.{Begins, refused_line}
-use Rattle.commands.specs.{declared.refused.Refused.Refused}
-use Rattle.commands.specs.declared.refused.Refused.TheVariants.{Image, Config, Memory, File, Output}
-use Rattle.commands.specs.declared.refused.Unread.TheVariants as unread
-use Rattle.commands.specs.Refused.{IsFirstFailed}
-use Rattle.commands.specs.Inputs.{Read, OfFile, OfSettings, IsNoConfiguration}
+use Rattle.command_parts.specs.{declared.refused.Refused.Refused}
+use Rattle.command_parts.specs.declared.refused.Refused.TheVariants.{Image, Config, Memory, File, Output}
+use Rattle.command_parts.specs.declared.refused.Unread.TheVariants as unread
+use Rattle.command_parts.specs.Refused.{IsFirstFailed}
+use Rattle.command_parts.specs.Inputs.{Read, OfFile, OfSettings, IsNoConfiguration}
 
 -- When each refusal comes: as for every other command, the configuration's before the image's. Of
 -- memory and of the output nothing is said.

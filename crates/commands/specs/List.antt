@@ -3,8 +3,8 @@ use Rattle.std.specs.Prelude.{◌≡◌, ℕ, List, Option}
 use Rattle.std.specs.Io.KnownBytes.{Appends}
 use Rattle.elf_image.specs.Image.{ProgramImage}
 use Rattle.reports.specs.{Listing.listing_text}
-use Rattle.commands.specs.{declared.refused.Refused.Refused}
-use Rattle.commands.specs.declared.refused.Refused.TheVariants.{Output}
+use Rattle.command_parts.specs.{declared.refused.Refused.Refused}
+use Rattle.command_parts.specs.declared.refused.Refused.TheVariants.{Output}
 
 -- Only the output is refused.
 abbrev pub IsListRefusal : Refused → Type 0

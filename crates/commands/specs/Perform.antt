@@ -1,26 +1,29 @@
 -- What the program owes on a line with its files as they were read: when each refusal comes, and
 -- what the line comes to. (This project's own choice.)
-use Rattle.std.specs.Prelude.{◌≡◌, ◌⊎◌, ℕ, Bool, true, false, List, Option, Result, Err}
+use Rattle.std.specs.Prelude.{◌≡◌, ◌⊎◌, ℕ, Bool, true, false, List, Option, is_some, Result, Err}
 use Rattle.std.specs.Prelude.{OnOk, IfOk, IfErr}
 use Rattle.elf_image.specs.Image.{ProgramImage}
 use Rattle.sim_inputs.specs.{declared.line.Command.Command, declared.settings.Settings.Settings}
-use Rattle.commands.specs.{declared.refused.Refused.Refused}
-use Rattle.commands.specs.declared.refused.Refused.TheVariants.{Image, Config, Memory, File, Output}
-use Rattle.commands.specs.declared.refused.Unread.TheVariants as unread
-use Rattle.commands.specs.Refused.{IsFirstFailed, AreAccepted}
-use Rattle.commands.specs.Inputs.{Read, OfFile, OfSettings, OfProgram, IsNoConfiguration}
+use Rattle.command_parts.specs.{declared.refused.Refused.Refused}
+use Rattle.command_parts.specs.declared.refused.Refused.TheVariants.{Image, Config, Memory, File, Output}
+use Rattle.command_parts.specs.declared.refused.Unread.TheVariants as unread
+use Rattle.command_parts.specs.Refused.{IsFirstFailed, AreAccepted}
+use Rattle.command_parts.specs.Inputs.{Read, OfFile, BehindFile, OfSettings, OfProgram, IsNoConfiguration}
 use Rattle.stress_runs.specs.declared.keeping.Part.{Part}
 use Rattle.commands.specs.Written.{ToWrite, TextOf, IsWritten}
-use Rattle.commands.specs.Migrate.{IsMigrateRefusal, MigrateComesTo}
-use Rattle.commands.specs.Commands.{IsCommandRefusal, CommandComesTo, AreUnfit, IsUnreported}
-use Rattle.commands.specs.Commands.{wants_trace, explains, litmus_of, migrates, ForTest, ForMigration}
+use Rattle.core_commands.specs.Migrate.{IsMigrateRefusal, MigrateComesTo}
+use Rattle.commands.specs.Commands.{IsCommandRefusal, CommandComesTo, AreUnfit, IsProgramUnreported}
+use Rattle.commands.specs.Commands.{program_writes_file}
+use Rattle.commands.specs.Explain.{IsExplainRefusal, ExplainComesTo}
+use Rattle.sim_inputs.specs.Files.{written_for_test}
 use Rattle.sim_inputs.specs.declared.line.LitmusCommand.{LitmusCommand}
-use Rattle.commands.specs.Litmus.{IsLitmusRefusal, LitmusComesTo}
+use Rattle.sim_inputs.specs.declared.line.ProgramCommand.{ProgramCommand}
+use Rattle.sim_inputs.specs.declared.line.Command.TheVariants as commands
+use Rattle.plain_commands.specs.Litmus.{IsLitmusRefusal, LitmusComesTo}
 
--- When each refusal comes of a line with an image: the configuration is looked at first, then the image,
--- then what the command needs. A file that can't be read is refused where it is looked at. Where files are explained
--- the output may be refused before they are.
-abbrev pub IsProgramRefusal : Command → Read → Read → Read → Refused → Type 0
+-- When each refusal comes of a command of a program: the configuration is looked at first, then the image, then
+-- what the command needs. A file that can't be read is refused where it is looked at.
+abbrev pub IsProgramRefusal : ProgramCommand → Read → Read → Read → Refused → Type 0
 IsProgramRefusal command config image second (Image number) = OfSettings config
     (λ settings. OfFile image (λ file. IsFirstFailed file settings.ram number))
 IsProgramRefusal command config image second Config = OfFile config IsNoConfiguration
@@ -30,19 +33,25 @@ IsProgramRefusal command config image second File = (config ≡ Err unread.File)
     ⊎ OfSettings config (λ settings. image ≡ Err unread.File)
     ⊎ OfProgram config image
     (λ settings program. IsCommandRefusal command settings program second File)
-IsProgramRefusal command config image second Output = OfProgram config image
-    (λ settings program. IsCommandRefusal command settings program second Output)
-    ⊎ (explains command ≡ true)
 IsProgramRefusal command config image second reason = OfProgram config image
     (λ settings program. IsCommandRefusal command settings program second reason)
 
--- What such a line comes to: its configuration's settings are a core's, its image passes every check, and
--- the command has come to what is owed on it.
-abbrev pub ProgramComesTo : Command → Read → Read → Read → (ToWrite → Type 0)
+-- What it comes to: its configuration's settings are a core's, its image passes every check, and the command has
+-- come to what is owed on it.
+abbrev pub ProgramComesTo : ProgramCommand → Read → Read → Read → (ToWrite → Type 0)
     → Option (List ℕ) → Option (List ℕ) → ℕ → Type 0
 ProgramComesTo command config image second Traced old new status = OfProgram config image
     (λ settings program. AreAccepted settings
     × CommandComesTo command settings program second Traced old new status)
+
+-- When each refusal comes of what explains a configuration and an image, and what it comes to: both are
+-- accepted, and it has said so.
+abbrev pub IsExplainLineRefusal : Read → Read → Refused → Type 0
+IsExplainLineRefusal config image reason = BehindFile config (λ text. IsExplainRefusal text image) reason
+
+abbrev pub ExplainLineComesTo : Read → Read → Option (List ℕ) → Option (List ℕ) → ℕ → Type 0
+ExplainLineComesTo config image old new status =
+    OfProgram config image (λ settings program. AreAccepted settings × ExplainComesTo old new status)
 
 -- When each refusal comes of a litmus test: the configuration is looked at first, then the test. A file
 -- that can't be read is refused where it is looked at.
@@ -81,35 +90,57 @@ abbrev pub MigrateLineComesTo : Read → Read → (ToWrite → Type 0) → Optio
 MigrateLineComesTo config trace Traced old new status =
     (new ≡ old) × MigrationComesTo config trace (λ text. Traced (TextOf text)) status
 
--- When each refusal of a line comes, and what it comes to.
+-- When each refusal of a line comes, and what it comes to, by what its command is of.
 abbrev pub IsRefusal : Command → Read → Read → Read → Refused → Type 0
-IsRefusal command config image second reason = ForTest (litmus_of command)
-    (λ litmus. IsLitmusLineRefusal litmus config image reason)
-    (ForMigration (migrates command) (IsMigrateLineRefusal config second reason)
-    (IsProgramRefusal command config image second reason))
+IsRefusal (commands.OfProgram command) config image second reason =
+    IsProgramRefusal command config image second reason
+IsRefusal (commands.Explain explain) config image second reason = IsExplainLineRefusal config image reason
+IsRefusal (commands.Litmus litmus) config test second reason = IsLitmusLineRefusal litmus config test reason
+IsRefusal (commands.Migrate migrate) config none trace reason = IsMigrateLineRefusal config trace reason
 
 abbrev pub LineComesTo : Command → Read → Read → Read → (ToWrite → Type 0)
     → Option (List ℕ) → Option (List ℕ) → ℕ → Type 0
-LineComesTo command config image second Traced old new status = ForTest (litmus_of command)
-    (λ litmus. LitmusLineComesTo litmus config image old new status)
-    (ForMigration (migrates command) (MigrateLineComesTo config second Traced old new status)
-    (ProgramComesTo command config image second Traced old new status))
+LineComesTo (commands.OfProgram command) config image second Traced old new status =
+    ProgramComesTo command config image second Traced old new status
+LineComesTo (commands.Explain explain) config image second Traced old new status =
+    ExplainLineComesTo config image old new status
+LineComesTo (commands.Litmus litmus) config test second Traced old new status =
+    LitmusLineComesTo litmus config test old new status
+LineComesTo (commands.Migrate migrate) config none trace Traced old new status =
+    MigrateLineComesTo config trace Traced old new status
 
 -- A migration that was refused has put nothing into the sink of its file, unless the output failed.
 abbrev pub IsLeft : {S : Type 0} → Command → S → S → Refused → Type 0
-IsLeft command before after reason = migrates command ≡ true → (reason ≡ Output) ⊎ (after ≡ before)
+IsLeft (commands.Migrate migrate) before after reason = (reason ≡ Output) ⊎ (after ≡ before)
+IsLeft command before after reason = Unit {0}
+
+-- What a line prints that doesn't come to its end since its file couldn't be written: of a litmus test and of a
+-- migration nothing. What explains writes no file.
+abbrev pub IsUnreported : Command → Read → Option (List ℕ) → Option (List ℕ) → Type 0
+IsUnreported (commands.OfProgram command) second old new = IsProgramUnreported command second old new
+IsUnreported (commands.Explain explain) second old new = ⊥
+IsUnreported (commands.Litmus litmus) second old new = new ≡ old
+IsUnreported (commands.Migrate migrate) second old new = new ≡ old
+
+-- The line writes a file that it names: as its command of a program does, what is made of a litmus test, or a
+-- migrated trace.
+abbrev pub writes_file : Command → Bool
+writes_file (commands.OfProgram command) = program_writes_file command
+writes_file (commands.Explain explain) = false
+writes_file (commands.Litmus litmus) = is_some (written_for_test litmus)
+writes_file (commands.Migrate migrate) = true
 
 -- What a command has answered, of its settings, its program image and its second file, before the
 -- output is flushed: a refusal that may come of it, or an exit status behind what is owed on it.
--- Where no trace is wanted nothing goes into the sink of the trace. The sink hasn't failed behind an
+-- Where no file is written nothing goes into the sink of its files. The sink hasn't failed behind an
 -- exit status, and what was put into it is finished; where it has failed, nothing is printed but what a command prints before its trace.
 pub record IsPerformed {S : Type 0} (begins : S → ℕ → Part → S → Type 0) (is_finished : S → Bool)
-    (written : S → Option (List ℕ)) (has_failed : S → Bool) (before after : S) (command : Command) (settings : Settings) (program : ProgramImage)
+    (written : S → Option (List ℕ)) (has_failed : S → Bool) (before after : S) (command : ProgramCommand) (settings : Settings) (program : ProgramImage)
     (second : Read) (old new : Option (List ℕ)) (answer : Result ℕ Refused) : Type 0 where
   pub refused : IfErr answer (IsCommandRefusal command settings program second)
   pub ended : IfOk answer (CommandComesTo command settings program second
       (IsWritten begins written has_failed before after) old new)
-  pub unwanted : wants_trace command ≡ false → after ≡ before
+  pub unwanted : program_writes_file command ≡ false → after ≡ before
   pub unbroken : OnOk answer (has_failed after ≡ false)
   pub finished : OnOk answer (is_finished after ≡ true)
-  pub unreported : has_failed after ≡ true → IsUnreported command second old new
+  pub unreported : has_failed after ≡ true → IsProgramUnreported command second old new

@@ -3,7 +3,7 @@ use Rattle.std.specs.Prelude.{ℕ, Bool, List, Option}
 use Rattle.core_state.specs.View.{CoreView}
 use Rattle.event_text.specs.{Sinking.HasPut}
 use Rattle.stress_runs.specs.declared.keeping.Part.{Part}
-use Rattle.commands.specs.{Account.IsTraceWritten, Stress.AreEndsWritten}
+use Rattle.core_commands.specs.{Account.IsTraceWritten, Stress.AreEndsWritten}
 
 -- The trace of a core, or the files of the ends of some runs, the newest first, each where it is wanted;
 -- or a text, whole.

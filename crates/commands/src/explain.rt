@@ -7,12 +7,12 @@ ghost use Rattle.elf_image.specs.Loaded.{IsImageOf};
 ghost use Rattle.sim_inputs.specs.Configuration.{IsConfiguration};
 ghost use Rattle.explanations.specs.Explained.{Begins, config_head, image_head};
 ghost use Rattle.explanations.specs.Explained.{IsRefusedBy, IsAccepted};
-ghost use Rattle.commands.specs.declared.refused.Refused.TheVariants.{Output};
-ghost use Rattle.commands.specs.Inputs.{as_read, OfProgram, IsNoConfiguration};
+ghost use Rattle.command_parts.specs.declared.refused.Refused.TheVariants.{Output};
+ghost use Rattle.command_parts.specs.Inputs.{as_read, OfProgram, IsNoConfiguration};
 ghost use Rattle.commands.specs.Explain.{IsExplainRefusal, IsExplanationOf, ExplainComesTo};
 ghost use Rattle.commands.specs.Explain.{IsWritingRefusal, PrintsSome};
 
-use crate::refused::{Refused, Unread};
+use command_parts::{Refused, Unread};
 use elf_image::{LoadRefused, RamSize};
 use explanations::{explain_config, explain_image};
 use shown_text::write_file_name;
@@ -118,16 +118,17 @@ fn tell_without_config<W: Write>(
 }
 
 /// Says on a line of `err` which command explains a refused configuration or image; nothing of any
-/// other refusal.
+/// other refusal, nor of one that is explained already.
 pub(crate) fn point_to_explain<E: Write>(refused: Refused, line: &Line<'_>, err: &mut E) {
     if !matches!(refused, Refused::Config | Refused::Image(_)) {
         return;
     }
     let files = line.files();
     let image = match line.command {
+        Command::Explain(_) => return,
         // What is refused is its configuration, and its file is no image.
         Command::Litmus(_) => "IMAGE",
-        _ => files.image.unwrap_or("IMAGE"),
+        Command::OfProgram(_) | Command::Migrate(_) => files.program.unwrap_or("IMAGE"),
     };
     // A terminal that takes no line is no reason for another status.
     let _ = write_pointer(image, files.config, err);

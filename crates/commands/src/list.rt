@@ -3,7 +3,7 @@
 ghost use Rattle.std.specs.Prelude.{IfOk, IfErr};
 ghost use Rattle.commands.specs.List.{IsListRefusal, ListComesTo};
 
-use crate::refused::Refused;
+use command_parts::Refused;
 use elf_image::Image;
 use reports::list;
 use std::io::Write;

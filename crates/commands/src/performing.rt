@@ -1,41 +1,35 @@
 //! All that the program does with a line once its files are read.
 
-ghost use Rattle.std.specs.Prelude.{◌≡◌, ◌⊎◌, IsTrue, IfOk, IfErr, OnOk, Err, None, true, false};
-ghost use Rattle.commands.specs.declared.refused.Refused.TheVariants.{Output};
+ghost use Rattle.std.specs.Prelude.{◌≡◌, ◌⊎◌, IsTrue, IfOk, IfErr, OnOk, Err, is_some, true, false};
+ghost use Rattle.command_parts.specs.declared.refused.Refused.TheVariants.{Output};
 ghost use Rattle.report_lines.specs.Statuses.{says_harts};
-ghost use Rattle.commands.specs.declared.refused.Refused.{Refused as AnyRefused};
-ghost use Rattle.commands.specs.Refused.{exit_status_of, refusal_of};
-ghost use Rattle.sim_inputs.specs.declared.line.Command.TheVariants.{Run};
-ghost use Rattle.commands.specs.Inputs.{as_read, Read};
-ghost use Rattle.commands.specs.Commands.{IsUnreported, wants_trace, explains, litmus_of, migrates};
-ghost use Rattle.commands.specs.Litmus.{writes_file};
-ghost use Rattle.commands.specs.Perform.{IsRefusal, LineComesTo, IsPerformed};
-ghost use Rattle.commands.specs.Perform.{IsProgramRefusal, ProgramComesTo};
+ghost use Rattle.command_parts.specs.declared.refused.Refused.{Refused as AnyRefused};
+ghost use Rattle.command_parts.specs.Refused.{exit_status_of, refusal_of};
+ghost use Rattle.sim_inputs.specs.declared.line.ProgramCommand.TheVariants.{Run};
+ghost use Rattle.sim_inputs.specs.Files.{written_for_test};
+ghost use Rattle.command_parts.specs.Inputs.{as_read, Read};
+ghost use Rattle.commands.specs.Commands.{IsProgramUnreported, program_writes_file};
+ghost use Rattle.commands.specs.Perform.{IsRefusal, LineComesTo, IsLeft, IsUnreported, writes_file};
+ghost use Rattle.commands.specs.Perform.{IsProgramRefusal, ProgramComesTo, IsPerformed};
+ghost use Rattle.commands.specs.Perform.{IsExplainLineRefusal, ExplainLineComesTo};
 ghost use Rattle.commands.specs.Perform.{IsLitmusLineRefusal, LitmusLineComesTo};
-ghost use Rattle.commands.specs.Perform.{IsMigrateLineRefusal, MigrationComesTo, IsLeft};
+ghost use Rattle.commands.specs.Perform.{IsMigrateLineRefusal, MigrationComesTo};
 ghost use Rattle.event_text.specs.Sinking.{HasPut};
 ghost use Rattle.commands.specs.Written.{IsWritten};
 
-use crate::all_outcomes::perform_outcomes;
-use crate::chart::perform_chart;
-use crate::check::perform_check;
 use crate::explain::{perform_explain, point_to_explain};
-use crate::inputs::{Inputs, image_of, settings_of};
 use crate::list::perform_list;
-use crate::litmus::perform_litmus;
-use crate::migrate::perform_migrate;
-use crate::plain::perform_plain;
-use crate::plain_rounds::{perform_rounds, rounds_of};
-use crate::refused::{Refused, Unread, refuse};
-use crate::run::perform_run;
-use crate::schedule::perform_schedule;
-use crate::script::perform_script;
-use crate::step::perform_step;
-use crate::stress::perform_stress;
-use crate::wanted::Wanted;
 use actors::Gate;
+use command_parts::{Context, Inputs, Refused, Unread, image_of, refuse, settings_of};
+use core_commands::{
+    Wanted, perform_chart, perform_check, perform_migrate, perform_run, perform_script,
+    perform_step, perform_stress,
+};
 use elf_image::Image;
-use sim_inputs::{Command, Line, LitmusCommand, RunCommand, Settings};
+use plain_commands::{
+    perform_litmus, perform_outcomes, perform_plain, perform_rounds, perform_schedule, rounds_of,
+};
+use sim_inputs::{Command, Line, LitmusCommand, ProgramCommand, RunCommand, Settings};
 use smt_core::Predict;
 use std::alloc::Global;
 use std::io::Write;
@@ -50,10 +44,10 @@ use stress_runs::EndFiles;
 /// that couldn't be read is refused where it is looked at. Where `err` is a terminal, a second line says
 /// which command explains a refused configuration or image. All that is printed is flushed.
 ///
-/// The trace of a core goes into `trace`, a sink that hasn't failed, where the line names a file for it:
+/// The trace of a core goes into `files`, a sink that hasn't failed, where the line names a file for it:
 /// behind the last ask, and before the tables and the report, and its file is finished. Where the sink fails,
 /// neither is printed. So does a chart that is written to a file, and a migrated trace, of which nothing is
-/// put where it is refused for anything else. A run of threads asks `gate` whether it may go on.
+/// put where it is refused for anything else. A run of threads asks the gate whether it may go on.
 pub fn perform<
     G: Gate + Sync,
     P: Predict + Copy + Send,
@@ -61,41 +55,30 @@ pub fn perform<
     W: Write,
     E: Write,
     R: Threads + Wait + Sync,
->(
-    rt: &R,
-    line: &Line<'_>,
-    inputs: &Inputs<'_>,
-    gate: &G,
-    predict: P,
-    trace: &mut S,
-    out: &mut W,
-    err: &mut E,
-    on_terminal: bool,
-    alloc: Global,
-) -> u8
-    requires works { S.has_failed trace.old ≡ false }
-    requires finished { S.is_finished trace.old ≡ true }
+>(context: &mut Context<'_, R, G, P, S, W>, line: &Line<'_>, inputs: &Inputs<'_>, err: &mut E) -> u8
+    requires works { S.has_failed context.old.files ≡ false }
+    requires finished { S.is_finished context.old.files ≡ true }
     ensures known { IsTrue (says_harts result) ⊎ (result ≡ 2) ⊎ (result ≡ 4) ⊎ (result ≡ 5) }
     ensures unset { IfErr inputs.now.config (λ why. result ≡ 5) }
     ensures refused { says_harts result ≡ false → (reason : AnyRefused)
         × (exit_status_of reason ≡ result) × IsRefusal line.now.command
-        (as_read inputs.now.config) (as_read inputs.now.image) (as_read inputs.now.second) reason }
+        (as_read inputs.now.config) (as_read inputs.now.program) (as_read inputs.now.second) reason }
     ensures ended { IsTrue (says_harts result) → LineComesTo line.now.command
-        (as_read inputs.now.config) (as_read inputs.now.image) (as_read inputs.now.second)
-        (IsWritten S.begins S.written S.has_failed trace.old trace.new) (W.contents out.old)
-        (W.contents out.new) result }
+        (as_read inputs.now.config) (as_read inputs.now.program) (as_read inputs.now.second)
+        (IsWritten S.begins S.written S.has_failed context.old.files context.new.files) (W.contents context.old.out)
+        (W.contents context.new.out) result }
     ensures left { says_harts result ≡ false → (reason : AnyRefused)
         × (exit_status_of reason ≡ result) × IsRefusal line.now.command (as_read inputs.now.config)
-        (as_read inputs.now.image) (as_read inputs.now.second) reason
-        × IsLeft line.now.command trace.old trace.new reason }
-    ensures finished { IsTrue (says_harts result) → S.is_finished trace.new ≡ true }
-    ensures unwanted { wants_trace line.now.command ≡ false → trace.new ≡ trace.old }
-    ensures unreported { S.has_failed trace.new ≡ true → IsUnreported line.now.command
-        (as_read inputs.now.second) (W.contents out.old) (W.contents out.new) }
+        (as_read inputs.now.program) (as_read inputs.now.second) reason
+        × IsLeft line.now.command context.old.files context.new.files reason }
+    ensures finished { IsTrue (says_harts result) → S.is_finished context.new.files ≡ true }
+    ensures unwanted { writes_file line.now.command ≡ false → context.new.files ≡ context.old.files }
+    ensures unreported { S.has_failed context.new.files ≡ true → IsUnreported line.now.command
+        (as_read inputs.now.second) (W.contents context.old.out) (W.contents context.new.out) }
 {
-    match perform_line(rt, line, inputs, gate, predict, trace, out, alloc) {
+    match perform_line(context, line, inputs) {
         Ok(status) => status,
-        Err(refused) => refuse_line(refused, line, on_terminal, err),
+        Err(refused) => refuse_line(refused, line, context.on_terminal, err),
     }
 }
 
@@ -110,7 +93,7 @@ pub(crate) fn refuse_line<E: Write>(
     ensures { result ≡ exit_status_of refused }
 {
     let status = refuse(refused, err);
-    if on_terminal && !explains(&line.command) {
+    if on_terminal {
         point_to_explain(refused, line, err);
     }
     status
@@ -124,35 +107,56 @@ fn perform_line<
     W: Write,
     R: Threads + Wait + Sync,
 >(
-    rt: &R,
+    context: &mut Context<'_, R, G, P, S, W>,
     line: &Line<'_>,
     inputs: &Inputs<'_>,
-    gate: &G,
-    predict: P,
-    trace: &mut S,
+) -> Result<u8, Refused>
+    requires works { S.has_failed context.old.files ≡ false }
+    requires finished { S.is_finished context.old.files ≡ true }
+    ensures unset { IfErr inputs.now.config (λ why. result ≡ Err (refusal_of why)) }
+    ensures refused { IfErr result (IsRefusal line.now.command (as_read inputs.now.config)
+        (as_read inputs.now.program) (as_read inputs.now.second)) }
+    ensures ended { IfOk result (LineComesTo line.now.command (as_read inputs.now.config)
+        (as_read inputs.now.program) (as_read inputs.now.second)
+        (IsWritten S.begins S.written S.has_failed context.old.files context.new.files) (W.contents context.old.out)
+        (W.contents context.new.out)) }
+    ensures left { IfErr result (IsLeft line.now.command context.old.files context.new.files) }
+    ensures finished { OnOk result (S.is_finished context.new.files ≡ true) }
+    ensures unwanted { writes_file line.now.command ≡ false → context.new.files ≡ context.old.files }
+    ensures unreported { S.has_failed context.new.files ≡ true → IsUnreported line.now.command
+        (as_read inputs.now.second) (W.contents context.old.out) (W.contents context.new.out) }
+{
+    let alloc = context.alloc;
+    match &line.command {
+        Command::OfProgram(command) => read_and_perform(context, command, inputs),
+        Command::Explain(_) => read_and_explain(inputs, &mut context.out, alloc),
+        Command::Litmus(litmus) => read_and_test(
+            litmus,
+            inputs,
+            context.gate,
+            &mut context.files,
+            &mut context.out,
+            alloc,
+        ),
+        Command::Migrate(_) => read_and_migrate(inputs, &mut context.files, alloc),
+    }
+}
+
+/// The exit status of a line that explains its files, with all flushed that it prints of them. They are
+/// taken before they are refused.
+fn read_and_explain<W: Write>(
+    inputs: &Inputs<'_>,
     out: &mut W,
     alloc: Global,
 ) -> Result<u8, Refused>
-    requires works { S.has_failed trace.old ≡ false }
-    requires finished { S.is_finished trace.old ≡ true }
     ensures unset { IfErr inputs.now.config (λ why. result ≡ Err (refusal_of why)) }
-    ensures refused { IfErr result (IsRefusal line.now.command (as_read inputs.now.config)
-        (as_read inputs.now.image) (as_read inputs.now.second)) }
-    ensures ended { IfOk result (LineComesTo line.now.command (as_read inputs.now.config)
-        (as_read inputs.now.image) (as_read inputs.now.second)
-        (IsWritten S.begins S.written S.has_failed trace.old trace.new) (W.contents out.old)
-        (W.contents out.new)) }
-    ensures left { IfErr result (IsLeft line.now.command trace.old trace.new) }
-    ensures finished { OnOk result (S.is_finished trace.new ≡ true) }
-    ensures unwanted { wants_trace line.now.command ≡ false → trace.new ≡ trace.old }
-    ensures unreported { S.has_failed trace.new ≡ true → IsUnreported line.now.command
-        (as_read inputs.now.second) (W.contents out.old) (W.contents out.new) }
+    ensures refused { IfErr result (IsExplainLineRefusal (as_read inputs.now.config)
+        (as_read inputs.now.program)) }
+    ensures ended { IfOk result (ExplainLineComesTo (as_read inputs.now.config)
+        (as_read inputs.now.program) (W.contents out.old) (W.contents out.new)) }
 {
-    match &line.command {
-        Command::Litmus(litmus) => read_and_test(litmus, inputs, gate, trace, out, alloc),
-        Command::Migrate(_) => read_and_migrate(inputs, trace, alloc),
-        _ => read_and_perform(rt, line, inputs, gate, predict, trace, out, alloc),
-    }
+    let text = inputs.config?;
+    perform_explain(text, inputs.program, out, alloc)
 }
 
 /// The exit status of a litmus test, with all flushed that is printed of it.
@@ -168,17 +172,17 @@ fn read_and_test<G: Gate, S: EndFiles, W: Write>(
     requires finished { S.is_finished file.old ≡ true }
     ensures unset { IfErr inputs.now.config (λ why. result ≡ Err (refusal_of why)) }
     ensures refused { IfErr result (IsLitmusLineRefusal litmus.now (as_read inputs.now.config)
-        (as_read inputs.now.image)) }
+        (as_read inputs.now.program)) }
     ensures ended { IfOk result (LitmusLineComesTo litmus.now (as_read inputs.now.config)
-        (as_read inputs.now.image) (W.contents out.old) (W.contents out.new)) }
+        (as_read inputs.now.program) (W.contents out.old) (W.contents out.new)) }
     ensures finished { OnOk result (S.is_finished file.new ≡ true) }
-    ensures unwanted { writes_file litmus.now ≡ false → file.new ≡ file.old }
+    ensures unwanted { is_some (written_for_test litmus.now) ≡ false → file.new ≡ file.old }
     ensures unreported { S.has_failed file.new ≡ true
         → W.contents out.new ≡ W.contents out.old }
 {
     let sizes = inputs.config?;
     settings_of(sizes, alloc)?;
-    let text = inputs.image?;
+    let text = inputs.program?;
     let status = match perform_litmus(text, litmus, gate, file, out, alloc) {
         Ok(status) => status,
         Err(refused) => return Err(refused),
@@ -214,7 +218,7 @@ fn read_and_migrate<S: EndFiles>(
     }
 }
 
-/// The exit status of a line with an image, with all flushed that it prints.
+/// The exit status of a command of a program, with all flushed that it prints.
 fn read_and_perform<
     G: Gate + Sync,
     P: Predict + Copy + Send,
@@ -222,60 +226,41 @@ fn read_and_perform<
     W: Write,
     R: Threads + Wait + Sync,
 >(
-    rt: &R,
-    line: &Line<'_>,
+    context: &mut Context<'_, R, G, P, S, W>,
+    command: &ProgramCommand<'_>,
     inputs: &Inputs<'_>,
-    gate: &G,
-    predict: P,
-    trace: &mut S,
-    out: &mut W,
-    alloc: Global,
 ) -> Result<u8, Refused>
-    requires works { S.has_failed trace.old ≡ false }
-    requires finished { S.is_finished trace.old ≡ true }
-    requires program { litmus_of line.now.command ≡ None }
-    requires image { migrates line.now.command ≡ false }
+    requires works { S.has_failed context.old.files ≡ false }
+    requires finished { S.is_finished context.old.files ≡ true }
     ensures unset { IfErr inputs.now.config (λ why. result ≡ Err (refusal_of why)) }
-    ensures refused { IfErr result (IsProgramRefusal line.now.command (as_read inputs.now.config)
-        (as_read inputs.now.image) (as_read inputs.now.second)) }
-    ensures ended { IfOk result (ProgramComesTo line.now.command (as_read inputs.now.config)
-        (as_read inputs.now.image) (as_read inputs.now.second)
-        (IsWritten S.begins S.written S.has_failed trace.old trace.new) (W.contents out.old)
-        (W.contents out.new)) }
-    ensures finished { OnOk result (S.is_finished trace.new ≡ true) }
-    ensures unwanted { wants_trace line.now.command ≡ false → trace.new ≡ trace.old }
-    ensures unreported { S.has_failed trace.new ≡ true → IsUnreported line.now.command
-        (as_read inputs.now.second) (W.contents out.old) (W.contents out.new) }
+    ensures refused { IfErr result (IsProgramRefusal command.now (as_read inputs.now.config)
+        (as_read inputs.now.program) (as_read inputs.now.second)) }
+    ensures ended { IfOk result (ProgramComesTo command.now (as_read inputs.now.config)
+        (as_read inputs.now.program) (as_read inputs.now.second)
+        (IsWritten S.begins S.written S.has_failed context.old.files context.new.files) (W.contents context.old.out)
+        (W.contents context.new.out)) }
+    ensures finished { OnOk result (S.is_finished context.new.files ≡ true) }
+    ensures unwanted { program_writes_file command.now ≡ false → context.new.files ≡ context.old.files }
+    ensures unreported { S.has_failed context.new.files ≡ true → IsProgramUnreported command.now
+        (as_read inputs.now.second) (W.contents context.old.out) (W.contents context.new.out) }
 {
     let config = inputs.config?;
-    if explains(&line.command) {
-        return perform_explain(config, inputs.image, out, alloc);
-    }
-    let settings = settings_of(config, alloc)?;
-    let file = inputs.image?;
-    let image = image_of(file, settings.ram, alloc)?;
-    let (command, second) = (&line.command, inputs.second);
+    let settings = settings_of(config, context.alloc)?;
+    let file = inputs.program?;
+    let image = image_of(file, settings.ram, context.alloc)?;
+    let second = inputs.second;
     // Handed on as it is: a `?` would leave the prover to find what the refusal becomes.
-    let status = match perform_command(
-        rt, command, &settings, &image, second, gate, predict, trace, out, alloc,
-    ) {
+    let status = match perform_command(context, command, &settings, &image, second) {
         Ok(status) => status,
         Err(refused) => return Err(refused),
     };
-    match out.flush() {
+    match context.out.flush() {
         Ok(()) => Ok(status),
         Err(_) => Err(Refused::Output),
     }
 }
 
-/// Whether a command explains its files, and so takes them before they are refused.
-fn explains(command: &Command<'_>) -> bool
-    ensures { result ≡ explains command.now }
-{
-    matches!(command, Command::Explain(_))
-}
-
-/// Does what any other command asks for, of its settings, its image and its second file.
+/// Does what a command of a program asks for, of its settings, its image and its second file.
 fn perform_command<
     G: Gate + Sync,
     P: Predict + Copy + Send,
@@ -283,66 +268,57 @@ fn perform_command<
     W: Write,
     R: Threads + Wait + Sync,
 >(
-    rt: &R,
-    command: &Command<'_>,
+    context: &mut Context<'_, R, G, P, S, W>,
+    command: &ProgramCommand<'_>,
     settings: &Settings,
     image: &Image,
     second: Result<&[u8], Unread>,
-    gate: &G,
-    predict: P,
-    trace: &mut S,
-    out: &mut W,
-    alloc: Global,
 ) -> Result<u8, Refused>
-    requires works { S.has_failed trace.old ≡ false }
-    requires finished { S.is_finished trace.old ≡ true }
-    requires other { explains command.now ≡ false }
-    requires program { litmus_of command.now ≡ None }
-    requires image { migrates command.now ≡ false }
-    ensures { IsPerformed S.begins S.is_finished S.written S.has_failed trace.old trace.new command.now
-        settings.now image.now (as_read second.entry) (W.contents out.old) (W.contents out.new) result }
+    requires works { S.has_failed context.old.files ≡ false }
+    requires finished { S.is_finished context.old.files ≡ true }
+    ensures { IsPerformed S.begins S.is_finished S.written S.has_failed context.old.files context.new.files command.now
+        settings.now image.now (as_read second.entry) (W.contents context.old.out) (W.contents context.new.out) result }
 {
+    let alloc = context.alloc;
     match command {
-        Command::Step(step) => {
+        ProgramCommand::Step(step) => {
             let wanted = Wanted::of_step(step);
             let script = second?;
-            perform_step(
-                image, settings, script, step.why, wanted, predict, trace, out, alloc,
-            )
+            perform_step(context, image, settings, script, step.why, wanted)
         }
-        Command::Run(run) => perform_runs(
-            rt, image, settings, run, gate, predict, trace, out, alloc,
-        ),
-        Command::Check(check) => {
+        ProgramCommand::Run(run) => perform_runs(context, image, settings, run),
+        ProgramCommand::Check(check) => {
             let wanted = Wanted::of_check(check);
             let text = second?;
-            perform_check(image, settings, text, wanted, out, alloc)
+            perform_check(image, settings, text, wanted, &mut context.out, alloc)
         }
-        Command::Plain(plain) => {
+        ProgramCommand::Plain(plain) => {
             if let Some(rounds) = rounds_of(plain) {
-                return perform_rounds(image, settings, rounds, plain.records, gate, out, alloc);
+                return perform_rounds(context, image, settings, rounds, plain.records);
             }
             let order = second?;
-            perform_plain(image, settings, order, plain.records, out, alloc)
+            perform_plain(
+                image,
+                settings,
+                order,
+                plain.records,
+                &mut context.out,
+                alloc,
+            )
         }
-        Command::Schedule(_) => {
+        ProgramCommand::Schedule(_) => {
             let order = second?;
-            perform_schedule(image, settings, order, out, alloc)
+            perform_schedule(image, settings, order, &mut context.out, alloc)
         }
-        Command::Script(_) => {
+        ProgramCommand::Script(_) => {
             let text = second?;
-            perform_script(image, settings, text, out, alloc)
+            perform_script(image, settings, text, &mut context.out, alloc)
         }
-        Command::List(_) => perform_list(image, out),
-        Command::Explain(_) => unreachable!(),
-        Command::Litmus(_) => unreachable!(),
-        Command::Migrate(_) => unreachable!(),
-        Command::Outcomes(outcomes) => {
-            perform_outcomes(image, settings, outcomes, gate, trace, out, alloc)
-        }
-        Command::Chart(chart) => {
+        ProgramCommand::List(_) => perform_list(image, &mut context.out),
+        ProgramCommand::Outcomes(outcomes) => perform_outcomes(context, image, settings, outcomes),
+        ProgramCommand::Chart(chart) => {
             let text = second?;
-            perform_chart(image, settings, text, chart, trace, out, alloc)
+            perform_chart(context, image, settings, text, chart)
         }
     }
 }
@@ -355,30 +331,21 @@ fn perform_runs<
     W: Write,
     R: Threads + Wait + Sync,
 >(
-    rt: &R,
+    context: &mut Context<'_, R, G, P, S, W>,
     image: &Image,
     settings: &Settings,
     run: &RunCommand<'_>,
-    gate: &G,
-    predict: P,
-    files: &mut S,
-    out: &mut W,
-    alloc: Global,
 ) -> Result<u8, Refused>
-    requires works { S.has_failed files.old ≡ false }
-    requires finished { S.is_finished files.old ≡ true }
-    ensures { (second : Read) → IsPerformed S.begins S.is_finished S.written S.has_failed files.old files.new
-        (Run run.now) settings.now image.now second (W.contents out.old) (W.contents out.new)
+    requires works { S.has_failed context.old.files ≡ false }
+    requires finished { S.is_finished context.old.files ≡ true }
+    ensures { (second : Read) → IsPerformed S.begins S.is_finished S.written S.has_failed context.old.files context.new.files
+        (Run run.now) settings.now image.now second (W.contents context.old.out) (W.contents context.new.out)
         result }
 {
     if let Some(times) = run.times {
         let keep = run.keep.is_some();
-        return perform_stress(
-            rt, image, settings, times, keep, gate, predict, files, out, alloc,
-        );
+        return perform_stress(context, image, settings, times, keep);
     }
     let wanted = Wanted::of_run(run);
-    perform_run(
-        rt, image, settings, wanted, gate, predict, files, out, alloc,
-    )
+    perform_run(context, image, settings, wanted)
 }

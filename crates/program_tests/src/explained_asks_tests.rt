@@ -2,7 +2,7 @@
 
 use crate::rows::{shows, text_of};
 use actors::StaticPredictor;
-use commands::step_bytes;
+use core_commands::step_bytes;
 use explained_asks::explain;
 use scripts::read_script;
 use sim_inputs::read_config;

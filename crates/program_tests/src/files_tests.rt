@@ -2,7 +2,7 @@
 
 ghost use Rattle.std.specs.Prelude.{◌<◌, ◌^◌};
 
-use program::{ReadRefused, read_to_end};
+use program_io::{ReadRefused, read_to_end};
 use std::alloc::Global;
 use std::io;
 use std::io::{ErrorKind, Read};

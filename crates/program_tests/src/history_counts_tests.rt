@@ -2,7 +2,7 @@
 
 use crate::rows::{shows, text_of};
 use actors::StaticPredictor;
-use commands::step_bytes;
+use core_commands::step_bytes;
 use history_counts::{Counts, count_retired, counts_of};
 use reports::{RunEnd, report_counts, report_ends, report_idle, report_json};
 use rv_instr::UnitKind;

@@ -3,7 +3,7 @@
 //! lines performed, and what a terminal shows of a run. They stand in one crate, since a crate with tests of its own is
 //! proved twice by the gate. Each module whose name ends in `_tests` has the tests of the crate that
 //! it is named after, through its public calls alone; `progress_tests` has those of the gate of the
-//! crate `program` that shows on a terminal how far a run is, and `files_tests` of how it reads.
+//! crate `program_io` that shows on a terminal how far a run is, and `files_tests` of how it reads.
 #![tactic(auto)]
 
 #[cfg(test)]

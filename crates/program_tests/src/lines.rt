@@ -2,8 +2,8 @@
 
 use sim_inputs::{
     ChartCommand, CheckCommand, Command, ExplainCommand, Line, ListCommand, LitmusCommand,
-    MigrateCommand, OutcomesCommand, PlainCommand, RunCommand, ScheduleCommand, ScriptCommand,
-    StepCommand,
+    MigrateCommand, OutcomesCommand, PlainCommand, ProgramCommand, RunCommand, ScheduleCommand,
+    ScriptCommand, StepCommand,
 };
 
 macro_rules! line {
@@ -15,9 +15,15 @@ macro_rules! line {
     };
 }
 
+macro_rules! program_line {
+    ($command:expr) => {
+        line!(Command::OfProgram($command))
+    };
+}
+
 /// A script that is run.
 pub fn step_line(records: bool, show: bool, trace: Option<&'static str>) -> Line<'static> {
-    line!(Command::Step(StepCommand {
+    program_line!(ProgramCommand::Step(StepCommand {
         image: "image",
         script: "script",
         trace,
@@ -32,7 +38,7 @@ pub fn step_line(records: bool, show: bool, trace: Option<&'static str>) -> Line
 
 /// A script that is run, to tell how many loads looked again.
 pub fn looks_line() -> Line<'static> {
-    line!(Command::Step(StepCommand {
+    program_line!(ProgramCommand::Step(StepCommand {
         image: "image",
         script: "script",
         trace: None,
@@ -47,7 +53,7 @@ pub fn looks_line() -> Line<'static> {
 
 /// A run with a thread for each actor.
 pub fn run_line(records: bool, trace: Option<&'static str>) -> Line<'static> {
-    line!(Command::Run(RunCommand {
+    program_line!(ProgramCommand::Run(RunCommand {
         image: "image",
         trace,
         counts: false,
@@ -61,7 +67,7 @@ pub fn run_line(records: bool, trace: Option<&'static str>) -> Line<'static> {
 
 /// A line that makes so many runs, whose ends are kept.
 pub fn stress_line(times: u32) -> Line<'static> {
-    line!(Command::Run(RunCommand {
+    program_line!(ProgramCommand::Run(RunCommand {
         image: "image",
         trace: None,
         counts: false,
@@ -75,7 +81,7 @@ pub fn stress_line(times: u32) -> Line<'static> {
 
 /// A trace that is checked.
 pub fn check_line(records: bool) -> Line<'static> {
-    line!(Command::Check(CheckCommand {
+    program_line!(ProgramCommand::Check(CheckCommand {
         image: "image",
         trace: "trace",
         counts: false,
@@ -95,7 +101,7 @@ pub fn migrate_line() -> Line<'static> {
 
 /// The plain machine, run in an order.
 pub fn plain_line(records: bool) -> Line<'static> {
-    line!(Command::Plain(PlainCommand {
+    program_line!(ProgramCommand::Plain(PlainCommand {
         image: "image",
         order: Some("order"),
         rounds: None,
@@ -106,20 +112,20 @@ pub fn plain_line(records: bool) -> Line<'static> {
 }
 
 /// The script of an order.
-pub const SCHEDULE: Line<'static> = line!(Command::Schedule(ScheduleCommand {
+pub const SCHEDULE: Line<'static> = program_line!(ProgramCommand::Schedule(ScheduleCommand {
     image: "image",
     order: "order",
 },));
 
 /// The script of a trace's history.
-pub const SCRIPT: Line<'static> = line!(Command::Script(ScriptCommand {
+pub const SCRIPT: Line<'static> = program_line!(ProgramCommand::Script(ScriptCommand {
     image: "image",
     trace: "trace",
 },));
 
 /// The chart of a trace, written to these files or printed.
 pub fn chart_line(svg: Option<&'static str>, kanata: Option<&'static str>) -> Line<'static> {
-    line!(Command::Chart(ChartCommand {
+    program_line!(ProgramCommand::Chart(ChartCommand {
         image: "image",
         trace: "trace",
         from: 0,
@@ -132,14 +138,14 @@ pub fn chart_line(svg: Option<&'static str>, kanata: Option<&'static str>) -> Li
 }
 
 /// The listing of an image's code.
-pub const LIST: Line<'static> = line!(Command::List(ListCommand { image: "image" }));
+pub const LIST: Line<'static> = program_line!(ProgramCommand::List(ListCommand { image: "image" }));
 
 /// What is said of a configuration and of an image.
 pub const EXPLAIN: Line<'static> = line!(Command::Explain(ExplainCommand { image: "image" }));
 
 /// The outcomes of an image, of so many states at the most.
 pub fn outcomes_line(states: u32) -> Line<'static> {
-    line!(Command::Outcomes(OutcomesCommand {
+    program_line!(ProgramCommand::Outcomes(OutcomesCommand {
         image: "image",
         states,
         watch: None,

@@ -3,7 +3,8 @@
 ghost use Rattle.std.specs.Prelude.{◌≡◌, false, true};
 
 use actors::{Open, StaticPredictor};
-use commands::{Inputs, Unread, perform};
+use command_parts::{Context, Inputs, Unread};
+use commands::perform;
 use event_text::Over;
 use sim_inputs::Line;
 use smt_core::Predict;
@@ -20,23 +21,38 @@ pub struct Ending {
     pub err: Vec<u8>,
 }
 
-/// Performs a line, whose trace goes into a sink.
-pub fn perform_into<P: Predict + Copy + Send, S: EndFiles, W: Write, R: Threads + Wait + Sync>(
-    rt: &R,
+/// What a line is performed with whose files go into a sink, and that prints on an output.
+pub fn context_of<'a, P, S, W, R>(
+    rt: &'a R,
+    predict: P,
+    files: S,
+    out: W,
+    alloc: Global,
+) -> Context<'a, R, Open, P, S, W>
+    ensures { result.files ≡ files }
+{
+    Context {
+        rt,
+        gate: &Open,
+        predict,
+        files,
+        out,
+        on_terminal: false,
+        alloc,
+    }
+}
+
+/// Performs a line with this.
+pub fn perform_with<P: Predict + Copy + Send, S: EndFiles, W: Write, R: Threads + Wait + Sync>(
+    context: &mut Context<'_, R, Open, P, S, W>,
     line: &Line<'_>,
     inputs: &Inputs<'_>,
-    predict: P,
-    trace: &mut S,
-    out: &mut W,
-    alloc: Global,
 ) -> Ending
-    requires works { S.has_failed trace.old ≡ false }
-    requires finished { S.is_finished trace.old ≡ true }
+    requires works { S.has_failed context.old.files ≡ false }
+    requires finished { S.is_finished context.old.files ≡ true }
 {
-    let mut err = Vec::new(alloc);
-    let status = perform(
-        rt, line, inputs, &Open, predict, trace, out, &mut err, false, alloc,
-    );
+    let mut err = Vec::new(context.alloc);
+    let status = perform(context, line, inputs, &mut err);
     Ending { status, err }
 }
 
@@ -49,8 +65,8 @@ pub fn perform_line<P: Predict + Copy + Send, W: Write, R: Threads + Wait + Sync
     out: &mut W,
     alloc: Global,
 ) -> Ending {
-    let mut trace = Over::new(Vec::new(alloc));
-    perform_into(rt, line, inputs, predict, &mut trace, out, alloc)
+    let mut context = context_of(rt, predict, Over::new(Vec::new(alloc)), out, alloc);
+    perform_with(&mut context, line, inputs)
 }
 
 /// The files of a line: those of its configuration and its image as they are, and the one that is a
@@ -62,7 +78,7 @@ pub fn inputs_of<'a>(
 ) -> Inputs<'a> {
     Inputs {
         config: Ok(config),
-        image: Ok(image),
+        program: Ok(image),
         second,
     }
 }

@@ -4,7 +4,7 @@
 use actors::{Gate, Point};
 use core_lock::BoardView;
 use numbers::sizes::MOST_ACTORS;
-use program::Progress;
+use program_io::Progress;
 use std::alloc::{AllocError, Global};
 use std::io;
 use std::io::Write;

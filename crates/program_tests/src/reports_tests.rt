@@ -4,7 +4,7 @@
 use crate::failing::Failing;
 use crate::rows::{holds, shows, text_of};
 use actors::StaticPredictor;
-use commands::step_bytes;
+use core_commands::step_bytes;
 use reports::write_tables;
 use sim_inputs::read_config;
 use smt_core::Core;

@@ -8,8 +8,8 @@ mod refused_words;
 use crate::rows::holds;
 use sim_inputs::{
     ChartCommand, CheckCommand, Command, ExplainCommand, Line, ListCommand, LitmusCommand,
-    MigrateCommand, OutcomesCommand, PlainCommand, RunCommand, ScheduleCommand, ScriptCommand,
-    StepCommand, read_words,
+    MigrateCommand, OutcomesCommand, PlainCommand, ProgramCommand, RunCommand, ScheduleCommand,
+    ScriptCommand, StepCommand, read_words,
 };
 use std::alloc::{AllocError, Global};
 
@@ -28,7 +28,7 @@ static LINES: [(&str, Line<'_>); 38] = [
         "smtsim chart a t",
         Line {
             config: None,
-            command: Command::Chart(ChartCommand {
+            command: Command::OfProgram(ProgramCommand::Chart(ChartCommand {
                 image: "a",
                 trace: "t",
                 from: 0,
@@ -37,14 +37,14 @@ static LINES: [(&str, Line<'_>); 38] = [
                 width: 120,
                 svg: None,
                 kanata: None,
-            }),
+            })),
         },
     ),
     (
         "smtsim chart --from 7 a --to 7 --hart=7 t --width 1 --svg p --config c",
         Line {
             config: Some("c"),
-            command: Command::Chart(ChartCommand {
+            command: Command::OfProgram(ProgramCommand::Chart(ChartCommand {
                 image: "a",
                 trace: "t",
                 from: 7,
@@ -53,14 +53,14 @@ static LINES: [(&str, Line<'_>); 38] = [
                 width: 1,
                 svg: Some("p"),
                 kanata: None,
-            }),
+            })),
         },
     ),
     (
         "smtsim step first.elf first.script",
         Line {
             config: None,
-            command: Command::Step(StepCommand {
+            command: Command::OfProgram(ProgramCommand::Step(StepCommand {
                 image: "first.elf",
                 script: "first.script",
                 trace: None,
@@ -70,14 +70,14 @@ static LINES: [(&str, Line<'_>); 38] = [
                 records: false,
                 show: false,
                 why: false,
-            }),
+            })),
         },
     ),
     (
         "smtsim step a b --config c",
         Line {
             config: Some("c"),
-            command: Command::Step(StepCommand {
+            command: Command::OfProgram(ProgramCommand::Step(StepCommand {
                 image: "a",
                 script: "b",
                 trace: None,
@@ -87,14 +87,14 @@ static LINES: [(&str, Line<'_>); 38] = [
                 records: false,
                 show: false,
                 why: false,
-            }),
+            })),
         },
     ),
     (
         "smtsim step --config=c a b",
         Line {
             config: Some("c"),
-            command: Command::Step(StepCommand {
+            command: Command::OfProgram(ProgramCommand::Step(StepCommand {
                 image: "a",
                 script: "b",
                 trace: None,
@@ -104,14 +104,14 @@ static LINES: [(&str, Line<'_>); 38] = [
                 records: false,
                 show: false,
                 why: false,
-            }),
+            })),
         },
     ),
     (
         "smtsim step a --records b",
         Line {
             config: None,
-            command: Command::Step(StepCommand {
+            command: Command::OfProgram(ProgramCommand::Step(StepCommand {
                 image: "a",
                 script: "b",
                 trace: None,
@@ -121,14 +121,14 @@ static LINES: [(&str, Line<'_>); 38] = [
                 records: true,
                 show: false,
                 why: false,
-            }),
+            })),
         },
     ),
     (
         "smtsim step --show a b",
         Line {
             config: None,
-            command: Command::Step(StepCommand {
+            command: Command::OfProgram(ProgramCommand::Step(StepCommand {
                 image: "a",
                 script: "b",
                 trace: None,
@@ -138,14 +138,14 @@ static LINES: [(&str, Line<'_>); 38] = [
                 records: false,
                 show: true,
                 why: false,
-            }),
+            })),
         },
     ),
     (
         "smtsim step a b --trace t",
         Line {
             config: None,
-            command: Command::Step(StepCommand {
+            command: Command::OfProgram(ProgramCommand::Step(StepCommand {
                 image: "a",
                 script: "b",
                 trace: Some("t"),
@@ -155,14 +155,14 @@ static LINES: [(&str, Line<'_>); 38] = [
                 records: false,
                 show: false,
                 why: false,
-            }),
+            })),
         },
     ),
     (
         "smtsim step --show a --config c --trace=t b --records",
         Line {
             config: Some("c"),
-            command: Command::Step(StepCommand {
+            command: Command::OfProgram(ProgramCommand::Step(StepCommand {
                 image: "a",
                 script: "b",
                 trace: Some("t"),
@@ -172,14 +172,14 @@ static LINES: [(&str, Line<'_>); 38] = [
                 records: true,
                 show: true,
                 why: false,
-            }),
+            })),
         },
     ),
     (
         "smtsim step a --looks b",
         Line {
             config: None,
-            command: Command::Step(StepCommand {
+            command: Command::OfProgram(ProgramCommand::Step(StepCommand {
                 image: "a",
                 script: "b",
                 trace: None,
@@ -189,14 +189,14 @@ static LINES: [(&str, Line<'_>); 38] = [
                 records: false,
                 show: false,
                 why: false,
-            }),
+            })),
         },
     ),
     (
         "smtsim run a",
         Line {
             config: None,
-            command: Command::Run(RunCommand {
+            command: Command::OfProgram(ProgramCommand::Run(RunCommand {
                 image: "a",
                 trace: None,
                 counts: false,
@@ -205,14 +205,14 @@ static LINES: [(&str, Line<'_>); 38] = [
                 why: false,
                 times: None,
                 keep: None,
-            }),
+            })),
         },
     ),
     (
         "smtsim run --records --config c a",
         Line {
             config: Some("c"),
-            command: Command::Run(RunCommand {
+            command: Command::OfProgram(ProgramCommand::Run(RunCommand {
                 image: "a",
                 trace: None,
                 counts: false,
@@ -221,14 +221,14 @@ static LINES: [(&str, Line<'_>); 38] = [
                 why: false,
                 times: None,
                 keep: None,
-            }),
+            })),
         },
     ),
     (
         "smtsim run --trace t a",
         Line {
             config: None,
-            command: Command::Run(RunCommand {
+            command: Command::OfProgram(ProgramCommand::Run(RunCommand {
                 image: "a",
                 trace: Some("t"),
                 counts: false,
@@ -237,124 +237,124 @@ static LINES: [(&str, Line<'_>); 38] = [
                 why: false,
                 times: None,
                 keep: None,
-            }),
+            })),
         },
     ),
     (
         "smtsim check a t",
         Line {
             config: None,
-            command: Command::Check(CheckCommand {
+            command: Command::OfProgram(ProgramCommand::Check(CheckCommand {
                 image: "a",
                 trace: "t",
                 counts: false,
                 json: false,
                 records: false,
                 why: false,
-            }),
+            })),
         },
     ),
     (
         "smtsim check --records a --config c t",
         Line {
             config: Some("c"),
-            command: Command::Check(CheckCommand {
+            command: Command::OfProgram(ProgramCommand::Check(CheckCommand {
                 image: "a",
                 trace: "t",
                 counts: false,
                 json: false,
                 records: true,
                 why: false,
-            }),
+            })),
         },
     ),
     (
         "smtsim plain a b",
         Line {
             config: None,
-            command: Command::Plain(PlainCommand {
+            command: Command::OfProgram(ProgramCommand::Plain(PlainCommand {
                 image: "a",
                 order: Some("b"),
                 rounds: None,
                 steps: None,
                 seed: None,
                 records: false,
-            }),
+            })),
         },
     ),
     (
         "smtsim plain --config c a --records b",
         Line {
             config: Some("c"),
-            command: Command::Plain(PlainCommand {
+            command: Command::OfProgram(ProgramCommand::Plain(PlainCommand {
                 image: "a",
                 order: Some("b"),
                 rounds: None,
                 steps: None,
                 seed: None,
                 records: true,
-            }),
+            })),
         },
     ),
     (
         "smtsim schedule a b",
         Line {
             config: None,
-            command: Command::Schedule(ScheduleCommand {
+            command: Command::OfProgram(ProgramCommand::Schedule(ScheduleCommand {
                 image: "a",
                 order: "b",
-            }),
+            })),
         },
     ),
     (
         "smtsim schedule a --config c b",
         Line {
             config: Some("c"),
-            command: Command::Schedule(ScheduleCommand {
+            command: Command::OfProgram(ProgramCommand::Schedule(ScheduleCommand {
                 image: "a",
                 order: "b",
-            }),
+            })),
         },
     ),
     (
         "smtsim script a t",
         Line {
             config: None,
-            command: Command::Script(ScriptCommand {
+            command: Command::OfProgram(ProgramCommand::Script(ScriptCommand {
                 image: "a",
                 trace: "t",
-            }),
+            })),
         },
     ),
     (
         "smtsim script a --config c t",
         Line {
             config: Some("c"),
-            command: Command::Script(ScriptCommand {
+            command: Command::OfProgram(ProgramCommand::Script(ScriptCommand {
                 image: "a",
                 trace: "t",
-            }),
+            })),
         },
     ),
     (
         "smtsim list list.elf",
         Line {
             config: None,
-            command: Command::List(ListCommand { image: "list.elf" }),
+            command: Command::OfProgram(ProgramCommand::List(ListCommand { image: "list.elf" })),
         },
     ),
     (
         "smtsim list --config c.toml list.elf",
         Line {
             config: Some("c.toml"),
-            command: Command::List(ListCommand { image: "list.elf" }),
+            command: Command::OfProgram(ProgramCommand::List(ListCommand { image: "list.elf" })),
         },
     ),
     (
         "smtsim run --times 1000000 a --keep=f",
         Line {
             config: None,
-            command: Command::Run(RunCommand {
+            command: Command::OfProgram(ProgramCommand::Run(RunCommand {
                 image: "a",
                 trace: None,
                 counts: false,
@@ -363,14 +363,14 @@ static LINES: [(&str, Line<'_>); 38] = [
                 why: false,
                 times: Some(1_000_000),
                 keep: Some("f"),
-            }),
+            })),
         },
     ),
     (
         "smtsim run --why --counts --json a",
         Line {
             config: None,
-            command: Command::Run(RunCommand {
+            command: Command::OfProgram(ProgramCommand::Run(RunCommand {
                 image: "a",
                 trace: None,
                 counts: true,
@@ -379,28 +379,28 @@ static LINES: [(&str, Line<'_>); 38] = [
                 why: true,
                 times: None,
                 keep: None,
-            }),
+            })),
         },
     ),
     (
         "smtsim check --counts a --why - --json",
         Line {
             config: None,
-            command: Command::Check(CheckCommand {
+            command: Command::OfProgram(ProgramCommand::Check(CheckCommand {
                 image: "a",
                 trace: "-",
                 counts: true,
                 json: true,
                 records: false,
                 why: true,
-            }),
+            })),
         },
     ),
     (
         "smtsim step - b --json --counts",
         Line {
             config: None,
-            command: Command::Step(StepCommand {
+            command: Command::OfProgram(ProgramCommand::Step(StepCommand {
                 image: "-",
                 script: "b",
                 trace: None,
@@ -410,35 +410,35 @@ static LINES: [(&str, Line<'_>); 38] = [
                 records: false,
                 show: false,
                 why: false,
-            }),
+            })),
         },
     ),
     (
         "smtsim plain a --rounds 4294967295 --steps 0 --seed 7 --config -",
         Line {
             config: Some("-"),
-            command: Command::Plain(PlainCommand {
+            command: Command::OfProgram(ProgramCommand::Plain(PlainCommand {
                 image: "a",
                 order: None,
                 rounds: Some(4_294_967_295),
                 steps: Some(0),
                 seed: Some(7),
                 records: false,
-            }),
+            })),
         },
     ),
     (
         "smtsim plain --rounds=1 a --records",
         Line {
             config: None,
-            command: Command::Plain(PlainCommand {
+            command: Command::OfProgram(ProgramCommand::Plain(PlainCommand {
                 image: "a",
                 order: None,
                 rounds: Some(1),
                 steps: None,
                 seed: None,
                 records: true,
-            }),
+            })),
         },
     ),
     (
@@ -452,7 +452,7 @@ static LINES: [(&str, Line<'_>); 38] = [
         "smtsim outcomes a",
         Line {
             config: None,
-            command: Command::Outcomes(OutcomesCommand {
+            command: Command::OfProgram(ProgramCommand::Outcomes(OutcomesCommand {
                 image: "a",
                 states: 1_000_000,
                 watch: None,
@@ -461,14 +461,14 @@ static LINES: [(&str, Line<'_>); 38] = [
                 stuck: false,
                 witness: None,
                 script: None,
-            }),
+            })),
         },
     ),
     (
         "smtsim outcomes --states 4294967295 a --config c --watch a0@1 --exists=h0=1 --outcome 2 --witness w",
         Line {
             config: Some("c"),
-            command: Command::Outcomes(OutcomesCommand {
+            command: Command::OfProgram(ProgramCommand::Outcomes(OutcomesCommand {
                 image: "a",
                 states: 4_294_967_295,
                 watch: Some("a0@1"),
@@ -477,14 +477,14 @@ static LINES: [(&str, Line<'_>); 38] = [
                 stuck: false,
                 witness: Some("w"),
                 script: None,
-            }),
+            })),
         },
     ),
     (
         "smtsim outcomes --stuck - --script s --states 1",
         Line {
             config: None,
-            command: Command::Outcomes(OutcomesCommand {
+            command: Command::OfProgram(ProgramCommand::Outcomes(OutcomesCommand {
                 image: "-",
                 states: 1,
                 watch: None,
@@ -493,7 +493,7 @@ static LINES: [(&str, Line<'_>); 38] = [
                 stuck: true,
                 witness: None,
                 script: Some("s"),
-            }),
+            })),
         },
     ),
     (
@@ -568,23 +568,35 @@ type Named<'a> = (
 
 fn files_of<'a>(line: &Line<'a>) -> Named<'a> {
     let files = line.files();
-    (files.config, files.image, files.second, files.trace)
+    (files.config, files.program, files.second, files.written)
 }
 
 /// The command of a line, and its flags: records, tables and looks, whether a state is asked for that is
 /// stuck, or whether an image is written.
 fn flags_of(line: &Line<'_>) -> (&'static str, [bool; 3]) {
     match line.command {
-        Command::Step(step) => ("step", [step.records, step.show, step.looks]),
-        Command::Run(run) => ("run", [run.records, false, false]),
-        Command::Check(check) => ("check", [check.records, false, false]),
-        Command::Plain(plain) => ("plain", [plain.records, false, false]),
-        Command::Schedule(_) => ("schedule", [false; 3]),
-        Command::Script(_) => ("script", [false; 3]),
-        Command::List(_) => ("list", [false; 3]),
-        Command::Chart(_) => ("chart", [false; 3]),
+        Command::OfProgram(ProgramCommand::Step(step)) => (
+            "step",
+            [step.records, step.show, step.looks],
+        ),
+        Command::OfProgram(ProgramCommand::Run(run)) => ("run", [run.records, false, false]),
+        Command::OfProgram(ProgramCommand::Check(check)) => (
+            "check",
+            [check.records, false, false],
+        ),
+        Command::OfProgram(ProgramCommand::Plain(plain)) => (
+            "plain",
+            [plain.records, false, false],
+        ),
+        Command::OfProgram(ProgramCommand::Schedule(_)) => ("schedule", [false; 3]),
+        Command::OfProgram(ProgramCommand::Script(_)) => ("script", [false; 3]),
+        Command::OfProgram(ProgramCommand::List(_)) => ("list", [false; 3]),
+        Command::OfProgram(ProgramCommand::Chart(_)) => ("chart", [false; 3]),
         Command::Explain(_) => ("explain", [false; 3]),
-        Command::Outcomes(outcomes) => ("outcomes", [outcomes.stuck, false, false]),
+        Command::OfProgram(ProgramCommand::Outcomes(outcomes)) => (
+            "outcomes",
+            [outcomes.stuck, false, false],
+        ),
         Command::Litmus(litmus) => ("litmus", [litmus.image.is_some(), false, false]),
         Command::Migrate(_) => ("migrate", [false; 3]),
     }
@@ -593,9 +605,9 @@ fn flags_of(line: &Line<'_>) -> (&'static str, [bool; 3]) {
 /// What the report of a line's core is to have: reasons, counts, and the form of JSON.
 fn forms_of(line: &Line<'_>) -> [bool; 3] {
     match line.command {
-        Command::Step(step) => [step.why, step.counts, step.json],
-        Command::Run(run) => [run.why, run.counts, run.json],
-        Command::Check(check) => [check.why, check.counts, check.json],
+        Command::OfProgram(ProgramCommand::Step(step)) => [step.why, step.counts, step.json],
+        Command::OfProgram(ProgramCommand::Run(run)) => [run.why, run.counts, run.json],
+        Command::OfProgram(ProgramCommand::Check(check)) => [check.why, check.counts, check.json],
         Command::Litmus(litmus) => [litmus.why, false, false],
         _ => [false; 3],
     }
@@ -604,9 +616,15 @@ fn forms_of(line: &Line<'_>) -> [bool; 3] {
 /// The numbers of a line that is run often, in rounds or in all orders, and the folder that it names.
 fn numbers_of<'a>(line: &Line<'a>) -> ([Option<u32>; 3], Option<&'a str>) {
     match line.command {
-        Command::Run(run) => ([run.times, None, None], run.keep),
-        Command::Plain(plain) => ([plain.rounds, plain.steps, plain.seed], None),
-        Command::Outcomes(outcomes) => ([Some(outcomes.states), outcomes.outcome, None], None),
+        Command::OfProgram(ProgramCommand::Run(run)) => ([run.times, None, None], run.keep),
+        Command::OfProgram(ProgramCommand::Plain(plain)) => (
+            [plain.rounds, plain.steps, plain.seed],
+            None,
+        ),
+        Command::OfProgram(ProgramCommand::Outcomes(outcomes)) => (
+            [Some(outcomes.states), outcomes.outcome, None],
+            None,
+        ),
         Command::Litmus(litmus) => ([Some(litmus.states), None, None], None),
         _ => ([None, None, None], None),
     }
@@ -616,7 +634,7 @@ fn numbers_of<'a>(line: &Line<'a>) -> ([Option<u32>; 3], Option<&'a str>) {
 /// a picture.
 fn view_of(line: &Line<'_>) -> Option<(u32, u32, Option<u32>, u32, bool)> {
     match line.command {
-        Command::Chart(chart) => Some((
+        Command::OfProgram(ProgramCommand::Chart(chart)) => Some((
             chart.from,
             chart.to,
             chart.hart,
@@ -630,7 +648,7 @@ fn view_of(line: &Line<'_>) -> Option<(u32, u32, Option<u32>, u32, bool)> {
 /// The texts of a line that asks for outcomes, and whether its file is a script.
 fn texts_of<'a>(line: &Line<'a>) -> (Option<&'a str>, Option<&'a str>, bool) {
     match line.command {
-        Command::Outcomes(outcomes) => {
+        Command::OfProgram(ProgramCommand::Outcomes(outcomes)) => {
             (outcomes.watch, outcomes.exists, outcomes.script.is_some())
         }
         _ => (None, None, false),
@@ -668,7 +686,7 @@ static NAMED: [(Line<'_>, Named<'_>); 14] = [
     (
         Line {
             config: Some("c"),
-            command: Command::Chart(ChartCommand {
+            command: Command::OfProgram(ProgramCommand::Chart(ChartCommand {
                 image: "a",
                 trace: "t",
                 from: 0,
@@ -677,14 +695,14 @@ static NAMED: [(Line<'_>, Named<'_>); 14] = [
                 width: 80,
                 svg: None,
                 kanata: Some("k"),
-            }),
+            })),
         },
         (Some("c"), Some("a"), Some("t"), Some("k")),
     ),
     (
         Line {
             config: Some("c"),
-            command: Command::Step(StepCommand {
+            command: Command::OfProgram(ProgramCommand::Step(StepCommand {
                 image: "a",
                 script: "b",
                 trace: Some("t"),
@@ -694,14 +712,14 @@ static NAMED: [(Line<'_>, Named<'_>); 14] = [
                 records: true,
                 show: true,
                 why: false,
-            }),
+            })),
         },
         (Some("c"), Some("a"), Some("b"), Some("t")),
     ),
     (
         Line {
             config: Some("c"),
-            command: Command::Run(RunCommand {
+            command: Command::OfProgram(ProgramCommand::Run(RunCommand {
                 image: "a",
                 trace: Some("t"),
                 counts: false,
@@ -710,62 +728,62 @@ static NAMED: [(Line<'_>, Named<'_>); 14] = [
                 why: false,
                 times: None,
                 keep: None,
-            }),
+            })),
         },
         (Some("c"), Some("a"), None, Some("t")),
     ),
     (
         Line {
             config: Some("c"),
-            command: Command::Check(CheckCommand {
+            command: Command::OfProgram(ProgramCommand::Check(CheckCommand {
                 image: "a",
                 trace: "t",
                 counts: false,
                 json: false,
                 records: true,
                 why: false,
-            }),
+            })),
         },
         (Some("c"), Some("a"), Some("t"), None),
     ),
     (
         Line {
             config: Some("c"),
-            command: Command::Plain(PlainCommand {
+            command: Command::OfProgram(ProgramCommand::Plain(PlainCommand {
                 image: "a",
                 order: Some("b"),
                 rounds: None,
                 steps: None,
                 seed: None,
                 records: false,
-            }),
+            })),
         },
         (Some("c"), Some("a"), Some("b"), None),
     ),
     (
         Line {
             config: Some("c"),
-            command: Command::Schedule(ScheduleCommand {
+            command: Command::OfProgram(ProgramCommand::Schedule(ScheduleCommand {
                 image: "a",
                 order: "b",
-            }),
+            })),
         },
         (Some("c"), Some("a"), Some("b"), None),
     ),
     (
         Line {
             config: Some("c"),
-            command: Command::Script(ScriptCommand {
+            command: Command::OfProgram(ProgramCommand::Script(ScriptCommand {
                 image: "a",
                 trace: "t",
-            }),
+            })),
         },
         (Some("c"), Some("a"), Some("t"), None),
     ),
     (
         Line {
             config: Some("c"),
-            command: Command::List(ListCommand { image: "a" }),
+            command: Command::OfProgram(ProgramCommand::List(ListCommand { image: "a" })),
         },
         (Some("c"), Some("a"), None, None),
     ),
@@ -779,7 +797,7 @@ static NAMED: [(Line<'_>, Named<'_>); 14] = [
     (
         Line {
             config: None,
-            command: Command::Outcomes(OutcomesCommand {
+            command: Command::OfProgram(ProgramCommand::Outcomes(OutcomesCommand {
                 image: "a",
                 states: 1,
                 watch: None,
@@ -788,14 +806,14 @@ static NAMED: [(Line<'_>, Named<'_>); 14] = [
                 stuck: false,
                 witness: Some("w"),
                 script: None,
-            }),
+            })),
         },
         (None, Some("a"), None, Some("w")),
     ),
     (
         Line {
             config: Some("c"),
-            command: Command::Outcomes(OutcomesCommand {
+            command: Command::OfProgram(ProgramCommand::Outcomes(OutcomesCommand {
                 image: "a",
                 states: 1,
                 watch: None,
@@ -804,7 +822,7 @@ static NAMED: [(Line<'_>, Named<'_>); 14] = [
                 stuck: true,
                 witness: None,
                 script: Some("s"),
-            }),
+            })),
         },
         (Some("c"), Some("a"), None, Some("s")),
     ),

@@ -16,6 +16,8 @@ use Rattle.clap.specs.{declared.error.kind.ErrorKind.TheVariants.OutOfMemory}
 use Rattle.sim_inputs.specs.{declared.line.Line.Line, declared.line.WordsRefused.WordsRefused}
 use Rattle.sim_inputs.specs.declared.line.Command.{Command as LineCommand}
 use Rattle.sim_inputs.specs.declared.line.Command.TheVariants as commands
+use Rattle.sim_inputs.specs.declared.line.ProgramCommand.{ProgramCommand}
+use Rattle.sim_inputs.specs.declared.line.ProgramCommand.TheVariants as program
 use Rattle.sim_inputs.specs.declared.line.{StepCommand.StepCommand, RunCommand.RunCommand}
 use Rattle.sim_inputs.specs.declared.line.{CheckCommand.CheckCommand, PlainCommand.PlainCommand}
 use Rattle.sim_inputs.specs.declared.line.{ScheduleCommand.ScheduleCommand}
@@ -240,20 +242,24 @@ pub record IsMigrate (rows : List Row) (migrate : MigrateCommand) : Type 0 where
   pub trace : IsFile rows (codes "TRACE") migrate.trace
   pub out : IsFile rows (codes "OUT") migrate.out
 
--- A subcommand of this name, with what was found for it, is the command.
-abbrev pub IsCommandOf : Text → List Row → LineCommand → Type 0
-IsCommandOf name rows (commands.Step step) = (name ≡ codes "step") × IsStep rows step
-IsCommandOf name rows (commands.Run run) = (name ≡ codes "run") × IsRun rows run
-IsCommandOf name rows (commands.Check check) = (name ≡ codes "check") × IsCheck rows check
-IsCommandOf name rows (commands.Plain plain) = (name ≡ codes "plain") × IsPlain rows plain
-IsCommandOf name rows (commands.Schedule schedule) =
+-- A subcommand of this name, with what was found for it, is the command of a program.
+abbrev pub IsProgramCommandOf : Text → List Row → ProgramCommand → Type 0
+IsProgramCommandOf name rows (program.Step step) = (name ≡ codes "step") × IsStep rows step
+IsProgramCommandOf name rows (program.Run run) = (name ≡ codes "run") × IsRun rows run
+IsProgramCommandOf name rows (program.Check check) = (name ≡ codes "check") × IsCheck rows check
+IsProgramCommandOf name rows (program.Plain plain) = (name ≡ codes "plain") × IsPlain rows plain
+IsProgramCommandOf name rows (program.Schedule schedule) =
     (name ≡ codes "schedule") × IsSchedule rows schedule
-IsCommandOf name rows (commands.Script script) = (name ≡ codes "script") × IsScript rows script
-IsCommandOf name rows (commands.List list) = (name ≡ codes "list") × IsList rows list
-IsCommandOf name rows (commands.Chart chart) = (name ≡ codes "chart") × IsChart rows chart
-IsCommandOf name rows (commands.Explain explain) = (name ≡ codes "explain") × IsExplain rows explain
-IsCommandOf name rows (commands.Outcomes outcomes) =
+IsProgramCommandOf name rows (program.Script script) = (name ≡ codes "script") × IsScript rows script
+IsProgramCommandOf name rows (program.List list) = (name ≡ codes "list") × IsList rows list
+IsProgramCommandOf name rows (program.Chart chart) = (name ≡ codes "chart") × IsChart rows chart
+IsProgramCommandOf name rows (program.Outcomes outcomes) =
     (name ≡ codes "outcomes") × IsOutcomes rows outcomes
+
+-- So it is the command, of a program or of something else.
+abbrev pub IsCommandOf : Text → List Row → LineCommand → Type 0
+IsCommandOf name rows (commands.OfProgram command) = IsProgramCommandOf name rows command
+IsCommandOf name rows (commands.Explain explain) = (name ≡ codes "explain") × IsExplain rows explain
 IsCommandOf name rows (commands.Litmus litmus) = (name ≡ codes "litmus") × IsLitmus rows litmus
 IsCommandOf name rows (commands.Migrate migrate) = (name ≡ codes "migrate") × IsMigrate rows migrate
 

@@ -4,10 +4,12 @@ use Rattle.std.specs.Prelude.{codes, if◌then◌else◌}
 use Rattle.std.specs.{Borrow.Bor, Str.bytes_eq}
 use Rattle.sim_inputs.specs.{declared.files.Files.Files}
 use Rattle.sim_inputs.specs.{declared.line.Line.Line, declared.line.Command.Command}
+use Rattle.sim_inputs.specs.{declared.line.ProgramCommand.ProgramCommand}
 use Rattle.sim_inputs.specs.{declared.line.ChartCommand.ChartCommand}
 use Rattle.sim_inputs.specs.{declared.line.OutcomesCommand.OutcomesCommand}
 use Rattle.sim_inputs.specs.{declared.line.LitmusCommand.LitmusCommand}
 use Rattle.sim_inputs.specs.declared.line.Command.TheVariants as commands
+use Rattle.sim_inputs.specs.declared.line.ProgramCommand.TheVariants as program
 
 -- The file that a chart is written to: a picture, or Konata's log.
 abbrev pub written_chart : ChartCommand → Option (Bor (List ℕ))
@@ -21,79 +23,70 @@ written_order outcomes = if is_some outcomes.witness then outcomes.witness else 
 abbrev pub written_for_test : LitmusCommand → Option (Bor (List ℕ))
 written_for_test litmus = if is_some litmus.image then litmus.image else litmus.svg
 
+-- The image of a program's command, and the file that it reads beside image and configuration: a script, a
+-- trace, or an order.
+abbrev image_of : ProgramCommand → Bor (List ℕ)
+image_of (program.Step step) = step.image
+image_of (program.Run run) = run.image
+image_of (program.Check check) = check.image
+image_of (program.Plain plain) = plain.image
+image_of (program.Schedule schedule) = schedule.image
+image_of (program.Script script) = script.image
+image_of (program.List list) = list.image
+image_of (program.Chart chart) = chart.image
+image_of (program.Outcomes outcomes) = outcomes.image
+
+abbrev second_of : ProgramCommand → Option (Bor (List ℕ))
+second_of (program.Step step) = Some step.script
+second_of (program.Run run) = None
+second_of (program.Check check) = Some check.trace
+second_of (program.Plain plain) = plain.order
+second_of (program.Schedule schedule) = Some schedule.order
+second_of (program.Script script) = Some script.trace
+second_of (program.List list) = None
+second_of (program.Chart chart) = Some chart.trace
+second_of (program.Outcomes outcomes) = None
+
+-- The file that it writes: the trace of a core, a chart, an order or its script.
+abbrev written_by : ProgramCommand → Option (Bor (List ℕ))
+written_by (program.Step step) = step.trace
+written_by (program.Run run) = run.trace
+written_by (program.Check check) = None
+written_by (program.Plain plain) = None
+written_by (program.Schedule schedule) = None
+written_by (program.Script script) = None
+written_by (program.List list) = None
+written_by (program.Chart chart) = written_chart chart
+written_by (program.Outcomes outcomes) = written_order outcomes
+
 -- The files of a command, beside the configuration of its line.
+abbrev pub program_files : Option (Bor (List ℕ)) → ProgramCommand → Files
+program_files config command = record {
+  config = config;
+  program = Some (image_of command);
+  second = second_of command;
+  written = written_by command;
+}
+
 abbrev files_with : Option (Bor (List ℕ)) → Command → Files
-files_with config (commands.Step step) = record {
-  config = config;
-  image = Some step.image;
-  second = Some step.script;
-  trace = step.trace;
-}
-files_with config (commands.Run run) = record {
-  config = config;
-  image = Some run.image;
-  second = None;
-  trace = run.trace;
-}
-files_with config (commands.Check check) = record {
-  config = config;
-  image = Some check.image;
-  second = Some check.trace;
-  trace = None;
-}
-files_with config (commands.Plain plain) = record {
-  config = config;
-  image = Some plain.image;
-  second = plain.order;
-  trace = None;
-}
-files_with config (commands.Schedule schedule) = record {
-  config = config;
-  image = Some schedule.image;
-  second = Some schedule.order;
-  trace = None;
-}
-files_with config (commands.Script script) = record {
-  config = config;
-  image = Some script.image;
-  second = Some script.trace;
-  trace = None;
-}
-files_with config (commands.List list) = record {
-  config = config;
-  image = Some list.image;
-  second = None;
-  trace = None;
-}
-files_with config (commands.Chart chart) = record {
-  config = config;
-  image = Some chart.image;
-  second = Some chart.trace;
-  trace = written_chart chart;
-}
+files_with config (commands.OfProgram command) = program_files config command
 files_with config (commands.Explain explain) = record {
   config = config;
-  image = Some explain.image;
+  program = Some explain.image;
   second = None;
-  trace = None;
-}
-files_with config (commands.Outcomes outcomes) = record {
-  config = config;
-  image = Some outcomes.image;
-  second = None;
-  trace = written_order outcomes;
+  written = None;
 }
 files_with config (commands.Litmus litmus) = record {
   config = config;
-  image = Some litmus.test;
+  program = Some litmus.test;
   second = None;
-  trace = written_for_test litmus;
+  written = written_for_test litmus;
 }
 files_with config (commands.Migrate migrate) = record {
   config = config;
-  image = None;
+  program = None;
   second = Some migrate.trace;
-  trace = Some migrate.out;
+  written = Some migrate.out;
 }
 
 -- The configuration, the image or the litmus test, the file that is read beside them (the script, the
@@ -117,4 +110,4 @@ input_count_of file = input_count (option_map (λ name. name.now) file)
 -- Standard input stands in place of one file that is read, at the most.
 abbrev pub reads_input_once : Line → Bool
 reads_input_once line = let files = files_of line in
-    nat_le (input_count_of files.config + input_count_of files.image + input_count_of files.second) 1
+    nat_le (input_count_of files.config + input_count_of files.program + input_count_of files.second) 1

@@ -1,21 +1,22 @@
 ghost use Rattle.std.specs.Prelude.{◌≡◌, ◌≤◌, option_map};
-ghost use Rattle.sim_inputs.specs.Files.{files_of, written_chart, written_order, written_for_test};
+ghost use Rattle.sim_inputs.specs.Files.{files_of, program_files};
+ghost use Rattle.sim_inputs.specs.Files.{written_chart, written_order, written_for_test};
 ghost use Rattle.sim_inputs.specs.Files.{is_standard_input, input_count, reads_input_once};
 
-use crate::line::{ChartCommand, Command, Line, LitmusCommand, OutcomesCommand};
+use crate::line::{ChartCommand, Command, Line, LitmusCommand, OutcomesCommand, ProgramCommand};
 
 /// The files that a line names: three that are read, in this order, and one that is written.
 #[derive(Clone, Copy, Drop)]
 pub struct Files<'a> {
     /// The configuration.
     pub config: Option<&'a str>,
-    /// The program that the harts run, or the litmus test that says it.
-    pub image: Option<&'a str>,
+    /// The program that the harts run: its image, or the litmus test that it is made of.
+    pub program: Option<&'a str>,
     /// The script, the trace that is read, or the order.
     pub second: Option<&'a str>,
     /// The file that is written: the trace of a core or of a migration, a chart, an order or its script,
     /// or what is made of a litmus test.
-    pub trace: Option<&'a str>,
+    pub written: Option<&'a str>,
 }
 
 impl<'a> ChartCommand<'a> {
@@ -54,30 +55,47 @@ impl<'a> LitmusCommand<'a> {
     }
 }
 
+impl<'a> ProgramCommand<'a> {
+    /// The files that the command names, beside this configuration.
+    fn files_with(&self, config: Option<&'a str>) -> Files<'a>
+        ensures { result ≡ program_files config.entry self.now }
+    {
+        let (image, second, written) = match *self {
+            ProgramCommand::Step(step) => (step.image, Some(step.script), step.trace),
+            ProgramCommand::Run(run) => (run.image, None, run.trace),
+            ProgramCommand::Check(check) => (check.image, Some(check.trace), None),
+            ProgramCommand::Plain(plain) => (plain.image, plain.order, None),
+            ProgramCommand::Schedule(schedule) => (schedule.image, Some(schedule.order), None),
+            ProgramCommand::Script(script) => (script.image, Some(script.trace), None),
+            ProgramCommand::List(list) => (list.image, None, None),
+            ProgramCommand::Chart(chart) => (chart.image, Some(chart.trace), chart.written()),
+            ProgramCommand::Outcomes(outcomes) => (outcomes.image, None, outcomes.written()),
+        };
+        Files {
+            config,
+            program: Some(image),
+            second,
+            written,
+        }
+    }
+}
+
 impl<'a> Line<'a> {
     /// The files that the line names.
     pub fn files(&self) -> Files<'a>
         ensures { result ≡ files_of self.now }
     {
-        let (image, second, trace) = match self.command {
-            Command::Step(step) => (Some(step.image), Some(step.script), step.trace),
-            Command::Run(run) => (Some(run.image), None, run.trace),
-            Command::Check(check) => (Some(check.image), Some(check.trace), None),
-            Command::Plain(plain) => (Some(plain.image), plain.order, None),
-            Command::Schedule(schedule) => (Some(schedule.image), Some(schedule.order), None),
-            Command::Script(script) => (Some(script.image), Some(script.trace), None),
-            Command::List(list) => (Some(list.image), None, None),
-            Command::Chart(chart) => (Some(chart.image), Some(chart.trace), chart.written()),
+        let (program, second, written) = match self.command {
+            Command::OfProgram(command) => return command.files_with(self.config),
             Command::Explain(explain) => (Some(explain.image), None, None),
-            Command::Outcomes(outcomes) => (Some(outcomes.image), None, outcomes.written()),
             Command::Litmus(litmus) => (Some(litmus.test), None, litmus.written()),
             Command::Migrate(migrate) => (None, Some(migrate.trace), Some(migrate.out)),
         };
         Files {
             config: self.config,
-            image,
+            program,
             second,
-            trace,
+            written,
         }
     }
 }
@@ -94,7 +112,7 @@ pub(crate) fn reads_input_once(line: &Line<'_>) -> bool
     ensures { result ≡ reads_input_once line.now }
 {
     let files = line.files();
-    input_count(files.config) + input_count(files.image) + input_count(files.second) <= 1
+    input_count(files.config) + input_count(files.program) + input_count(files.second) <= 1
 }
 
 /// How often standard input stands in place of this file: once or never.

@@ -27,8 +27,8 @@ pub use explained::{
 pub use files::{Files, is_standard_input};
 pub use line::{
     ChartCommand, CheckCommand, Command, ExplainCommand, Line, ListCommand, LitmusCommand,
-    MigrateCommand, OutcomesCommand, PlainCommand, RunCommand, ScheduleCommand, ScriptCommand,
-    StepCommand, WordsRefused,
+    MigrateCommand, OutcomesCommand, PlainCommand, ProgramCommand, RunCommand, ScheduleCommand,
+    ScriptCommand, StepCommand, WordsRefused,
 };
 pub use settings::Settings;
 pub use words::read_words;

@@ -8,9 +8,22 @@ pub struct Line<'a> {
     pub command: Command<'a>,
 }
 
-/// A command, with its own files and options.
+/// A command, by what it is of, with its own files and options.
 #[derive(Clone, Copy, Drop)]
 pub enum Command<'a> {
+    /// Of a program, whose image and configuration are accepted before anything is done.
+    OfProgram(ProgramCommand<'a>),
+    /// Of an image and a configuration that may be refused.
+    Explain(ExplainCommand<'a>),
+    /// Of a litmus test, whose program is made of it.
+    Litmus(LitmusCommand<'a>),
+    /// Of a trace alone.
+    Migrate(MigrateCommand<'a>),
+}
+
+/// A command of a program.
+#[derive(Clone, Copy, Drop)]
+pub enum ProgramCommand<'a> {
     Step(StepCommand<'a>),
     Run(RunCommand<'a>),
     Check(CheckCommand<'a>),
@@ -19,10 +32,7 @@ pub enum Command<'a> {
     Script(ScriptCommand<'a>),
     List(ListCommand<'a>),
     Chart(ChartCommand<'a>),
-    Explain(ExplainCommand<'a>),
     Outcomes(OutcomesCommand<'a>),
-    Litmus(LitmusCommand<'a>),
-    Migrate(MigrateCommand<'a>),
 }
 
 /// `step IMAGE SCRIPT`: the script's asks are made in order, without threads.

@@ -1,6 +1,7 @@
 ghost use Rattle.std.specs.Prelude.{◌≡◌, map, option_map, IfOk, IfErr};
 ghost use Rattle.clap.specs.Words.{first_of, found_of, kind_of, rows_of, subcommand_rows_of};
 ghost use Rattle.sim_inputs.specs.CommandLine.{is_flag_set, Finds, IsCommandOf, Names, Asks};
+ghost use Rattle.sim_inputs.specs.CommandLine.{IsProgramCommandOf};
 ghost use Rattle.sim_inputs.specs.CommandLine.{IsStep, IsRun, IsCheck, IsPlain, IsSchedule, IsScript};
 ghost use Rattle.sim_inputs.specs.CommandLine.{IsList, IsChart, IsExplain, can_be_drawn, can_be_run};
 ghost use Rattle.sim_inputs.specs.CommandLine.{is_reported, can_be_plain, number_or, number_in};
@@ -14,8 +15,8 @@ use crate::files::reads_input_once;
 use crate::limits::with_limits;
 use crate::line::{
     ChartCommand, CheckCommand, Command, ExplainCommand, Line, ListCommand, LitmusCommand,
-    MigrateCommand, OutcomesCommand, PlainCommand, RunCommand, ScheduleCommand, ScriptCommand,
-    StepCommand, WordsRefused,
+    MigrateCommand, OutcomesCommand, PlainCommand, ProgramCommand, RunCommand, ScheduleCommand,
+    ScriptCommand, StepCommand, WordsRefused,
 };
 use clap::error::ErrorKind;
 use clap::{ArgMatches, Error};
@@ -62,7 +63,7 @@ fn line_in<'a>(matches: &ArgMatches<'a>) -> Option<Line<'a>>
 {
     let (name, found) = matches.subcommand()?;
     let command = command_named(name, found)?;
-    let config = file(found, "config");
+    let config = value_of(found, "config");
     let line = Line { config, command };
     if !reads_input_once(&line) {
         return None;
@@ -76,18 +77,27 @@ fn command_named<'a>(name: &str, found: &ArgMatches<'a>) -> Option<Command<'a>>
     ensures { Finds (IsCommandOf name.now (rows_of (found_of found.now))) result }
 {
     match name {
-        "step" => Some(Command::Step(step_in(found)?)),
-        "run" => Some(Command::Run(run_in(found)?)),
-        "check" => Some(Command::Check(check_in(found)?)),
-        "plain" => Some(Command::Plain(plain_in(found)?)),
-        "schedule" => Some(Command::Schedule(schedule_in(found)?)),
-        "script" => Some(Command::Script(script_in(found)?)),
-        "list" => Some(Command::List(list_in(found)?)),
-        "chart" => Some(Command::Chart(chart_in(found)?)),
         "explain" => Some(Command::Explain(explain_in(found)?)),
-        "outcomes" => Some(Command::Outcomes(outcomes_in(found)?)),
         "litmus" => Some(Command::Litmus(litmus_in(found)?)),
         "migrate" => Some(Command::Migrate(migrate_in(found)?)),
+        _ => Some(Command::OfProgram(program_command_named(name, found)?)),
+    }
+}
+
+/// So it is of a command of a program.
+fn program_command_named<'a>(name: &str, found: &ArgMatches<'a>) -> Option<ProgramCommand<'a>>
+    ensures { Finds (IsProgramCommandOf name.now (rows_of (found_of found.now))) result }
+{
+    match name {
+        "step" => Some(ProgramCommand::Step(step_in(found)?)),
+        "run" => Some(ProgramCommand::Run(run_in(found)?)),
+        "check" => Some(ProgramCommand::Check(check_in(found)?)),
+        "plain" => Some(ProgramCommand::Plain(plain_in(found)?)),
+        "schedule" => Some(ProgramCommand::Schedule(schedule_in(found)?)),
+        "script" => Some(ProgramCommand::Script(script_in(found)?)),
+        "list" => Some(ProgramCommand::List(list_in(found)?)),
+        "chart" => Some(ProgramCommand::Chart(chart_in(found)?)),
+        "outcomes" => Some(ProgramCommand::Outcomes(outcomes_in(found)?)),
         _ => None,
     }
 }
@@ -98,9 +108,9 @@ fn step_in<'a>(found: &ArgMatches<'a>) -> Option<StepCommand<'a>>
     ensures { Finds (IsStep (rows_of (found_of found.now))) result }
 {
     Some(StepCommand {
-        image: file(found, "IMAGE")?,
-        script: file(found, "SCRIPT")?,
-        trace: file(found, "trace"),
+        image: value_of(found, "IMAGE")?,
+        script: value_of(found, "SCRIPT")?,
+        trace: value_of(found, "trace"),
         counts: is_set(found, "counts"),
         json: is_set(found, "json"),
         looks: is_set(found, "looks"),
@@ -114,14 +124,14 @@ fn run_in<'a>(found: &ArgMatches<'a>) -> Option<RunCommand<'a>>
     ensures { Finds (IsRun (rows_of (found_of found.now))) result }
 {
     let run = RunCommand {
-        image: file(found, "IMAGE")?,
-        trace: file(found, "trace"),
+        image: value_of(found, "IMAGE")?,
+        trace: value_of(found, "trace"),
         counts: is_set(found, "counts"),
         json: is_set(found, "json"),
         records: is_set(found, "records"),
         why: is_set(found, "why"),
         times: number(found, "times", MOST_TIMES)?,
-        keep: file(found, "keep"),
+        keep: value_of(found, "keep"),
     };
     if !can_be_run(&run) {
         return None;
@@ -161,8 +171,8 @@ fn check_in<'a>(found: &ArgMatches<'a>) -> Option<CheckCommand<'a>>
     ensures { Finds (IsCheck (rows_of (found_of found.now))) result }
 {
     Some(CheckCommand {
-        image: file(found, "IMAGE")?,
-        trace: file(found, "TRACE")?,
+        image: value_of(found, "IMAGE")?,
+        trace: value_of(found, "TRACE")?,
         counts: is_set(found, "counts"),
         json: is_set(found, "json"),
         records: is_set(found, "records"),
@@ -174,8 +184,8 @@ fn plain_in<'a>(found: &ArgMatches<'a>) -> Option<PlainCommand<'a>>
     ensures { Finds (IsPlain (rows_of (found_of found.now))) result }
 {
     let plain = PlainCommand {
-        image: file(found, "IMAGE")?,
-        order: file(found, "ORDER"),
+        image: value_of(found, "IMAGE")?,
+        order: value_of(found, "ORDER"),
         rounds: number(found, "rounds", u32::MAX)?,
         steps: number(found, "steps", u32::MAX)?,
         seed: number(found, "seed", u32::MAX)?,
@@ -202,8 +212,8 @@ fn schedule_in<'a>(found: &ArgMatches<'a>) -> Option<ScheduleCommand<'a>>
     ensures { Finds (IsSchedule (rows_of (found_of found.now))) result }
 {
     Some(ScheduleCommand {
-        image: file(found, "IMAGE")?,
-        order: file(found, "ORDER")?,
+        image: value_of(found, "IMAGE")?,
+        order: value_of(found, "ORDER")?,
     })
 }
 
@@ -211,8 +221,8 @@ fn script_in<'a>(found: &ArgMatches<'a>) -> Option<ScriptCommand<'a>>
     ensures { Finds (IsScript (rows_of (found_of found.now))) result }
 {
     Some(ScriptCommand {
-        image: file(found, "IMAGE")?,
-        trace: file(found, "TRACE")?,
+        image: value_of(found, "IMAGE")?,
+        trace: value_of(found, "TRACE")?,
     })
 }
 
@@ -220,7 +230,7 @@ fn list_in<'a>(found: &ArgMatches<'a>) -> Option<ListCommand<'a>>
     ensures { Finds (IsList (rows_of (found_of found.now))) result }
 {
     Some(ListCommand {
-        image: file(found, "IMAGE")?,
+        image: value_of(found, "IMAGE")?,
     })
 }
 
@@ -228,7 +238,7 @@ fn explain_in<'a>(found: &ArgMatches<'a>) -> Option<ExplainCommand<'a>>
     ensures { Finds (IsExplain (rows_of (found_of found.now))) result }
 {
     Some(ExplainCommand {
-        image: file(found, "IMAGE")?,
+        image: value_of(found, "IMAGE")?,
     })
 }
 
@@ -236,14 +246,14 @@ fn chart_in<'a>(found: &ArgMatches<'a>) -> Option<ChartCommand<'a>>
     ensures { Finds (IsChart (rows_of (found_of found.now))) result }
 {
     let chart = ChartCommand {
-        image: file(found, "IMAGE")?,
-        trace: file(found, "TRACE")?,
+        image: value_of(found, "IMAGE")?,
+        trace: value_of(found, "TRACE")?,
         from: number_or(found, "from", 0, LAST_PLACE)?,
         to: number_or(found, "to", LAST_PLACE, LAST_PLACE)?,
         hart: number(found, "hart", LAST_HART)?,
         width: number_or(found, "width", USUAL_COLUMNS, MOST_COLUMNS)?,
-        svg: file(found, "svg"),
-        kanata: file(found, "kanata"),
+        svg: value_of(found, "svg"),
+        kanata: value_of(found, "kanata"),
     };
     if !can_be_drawn(&chart) {
         return None;
@@ -263,14 +273,14 @@ fn outcomes_in<'a>(found: &ArgMatches<'a>) -> Option<OutcomesCommand<'a>>
     ensures { Finds (IsOutcomes (rows_of (found_of found.now))) result }
 {
     let outcomes = OutcomesCommand {
-        image: file(found, "IMAGE")?,
+        image: value_of(found, "IMAGE")?,
         states: number_or(found, "states", USUAL_STATES, u32::MAX)?,
-        watch: file(found, "watch"),
-        exists: file(found, "exists"),
+        watch: value_of(found, "watch"),
+        exists: value_of(found, "exists"),
         outcome: number(found, "outcome", u32::MAX)?,
         stuck: is_set(found, "stuck"),
-        witness: file(found, "witness"),
-        script: file(found, "script"),
+        witness: value_of(found, "witness"),
+        script: value_of(found, "script"),
     };
     if !can_be_searched(&outcomes) {
         return None;
@@ -310,11 +320,11 @@ fn litmus_in<'a>(found: &ArgMatches<'a>) -> Option<LitmusCommand<'a>>
     ensures { Finds (IsLitmus (rows_of (found_of found.now))) result }
 {
     let litmus = LitmusCommand {
-        test: file(found, "TEST")?,
+        test: value_of(found, "TEST")?,
         states: number_or(found, "states", USUAL_STATES, u32::MAX)?,
         why: is_set(found, "why"),
-        image: file(found, "image"),
-        svg: file(found, "svg"),
+        image: value_of(found, "image"),
+        svg: value_of(found, "svg"),
     };
     if !can_be_tested(&litmus) {
         return None;
@@ -333,8 +343,8 @@ fn migrate_in<'a>(found: &ArgMatches<'a>) -> Option<MigrateCommand<'a>>
     ensures { Finds (IsMigrate (rows_of (found_of found.now))) result }
 {
     Some(MigrateCommand {
-        trace: file(found, "TRACE")?,
-        out: file(found, "OUT")?,
+        trace: value_of(found, "TRACE")?,
+        out: value_of(found, "OUT")?,
     })
 }
 
@@ -343,7 +353,7 @@ fn migrate_in<'a>(found: &ArgMatches<'a>) -> Option<MigrateCommand<'a>>
 fn number_or(found: &ArgMatches<'_>, name: &str, default: u32, greatest: u32) -> Option<u32>
     ensures { result ≡ number_or default greatest (first_of name.now (rows_of (found_of found.now))) }
 {
-    match file(found, name) {
+    match value_of(found, name) {
         Some(text) => read_decimal(text.as_bytes(), greatest).ok(),
         None => Some(default),
     }
@@ -354,15 +364,15 @@ fn number_or(found: &ArgMatches<'_>, name: &str, default: u32, greatest: u32) ->
 fn number(found: &ArgMatches<'_>, name: &str, greatest: u32) -> Option<Option<u32>>
     ensures { result ≡ number_in greatest (first_of name.now (rows_of (found_of found.now))) }
 {
-    match file(found, name) {
+    match value_of(found, name) {
         Some(text) => Some(Some(read_decimal(text.as_bytes(), greatest).ok()?)),
         None => Some(None),
     }
 }
 
-/// The file that was found for an argument or an option.
-fn file<'a>(found: &ArgMatches<'a>, name: &str) -> Option<&'a str>
-    ensures { option_map (λ file. file.now) result ≡ first_of name.now (rows_of (found_of found.now)) }
+/// The text that was found for an argument or an option: a file's name, a list, a number.
+fn value_of<'a>(found: &ArgMatches<'a>, name: &str) -> Option<&'a str>
+    ensures { option_map (λ value. value.now) result ≡ first_of name.now (rows_of (found_of found.now)) }
 {
     found.get_str(name)
 }
@@ -371,7 +381,7 @@ fn file<'a>(found: &ArgMatches<'a>, name: &str) -> Option<&'a str>
 fn is_set(found: &ArgMatches<'_>, name: &str) -> bool
     ensures { result ≡ is_flag_set name.now (rows_of (found_of found.now)) }
 {
-    match file(found, name) {
+    match value_of(found, name) {
         Some(value) => value == "true",
         None => false,
     }

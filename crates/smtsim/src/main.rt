@@ -4,7 +4,7 @@
 #![tactic(auto)]
 
 use actors::StaticPredictor;
-use program::{Progress, hold_closed_streams, perform_words};
+use program_io::{Program, Progress, hold_closed_streams, perform_words};
 use std::io::{BufWriter, IsTerminal};
 use std::process::ExitCode;
 use std::{env, io};
@@ -18,15 +18,14 @@ fn main(rt: HostRuntime) -> ExitCode {
     // Only from a terminal is a script typed a line at a time.
     let at_terminal = rt.stdin().is_terminal();
     let progress = Progress::new(&rt, err, on_terminal);
-    ExitCode::from(perform_words(
-        &rt,
-        env::args(&rt),
-        &progress,
-        StaticPredictor,
-        BufWriter::new(rt.alloc(), io::writer(&rt)),
-        &mut err,
+    let program = Program {
+        system: &rt,
+        gate: &progress,
+        predict: StaticPredictor,
         at_terminal,
         on_terminal,
-        rt.alloc(),
-    ))
+        alloc: rt.alloc(),
+    };
+    let out = BufWriter::new(rt.alloc(), io::writer(&rt));
+    ExitCode::from(perform_words(&program, env::args(&rt), out, &mut err))
 }

@@ -3,7 +3,9 @@
 
 use super::{ENDING, SINGLE};
 use crate::lines::chart_line;
-use crate::performing::{Ending, Performed, perform_into, perform_whole, read_inputs_of};
+use crate::performing::{
+    Ending, Performed, context_of, perform_whole, perform_with, read_inputs_of,
+};
 use crate::rows::{ends, shows, text_of};
 use actors::StaticPredictor;
 use event_text::Over;
@@ -74,16 +76,13 @@ fn written<R: Threads + Wait + Sync>(rt: &R, line: &Line<'_>, alloc: Global) -> 
         return Vec::new(alloc);
     };
     let inputs = read_inputs_of(SINGLE, &image, TRACE.as_bytes());
-    let mut file = Over::new(Vec::new(alloc));
-    let mut out = Vec::new(alloc);
-    let predict = StaticPredictor;
-    let Ending { status, err } = perform_into(
-        rt, line, &inputs, predict, &mut file, &mut out, alloc,
-    );
-    if status != 0 || !err.is_empty() || !out.is_empty() {
+    let files = Over::new(Vec::new(alloc));
+    let mut context = context_of(rt, StaticPredictor, files, Vec::new(alloc), alloc);
+    let Ending { status, err } = perform_with(&mut context, line, &inputs);
+    if status != 0 || !err.is_empty() || !context.out.is_empty() {
         return Vec::new(alloc);
     }
-    file.into_inner()
+    context.files.into_inner()
 }
 
 #[test]

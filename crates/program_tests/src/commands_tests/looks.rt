@@ -6,7 +6,7 @@ use crate::lines::looks_line;
 use crate::performing::{Ending, inputs_of, perform_line};
 use crate::rows::{holds, text_of};
 use actors::StaticPredictor;
-use commands::step_bytes;
+use core_commands::step_bytes;
 use sim_inputs::read_config;
 use std::alloc::Global;
 use std::sync::Wait;

@@ -1,7 +1,7 @@
 //! Actors work side by side: a gate holds each until the others have come.
 
 use actors::{Gate, Point, StaticPredictor};
-use commands::run_bytes;
+use core_commands::run_bytes;
 use core_lock::BoardView;
 use events::Event;
 use sim_inputs::read_config;

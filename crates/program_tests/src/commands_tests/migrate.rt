@@ -2,9 +2,10 @@
 
 use super::SINGLE;
 use crate::lines::{check_line, migrate_line};
-use crate::performing::{Ending, Performed, inputs_of, perform_into, perform_whole};
+use crate::performing::{Ending, Performed, context_of, inputs_of, perform_whole, perform_with};
 use crate::rows::{ends, holds, shows, text_of};
 use actors::StaticPredictor;
+use command_parts::Context;
 use event_text::Over;
 use std::alloc::Global;
 use std::process::Abort;
@@ -56,20 +57,12 @@ fn migrate<R: Threads + Wait + Sync>(
 ) -> Migrated {
     // No image is read, so this one isn't refused.
     let inputs = inputs_of(config, b"", Ok(trace));
-    let mut sink = Over::new(Vec::new(alloc));
-    let mut out = Vec::new(alloc);
-    let line = migrate_line();
-    let ending = perform_into(
-        rt,
-        &line,
-        &inputs,
-        StaticPredictor,
-        &mut sink,
-        &mut out,
-        alloc,
-    );
+    let files = Over::new(Vec::new(alloc));
+    let mut context = context_of(rt, StaticPredictor, files, Vec::new(alloc), alloc);
+    let ending = perform_with(&mut context, &migrate_line(), &inputs);
+    let Context { files, out, .. } = context;
     Migrated {
-        text: sink.into_inner(),
+        text: files.into_inner(),
         out,
         ending,
     }

@@ -5,7 +5,7 @@ use super::{ENDING, RESERVING};
 use crate::lines::plain_line;
 use crate::performing::{Performed, inputs_of, perform_whole};
 use crate::rows::{ends, shows, text_of};
-use commands::Unread;
+use command_parts::Unread;
 use std::alloc::Global;
 use std::process::Abort;
 use std::sync::Wait;

@@ -6,7 +6,7 @@ use crate::lines::{LIST, step_line};
 use crate::performing::{Ending, Performed, inputs_of, perform_line, perform_whole};
 use crate::rows::{ends, text_of};
 use actors::StaticPredictor;
-use commands::{Inputs, Unread};
+use command_parts::{Inputs, Unread};
 use sim_inputs::Line;
 use std::alloc::Global;
 use std::process::Abort;
@@ -186,7 +186,7 @@ fn refuses_with<R: Threads + Wait + Abort + Sync>(
 ) {
     let inputs = Inputs {
         config: refusal.config,
-        image,
+        program: image,
         second: refusal.second,
     };
     let line = line_of(refusal.list);

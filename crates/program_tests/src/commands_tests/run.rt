@@ -7,7 +7,7 @@ use super::{ENDING, SINGLE, is_like};
 use crate::lines::run_line;
 use crate::performing::{Ending, Performed, perform_line, perform_whole, read_inputs_of};
 use crate::rows::{ends, shows, text_of};
-use commands::{Inputs, Unread};
+use command_parts::{Inputs, Unread};
 use smt_core::Predict;
 use std::alloc::Global;
 use std::process::Abort;
@@ -188,7 +188,7 @@ fn no_prediction_changes_an_end(rt: HostRuntime) {
 fn a_run_needs_its_image(rt: HostRuntime) {
     let inputs = Inputs {
         config: Ok(SINGLE),
-        image: Err(Unread::File),
+        program: Err(Unread::File),
         second: Ok(b""),
     };
     let line = run_line(false, None);

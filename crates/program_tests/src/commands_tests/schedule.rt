@@ -5,7 +5,7 @@ use super::RESERVING;
 use crate::lines::SCHEDULE;
 use crate::performing::{Performed, perform_whole, read_inputs_of};
 use crate::rows::{ends, holds, shows, text_of};
-use commands::step_bytes;
+use core_commands::step_bytes;
 use elf_image::load;
 use plain_run::run_order;
 use sim_inputs::read_config;

@@ -6,7 +6,7 @@ use crate::lines::SCRIPT;
 use crate::performing::{Performed, perform_whole, read_inputs_of};
 use crate::rows::{ends, holds, shows, text_of};
 use actors::StaticPredictor;
-use commands::step_bytes;
+use core_commands::step_bytes;
 use sim_inputs::read_config;
 use std::alloc::Global;
 use std::process::Abort;

@@ -4,7 +4,7 @@
 use super::script_rows::{ASTRAY, RUNS, Row, ScriptRun};
 use crate::rows::{shows, text_of};
 use actors::StaticPredictor;
-use commands::step_bytes;
+use core_commands::step_bytes;
 use sim_inputs::read_config;
 use smt_core::{Finished, Predict};
 use std::alloc::Global;

@@ -2,7 +2,7 @@
 
 use super::ENDING;
 use crate::lines::stress_line;
-use crate::performing::{perform_into, read_inputs_of};
+use crate::performing::{context_of, perform_with, read_inputs_of};
 use crate::rows::text_of;
 use actors::StaticPredictor;
 use event_text::Over;
@@ -20,22 +20,15 @@ ends 1
 fn runs_of_one_end_are_counted_and_the_first_is_kept(rt: HostRuntime) {
     let image = file_of(ENDING, 0, rt.alloc()).expect(&rt, "an image");
     let inputs = read_inputs_of(b"", &image, b"");
-    let mut kept = Over::new(Vec::new(rt.alloc()));
-    let mut out = Vec::new(rt.alloc());
-    let ending = perform_into(
-        &rt,
-        &stress_line(3),
-        &inputs,
-        StaticPredictor,
-        &mut kept,
-        &mut out,
-        rt.alloc(),
-    );
+    let kept = Over::new(Vec::new(rt.alloc()));
+    let out = Vec::new(rt.alloc());
+    let mut context = context_of(&rt, StaticPredictor, kept, out, rt.alloc());
+    let ending = perform_with(&mut context, &stress_line(3), &inputs);
     assert!(rt; ending.status == 1);
-    assert!(rt; text_of(&out) == TABLE);
+    assert!(rt; text_of(&context.out) == TABLE);
     // A trace of the one end, and behind it its order: three instructions of hart 0. What a unit
     // hands back of a squashed instruction may come behind the last retirement.
-    let kept = kept.into_inner();
+    let kept = context.files.into_inner();
     let text = text_of(&kept);
     assert!(rt; text.starts_with("smt-trace 3\nconfig "));
     assert!(rt; text.contains("- e00000005 - - -\n"));

@@ -6,9 +6,10 @@ ghost use Rattle.std.specs.Prelude.{◌≡◌, false, true};
 use super::{SINGLE, TO_THE_END};
 use crate::failing::Failing;
 use crate::lines::{run_line, step_line};
-use crate::performing::{Ending, inputs_of, perform_into};
+use crate::performing::{Ending, context_of, inputs_of, perform_with};
 use crate::rows::{ends, holds, shows, text_of};
 use actors::StaticPredictor;
+use command_parts::Context;
 use event_text::{Over, read_trace};
 use history_check::check;
 use sim_inputs::{Line, read_config};
@@ -42,9 +43,10 @@ T 0 1 0000005d p80000008 - - -
 T 0 2 - e00000005 - - -
 ";
 
-/// What a line prints, and how it ends, its trace being put into a sink.
+/// What a line prints and puts into a sink of traces, and how it ends.
 #[derive(Drop)]
-struct Traced {
+struct Traced<S> {
+    files: S,
     out: Vec<u8>,
     ending: Ending,
 }
@@ -53,16 +55,17 @@ fn perform_traced<S: EndFiles, R: Threads + Wait + Sync>(
     rt: &R,
     line: &Line<'_>,
     config: &[u8],
-    trace: &mut S,
+    trace: S,
     alloc: Global,
-) -> Traced
-    requires works { S.has_failed trace.old ≡ false }
-    requires finished { S.is_finished trace.old ≡ true }
+) -> Traced<S>
+    requires works { S.has_failed trace ≡ false }
+    requires finished { S.is_finished trace ≡ true }
 {
     let inputs = inputs_of(config, &EXIT_WITH_5, Ok(TO_THE_END.as_bytes()));
-    let mut out = Vec::new(alloc);
-    let ending = perform_into(rt, line, &inputs, StaticPredictor, trace, &mut out, alloc);
-    Traced { out, ending }
+    let mut context = context_of(rt, StaticPredictor, trace, Vec::new(alloc), alloc);
+    let ending = perform_with(&mut context, line, &inputs);
+    let Context { files, out, .. } = context;
+    Traced { files, out, ending }
 }
 
 /// The trace that a line writes.
@@ -72,9 +75,10 @@ fn trace_of<R: Threads + Wait + Sync>(
     config: &[u8],
     alloc: Global,
 ) -> Vec<u8> {
-    let mut sink = Over::new(Vec::new(alloc));
-    let _ = perform_traced(rt, line, config, &mut sink, alloc);
-    sink.into_inner()
+    let sink = Over::new(Vec::new(alloc));
+    perform_traced(rt, line, config, sink, alloc)
+        .files
+        .into_inner()
 }
 
 #[test]
@@ -119,8 +123,8 @@ fn fails<R: Threads + Wait + Abort + Sync>(
     last: &str,
     alloc: Global,
 ) {
-    let mut sink = Over::new(Failing(0));
-    let Traced { out, ending } = perform_traced(rt, line, config, &mut sink, alloc);
+    let sink = Over::new(Failing(0));
+    let Traced { out, ending, .. } = perform_traced(rt, line, config, sink, alloc);
     let printed = text_of(&out);
     let is = ending.status == 5 && text_of(&ending.err) == "smtsim: file\n";
     ends(

@@ -2,7 +2,8 @@
 use Rattle.std.proofs.Common.{sym, ◌∙◌}
 use Rattle.std.proofs.lemmas.Bool.{true≢false}
 use mathlib.Core.Logic.{inl}
-use Rattle.commands.specs.{Inputs.as_read, Written.IsWritten}
+use Rattle.command_parts.specs.{Inputs.as_read}
+use Rattle.commands.specs.{Written.IsWritten}
 use Rattle.commands.proofs.OfLine.{known_refusal, unset_refusal, refused_harts, was_read, status_says}
 use Rattle.commands.proofs.performing.perform.Goals as goal
 
@@ -10,9 +11,10 @@ pub returns-in-Ok : goal.returns-in-Ok
 returns-in-Ok g c =
     let has = c.in-Ok.ensures in
     let inputs = c.args.inputs.now in
-    let says = status_says c.args.line.now.command (as_read inputs.config) (as_read inputs.image)
+    let says = status_says c.args.line.now.command (as_read inputs.config) (as_read inputs.program)
     (as_read inputs.second)
-    (IsWritten g.S.EndFiles.begins g.S.Sink.written g.S.Sink.has_failed c.args.trace.now c.perform_line.new.trace)
+    (IsWritten g.S.EndFiles.begins g.S.Sink.written g.S.Sink.has_failed c.args.context.now.files
+    c.perform_line.new.context.files)
     _ _ _ has.ended in
     record {
       known = inl says;

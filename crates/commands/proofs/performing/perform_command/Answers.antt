@@ -1,4 +1,4 @@
-use Rattle.commands.specs.Inputs.{as_read}
+use Rattle.command_parts.specs.Inputs.{as_read}
 use Rattle.commands.proofs.performing.perform_command.Goals as goal
 
 pub returns-in-Run : goal.returns-in-Run

@@ -4,7 +4,7 @@
 use super::{BOTH_LOAD, FIRST, TracedRun, checked, trace_run};
 use crate::performing::Performed;
 use crate::rows::{ends, holds, text_of};
-use commands::Unread;
+use command_parts::Unread;
 use std::alloc::Global;
 use std::process::Abort;
 use std::sync::Wait;

@@ -1,0 +1,48 @@
+-- The files of a line, as they were read. (This project's own choice.)
+use Rattle.std.specs.Prelude.{◌≡◌, ℕ, List, Result, Ok, Err}
+use Rattle.std.specs.Borrow.{Bor}
+use Rattle.elf_image.specs.{Loaded.IsImageOf}
+use Rattle.elf_image.specs.Image.{ProgramImage}
+use Rattle.sim_inputs.specs.{declared.settings.Settings.Settings, Configuration.IsConfiguration}
+use Rattle.command_parts.specs.{declared.refused.Refused.Refused, declared.refused.Unread.Unread}
+use Rattle.command_parts.specs.declared.refused.Refused.TheVariants.{Config, Memory}
+use Rattle.command_parts.specs.Refused.{refusal_of, PassesAll}
+
+-- A file as it was read: its text, or why there is none.
+abbrev pub Read : Type 0
+Read = Result (List ℕ) Unread
+
+abbrev pub as_read : Result (Bor (List ℕ)) Unread → Read
+as_read (Ok file) = Ok file.now
+as_read (Err why) = Err why
+
+-- The file was read, and this holds of its text.
+abbrev pub OfFile : Read → (List ℕ → Type 0) → Type 0
+OfFile (Ok text) P = P text
+OfFile (Err why) P = ⊥
+
+-- What is refused of a file that is needed: that it is unread, and else what `P` says of its text.
+abbrev pub BehindFile : Read → (List ℕ → Refused → Type 0) → Refused → Type 0
+BehindFile (Ok text) P reason = P text reason
+BehindFile (Err why) P reason = reason ≡ refusal_of why
+
+-- No settings are made of a text that is no configuration. Of memory nothing is said.
+abbrev pub IsNoConfiguration : List ℕ → Type 0
+IsNoConfiguration text = (settings : Settings) → IsConfiguration text settings → ⊥
+
+abbrev pub IsConfigRefusal : List ℕ → Refused → Type 0
+IsConfigRefusal text Config = IsNoConfiguration text
+IsConfigRefusal text Memory = Unit {0}
+IsConfigRefusal text _ = ⊥
+
+-- The configuration was read, and this holds of its settings.
+abbrev pub OfSettings : Read → (Settings → Type 0) → Type 0
+OfSettings config P =
+    OfFile config (λ text. (settings : Settings) × IsConfiguration text settings × P settings)
+
+-- So was the image, which passes every check; and this holds of the settings and of the program
+-- image that it is.
+abbrev pub OfProgram : Read → Read → (Settings → ProgramImage → Type 0) → Type 0
+OfProgram config image P = OfSettings config (λ settings. OfFile image (λ file.
+    PassesAll file settings.ram × (program : ProgramImage)
+    × IsImageOf file settings.ram program × P settings program))

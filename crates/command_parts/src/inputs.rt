@@ -1,0 +1,48 @@
+//! The files of a line, as they were read, and what is made of the first two of them.
+
+ghost use Rattle.std.specs.Prelude.{IfOk, IfErr, OnOk};
+ghost use Rattle.elf_image.specs.Loaded.{IsImageOf};
+ghost use Rattle.sim_inputs.specs.Configuration.{IsConfiguration};
+ghost use Rattle.command_parts.specs.Refused.{PassesAll, IsImageRefusal};
+ghost use Rattle.command_parts.specs.Inputs.{IsConfigRefusal};
+
+use crate::refused::{Refused, Unread};
+use elf_image::{Image, LoadRefused, RamSize, load};
+use sim_inputs::{ConfigRefused, Settings, read_config};
+use std::alloc::Global;
+
+/// The files that a line names, as they were read.
+#[derive(Clone, Copy, Drop)]
+pub struct Inputs<'a> {
+    /// The configuration; empty where the line names none.
+    pub config: Result<&'a [u8], Unread>,
+    /// The image, or the litmus test; empty where the line names none.
+    pub program: Result<&'a [u8], Unread>,
+    /// The script, the trace that is read, or the order; empty where the line names none.
+    pub second: Result<&'a [u8], Unread>,
+}
+
+/// The settings of a configuration's text.
+pub fn settings_of(text: &[u8], alloc: Global) -> Result<Settings, Refused>
+    ensures settings { IfOk result (IsConfiguration text.now) }
+    ensures refused { IfErr result (IsConfigRefusal text.now) }
+{
+    match read_config(text, alloc) {
+        Ok(settings) => Ok(settings),
+        Err(ConfigRefused::Refused) => Err(Refused::Config),
+        Err(ConfigRefused::Memory) => Err(Refused::Memory),
+    }
+}
+
+/// The program image of a file, for a memory of this size.
+pub fn image_of(file: &[u8], ram: RamSize, alloc: Global) -> Result<Image, Refused>
+    ensures refused { IfErr result (IsImageRefusal file.now ram) }
+    ensures passed { OnOk result (PassesAll file.now ram) }
+    ensures image { IfOk result (IsImageOf file.now ram) }
+{
+    match load(alloc, file, ram) {
+        Ok(image) => Ok(image),
+        Err(LoadRefused::OutOfMemory) => Err(Refused::Memory),
+        Err(refused) => Err(Refused::Image(refused.number())),
+    }
+}

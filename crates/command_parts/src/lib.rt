@@ -1,0 +1,16 @@
+//! What all commands share.
+//!
+//! Read in this order: `refused` (why there is no report, and the exit status that goes with it), `inputs` (the
+//! files of a line as they were read, and what is made of the first two), `context` (what a command is
+//! performed with), `writing` (a text that is put into a file whole).
+#![tactic(auto)]
+
+mod context;
+mod inputs;
+mod refused;
+mod writing;
+
+pub use context::Context;
+pub use inputs::{Inputs, image_of, settings_of};
+pub use refused::{Refused, Unread, refuse};
+pub use writing::put_text;

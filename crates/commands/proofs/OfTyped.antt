@@ -1,0 +1,59 @@
+-- A line of `step` whose script is typed: its exit status, and what a flush leaves.
+use Rattle.std.specs.Prelude.{◌≡◌, ℕ, IsTrue, List, [], ◌++◌, Option, Ok, Err}
+use Rattle.std.specs.Io.KnownBytes.{Keeps}
+use Rattle.elf_image.specs.{Loaded.IsImageOf}
+use Rattle.elf_image.specs.Image.{ProgramImage}
+use Rattle.core_state.specs.{View.CoreView}
+use Rattle.scripts.specs.{Script.pieces}
+use Rattle.sim_inputs.specs.{declared.settings.Settings.Settings, Configuration.IsConfiguration}
+use Rattle.report_lines.specs.Statuses.{says_harts}
+use Rattle.core_commands.specs.{declared.wanted.Wanted.Wanted}
+use Rattle.command_parts.specs.{Inputs.Read}
+use Rattle.core_commands.specs.{Account.statuses_of}
+use Rattle.command_parts.specs.{Refused.PassesAll}
+use Rattle.core_commands.specs.{Step.IsAsking, Prompt.PromptComesTo}
+use Rattle.commands.specs.{Typed.TypedComesTo}
+use Rattle.commands.proofs.Sound.{prints_kept, status_says}
+
+-- An empty text is a script, that of no words.
+pub empty_asks : IsAsking []
+unfolding pieces
+empty_asks = ([], tt)
+
+module _ {P : Type 0} (predicts : P → ℕ → ℕ → ℕ → ℕ → P → Type 0) (before : P) (settings : Settings)
+    (input : Option (List ℕ)) (wanted : Wanted) (Traced : CoreView → Type 0) where
+  -- A flush changes nothing of it.
+  pub typed_flushed : (text : List ℕ) (file : List ℕ) (program : ProgramImage) (old mid new : Option (List ℕ))
+      (status : ℕ) → IsConfiguration text settings → PassesAll file settings.ram
+      → IsImageOf file settings.ram program
+      → PromptComesTo predicts before settings program input wanted Traced old mid status → Keeps mid new
+      → TypedComesTo predicts before (Ok text) (Ok file) input wanted Traced old new status
+  typed_flushed text file program old mid new status configured passes loaded is flushed = (
+    settings,
+    configured,
+    (
+      passes,
+      program,
+      loaded,
+      record {
+        accepted = is.accepted;
+        ended = is.ended;
+        core = is.core;
+        idle = is.idle;
+        prompted = is.prompted;
+        as_step = is.as_step;
+        traced = is.traced;
+        printed = prints_kept old mid new _ is.printed flushed;
+        harts = is.harts;
+      },
+    ),
+  )
+
+pub typed_says : {P : Type 0} (predicts : P → ℕ → ℕ → ℕ → ℕ → P → Type 0) (before : P) (config image : Read)
+    (input : Option (List ℕ)) (wanted : Wanted) (Traced : CoreView → Type 0) (old new : Option (List ℕ)) (status : ℕ)
+    → TypedComesTo predicts before config image input wanted Traced old new status → IsTrue (says_harts status)
+typed_says predicts before (Ok text) (Ok file) input wanted Traced old new status is =
+    let comes = is.2.3 in
+    status_says status (statuses_of comes.core) comes.harts
+typed_says predicts before (Ok text) (Err why) input wanted Traced old new status is = absurd is.2
+typed_says predicts before (Err why) image input wanted Traced old new status is = absurd is

@@ -1,5 +1,0 @@
-use Rattle.std.proofs.Common.{rules}
-use Rattle.commands.proofs.check.read_events.Goals as goal
-
-pub returns-in-Err-Line-clause-refused : goal.returns-in-Err-Line-clause-refused
-returns-in-Err-Line-clause-refused c = search rules

@@ -1,5 +1,0 @@
-use Rattle.std.proofs.Common.{rules, refl}
-use Rattle.commands.proofs.refused.Refused.exit_status.Goals as goal
-
-pub returns-in-Image : goal.returns-in-Image
-returns-in-Image c = record { status = search rules; apart = refl }

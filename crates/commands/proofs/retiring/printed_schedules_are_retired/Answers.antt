@@ -1,5 +1,0 @@
-use Rattle.commands.proofs.Retired.{printed}
-use Rattle.commands.proofs.retiring.printed_schedules_are_retired.Goals as goal
-
-pub returns : goal.returns
-returns g c = record { printed = printed g.P.Predict.predicts c.schedules_are_retired.ensures.retired }

@@ -1,5 +1,0 @@
-use Rattle.std.proofs.Common.{rules}
-use Rattle.commands.proofs.step.new_core.Goals as goal
-
-pub returns-in-Err-Config-clause-refused : goal.returns-in-Err-Config-clause-refused
-returns-in-Err-Config-clause-refused c = search rules

@@ -1,0 +1,9 @@
+pub mod OfAccount
+pub mod OfAnswer
+pub mod OfStep
+pub mod OfPrompt
+pub mod OfRun
+pub mod OfStress
+pub mod OfCheck
+pub mod OfScript
+pub mod OfChart

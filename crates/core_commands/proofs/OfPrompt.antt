@@ -1,0 +1,62 @@
+-- The command `step` with a script that is typed: its refusals, and what it comes to.
+use Rattle.std.specs.Prelude.{◌≡◌, ℕ, true, false, List, [], ◌++◌, Option}
+use Rattle.std.proofs.Common.{refl}
+use Rattle.elf_image.specs.Image.{ProgramImage}
+use Rattle.core_state.specs.{Setup.setup_of, View.CoreView}
+use Rattle.smt_model.specs.Setup.{is_accepted}
+use Rattle.text_fields.specs.{Printing.Prints}
+use Rattle.scripts.specs.{Script.pieces, Lines.words_in}
+use Rattle.prompts.specs.{declared.prompting.Ended.Ended, Prompted.IsPrompted}
+use Rattle.sim_inputs.specs.{declared.settings.Settings.Settings}
+use Rattle.report_lines.proofs.Appending.{appends_more}
+use Rattle.core_commands.specs.{declared.wanted.Wanted.Wanted}
+use Rattle.core_commands.specs.{Account.IsReported, Account.idle_of}
+use Rattle.command_parts.specs.{Refused.AreAccepted, Refused.AreRefused}
+use Rattle.core_commands.specs.{Step.IsAsking, Prompt.PromptComesTo}
+
+-- An empty text is a script, that of no words.
+pub empty_asks : IsAsking []
+unfolding pieces
+empty_asks = ([], tt)
+
+-- Whether sizes are those of a core doesn't hang on the image.
+pub accepted_all : (settings : Settings) (image : ProgramImage)
+    → is_accepted (setup_of image settings.config) settings.limit ≡ true → AreAccepted settings
+accepted_all settings image is = λ other. is
+
+pub refused_all : (settings : Settings) (image : ProgramImage)
+    → is_accepted (setup_of image settings.config) settings.limit ≡ false → AreRefused settings
+refused_all settings image is = λ other. is
+
+module _ {P : Type 0} (predicts : P → ℕ → ℕ → ℕ → ℕ → P → Type 0) (before : P) (settings : Settings)
+    (input : Option (List ℕ)) (wanted : Wanted) (Traced : CoreView → Type 0) where
+  -- The lines were answered, and then the account was printed.
+  pub prompt_comes_to : (image : ProgramImage) (ended : Ended) (core : CoreView) (idle : List ℕ) (old mid new : Option (List ℕ))
+      (status : ℕ) → AreAccepted settings
+      → IsPrompted predicts before (setup_of image settings.config) settings.limit input ended core idle
+      → Prints old mid (λ text. Unit {0}) → Traced core → IsReported core (idle_of core idle) wanted mid new status
+      → PromptComesTo predicts before settings image input wanted Traced old new status
+  prompt_comes_to image ended core idle old mid new status accepted prompted answered traced reported = record {
+    accepted = accepted;
+    ended = ended;
+    core = core;
+    idle = idle;
+    prompted = prompted;
+    as_step = λ script is. record {
+      words = words_in prompted.kept;
+      is_script = is;
+      asked = prompted.asked.asked;
+    };
+    traced = traced;
+    printed = (
+      answered.0 ++ reported.printed.0,
+      record {
+        answers = answered.0;
+        account = reported.printed.0;
+        is_account = reported.printed.1;
+        both = refl;
+      },
+      appends_more old mid new _ _ answered.2 reported.printed.2,
+    );
+    harts = reported.harts;
+  }

@@ -1,0 +1,88 @@
+-- What is reported of a core: what is printed of it, its trace, and the exit status. (This
+-- project's own choice.)
+use Rattle.std.specs.Prelude.{◌≡◌, ℕ, Bool, true, false, List, [], ◌++◌, Option, Some, None, is_some}
+use Rattle.std.specs.Prelude.{length, map, reverse, take, if◌then◌else◌}
+use Rattle.events.specs.declared.effect.Record.{Record}
+use Rattle.smt_model.specs.{declared.config.Status.Status, Basics.below, Account.records}
+use Rattle.smt_model.specs.{Account.open_job_count, Memory.status, Memory.output}
+use Rattle.core_state.specs.{View.CoreView}
+use Rattle.event_text.specs.{Sinking.HasPut}
+use Rattle.text_fields.specs.{Printing.Prints}
+use Rattle.smt_model.specs.Touched.{looks, loads}
+use Rattle.history_counts.specs.{declared.counts.Counts.Counts, Numbers.counts_of}
+use Rattle.report_lines.specs.Lines.{records_text, status_number}
+use Rattle.reports.specs.Report.{looks_line, report_text}
+use Rattle.reports.specs.{CountLines.count_lines, Counts.idle_lines, Json.json_text, Traces.trace_of}
+use Rattle.core_commands.specs.declared.wanted.Wanted.{Wanted}
+
+-- How the harts of a core stand; what has retired in it, the oldest first.
+abbrev pub statuses_of : CoreView → List Status
+statuses_of core = map (status core.past) (below core.setup.harts)
+
+abbrev pub retired_of : CoreView → List Record
+retired_of core = reverse (records core.past)
+
+-- The tables' text: some text where they are wanted, and else none.
+abbrev pub AreTables : Bool → List ℕ → Type 0
+AreTables true text = Unit {0}
+AreTables false text = text ≡ []
+
+-- How many of its loads looked again, where that is wanted: its loads are those that retired with an
+-- rd other than x0 and didn't stop.
+abbrev pub looks_of : Bool → CoreView → List ℕ
+looks_of wanted core = if wanted then looks_line (looks core.past) (loads core.past) else []
+
+-- The numbers of its history, where they are wanted: behind the report, or in its object.
+abbrev pub counts_in : Bool → CoreView → Option Counts
+counts_in wanted core = if wanted then Some (counts_of core.past) else None
+
+-- Behind them stands how many asks of each actor were answered idle.
+abbrev pub numbers_text : Option Counts → ℕ → List Record → List ℕ → List ℕ
+numbers_text None harts records idle = []
+numbers_text (Some counts) harts records idle = count_lines counts harts records ++ idle_lines idle
+
+-- Of the numbers for each actor that there may be, those of the actors of this core.
+abbrev pub idle_of : CoreView → List ℕ → List ℕ
+idle_of core idle = take (length core.setup.roles) idle
+
+-- A report, of what an account has, and behind it the numbers and why each hart stands where it does
+-- (`ends`). As an object it comes last, with the numbers in it.
+abbrev pub body_text : Bool → ℕ → List Record → ℕ → List Status → List ℕ → Option Counts
+    → List ℕ → List ℕ → List ℕ
+body_text true events records lent statuses output counts idle ends =
+    ends ++ json_text events records lent statuses output counts idle
+body_text false events records lent statuses output counts idle ends =
+    report_text events (length records) lent statuses output
+    ++ (numbers_text counts (length statuses) records idle ++ ends)
+
+abbrev pub body_of : Bool → Bool → CoreView → List ℕ → List ℕ → List ℕ
+body_of as_json with_counts core idle ends =
+    body_text as_json (length core.past) (retired_of core) (open_job_count core.setup core.past)
+    (statuses_of core) (output core.past) (counts_in with_counts core) idle ends
+
+-- What is printed of a core behind the lines of the asks: its tables, how many loads looked again
+-- and its records, where they are wanted, and its report, with what else is wanted; of the actors' asks
+-- so many were answered idle.
+pub record IsAccount (core : CoreView) (idle : List ℕ) (wanted : Wanted) (text : List ℕ) : Type 0 where
+  pub tables : List ℕ
+  pub are_tables : AreTables wanted.tables tables
+  pub ends : List ℕ
+  pub are_ends : AreTables (is_some wanted.ends) ends
+  pub whole : text
+      ≡ tables ++ (looks_of wanted.looks core
+      ++ (records_text wanted.records (retired_of core)
+      ++ body_of wanted.json wanted.counts core idle ends))
+
+-- The account of a core is printed, and the exit status is that of its harts.
+pub record IsReported (core : CoreView) (idle : List ℕ) (wanted : Wanted) (old new : Option (List ℕ))
+    (exit_status : ℕ) : Type 0 where
+  pub printed : Prints old new (IsAccount core idle wanted)
+  pub harts : exit_status ≡ status_number (statuses_of core)
+
+-- Where the trace of a core is wanted, a sink took all of it, and hasn't failed; else nothing went
+-- into the sink. A sink says of its values what was put and whether it has failed.
+abbrev pub IsTraceWritten : {S : Type 0} → (S → Option (List ℕ)) → (S → Bool) → S → S → Bool
+    → CoreView → Type 0
+IsTraceWritten written has_failed old new true core =
+    HasPut written has_failed old new (trace_of core)
+IsTraceWritten written has_failed old new false core = new ≡ old

@@ -1,0 +1,10 @@
+pub mod Account
+pub mod Wanted
+pub mod Step
+pub mod Prompt
+pub mod Run
+pub mod Stress
+pub mod Check
+pub mod Script
+pub mod Chart
+pub mod Migrate

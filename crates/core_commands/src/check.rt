@@ -1,0 +1,117 @@
+//! The command `check`: whether a trace is a history of the core.
+
+ghost use Rattle.std.specs.Prelude.{◌≡◌, ◌≤◌, IfOk, IfErr, length, reverse};
+ghost use Rattle.std.specs.Prelude.{true, false};
+ghost use Rattle.numbers.specs.Sizes.{most_actors};
+ghost use Rattle.elf_image.specs.Image.{ProgramImage};
+ghost use Rattle.smt_core.specs.Shown.{Shown};
+ghost use Rattle.smt_model.specs.Setup.{is_accepted};
+ghost use Rattle.core_state.specs.Setup.{setup_of};
+ghost use Rattle.command_parts.specs.declared.refused.Refused.TheVariants.{Output};
+ghost use Rattle.core_commands.specs.Check.{IsCheckRefusal, CheckComesTo, IsTraceOf};
+ghost use Rattle.core_commands.specs.Check.{IsTraceRefusal, IsHistoryRefusal, setup_by};
+
+use crate::account::report_core;
+use crate::wanted::Wanted;
+use arrayvec::ArrayVec;
+use command_parts::Refused;
+use elf_image::Image;
+use event_text::{Trace, TraceHead, TraceRefused, read_trace};
+use events::Role;
+use history_check::{CheckRefused, Checked, check};
+use numbers::sizes::MOST_ACTORS;
+use sim_inputs::Settings;
+use smt_model::Config;
+use std::alloc::Global;
+use std::io::Write;
+
+/// Checks that the events of a trace are a history of the core of an image, and writes what the
+/// history comes to: the report, and what else is wanted. Answers the exit status: how the harts
+/// stand.
+///
+/// Refused are, in this order, the first line of the trace that breaks a rule, sizes of no core or
+/// too many events, and the first event that isn't allowed; then nothing is printed. `Output` is
+/// answered where `out` failed.
+#[inline(never)]
+pub fn perform_check<W: Write>(
+    image: &Image,
+    settings: &Settings,
+    trace: &[u8],
+    wanted: Wanted,
+    out: &mut W,
+    alloc: Global,
+) -> Result<u8, Refused>
+    ensures refused { IfErr result (IsCheckRefusal settings.now image.now trace.now) }
+    ensures ended { IfOk result (CheckComesTo settings.now image.now trace.now wanted
+        (W.contents out.old) (W.contents out.new)) }
+{
+    let trace = read_events(trace, alloc)?;
+    let checked = follow_all(image, settings, &trace, alloc)?;
+    report_core(checked.core(), &[], wanted, out, alloc)
+}
+
+/// The trace that a text is.
+pub(crate) fn read_events(text: &[u8], alloc: Global) -> Result<Trace, Refused>
+    ensures trace { IfOk result (IsTraceOf text.now) }
+    ensures refused { IfErr result (IsTraceRefusal text.now) }
+{
+    match read_trace(text, alloc) {
+        Ok(trace) => Ok(trace),
+        Err(TraceRefused::Line { line, rule }) => Err(Refused::Trace { line, rule }),
+        Err(TraceRefused::Memory) => Err(Refused::Memory),
+    }
+}
+
+/// The sizes of the core that a trace is of: those that it says itself, or else those of the settings.
+pub(crate) fn config_by(settings: &Settings, head: &TraceHead) -> Config
+    ensures { (image : ProgramImage)
+        → setup_of image result ≡ setup_by settings.now image head.now }
+{
+    match head {
+        TraceHead::First => settings.config.copied(),
+        TraceHead::Later(_, header) => Config {
+            harts: header.harts(),
+            extra: header.extra(),
+            queue: header.queue(),
+            roles: copy_of(header.roles()),
+        },
+    }
+}
+
+fn copy_of(roles: &[Role]) -> ArrayVec<Role, MOST_ACTORS>
+    requires { length roles.now ≤ most_actors }
+    ensures { result.items ≡ roles.now }
+{
+    let mut copy = ArrayVec::new();
+    for role in roles {
+        copy.push(*role);
+    }
+    copy
+}
+
+/// The core that a trace is of, which has followed its events, with room for no more.
+pub(crate) fn follow_all(
+    image: &Image,
+    settings: &Settings,
+    trace: &Trace,
+    alloc: Global,
+) -> Result<Checked, Refused>
+    ensures whole { IfOk result
+        (λ checked. checked ≡ record {
+          setup = setup_by settings.now image.now trace.now.head;
+          limit = length trace.now.events;
+          past = reverse trace.now.events;
+        }) }
+    ensures accepted { IfOk result (λ checked. is_accepted checked.setup checked.limit ≡ true) }
+    ensures shown { IfOk result (λ checked. Shown checked) }
+    ensures refused { IfErr result
+        (IsHistoryRefusal (setup_by settings.now image.now trace.now.head) trace.now.events) }
+{
+    let config = config_by(settings, trace.head());
+    match check(image, config, trace.events(), alloc) {
+        Ok(checked) => Ok(checked),
+        Err(CheckRefused::BadConfig) => Err(Refused::Config),
+        Err(CheckRefused::Memory) => Err(Refused::Memory),
+        Err(CheckRefused::Event { index, rule }) => Err(Refused::Event { index, rule }),
+    }
+}

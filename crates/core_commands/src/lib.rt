@@ -1,0 +1,28 @@
+//! The commands over cores and their histories.
+//!
+//! Read in this order: `wanted` (what is wanted of a core), `account` (what is reported of one), then a module a
+//! command: `step`, `prompt` (the same of a script that is typed), `run`, `stress` (many runs), `check`, `script`,
+//! `chart` and `migrate`. What each command comes to, and when each of its refusals comes, stands in `specs` under
+//! the command's name.
+#![tactic(auto)]
+
+mod account;
+mod chart;
+mod check;
+mod migrate;
+mod prompt;
+mod run;
+mod script;
+mod step;
+mod stress;
+mod wanted;
+
+pub use chart::perform_chart;
+pub use check::perform_check;
+pub use migrate::perform_migrate;
+pub use prompt::perform_prompt;
+pub use run::{perform_run, run_bytes};
+pub use script::perform_script;
+pub use step::{perform_step, step_bytes};
+pub use stress::perform_stress;
+pub use wanted::Wanted;

@@ -1,0 +1,6 @@
+pub mod OfPlain
+pub mod OfRounds
+pub mod OfSchedule
+pub mod OfOutcomes
+pub mod OfLitmus
+pub mod Retired

@@ -1,0 +1,60 @@
+-- A litmus test: what is refused of it, and what it comes to, behind a configuration.
+use Rattle.std.specs.Prelude.{◌≡◌, ℕ, false, List, Option, Some, None, is_some, if◌then◌else◌, Result, Ok, Err, IfOk, OnOk}
+use Rattle.std.specs.Prelude.{length}
+use Rattle.std.proofs.Common.{refl, subst}
+use Rattle.std.proofs.lemmas.Bool.{true≢false}
+use mathlib.Core.Logic.{inl, inr}
+use Rattle.std.specs.Io.KnownBytes.{Appends}
+use Rattle.elf_image.specs.Image.{ProgramImage}
+use Rattle.outcome_text.specs.Listing.{incomplete_text}
+use Rattle.outcomes.specs.{Found.Found, Found.InEachSetup, Found.AreAll}
+use Rattle.watched_outcomes.specs.{declared.watch.Watch.Watch}
+use Rattle.outcomes.specs.{Found.CoversCores, Found.IsOnce, Refusals.IsRefusedFor}
+use Rattle.outcomes.specs.declared.refused.OutcomesRefused.TheVariants as search
+use Rattle.litmus_tests.specs.declared.test.LitmusTest.{LitmusTest}
+use Rattle.sim_inputs.specs.declared.line.LitmusCommand.{LitmusCommand}
+use Rattle.sim_inputs.specs.Files.{written_for_test}
+use Rattle.command_parts.specs.declared.refused.Refused.{Refused}
+use Rattle.plain_commands.specs.Litmus.{TestComesTo, IsSearched, IsTold}
+
+-- Where no file is written, neither of the two is.
+neither : {A : Type 0} (first second : Option A) → is_some (if is_some first then first else second) ≡ false
+    → (is_some first ≡ false) × (is_some second ≡ false)
+neither None second none = (refl, none)
+neither (Some one) second none = absurd (true≢false none)
+
+pub nothing_written : (command : LitmusCommand) → is_some (written_for_test command) ≡ false
+    → (is_some command.image ≡ false) × (is_some command.svg ≡ false)
+nothing_written command none = neither command.image command.svg none
+
+-- What a search of so many harts finds is so for as many as the test has.
+module _ (test : LitmusTest) (command : LitmusCommand) (image : ProgramImage) (watch : Watch) (harts : ℕ)
+    (count : harts ≡ length test.threads.items) (searched : IsSearched test image watch)
+    (old new : Option (List ℕ)) where
+  pub all_told : (found : Found) → InEachSetup image harts (λ setup. AreAll setup watch found)
+      → InEachSetup image harts (λ setup. CoversCores setup watch found) → IsOnce found
+      → (answer : Result ℕ Refused) → OnOk answer (IsTold test command found.listed old new)
+      → IfOk answer (λ status. status ≡ 0) → IfOk answer (TestComesTo test command old new)
+  all_told found all cores once (Ok status) told zero = inl (record {
+    image = image;
+    watch = watch;
+    searched = searched;
+    found = found;
+    all = subst (λ n. InEachSetup image n (λ setup. AreAll setup watch found)) count all;
+    cores = subst (λ n. InEachSetup image n (λ setup. CoversCores setup watch found)) count cores;
+    once = once;
+    told = told;
+    zero = zero;
+  })
+  all_told found all cores once (Err why) told zero = tt
+
+  pub more_told : IsRefusedFor image harts watch command.states search.Budget
+      → Appends old new (incomplete_text command.states) → TestComesTo test command old new 3
+  more_told beyond printed = inr (record {
+    image = image;
+    watch = watch;
+    searched = searched;
+    beyond = subst (λ n. IsRefusedFor image n watch command.states search.Budget) count beyond;
+    printed = printed;
+    three = refl;
+  })

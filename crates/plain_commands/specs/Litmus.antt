@@ -1,0 +1,97 @@
+-- The command `litmus`: every final state of a litmus test. (This project's own choice, after herd.)
+use Rattle.std.specs.Prelude.{◌≡◌, ◌⊎◌, ℕ, nat_lt, Bool, true, false, is_some, List, [], ◌++◌}
+use Rattle.std.specs.Prelude.{Option, codes, length}
+use Rattle.std.specs.Io.KnownBytes.{Appends}
+use Rattle.elf_image.specs.Image.{ProgramImage}
+use Rattle.outcomes.specs.{Found.Found, Found.Told}
+use Rattle.watched_outcomes.specs.{declared.watch.Watch.Watch}
+use Rattle.outcomes.specs.{Found.InEachSetup, Found.IsExactList, Found.CoversCores, Found.IsOnce, Refusals.IsRefusedFor}
+use Rattle.outcomes.specs.declared.refused.OutcomesRefused.TheVariants as search
+use Rattle.outcome_text.specs.Listing.{incomplete_text}
+use Rattle.litmus_tests.specs.declared.test.LitmusTest.{LitmusTest}
+use Rattle.litmus_tests.specs.{WellFormed.IsWellFormed, Conditions.holding}
+use Rattle.litmus_reading.specs.Places.{IsPlaceIn}
+use Rattle.litmus_images.specs.{Image.IsLitmusImage, Watching.registers_observed, Watching.words_observed}
+use Rattle.litmus_text.specs.States.{states_text, states_in}
+use Rattle.sim_inputs.specs.declared.line.LitmusCommand.{LitmusCommand}
+use Rattle.command_parts.specs.declared.refused.Refused.{Refused}
+use Rattle.command_parts.specs.declared.refused.Refused.TheVariants as reasons
+
+-- The test's image, and what is watched of it.
+pub record IsSearched (test : LitmusTest) (image : ProgramImage) (watch : Watch) : Type 0 where
+  pub is_image : IsLitmusImage test image
+  pub registers : watch.registers.items ≡ registers_observed test.observed.items
+  pub words : watch.words.items ≡ words_observed test.observed.items
+
+-- What is said of why the condition holds of no state: nothing where that isn't asked, and that it holds of
+-- one where it does.
+abbrev pub IsWhy : Bool → Bool → List ℕ → Type 0
+IsWhy false can_come text = text ≡ []
+IsWhy true true text = text ≡ codes "why: the condition holds of a state\n"
+IsWhy true false text = Unit {0}
+
+-- The states are printed that these outcomes are, and behind them why, where that is asked.
+pub record IsTold (test : LitmusTest) (command : LitmusCommand) (listed : List Told)
+    (old new : Option (List ℕ)) : Type 0 where
+  pub why : List ℕ
+  pub is_why : IsWhy command.why (nat_lt 0 (holding (states_in test listed) test.condition)) why
+  pub printed : Appends old new (states_text test listed ++ why)
+
+-- All final states are printed: those in which the test's image can end, whatever order its harts take, each
+-- of them an end of some order, and listed once; and every core that runs the image ends in one of them.
+pub record PrintsAllStates (test : LitmusTest) (command : LitmusCommand) (old new : Option (List ℕ))
+    (exit_status : ℕ) : Type 0 where
+  pub image : ProgramImage
+  pub watch : Watch
+  pub searched : IsSearched test image watch
+  pub found : Found
+  pub all : InEachSetup image (length test.threads.items) (λ setup. IsExactList setup watch found)
+  pub cores : InEachSetup image (length test.threads.items) (λ setup. CoversCores setup watch found)
+  pub once : IsOnce found
+  pub told : IsTold test command found.listed old new
+  pub zero : exit_status ≡ 0
+
+-- There are more states than were to be looked at, and that is printed.
+pub record PrintsIncompleteTest (test : LitmusTest) (command : LitmusCommand) (old new : Option (List ℕ))
+    (exit_status : ℕ) : Type 0 where
+  pub image : ProgramImage
+  pub watch : Watch
+  pub searched : IsSearched test image watch
+  pub beyond : IsRefusedFor image (length test.threads.items) watch command.states search.Budget
+  pub printed : Appends old new (incomplete_text command.states)
+  pub three : exit_status ≡ 3
+
+-- What the command comes to with a test.
+abbrev pub TestComesTo : LitmusTest → LitmusCommand → Option (List ℕ) → Option (List ℕ) → ℕ → Type 0
+TestComesTo test command old new status =
+    PrintsAllStates test command old new status ⊎ PrintsIncompleteTest test command old new status
+
+-- So it does with the test that was read.
+pub record LitmusComesTo (command : LitmusCommand) (old new : Option (List ℕ)) (exit_status : ℕ)
+    : Type 0 where
+  pub test : LitmusTest
+  pub well_formed : IsWellFormed test
+  pub comes : TestComesTo test command old new exit_status
+
+-- What is refused of a text: it is no test, from that place of it on. Of memory nothing is said.
+abbrev pub IsTextRefusal : List ℕ → Refused → Type 0
+IsTextRefusal text (reasons.Litmus place fault) = IsPlaceIn text place
+IsTextRefusal text reasons.Memory = Unit {0}
+IsTextRefusal text _ = ⊥
+
+-- What is refused of a picture, and of a test: a picture is wanted, and there is nothing to draw.
+abbrev pub IsPictureRefusal : Refused → Type 0
+IsPictureRefusal reasons.NothingToDraw = Unit {0}
+IsPictureRefusal reasons.Memory = Unit {0}
+IsPictureRefusal _ = ⊥
+
+abbrev pub IsTestRefusal : LitmusCommand → Refused → Type 0
+IsTestRefusal command reasons.NothingToDraw = is_some command.svg ≡ true
+IsTestRefusal command reasons.Memory = Unit {0}
+IsTestRefusal command reasons.Output = Unit {0}
+IsTestRefusal command _ = ⊥
+
+-- When each refusal comes.
+abbrev pub IsLitmusRefusal : List ℕ → LitmusCommand → Refused → Type 0
+IsLitmusRefusal text command (reasons.Litmus place fault) = IsPlaceIn text place
+IsLitmusRefusal text command reason = IsTestRefusal command reason

@@ -1,0 +1,70 @@
+-- The command `plain`: an order of harts, run on the plain machine. (This project's own choice.)
+use Rattle.std.specs.Prelude.{◌≡◌, ℕ, Bool, false, List, ◌++◌, Option, Some, length, map, reverse}
+use Rattle.std.specs.Io.KnownBytes.{Appends}
+use Rattle.elf_image.specs.Image.{ProgramImage}
+use Rattle.events.specs.declared.effect.Record.{Record}
+use Rattle.smt_model.specs.{declared.config.Status.Status, Basics.below, Plain.Run, Plain.run}
+use Rattle.sc_machine.specs.{Steps.are_harts}
+use Rattle.plain_run.specs.Orders.{IsStoppedAt}
+use Rattle.core_state.specs.Setup.{setup_of}
+use Rattle.scripts.specs.Order.{IsOrder, IsFirstNoHart}
+use Rattle.sim_inputs.specs.{declared.settings.Settings.Settings}
+use Rattle.report_lines.specs.Lines.{records_text, plain_report_text, status_number}
+use Rattle.command_parts.specs.{declared.refused.Refused.Refused}
+use Rattle.command_parts.specs.declared.refused.Refused.TheVariants.{Config, Order, Step, Memory, Output}
+
+-- The text is an order of harts; and this holds of them.
+abbrev pub IsOrdering : List ℕ → Type 0
+IsOrdering order = (harts : List ℕ) × IsOrder order harts
+
+abbrev pub OfOrder : List ℕ → (List ℕ → Type 0) → Type 0
+OfOrder order P = (harts : List ℕ) × IsOrder order harts × P harts
+
+-- When each refusal comes: all words of the order are looked at first, then the number of harts,
+-- then each step. The output is refused only behind them. Of memory nothing is said.
+abbrev pub IsPlainRefusal : Settings → ProgramImage → List ℕ → Refused → Type 0
+IsPlainRefusal settings image order Config =
+    IsOrdering order × (are_harts settings.config.harts ≡ false)
+IsPlainRefusal settings image order (Order index) = IsFirstNoHart order index
+IsPlainRefusal settings image order (Step index why) =
+    OfOrder order (λ harts. IsStoppedAt image settings.config.harts harts index why)
+IsPlainRefusal settings image order Memory = Unit {0}
+IsPlainRefusal settings image order Output = IsOrdering order
+IsPlainRefusal settings image order _ = ⊥
+
+-- The parts of it: what the reading of an order answers, and its run on an image.
+abbrev pub IsOrderRefusal : List ℕ → Refused → Type 0
+IsOrderRefusal order (Order index) = IsFirstNoHart order index
+IsOrderRefusal order Memory = Unit {0}
+IsOrderRefusal order _ = ⊥
+
+abbrev pub IsMachineRefusal : ProgramImage → ℕ → List ℕ → Refused → Type 0
+IsMachineRefusal image harts order Config = are_harts harts ≡ false
+IsMachineRefusal image harts order (Step index why) = IsStoppedAt image harts order index why
+IsMachineRefusal image harts order Memory = Unit {0}
+IsMachineRefusal image harts order _ = ⊥
+
+-- What the steps of a run have retired, the oldest first; and how so many harts stand behind it.
+abbrev pub retired_by : Run → List Record
+retired_by ran = reverse ran.records
+
+abbrev pub standing : ℕ → Run → List Status
+standing harts ran = map ran.state.statuses (below harts)
+
+-- What is printed of a run of so many harts: its records, where they are wanted, and its report.
+abbrev pub plain_text : Bool → ℕ → Run → List ℕ
+plain_text with_records harts ran =
+    records_text with_records (retired_by ran)
+    ++ plain_report_text (length (retired_by ran)) (standing harts ran) ran.state.output
+
+-- What the command comes to. There is a run of the definitions' machine: of this image and these
+-- settings' harts, in the order that the text says. What was printed is what is printed of it; the
+-- exit status is that of its harts.
+pub record PlainComesTo (settings : Settings) (image : ProgramImage) (order : List ℕ)
+    (with_records : Bool) (old new : Option (List ℕ)) (exit_status : ℕ) : Type 0 where
+  pub harts : List ℕ
+  pub is_order : IsOrder order harts
+  pub ran : Run
+  pub runs : run (setup_of image settings.config) (reverse harts) ≡ Some ran
+  pub printed : Appends old new (plain_text with_records settings.config.harts ran)
+  pub stands : exit_status ≡ status_number (standing settings.config.harts ran)

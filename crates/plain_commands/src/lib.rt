@@ -1,0 +1,21 @@
+//! The commands over the plain machine, and over orders of its harts.
+//!
+//! A module a command: `plain` and `plain_rounds` (an order, and turns without one), `schedule` (the script that
+//! makes a core retire in an order), `all_outcomes` and `litmus` (both over `searching`). `retiring` has the law
+//! that a printed schedule is retired. What each command comes to, and when each of its refusals comes, stands in
+//! `specs` under the command's name.
+#![tactic(auto)]
+
+mod all_outcomes;
+mod litmus;
+mod plain;
+mod plain_rounds;
+pub mod retiring;
+mod schedule;
+mod searching;
+
+pub use all_outcomes::perform_outcomes;
+pub use litmus::{perform_litmus, perform_test};
+pub use plain::perform_plain;
+pub use plain_rounds::{MOST_STEPS, perform_rounds, rounds_of};
+pub use schedule::perform_schedule;

@@ -1,0 +1,70 @@
+//! The command `plain`: an order of harts, run on the plain machine.
+
+ghost use Rattle.std.specs.Prelude.{IfOk, IfErr};
+ghost use Rattle.plain_run.specs.Orders.{HasLeft, OfEachSetup};
+ghost use Rattle.scripts.specs.Order.{IsOrder};
+ghost use Rattle.plain_commands.specs.Plain.{IsPlainRefusal, PlainComesTo};
+ghost use Rattle.plain_commands.specs.Plain.{IsOrderRefusal, IsMachineRefusal};
+
+use command_parts::Refused;
+use elf_image::Image;
+use plain_run::{OrderStopped, PlainRun, run_order};
+use report_lines::status_of;
+use reports::report_plain;
+use scripts::{OrderRefused, read_order};
+use sim_inputs::Settings;
+use std::alloc::Global;
+use std::io::Write;
+
+/// Runs the plain machine of an image in the order that a text says, and writes what it comes to: the
+/// records where they are wanted, and the report. Answers the exit status: how the harts stand.
+///
+/// Refused are, in this order, the first word of the order that is no number, a number of harts that
+/// the machine doesn't have, and the first step that it doesn't make; then nothing is printed.
+/// `Output` is answered where `out` failed.
+#[inline(never)]
+pub fn perform_plain<W: Write>(
+    image: &Image,
+    settings: &Settings,
+    order: &[u8],
+    records: bool,
+    out: &mut W,
+    alloc: Global,
+) -> Result<u8, Refused>
+    ensures refused { IfErr result (IsPlainRefusal settings.now image.now order.now) }
+    ensures ended { IfOk result (PlainComesTo settings.now image.now order.now records
+        (W.contents out.old) (W.contents out.new)) }
+{
+    let harts = harts_of(order, alloc)?;
+    let ran = run_image(image, settings.config.harts, harts.as_slice(), alloc)?;
+    match report_plain(&ran, records, out) {
+        Ok(()) => Ok(status_of(ran.statuses().as_slice())),
+        Err(_) => Err(Refused::Output),
+    }
+}
+
+/// The harts of an order's text.
+pub(crate) fn harts_of(order: &[u8], alloc: Global) -> Result<Vec<u8>, Refused>
+    ensures order { IfOk result (λ harts. IsOrder order.now harts.items) }
+    ensures refused { IfErr result (IsOrderRefusal order.now) }
+{
+    match read_order(order, alloc) {
+        Ok(harts) => Ok(harts),
+        Err(OrderRefused::Word(index)) => Err(Refused::Order(index)),
+        Err(OrderRefused::Memory) => Err(Refused::Memory),
+    }
+}
+
+/// What the plain machine of an image comes to when it has run an order.
+fn run_image(image: &Image, harts: u8, order: &[u8], alloc: Global) -> Result<PlainRun, Refused>
+    ensures ran { IfOk result
+        (λ ran. OfEachSetup image.now harts (λ setup. HasLeft setup order.now ran)) }
+    ensures refused { IfErr result (IsMachineRefusal image.now harts order.now) }
+{
+    match run_order(image, harts, order, alloc) {
+        Ok(ran) => Ok(ran),
+        Err(OrderStopped::Harts) => Err(Refused::Config),
+        Err(OrderStopped::Memory) => Err(Refused::Memory),
+        Err(OrderStopped::Step { index, why }) => Err(Refused::Step { index, why }),
+    }
+}

@@ -1,8 +1,0 @@
-use Rattle.std.proofs.Common.{refl}
-use Rattle.program.proofs.output_files.OutputFiles.new.Goals as goal
-
-pub returns-clause-works : goal.returns-clause-works
-returns-clause-works g c = refl
-
-pub returns-clause-finished : goal.returns-clause-finished
-returns-clause-finished g c = refl

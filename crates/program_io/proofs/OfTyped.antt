@@ -1,0 +1,77 @@
+-- Lines whose script is typed, which are of `step` and whose second file is not read, and all others.
+use Rattle.std.specs.Prelude.{◌≡◌, ℕ, Bool, false, ◌&&◌, [], Option, Some, None, Ok}
+use Rattle.std.proofs.Common.{refl, sym, ap, subst, ◌∙◌}
+use Rattle.std.proofs.lemmas.Bool.{cases_Bool}
+use mathlib.Core.Logic.{inl, inr}
+use Rattle.sim_inputs.specs.declared.line.Line.{Line}
+use Rattle.sim_inputs.specs.declared.line.Command.{Command}
+use Rattle.sim_inputs.specs.declared.line.Command.TheVariants as commands
+use Rattle.sim_inputs.specs.declared.line.ProgramCommand.TheVariants as program
+use Rattle.sim_inputs.specs.declared.line.StepCommand.{StepCommand}
+use Rattle.sim_inputs.specs.Files.{files_of, is_standard_input}
+use Rattle.report_lines.specs.Statuses.{says_harts}
+use Rattle.command_parts.specs.declared.refused.Refused.{Refused}
+use Rattle.command_parts.specs.{Inputs.Read, Refused.exit_status_of}
+use Rattle.commands.specs.{Perform.IsRefusal}
+use Rattle.program_io.specs.Performed.{typed_step, IsReadAs, HasPerformed}
+
+typed_command : (at_terminal : Bool) (command : Command) (step : StepCommand)
+    → typed_step at_terminal command ≡ Some step → command ≡ commands.OfProgram (program.Step step)
+typed_command at_terminal (commands.OfProgram (program.Step s)) step is =
+    elim (cases_Bool (at_terminal && is_standard_input s.script.now)) [
+      | inl typed ↦
+          let found : ◌≡◌ {A = Option StepCommand} (Some s) (Some step) = rw typed at is in
+          let same : s ≡ step = cc in
+          ap (λ (t : StepCommand). commands.OfProgram (program.Step t)) same
+      | inr read ↦ let none : ◌≡◌ {A = Option StepCommand} None (Some step) = rw read at is in absurd (cc)
+    ]
+typed_command at_terminal (commands.OfProgram (program.Run run)) step is = absurd (cc)
+typed_command at_terminal (commands.OfProgram (program.Check check)) step is = absurd (cc)
+typed_command at_terminal (commands.OfProgram (program.Plain plain)) step is = absurd (cc)
+typed_command at_terminal (commands.OfProgram (program.Schedule schedule)) step is = absurd (cc)
+typed_command at_terminal (commands.OfProgram (program.Script script)) step is = absurd (cc)
+typed_command at_terminal (commands.OfProgram (program.List list)) step is = absurd (cc)
+typed_command at_terminal (commands.OfProgram (program.Chart chart)) step is = absurd (cc)
+typed_command at_terminal (commands.OfProgram (program.Outcomes outcomes)) step is = absurd (cc)
+typed_command at_terminal (commands.Explain explain) step is = absurd (cc)
+typed_command at_terminal (commands.Litmus litmus) step is = absurd (cc)
+typed_command at_terminal (commands.Migrate migrate) step is = absurd (cc)
+
+-- It is performed with its other files as they were read, and refused as an empty script is.
+pub typed_performed : (at_terminal : Bool) (line : Line) (step : StepCommand) (status : ℕ) (config image : Read)
+    → typed_step at_terminal line.command ≡ Some step
+    → IsReadAs (files_of line).config config → IsReadAs (files_of line).program image
+    → (says_harts status ≡ false → (reason : Refused) × (exit_status_of reason ≡ status)
+    × IsRefusal (commands.OfProgram (program.Step step)) config image (Ok []) reason)
+    → HasPerformed at_terminal line status
+typed_performed at_terminal line step status config image typed has_config has_program refused = record {
+  config = config;
+  program = image;
+  second = Ok [];
+  has_config = has_config;
+  has_program = has_program;
+  has_second = rw typed refl;
+  refused = λ none.
+      let why = refused none in
+      let same = typed_command at_terminal line.command step typed in
+      (why.0, why.1, subst (λ c. IsRefusal c config image (Ok []) why.0) (sym same) why.2);
+}
+
+-- Where no script is typed, a line is performed with all its files as they were read.
+pub read_performed : (at_terminal : Bool) (line : Line) (typed : Option StepCommand) (status : ℕ)
+    (config image second : Read) → typed ≡ typed_step at_terminal line.command → typed ≡ None
+    → IsReadAs (files_of line).config config → IsReadAs (files_of line).program image
+    → IsReadAs (files_of line).second second
+    → (says_harts status ≡ false → (reason : Refused) × (exit_status_of reason ≡ status)
+    × IsRefusal line.command config image second reason)
+    → HasPerformed at_terminal line status
+read_performed at_terminal line typed status config image second found none has_config has_program has_second refused =
+    record {
+      config = config;
+      program = image;
+      second = second;
+      has_config = has_config;
+      has_program = has_program;
+      has_second = rw (sym found ∙ none) has_second;
+      refused = refused;
+    }

@@ -1,0 +1,64 @@
+-- What comes of the program's words. (This project's own choice.)
+use Rattle.std.specs.Prelude.{◌≡◌, ◌⊎◌, ℕ, Bool, false, ◌&&◌, List, [], Option, Some, None, IfNone}
+use Rattle.std.specs.Prelude.{Result, Ok, Err, Vec, is_some, if◌then◌else◌}
+use Rattle.std.specs.Borrow.{Bor}
+use Rattle.sim_inputs.specs.{declared.line.Line.Line, declared.line.WordsRefused.WordsRefused}
+use Rattle.sim_inputs.specs.CommandLine.{Asks, AreWordsRefusedFor}
+use Rattle.sim_inputs.specs.declared.line.Command.{Command}
+use Rattle.sim_inputs.specs.declared.line.Command.TheVariants.{OfProgram}
+use Rattle.sim_inputs.specs.declared.line.ProgramCommand.TheVariants.{Step}
+use Rattle.sim_inputs.specs.declared.line.StepCommand.{StepCommand}
+use Rattle.sim_inputs.specs.Files.{files_of, is_standard_input}
+use Rattle.report_lines.specs.Statuses.{says_harts}
+use Rattle.command_parts.specs.{declared.refused.Refused.Refused, declared.refused.Unread.Unread}
+use Rattle.command_parts.specs.{Inputs.Read, Refused.exit_status_of}
+use Rattle.commands.specs.{Perform.IsRefusal}
+use Rattle.program_io.specs.Words.{IsWordsStatus}
+
+-- A file as it was read, of the vector that holds its bytes.
+abbrev pub read_of : {A : Type 0} → Result (Vec ℕ A) Unread → Read
+read_of (Ok bytes) = Ok bytes.items
+read_of (Err why) = Err why
+
+-- A file that isn't named is read as an empty one.
+abbrev pub IsReadAs : Option (Bor (List ℕ)) → Read → Type 0
+IsReadAs name read = IfNone name (read ≡ Ok [])
+
+-- The command of a line whose script is typed: in its place stands standard input, which is a terminal.
+abbrev pub typed_step : Bool → Command → Option StepCommand
+typed_step at_terminal (OfProgram (Step step)) =
+    if at_terminal && is_standard_input step.script.now then Some step else None
+typed_step at_terminal _ = None
+
+-- The second file of a line, where one is named and read: no script that is typed is.
+abbrev pub second_of : Bool → Line → Option (Bor (List ℕ))
+second_of at_terminal line =
+    if is_some (typed_step at_terminal line.command) then None else (files_of line).second
+
+-- A line was performed with this exit status: where that says that there is no report, the reason is
+-- one of this line, with its files as they were read.
+pub record HasPerformed (at_terminal : Bool) (line : Line) (status : ℕ) : Type 0 where
+  pub config : Read
+  pub program : Read
+  pub second : Read
+  pub has_config : IsReadAs (files_of line).config config
+  pub has_program : IsReadAs (files_of line).program program
+  pub has_second : IsReadAs (second_of at_terminal line) second
+  pub refused : says_harts status ≡ false → (reason : Refused)
+      × (exit_status_of reason ≡ status) × IsRefusal line.command config program second reason
+
+-- Words asked for a line, and it was performed with this exit status.
+pub record HavePerformed (at_terminal : Bool) (words : List (List ℕ)) (status : ℕ) : Type 0 where
+  pub line : Line
+  pub asked : Asks words line
+  pub performed : HasPerformed at_terminal line status
+
+-- Words were refused with this exit status.
+pub record AreRefused (words : List (List ℕ)) (status : ℕ) : Type 0 where
+  pub why : WordsRefused
+  pub refused : AreWordsRefusedFor words why
+  pub has_status : IsWordsStatus why status
+
+-- One of the two came of words with this exit status.
+abbrev pub HaveEnded : Bool → List (List ℕ) → ℕ → Type 0
+HaveEnded at_terminal words status = HavePerformed at_terminal words status ⊎ AreRefused words status

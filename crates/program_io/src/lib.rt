@@ -1,0 +1,27 @@
+//! The program as far as its system goes: the words of its command line, the files that they name, the
+//! files that are written, and how far a run is, on a terminal. What a command does once its files are
+//! read stands in `commands`, and how a line is read of words in `sim_inputs`.
+//!
+//! Read in this order: `streams` (what stands in place of closed standard streams), `words` (how the words
+//! are taken, and what is said of those that are refused), `files` (what is read, whole and no longer than
+//! a file may be), `read_files` (which files are spared), `output_name` and `output_file` (how one file is
+//! written), `output_files` (all that a line writes, as a sink), `performing` (all that the program does
+//! with its words), `progress` (the gate of the program's runs).
+#![tactic(auto)]
+
+mod files;
+mod output_file;
+mod output_files;
+mod output_name;
+mod performing;
+mod progress;
+mod read_files;
+mod streams;
+mod words;
+
+pub use files::{ReadRefused, read_file, read_to_end};
+pub use output_files::{OutputFiles, Places};
+pub use performing::{Program, perform_words};
+pub use progress::Progress;
+pub use read_files::ReadFiles;
+pub use streams::{HeldStreams, hold_closed_streams};

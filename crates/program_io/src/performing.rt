@@ -1,0 +1,269 @@
+ghost use Rattle.std.specs.Prelude.{◌≡◌, ◌⊎◌, ◌≤◌, ◌^◌, IsTrue, IfOk, IfErr};
+ghost use Rattle.std.specs.Prelude.{map, string_bytes, vec_len};
+ghost use Rattle.std.specs.IoError.{error_kind};
+ghost use Rattle.std.specs.Vec.Iter.{into_iter_items};
+ghost use Rattle.sim_inputs.specs.CommandLine.{AreWordsRefusedFor};
+ghost use Rattle.command_parts.specs.Inputs.{as_read};
+ghost use Rattle.report_lines.specs.Statuses.{says_harts};
+ghost use Rattle.program_io.specs.Performed.{read_of, IsReadAs, HasPerformed, HavePerformed, HaveEnded};
+ghost use Rattle.program_io.specs.Performed.{typed_step};
+ghost use Rattle.program_io.specs.Words.{words_refused, IsWordsStatus};
+
+use crate::files::read_file;
+use crate::output_files::{OutputFiles, Places};
+use crate::read_files::ReadFiles;
+use crate::words::{refuse_words, take_words, texts};
+use actors::Gate;
+use command_parts::{Context, Inputs, Refused, Unread, refuse};
+use commands::{perform, perform_typed};
+use sim_inputs::{
+    Command, Files as NamedFiles, Line, ProgramCommand, StepCommand, WordsRefused,
+    is_standard_input, read_words,
+};
+use smt_core::Predict;
+use std::alloc::{AllocError, Global};
+use std::env::Args;
+use std::io;
+use std::io::Write;
+use std::rt::Files;
+use std::sync::Wait;
+use std::thread::Threads;
+
+/// What the program does its work with.
+#[derive(Drop)]
+pub struct Program<'a, S, G, P> {
+    /// Where files are, and threads.
+    pub system: &'a S,
+    pub gate: &'a G,
+    pub predict: P,
+    /// Whether standard input is a terminal.
+    pub at_terminal: bool,
+    /// Whether standard error is a terminal.
+    pub on_terminal: bool,
+    pub alloc: Global,
+}
+
+/// Does all that the program does with its words, its own name first, and answers its exit status:
+/// what the words ask for is printed on `out`, and why it isn't on `err`. 0 for help, 2 for a wrong
+/// command line, 5 for want of memory and where `out` fails; else that of the command that is
+/// performed. Words that are no text are a wrong command line. A trace is written to the file that the
+/// words name. The file named by a dash is standard input; a script is typed there, and asked as it comes,
+/// where that is a terminal. Where `err` is a terminal, a refused configuration or image is told of on two
+/// lines.
+pub fn perform_words<
+    S: Files + Input + Threads + Wait + Sync,
+    G: Gate + Sync,
+    P: Predict + Copy + Send,
+    W: Write + Drop,
+    E: Write,
+>(program: &Program<'_, S, G, P>, words: io::Result<Args>, out: io::Result<W>, err: &mut E) -> u8
+    ensures known { IsTrue (says_harts result) ⊎ (result ≡ 2) ⊎ (result ≡ 4) ⊎ (result ≡ 5) }
+    ensures unopened { IfErr out (λ error. result ≡ 5) }
+    ensures unread { IfOk out (λ opened. IfErr words
+        (λ error. IsWordsStatus (words_refused (error_kind error)) result)) }
+    ensures read { IfOk out (λ opened. IfOk words
+        (λ args. HaveEnded program.now.at_terminal (map string_bytes (into_iter_items args)) result)) }
+{
+    match out {
+        Ok(mut out) => program.answer_words(words, &mut out, err),
+        Err(_) => refuse(Refused::Memory, err),
+    }
+}
+
+impl<S: Files + Input + Threads + Wait + Sync, G: Gate + Sync, P: Predict + Copy + Send> Program<
+    '_,
+    S,
+    G,
+    P,
+> {
+    /// Does what the words ask for, or says why it isn't done.
+    fn answer_words<W: Write, E: Write>(
+        &self,
+        words: io::Result<Args>,
+        out: &mut W,
+        err: &mut E,
+    ) -> u8
+        ensures known { IsTrue (says_harts result) ⊎ (result ≡ 2) ⊎ (result ≡ 4) ⊎ (result ≡ 5) }
+        ensures unread { IfErr words
+            (λ error. IsWordsStatus (words_refused (error_kind error)) result) }
+        ensures read { IfOk words
+            (λ args. HaveEnded self.now.at_terminal (map string_bytes (into_iter_items args)) result) }
+    {
+        let words = match take_words(words, self.alloc) {
+            Ok(words) => words,
+            Err(refused) => return refuse_words(refused, out, err),
+        };
+        match self.answer_texts(words.as_slice(), out, err) {
+            Ok(status) => status,
+            Err(refused) => refuse_words(refused, out, err),
+        }
+    }
+
+    /// Does what words that are texts ask for, or answers why it isn't done.
+    fn answer_texts<W: Write, E: Write>(
+        &self,
+        words: &[String],
+        out: &mut W,
+        err: &mut E,
+    ) -> Result<u8, WordsRefused>
+        ensures known { IfOk result
+            (λ status. IsTrue (says_harts status) ⊎ (status ≡ 2) ⊎ (status ≡ 4) ⊎ (status ≡ 5)) }
+        ensures performed { IfOk result
+            (HavePerformed self.now.at_terminal (map string_bytes words.now)) }
+        ensures refused { IfErr result (AreWordsRefusedFor (map string_bytes words.now)) }
+    {
+        let texts = match texts(words, self.alloc) {
+            Ok(texts) => texts,
+            Err(AllocError) => return Err(WordsRefused::Memory),
+        };
+        match read_words(texts.as_slice(), self.alloc) {
+            Ok(line) => Ok(self.read_and_perform(&line, out, err)),
+            Err(refused) => Err(refused),
+        }
+    }
+
+    /// Reads the files that a line names, and performs its command.
+    fn read_and_perform<W: Write, E: Write>(&self, line: &Line<'_>, out: &mut W, err: &mut E) -> u8
+        ensures known { IsTrue (says_harts result) ⊎ (result ≡ 2) ⊎ (result ≡ 4) ⊎ (result ≡ 5) }
+        ensures performed { HasPerformed self.now.at_terminal line.now result }
+    {
+        if let Some(step) = typed_step(line, self.at_terminal) {
+            return self.read_and_prompt(line, &step, out, err);
+        }
+        let files = line.files();
+        let read = ReadInputs::of(self.system, &files, self.alloc);
+        let places = Places {
+            file: files.written,
+            folder: folder_of(line),
+            read: ReadFiles::of(&files),
+        };
+        let mut context = Context {
+            rt: self.system,
+            gate: self.gate,
+            predict: self.predict,
+            files: OutputFiles::new(self.system, places),
+            out,
+            on_terminal: self.on_terminal,
+            alloc: self.alloc,
+        };
+        let status = perform(&mut context, line, &read.lent(), err);
+        context.files.discard();
+        status
+    }
+
+    /// Reads the files that a line of `step` names but its script, which is typed, and performs it.
+    fn read_and_prompt<W: Write, E: Write>(
+        &self,
+        line: &Line<'_>,
+        step: &StepCommand<'_>,
+        out: &mut W,
+        err: &mut E,
+    ) -> u8
+        requires { typed_step self.now.at_terminal line.now.command ≡ Some step.now }
+        ensures known { IsTrue (says_harts result) ⊎ (result ≡ 2) ⊎ (result ≡ 4) ⊎ (result ≡ 5) }
+        ensures performed { HasPerformed self.now.at_terminal line.now result }
+    {
+        let mut files = line.files();
+        files.second = None;
+        let read = ReadInputs::of(self.system, &files, self.alloc);
+        let places = Places {
+            file: files.written,
+            folder: None,
+            read: ReadFiles::of(&files),
+        };
+        let mut context = Context {
+            rt: self.system,
+            gate: self.gate,
+            predict: self.predict,
+            files: OutputFiles::new(self.system, places),
+            out,
+            on_terminal: self.on_terminal,
+            alloc: self.alloc,
+        };
+        let mut reader = self.system.reader();
+        let status = perform_typed(&mut context, line, step, &read.lent(), &mut reader, err);
+        context.files.discard();
+        status
+    }
+}
+
+/// The command of a line whose script is typed: in its place stands standard input, which is a
+/// terminal.
+fn typed_step<'a>(line: &Line<'a>, at_terminal: bool) -> Option<StepCommand<'a>>
+    ensures { result ≡ typed_step at_terminal line.now.command }
+{
+    match line.command {
+        Command::OfProgram(ProgramCommand::Step(step))
+            if at_terminal && is_standard_input(step.script) => { Some(step) }
+        _ => None,
+    }
+}
+
+/// The folder that a line names for the files of ends.
+fn folder_of<'a>(line: &Line<'a>) -> Option<&'a str> {
+    match line.command {
+        Command::OfProgram(ProgramCommand::Run(run)) => run.keep,
+        _ => None,
+    }
+}
+
+/// What the files hold that a line names, or why they couldn't be read.
+#[derive(Drop)]
+struct ReadInputs {
+    config: Result<Vec<u8>, Unread>,
+    program: Result<Vec<u8>, Unread>,
+    second: Result<Vec<u8>, Unread>,
+}
+
+impl ReadInputs {
+    /// Reads the files, in their order.
+    fn of<S: Files + Input>(system: &S, files: &NamedFiles<'_>, alloc: Global) -> ReadInputs
+        ensures config { IsReadAs files.now.config (read_of result.config) }
+        ensures program { IsReadAs files.now.program (read_of result.program) }
+        ensures second { IsReadAs files.now.second (read_of result.second) }
+    {
+        ReadInputs {
+            config: read_named(system, files.config, alloc),
+            program: read_named(system, files.program, alloc),
+            second: read_named(system, files.second, alloc),
+        }
+    }
+
+    /// The bytes that were read, lent.
+    fn lent(&self) -> Inputs<'_>
+        ensures config { as_read result.config ≡ read_of self.now.config }
+        ensures program { as_read result.program ≡ read_of self.now.program }
+        ensures second { as_read result.second ≡ read_of self.now.second }
+    {
+        Inputs {
+            config: lent(&self.config),
+            program: lent(&self.program),
+            second: lent(&self.second),
+        }
+    }
+}
+
+/// The bytes of a file that the line names; none where it names none.
+fn read_named<S: Files + Input>(
+    system: &S,
+    name: Option<&str>,
+    alloc: Global,
+) -> Result<Vec<u8>, Unread>
+    ensures few { IfOk result (λ bytes. vec_len bytes ≤ 2 ^ 30) }
+    ensures unnamed { IsReadAs name.entry (read_of result) }
+{
+    match name {
+        Some(name) => read_file(system, name, alloc),
+        None => Ok(Vec::new(alloc)),
+    }
+}
+
+/// The bytes of a file, lent, or why there are none.
+fn lent(file: &Result<Vec<u8>, Unread>) -> Result<&[u8], Unread>
+    ensures { as_read result ≡ read_of file.now }
+{
+    match file {
+        Ok(bytes) => Ok(bytes.as_slice()),
+        Err(why) => Err(*why),
+    }
+}
