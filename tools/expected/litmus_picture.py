@@ -81,7 +81,10 @@ def arrows(root, boxes):
 
 
 def unnamed(root, texts):
-    """Relations of which there are more arrows than names, or fewer."""
+    """Names in the colour of another relation, and relations of which there are more arrows than names, or fewer."""
+    for kind, _, _, text in texts:
+        if kind.startswith("mark ") and kind != f"mark {text}-is":
+            yield f"name {text} in the colour of {kind}"
     lines = Counter(p.get("class").split()[-1] for p in root.iter(f"{SVG}path") if p.get("marker-end") is not None)
     names = Counter(text for kind, _, _, text in texts if kind.startswith("mark "))
     for relation in sorted(lines | names):
