@@ -107,6 +107,11 @@ PROGRAMS = {
         0x80001337, 0x00051863, 0x00030283, 0x00031283, 0x00032283, 0x00700293, 0x00530023,
         0x005300A3, 0x00900393, 0x007300A3, 0x00730123, 0x007301A3, 0x00730223, 0x00100073,
     ],
+    # lui x6,0x80001; bne x10,x0,0x80000010; lb x5,1(x6); ebreak; addi x5,x0,7; sb x5,1(x6); sb x5,0(x6);
+    # ebreak: hart 1 writes the byte that hart 0 loads, and then the one before it
+    "bytes_before_a_load": [
+        0x80001337, 0x00051663, 0x00130283, 0x00100073, 0x00700293, 0x005300A3, 0x00530023, 0x00100073,
+    ],
     # lui x5,0x10; sw x0,12(x5): outside RAM
     "store_below_ram": [0x000102B7, 0x0002A623],
     # 40 times addi x5,x5,1; all in a chain

@@ -3,7 +3,8 @@
 
 The title; the harts and the boxes of events with their columns and rows, which are counted by where they stand; the
 boxes of what is there at the start; and each arrow by the two boxes at whose edges its ends are, once for each time
-that it is drawn. An end at no box, and a name without its arrow, are told. It reads the drawing, and knows no test.
+that it is drawn. An end at no box, a name without its arrow or in the colour of another, and a box outside of the page
+are told. It reads the drawing, and knows no test.
 """
 
 import re
@@ -66,6 +67,7 @@ def told(root):
         yield f"box {name} in {place}: {text} | {' '.join(box.texts[1:])}"
     yield from sorted(arrows(root, boxes))
     yield from unnamed(root, texts)
+    yield from outside(root, boxes)
 
 
 def arrows(root, boxes):
@@ -81,12 +83,23 @@ def arrows(root, boxes):
 
 
 def unnamed(root, texts):
-    """Relations of which there are more arrows than names, or fewer."""
+    """Names in the colour of another relation, and relations of which there are more arrows than names, or fewer."""
+    for kind, _, _, text in texts:
+        if kind.startswith("mark ") and kind != f"mark {text}-is":
+            yield f"name {text} in the colour of {kind}"
     lines = Counter(p.get("class").split()[-1] for p in root.iter(f"{SVG}path") if p.get("marker-end") is not None)
     names = Counter(text for kind, _, _, text in texts if kind.startswith("mark "))
     for relation in sorted(lines | names):
         if lines[relation] != names[relation]:
             yield f"{relation}: {lines[relation]} arrows, {names[relation]} names"
+
+
+def outside(root, boxes):
+    """Boxes that don't lie within the page."""
+    width, height = float(root.get("width")), float(root.get("height"))
+    for box in boxes:
+        if box.left < 0 or box.top < 0 or box.right > width or box.bottom > height:
+            yield f"{box.name()} outside of the page"
 
 
 def main(words):
