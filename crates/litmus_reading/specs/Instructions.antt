@@ -4,15 +4,15 @@ use Rattle.std.specs.Prelude.{◌≡◌, ◌⊎◌, ◌≤◌, ℕ, ℤ, pos, Li
 use Rattle.rv_instr.specs.Table.{IsSigned}
 use Rattle.rv_instr.specs.declared.instr.Instr.{Instr}
 use Rattle.rv_instr.specs.declared.instr.Instr.TheVariants as instr
-use Rattle.rv_instr.specs.declared.instr.LoadOp.TheVariants.{Lw}
-use Rattle.rv_instr.specs.declared.instr.StoreOp.TheVariants.{Sw}
 use Rattle.rv_instr.specs.declared.instr.ImmediateOp.TheVariants.{Addi}
-use Rattle.rv_instr.specs.declared.instr.ShiftOp.TheVariants.{Slli}
+use Rattle.rv_text.specs.{declared.operands.Operands.Operands, Operands.instr_with}
+use Rattle.rv_text.specs.declared.mnemonic.{Mnemonic.Mnemonic as Row}
+use Rattle.rv_text.specs.declared.mnemonic.Mnemonic.TheVariants as row_of
+use Rattle.rv_text.specs.declared.mnemonic.AtomicOp.TheVariants as atomic
 use Rattle.litmus_reading.specs.declared.instruction.Written.{Written}
 use Rattle.litmus_reading.specs.declared.instruction.Written.TheVariants.{Straight, Constant, Branch}
 use Rattle.litmus_reading.specs.declared.mnemonic.Mnemonic.{Mnemonic}
 use Rattle.litmus_reading.specs.declared.mnemonic.Mnemonic.TheVariants as name
-use Rattle.litmus_reading.specs.declared.mnemonic.Atomic.TheVariants as atomic
 use Rattle.litmus_reading.specs.declared.word.Token.{Token}
 use Rattle.litmus_reading.specs.declared.word.Token.TheVariants.{Register, Mark}
 use Rattle.litmus_reading.specs.declared.word.Token.TheVariants.{Mnemonic as name_token}
@@ -92,26 +92,33 @@ pub record SpellsConstant (text : List Token) (register value : ℕ) : Type 0 wh
   pub spells : SpellsNumber number value
   pub spelled : text ≡ Register register ∷ Mark mark.Comma ∷ number
 
+-- The operands of a row, and the instruction that it is with them.
+abbrev pub SpellsOperands : Row → List Token → Operands → Type 0
+SpellsOperands (row_of.Load op) text operands = SpellsMemory text operands.rd operands.offset operands.rs1
+SpellsOperands (row_of.Store op) text operands = SpellsMemory text operands.rs2 operands.offset operands.rs1
+SpellsOperands (row_of.Immediate op) text operands = SpellsImmediate text operands.rd operands.rs1 operands.offset
+SpellsOperands (row_of.Shift op) text operands = SpellsAmount text operands.rd operands.rs1 operands.amount
+SpellsOperands (row_of.Register op) text operands = text ≡ triple operands.rd operands.rs1 operands.rs2
+SpellsOperands (row_of.Atomic atomic.LoadReserved ordering) text operands =
+    SpellsMemory text operands.rd (pos 0) operands.rs1
+SpellsOperands (row_of.Atomic op ordering) text operands =
+    SpellsAtomic text operands.rd operands.rs2 operands.rs1
+SpellsOperands row text operands = ⊥
+
+pub record SpellsRow (row : Row) (text : List Token) (instruction : Instr) : Type 0 where
+  pub operands : Operands
+  pub spells : SpellsOperands row text operands
+  pub made : instruction ≡ instr_with row operands
+
 -- The operands of an instruction behind which the hart goes on. A fence may have any.
-abbrev pub SpellsOperands : Mnemonic → List Token → Instr → Type 0
-SpellsOperands name.Load text (instr.Load Lw rd rs1 offset) = SpellsMemory text rd offset rs1
-SpellsOperands name.Store text (instr.Store Sw rs2 rs1 offset) = SpellsMemory text rs2 offset rs1
-SpellsOperands (name.Immediate op) text (instr.Immediate op' rd rs1 imm) =
-    (op ≡ op') × SpellsImmediate text rd rs1 imm
-SpellsOperands name.ShiftLeft text (instr.Shift Slli rd rs1 amount) = SpellsAmount text rd rs1 amount
-SpellsOperands (name.Register op) text (instr.Register op' rd rs1 rs2) = (op ≡ op') × (text ≡ triple rd rs1 rs2)
-SpellsOperands (name.Atomic atomic.LoadReserved ordering) text (instr.LoadReserved rd rs1 ordering') =
-    (ordering ≡ ordering') × SpellsMemory text rd (pos 0) rs1
-SpellsOperands (name.Atomic atomic.StoreConditional ordering) text (instr.StoreConditional rd rs1 rs2 ordering') =
-    (ordering ≡ ordering') × SpellsAtomic text rd rs2 rs1
-SpellsOperands (name.Atomic (atomic.Amo kind) ordering) text (instr.Amo kind' rd rs1 rs2 ordering') =
-    (kind ≡ kind') × (ordering ≡ ordering') × SpellsAtomic text rd rs2 rs1
-SpellsOperands name.Move text (instr.Immediate Addi rd rs1 imm) = (imm ≡ pos 0) × (text ≡ pair rd rs1)
-SpellsOperands name.Nothing text (instr.Immediate Addi rd rs1 imm) =
+abbrev pub SpellsStraight : Mnemonic → List Token → Instr → Type 0
+SpellsStraight (name.Row row) text instruction = SpellsRow row text instruction
+SpellsStraight name.Move text (instr.Immediate Addi rd rs1 imm) = (imm ≡ pos 0) × (text ≡ pair rd rs1)
+SpellsStraight name.Nothing text (instr.Immediate Addi rd rs1 imm) =
     (imm ≡ pos 0) × (rd ≡ 0) × (rs1 ≡ 0) × (text ≡ [])
-SpellsOperands name.Fence text instr.Fence = Unit {0}
-SpellsOperands name.TotalStoreOrderFence text instr.Fence = text ≡ []
-SpellsOperands mnemonic text instruction = ⊥
+SpellsStraight name.Fence text instr.Fence = Unit {0}
+SpellsStraight name.TotalStoreOrderFence text instr.Fence = text ≡ []
+SpellsStraight mnemonic text instruction = ⊥
 
 -- A branch names its target by a word.
 abbrev pub SpellsBranch : Mnemonic → List Token → Written → Type 0
@@ -123,7 +130,7 @@ SpellsBranch mnemonic text written = ⊥
 
 -- The operands of an instruction of this name.
 abbrev pub SpellsWritten : Mnemonic → List Token → Written → Type 0
-SpellsWritten mnemonic text (Straight instruction) = SpellsOperands mnemonic text instruction
+SpellsWritten mnemonic text (Straight instruction) = SpellsStraight mnemonic text instruction
 SpellsWritten name.Constant text (Constant register value) = SpellsConstant text register value
 SpellsWritten mnemonic text (Constant register value) = ⊥
 SpellsWritten mnemonic text (Branch comparison left right label) =

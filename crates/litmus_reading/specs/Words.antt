@@ -1,8 +1,8 @@
 -- What a word is, by its bytes.
 use Rattle.std.specs.Prelude.{◌≡◌, ◌⊎◌, ℕ, List, [], ◌∷◌, codes, slice_range}
 use Rattle.std.specs.Fmt.{decimal}
-use Rattle.outcome_queries.specs.Names.{IsNameOf}
-use Rattle.outcome_queries.specs.Terms.{SpellsValue}
+use Rattle.rv_text.specs.Registers.{IsNameOf}
+use Rattle.text_fields.specs.Values.{SpellsValue}
 use Rattle.litmus_reading.specs.declared.word.Word.{Word}
 use Rattle.litmus_reading.specs.declared.word.Token.{Token}
 use Rattle.litmus_reading.specs.declared.word.Token.TheVariants as token

@@ -2,24 +2,20 @@
 
 ghost use Rattle.std.specs.Prelude.{◌≡◌, IfOk, pos};
 ghost use Rattle.litmus_reading.specs.Tokens.{tokens};
-ghost use Rattle.litmus_reading.specs.Instructions.{SpellsInstruction, SpellsWritten, SpellsOperands};
+ghost use Rattle.litmus_reading.specs.Instructions.{SpellsInstruction, SpellsWritten, SpellsStraight, SpellsRow};
 ghost use Rattle.litmus_reading.specs.declared.mnemonic.Mnemonic.TheVariants as name;
-ghost use Rattle.litmus_reading.specs.declared.mnemonic.Atomic.TheVariants as atomic_of;
 ghost use Rattle.rv_instr.specs.declared.instr.Instr.TheVariants as instr;
 ghost use Rattle.rv_instr.specs.declared.instr.ImmediateOp.TheVariants as immediate_op;
 
-use crate::mnemonic::{Atomic, Mnemonic};
-use crate::operands::{
-    register_address, register_base, register_label, registers_amount, registers_base,
-    registers_label, registers_short, three_registers, two_registers,
-};
+use crate::mnemonic::Mnemonic;
+use crate::operands::{operands_of, register_label, registers_label, two_registers};
 use crate::refused::{Fault, Stop};
 use crate::take::{mark, next, nothing, register, word_number};
 use crate::word::{Mark, Token, Word, bytes_of};
 use litmus_tests::Comparison;
 use numbers::Reg;
-use rv_instr::{ImmediateOp, Instr, LoadOp, Ordering, RegisterOp, ShiftOp, StoreOp};
-use rv_word::AmoKind;
+use rv_instr::{ImmediateOp, Instr};
+use rv_text::{Mnemonic as Row, instr_with};
 
 /// An instruction as it stands in a cell: a branch has the name of its target yet.
 #[derive(Clone, Copy, Drop)]
@@ -124,15 +120,10 @@ fn is_access(letter: u8) -> bool {
 
 /// The instructions behind which the hart goes on, but for `li` and `fence`.
 fn straight(mnemonic: Mnemonic, operands: &[Word], end: usize) -> Result<Instr, Stop>
-    ensures { IfOk result (SpellsOperands mnemonic (tokens operands.now)) }
+    ensures { IfOk result (SpellsStraight mnemonic (tokens operands.now)) }
 {
     match mnemonic {
-        Mnemonic::Load => load(operands, end),
-        Mnemonic::Store => store(operands, end),
-        Mnemonic::Immediate(op) => immediate(op, operands, end),
-        Mnemonic::ShiftLeft => shift(operands, end),
-        Mnemonic::Register(op) => of_registers(op, operands, end),
-        Mnemonic::Atomic(atomic, ordering) => atomic_instr(atomic, ordering, operands, end),
+        Mnemonic::Row(row) => of_row(row, operands, end),
         Mnemonic::Move => move_register(operands, end),
         Mnemonic::Nothing => no_operation(operands),
         Mnemonic::TotalStoreOrderFence => total_store_order_fence(operands),
@@ -140,29 +131,29 @@ fn straight(mnemonic: Mnemonic, operands: &[Word], end: usize) -> Result<Instr, 
     }
 }
 
-fn of_registers(op: RegisterOp, operands: &[Word], end: usize) -> Result<Instr, Stop>
-    ensures { IfOk result (SpellsOperands (name.Register op) (tokens operands.now)) }
+fn of_row(row: Row, operands: &[Word], end: usize) -> Result<Instr, Stop>
+    ensures { IfOk result (SpellsRow row (tokens operands.now)) }
 {
-    let (rd, rs1, rs2) = three_registers(operands, end)?;
-    Ok(Instr::Register { op, rd, rs1, rs2 })
+    let operands = operands_of(row, operands, end)?;
+    Ok(instr_with(row, operands))
 }
 
 fn move_register(operands: &[Word], end: usize) -> Result<Instr, Stop>
-    ensures { IfOk result (SpellsOperands name.Move (tokens operands.now)) }
+    ensures { IfOk result (SpellsStraight name.Move (tokens operands.now)) }
 {
     let (rd, rs1) = two_registers(operands, end)?;
     Ok(addition(rd, rs1))
 }
 
 fn no_operation(operands: &[Word]) -> Result<Instr, Stop>
-    ensures { IfOk result (SpellsOperands name.Nothing (tokens operands.now)) }
+    ensures { IfOk result (SpellsStraight name.Nothing (tokens operands.now)) }
 {
     nothing(operands, Fault::NotOfSubset)?;
     Ok(addition(0, 0))
 }
 
 fn total_store_order_fence(operands: &[Word]) -> Result<Instr, Stop>
-    ensures { IfOk result (SpellsOperands name.TotalStoreOrderFence (tokens operands.now)) }
+    ensures { IfOk result (SpellsStraight name.TotalStoreOrderFence (tokens operands.now)) }
 {
     nothing(operands, Fault::NotOfSubset)?;
     Ok(Instr::Fence)
@@ -178,97 +169,4 @@ fn addition(rd: Reg, rs1: Reg) -> Instr
         rs1,
         imm: 0,
     }
-}
-
-fn load(operands: &[Word], end: usize) -> Result<Instr, Stop>
-    ensures { IfOk result (SpellsOperands name.Load (tokens operands.now)) }
-{
-    let (rd, offset, rs1) = register_address(operands, end)?;
-    Ok(Instr::Load {
-        op: LoadOp::Lw,
-        rd,
-        rs1,
-        offset,
-    })
-}
-
-fn store(operands: &[Word], end: usize) -> Result<Instr, Stop>
-    ensures { IfOk result (SpellsOperands name.Store (tokens operands.now)) }
-{
-    let (rs2, offset, rs1) = register_address(operands, end)?;
-    Ok(Instr::Store {
-        op: StoreOp::Sw,
-        rs2,
-        rs1,
-        offset,
-    })
-}
-
-fn immediate(op: ImmediateOp, operands: &[Word], end: usize) -> Result<Instr, Stop>
-    ensures { IfOk result (SpellsOperands (name.Immediate op) (tokens operands.now)) }
-{
-    let (rd, rs1, imm) = registers_short(operands, end)?;
-    Ok(Instr::Immediate { op, rd, rs1, imm })
-}
-
-fn shift(operands: &[Word], end: usize) -> Result<Instr, Stop>
-    ensures { IfOk result (SpellsOperands name.ShiftLeft (tokens operands.now)) }
-{
-    let (rd, rs1, amount) = registers_amount(operands, end)?;
-    Ok(Instr::Shift {
-        op: ShiftOp::Slli,
-        rd,
-        rs1,
-        amount,
-    })
-}
-
-fn atomic_instr(
-    atomic: Atomic,
-    ordering: Ordering,
-    operands: &[Word],
-    end: usize,
-) -> Result<Instr, Stop>
-    ensures { IfOk result (SpellsOperands (name.Atomic atomic ordering) (tokens operands.now)) }
-{
-    match atomic {
-        Atomic::LoadReserved => load_reserved(ordering, operands, end),
-        Atomic::StoreConditional => store_conditional(ordering, operands, end),
-        Atomic::Amo(kind) => amo(kind, ordering, operands, end),
-    }
-}
-
-fn load_reserved(ordering: Ordering, operands: &[Word], end: usize) -> Result<Instr, Stop>
-    ensures { IfOk result
-        (SpellsOperands (name.Atomic atomic_of.LoadReserved ordering) (tokens operands.now)) }
-{
-    let (rd, rs1) = register_base(operands, end)?;
-    Ok(Instr::LoadReserved { rd, rs1, ordering })
-}
-
-fn store_conditional(ordering: Ordering, operands: &[Word], end: usize) -> Result<Instr, Stop>
-    ensures { IfOk result
-        (SpellsOperands (name.Atomic atomic_of.StoreConditional ordering) (tokens operands.now)) }
-{
-    let (rd, rs2, rs1) = registers_base(operands, end)?;
-    Ok(Instr::StoreConditional {
-        rd,
-        rs1,
-        rs2,
-        ordering,
-    })
-}
-
-fn amo(kind: AmoKind, ordering: Ordering, operands: &[Word], end: usize) -> Result<Instr, Stop>
-    ensures { IfOk result
-        (SpellsOperands (name.Atomic (atomic_of.Amo kind) ordering) (tokens operands.now)) }
-{
-    let (rd, rs2, rs1) = registers_base(operands, end)?;
-    Ok(Instr::Amo {
-        kind,
-        rd,
-        rs1,
-        rs2,
-        ordering,
-    })
 }

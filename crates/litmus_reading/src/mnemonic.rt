@@ -1,128 +1,138 @@
-//! The names of instructions.
+//! The names of instructions: rows of the instruction table, which `rv_text` names, and what assemblers write beside.
 
 ghost use Rattle.std.specs.Prelude.{◌≡◌, ◌++◌, ◌∷◌, IfSome};
-ghost use Rattle.litmus_reading.specs.Mnemonics.{IsNamed, IsAtomicNamed, IsOrderingNamed};
+ghost use Rattle.litmus_reading.specs.Mnemonics.{
+  IsNamed,
+  IsRowNamed,
+  IsOfRow,
+  is_taken,
+  is_immediate_taken,
+  is_register_taken,
+};
 
 use litmus_tests::Comparison;
-use rv_instr::{ImmediateOp, Ordering, RegisterOp};
-use rv_word::AmoKind;
+use rv_instr::{BranchOp, ImmediateOp, LoadOp, Ordering, RegisterOp, ShiftOp, StoreOp};
+use rv_text::{Mnemonic as Row, atomic_named};
 
 /// What an instruction does, as its name says.
 #[derive(Clone, Copy, Drop)]
 pub(crate) enum Mnemonic {
-    Load,
-    Store,
-    Immediate(ImmediateOp),
-    ShiftLeft,
-    Register(RegisterOp),
-    Atomic(Atomic, Ordering),
+    /// A row of the subset whose operands are registers and numbers.
+    Row(Row),
+    /// Of two registers, to a label.
+    Branch(Comparison),
+    /// With two sets of accesses, or none.
+    Fence,
     /// `li`.
     Constant,
     /// `mv`.
     Move,
     /// `nop`.
     Nothing,
-    /// Of two registers; and of one against 0.
-    Branch(Comparison),
+    /// Of one register against 0: `beqz`, `bnez`.
     BranchZero(Comparison),
-    Fence,
     /// `fence.tso`, which has no operands.
     TotalStoreOrderFence,
-}
-
-/// What an atomic instruction does.
-#[derive(Clone, Copy, Drop)]
-pub(crate) enum Atomic {
-    LoadReserved,
-    StoreConditional,
-    Amo(AmoKind),
 }
 
 /// The instruction of this name.
 pub(crate) fn mnemonic_named(name: &str) -> Option<Mnemonic>
     ensures { IfSome result (IsNamed name.now) }
 {
-    match name.split_once('.') {
-        Some((stem, bits)) => dotted(name, stem, bits),
-        None => plain(name),
+    if let Some(mnemonic) = pseudo_named(name) {
+        return Some(mnemonic);
     }
-}
-
-/// Of the names without a dot.
-fn plain(name: &str) -> Option<Mnemonic>
-    ensures { IfSome result (IsNamed name.now) }
-{
-    Some(match name {
-        "lw" => Mnemonic::Load,
-        "sw" => Mnemonic::Store,
-        "addi" => Mnemonic::Immediate(ImmediateOp::Addi),
-        "xori" => Mnemonic::Immediate(ImmediateOp::Xori),
-        "ori" => Mnemonic::Immediate(ImmediateOp::Ori),
-        "andi" => Mnemonic::Immediate(ImmediateOp::Andi),
-        "slli" => Mnemonic::ShiftLeft,
-        "add" => Mnemonic::Register(RegisterOp::Add),
-        "sub" => Mnemonic::Register(RegisterOp::Sub),
-        "xor" => Mnemonic::Register(RegisterOp::Xor),
-        "or" => Mnemonic::Register(RegisterOp::Or),
-        "and" => Mnemonic::Register(RegisterOp::And),
-        "li" => Mnemonic::Constant,
-        "mv" => Mnemonic::Move,
-        "nop" => Mnemonic::Nothing,
-        "beq" => Mnemonic::Branch(Comparison::Equal),
-        "bne" => Mnemonic::Branch(Comparison::Different),
-        "beqz" => Mnemonic::BranchZero(Comparison::Equal),
-        "bnez" => Mnemonic::BranchZero(Comparison::Different),
-        "fence" => Mnemonic::Fence,
-        _ => return None,
-    })
-}
-
-/// Of the others: what stands before the first dot, and behind it.
-fn dotted(name: &str, stem: &str, bits: &str) -> Option<Mnemonic>
-    requires { name.now ≡ stem.now ++ 46 ∷ bits.now }
-    ensures { IfSome result (IsNamed name.now) }
-{
-    if name == "fence.tso" {
-        return Some(Mnemonic::TotalStoreOrderFence);
-    }
-    let Some(atomic) = atomic_named(stem) else {
-        return None;
-    };
-    match ordering_named(bits) {
-        Some(ordering) => Some(Mnemonic::Atomic(atomic, ordering)),
+    match row_named(name) {
+        Some(row) => of_row(row),
         None => None,
     }
 }
 
-fn atomic_named(name: &str) -> Option<Atomic>
-    ensures { IfSome result (IsAtomicNamed name.now) }
+/// Of the names that no row has.
+fn pseudo_named(name: &str) -> Option<Mnemonic>
+    ensures { IfSome result (IsNamed name.now) }
 {
     Some(match name {
-        "lr" => Atomic::LoadReserved,
-        "sc" => Atomic::StoreConditional,
-        "amoswap" => Atomic::Amo(AmoKind::Swap),
-        "amoadd" => Atomic::Amo(AmoKind::Add),
-        "amoxor" => Atomic::Amo(AmoKind::Xor),
-        "amoand" => Atomic::Amo(AmoKind::And),
-        "amoor" => Atomic::Amo(AmoKind::Or),
-        "amomin" => Atomic::Amo(AmoKind::Min),
-        "amomax" => Atomic::Amo(AmoKind::Max),
-        "amominu" => Atomic::Amo(AmoKind::Minu),
-        "amomaxu" => Atomic::Amo(AmoKind::Maxu),
+        "li" => Mnemonic::Constant,
+        "mv" => Mnemonic::Move,
+        "nop" => Mnemonic::Nothing,
+        "beqz" => Mnemonic::BranchZero(Comparison::Equal),
+        "bnez" => Mnemonic::BranchZero(Comparison::Different),
+        "fence.tso" => Mnemonic::TotalStoreOrderFence,
         _ => return None,
     })
 }
 
-/// The width of an atomic, a word, and its ordering bits.
-fn ordering_named(name: &str) -> Option<Ordering>
-    ensures { IfSome result (IsOrderingNamed name.now) }
+/// The row of this name.
+fn row_named(name: &str) -> Option<Row>
+    ensures { IfSome result (IsRowNamed name.now) }
 {
-    let (aq, rl) = match name {
-        "w" => (false, false),
-        "w.aq" => (true, false),
-        "w.rl" => (false, true),
-        "w.aqrl" | "w.aq.rl" => (true, true),
-        _ => return None,
-    };
-    Some(Ordering { aq, rl })
+    match name.split_once('.') {
+        Some((stem, bits)) => dotted(name, stem, bits),
+        None => rv_text::mnemonic_named(name),
+    }
+}
+
+/// Of a name that is cut at its first dot. The two ordering bits of an atomic may stand with a dot between.
+fn dotted(name: &str, stem: &str, bits: &str) -> Option<Row>
+    requires { name.now ≡ stem.now ++ 46 ∷ bits.now }
+    ensures { IfSome result (IsRowNamed name.now) }
+{
+    if bits != "w.aq.rl" {
+        return rv_text::mnemonic_named(name);
+    }
+    match atomic_named(stem) {
+        Some(op) => Some(Row::Atomic(op, Ordering { aq: true, rl: true })),
+        None => None,
+    }
+}
+
+/// What a row is in a litmus test, if it is of the subset.
+fn of_row(row: Row) -> Option<Mnemonic>
+    ensures { IfSome result (IsOfRow row) }
+{
+    match row {
+        Row::Branch(BranchOp::Beq) => Some(Mnemonic::Branch(Comparison::Equal)),
+        Row::Branch(BranchOp::Bne) => Some(Mnemonic::Branch(Comparison::Different)),
+        Row::Fence => Some(Mnemonic::Fence),
+        _ => {
+            if is_taken(row) {
+                return Some(Mnemonic::Row(row));
+            }
+            None
+        }
+    }
+}
+
+/// Whether a row is of the subset, and its operands are registers and numbers.
+fn is_taken(row: Row) -> bool
+    ensures { result ≡ is_taken row }
+{
+    match row {
+        Row::Load(op) => matches!(op, LoadOp::Lw),
+        Row::Store(op) => matches!(op, StoreOp::Sw),
+        Row::Immediate(op) => is_immediate_taken(op),
+        Row::Shift(op) => matches!(op, ShiftOp::Slli),
+        Row::Register(op) => is_register_taken(op),
+        Row::Atomic(..) => true,
+        _ => false,
+    }
+}
+
+fn is_immediate_taken(op: ImmediateOp) -> bool
+    ensures { result ≡ is_immediate_taken op }
+{
+    matches!(
+        op,
+        ImmediateOp::Addi | ImmediateOp::Xori | ImmediateOp::Ori | ImmediateOp::Andi
+    )
+}
+
+fn is_register_taken(op: RegisterOp) -> bool
+    ensures { result ≡ is_register_taken op }
+{
+    matches!(
+        op,
+        RegisterOp::Add | RegisterOp::Sub | RegisterOp::Xor | RegisterOp::Or | RegisterOp::And
+    )
 }

@@ -8,9 +8,9 @@ use crate::mnemonic::mnemonic_named;
 use crate::refused::Fault;
 use crate::word::{Mark, Token};
 use numbers::Reg;
-use outcome_queries::{read_value, register_named};
+use rv_text::register_named;
 use std::str;
-use text_fields::read_decimal;
+use text_fields::{read_decimal, read_value};
 
 /// Whether a name or a number goes on with this byte.
 pub(crate) fn is_of_name(byte: u8) -> bool {

@@ -1,4 +1,4 @@
-//! The operands of an instruction, all of them.
+//! The operands of an instruction, all of them, by the row that it is.
 
 ghost use Rattle.std.specs.Prelude.{◌≡◌, ◌∷◌, [], pos, IfOk};
 ghost use Rattle.litmus_reading.specs.Tokens.{Takes, tokens};
@@ -10,6 +10,7 @@ ghost use Rattle.litmus_reading.specs.Instructions.{
   SpellsAtomic,
   SpellsImmediate,
   SpellsMemory,
+  SpellsOperands,
   IsCommaBase,
   OffsetTaken,
   ShortTaken,
@@ -21,6 +22,139 @@ use crate::refused::{Fault, Stop};
 use crate::take::{begins_with, mark, next, nothing, number, register, start_of};
 use crate::word::{Mark, Token, Word};
 use numbers::Reg;
+use rv_text::{AtomicOp, Mnemonic as Row, NO_OPERANDS, Operands};
+
+/// The operands of a row of the subset.
+pub(crate) fn operands_of(row: Row, words: &[Word], end: usize) -> Result<Operands, Stop>
+    ensures { IfOk result (SpellsOperands row (tokens words.now)) }
+{
+    match row {
+        Row::Load(_) => load_operands(words, end),
+        Row::Store(_) => store_operands(words, end),
+        Row::Immediate(_) => immediate_operands(words, end),
+        Row::Shift(_) => shift_operands(words, end),
+        Row::Register(_) => register_operands(words, end),
+        Row::Atomic(AtomicOp::LoadReserved, _) => reserved_operands(words, end),
+        Row::Atomic(_, _) => atomic_operands(words, end),
+        _ => Err(Stop::at(end, Fault::NotOfSubset)),
+    }
+}
+
+fn load_operands(words: &[Word], end: usize) -> Result<Operands, Stop>
+    ensures { IfOk result (λ o. SpellsMemory (tokens words.now) o.rd o.offset o.rs1) }
+{
+    let (rd, offset, rs1) = register_address(words, end)?;
+    Ok(Operands {
+        rd,
+        rs1,
+        offset,
+        ..NO_OPERANDS
+    })
+}
+
+fn store_operands(words: &[Word], end: usize) -> Result<Operands, Stop>
+    ensures { IfOk result (λ o. SpellsMemory (tokens words.now) o.rs2 o.offset o.rs1) }
+{
+    let (rs2, offset, rs1) = register_address(words, end)?;
+    Ok(Operands {
+        rs1,
+        rs2,
+        offset,
+        ..NO_OPERANDS
+    })
+}
+
+/// `x5,x6,1`, the number from -2048 to 2047.
+fn immediate_operands(words: &[Word], end: usize) -> Result<Operands, Stop>
+    ensures { IfOk result (λ o. SpellsImmediate (tokens words.now) o.rd o.rs1 o.offset) }
+{
+    let (rd, rest) = register(words, end)?;
+    let (rs1, rest) = comma_register(rest, end)?;
+    let rest = mark(rest, Mark::Comma, end)?;
+    let (offset, rest) = short(rest, end)?;
+    nothing(rest, Fault::NotOfSubset)?;
+    Ok(Operands {
+        rd,
+        rs1,
+        offset,
+        ..NO_OPERANDS
+    })
+}
+
+/// `x5,x6,4`, the amount of a shift from 0 to 31.
+fn shift_operands(words: &[Word], end: usize) -> Result<Operands, Stop>
+    ensures { IfOk result (λ o. SpellsAmount (tokens words.now) o.rd o.rs1 o.amount) }
+{
+    let (rd, rest) = register(words, end)?;
+    let (rs1, rest) = comma_register(rest, end)?;
+    let rest = mark(rest, Mark::Comma, end)?;
+    let (number, behind) = number(rest, end)?;
+    nothing(behind, Fault::NotOfSubset)?;
+    if number < 0 || number > 31 {
+        return Err(Stop::at(start_of(rest, end), Fault::NumberTooLarge));
+    }
+    let amount = number as u8;
+    Ok(Operands {
+        rd,
+        rs1,
+        amount,
+        ..NO_OPERANDS
+    })
+}
+
+/// `x5,x6,x7`.
+fn register_operands(words: &[Word], end: usize) -> Result<Operands, Stop>
+    ensures { IfOk result (λ o. tokens words.now ≡ triple o.rd o.rs1 o.rs2) }
+{
+    let (rd, rest) = register(words, end)?;
+    let (rs1, rest) = comma_register(rest, end)?;
+    let (rs2, rest) = comma_register(rest, end)?;
+    nothing(rest, Fault::NotOfSubset)?;
+    Ok(Operands {
+        rd,
+        rs1,
+        rs2,
+        ..NO_OPERANDS
+    })
+}
+
+/// `x5,(x6)`.
+fn reserved_operands(words: &[Word], end: usize) -> Result<Operands, Stop>
+    ensures { IfOk result (λ o. SpellsMemory (tokens words.now) o.rd (pos 0) o.rs1) }
+{
+    let (rd, rest) = register(words, end)?;
+    let rs1 = comma_base(rest, end)?;
+    Ok(Operands {
+        rd,
+        rs1,
+        ..NO_OPERANDS
+    })
+}
+
+/// `x7,x5,(x6)`.
+fn atomic_operands(words: &[Word], end: usize) -> Result<Operands, Stop>
+    ensures { IfOk result (λ o. SpellsAtomic (tokens words.now) o.rd o.rs2 o.rs1) }
+{
+    let (rd, rest) = register(words, end)?;
+    let (rs2, rest) = comma_register(rest, end)?;
+    let rs1 = comma_base(rest, end)?;
+    Ok(Operands {
+        rd,
+        rs1,
+        rs2,
+        ..NO_OPERANDS
+    })
+}
+
+/// `x5,4(x6)`: the register, the offset from -2048 to 2047, and the base.
+fn register_address(words: &[Word], end: usize) -> Result<(Reg, i32, Reg), Stop>
+    ensures { IfOk result (λ p. SpellsMemory (tokens words.now) p.0 p.1 p.2) }
+{
+    let (first, rest) = register(words, end)?;
+    let rest = mark(rest, Mark::Comma, end)?;
+    let (offset, base) = address(rest, end)?;
+    Ok((first, offset, base))
+}
 
 /// `x5,x6`.
 pub(crate) fn two_registers(words: &[Word], end: usize) -> Result<(Reg, Reg), Stop>
@@ -30,29 +164,6 @@ pub(crate) fn two_registers(words: &[Word], end: usize) -> Result<(Reg, Reg), St
     let (second, rest) = comma_register(rest, end)?;
     nothing(rest, Fault::NotOfSubset)?;
     Ok((first, second))
-}
-
-/// `x5,x6,x7`.
-pub(crate) fn three_registers(words: &[Word], end: usize) -> Result<(Reg, Reg, Reg), Stop>
-    ensures { IfOk result (λ p. tokens words.now ≡ triple p.0 p.1 p.2) }
-{
-    let (first, rest) = register(words, end)?;
-    let (second, rest) = comma_register(rest, end)?;
-    let (third, rest) = comma_register(rest, end)?;
-    nothing(rest, Fault::NotOfSubset)?;
-    Ok((first, second, third))
-}
-
-/// `x5,x6,1`, the number from -2048 to 2047.
-pub(crate) fn registers_short(words: &[Word], end: usize) -> Result<(Reg, Reg, i32), Stop>
-    ensures { IfOk result (λ p. SpellsImmediate (tokens words.now) p.0 p.1 p.2) }
-{
-    let (first, rest) = register(words, end)?;
-    let (second, rest) = comma_register(rest, end)?;
-    let rest = mark(rest, Mark::Comma, end)?;
-    let (number, rest) = short(rest, end)?;
-    nothing(rest, Fault::NotOfSubset)?;
-    Ok((first, second, number))
 }
 
 /// `x5,x6,L0`.
@@ -73,35 +184,6 @@ pub(crate) fn register_label(words: &[Word], end: usize) -> Result<(Reg, Word), 
     let (first, rest) = register(words, end)?;
     let label = comma_label(rest, end)?;
     Ok((first, label))
-}
-
-/// `x5,4(x6)`: the register, the offset from -2048 to 2047, and the base.
-pub(crate) fn register_address(words: &[Word], end: usize) -> Result<(Reg, i32, Reg), Stop>
-    ensures { IfOk result (λ p. SpellsMemory (tokens words.now) p.0 p.1 p.2) }
-{
-    let (first, rest) = register(words, end)?;
-    let rest = mark(rest, Mark::Comma, end)?;
-    let (offset, base) = address(rest, end)?;
-    Ok((first, offset, base))
-}
-
-/// `x5,(x6)`: the register and the base.
-pub(crate) fn register_base(words: &[Word], end: usize) -> Result<(Reg, Reg), Stop>
-    ensures { IfOk result (λ p. SpellsMemory (tokens words.now) p.0 (pos 0) p.1) }
-{
-    let (first, rest) = register(words, end)?;
-    let base = comma_base(rest, end)?;
-    Ok((first, base))
-}
-
-/// `x7,x5,(x6)`: the registers and the base.
-pub(crate) fn registers_base(words: &[Word], end: usize) -> Result<(Reg, Reg, Reg), Stop>
-    ensures { IfOk result (λ p. SpellsAtomic (tokens words.now) p.0 p.1 p.2) }
-{
-    let (first, rest) = register(words, end)?;
-    let (second, rest) = comma_register(rest, end)?;
-    let base = comma_base(rest, end)?;
-    Ok((first, second, base))
 }
 
 /// A comma and a register.
@@ -177,19 +259,4 @@ fn short(words: &[Word], end: usize) -> Result<(i32, &[Word]), Stop>
         return Err(Stop::at(start_of(words, end), Fault::NumberTooLarge));
     }
     Ok((number as i32, rest))
-}
-
-/// `x5,x6,4`, the amount of a shift from 0 to 31.
-pub(crate) fn registers_amount(words: &[Word], end: usize) -> Result<(Reg, Reg, u8), Stop>
-    ensures { IfOk result (λ p. SpellsAmount (tokens words.now) p.0 p.1 p.2) }
-{
-    let (first, rest) = register(words, end)?;
-    let (second, rest) = comma_register(rest, end)?;
-    let rest = mark(rest, Mark::Comma, end)?;
-    let (number, behind) = number(rest, end)?;
-    nothing(behind, Fault::NotOfSubset)?;
-    if number < 0 || number > 31 {
-        return Err(Stop::at(start_of(rest, end), Fault::NumberTooLarge));
-    }
-    Ok((first, second, number as u8))
 }

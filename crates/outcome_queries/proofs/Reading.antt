@@ -1,31 +1,21 @@
 -- What is watched, read where its text is cut.
-use Rattle.std.proofs.Common.{◌≡◌, ◌≢◌, ℕ, zero, suc, ◌+◌, ◌-◌, ◌*◌, ◌^◌, ◌≤◌, ◌<◌, ◌⊎◌, Bool, true, false, nat_lt, ◌==◌}
+use Rattle.std.proofs.Common.{◌≡◌, ◌≢◌, ℕ, ◌-◌, ◌*◌, ◌^◌, ◌≤◌, ◌<◌, ◌⊎◌, Bool, true, false, nat_lt, ◌==◌}
 use Rattle.std.proofs.Common.{if◌then◌else◌, List, [], ◌∷◌, ◌++◌, length, Result, Ok, Err, inl, inr, refl, sym, ap, subst, ◌∙◌}
 use Rattle.std.proofs.Common.{arith, codes, not}
 use Rattle.std.specs.{Char.is_ascii_digit, List.list_all}
 use Rattle.std.specs.Fmt.{decimal}
 use Rattle.text_fields.specs.{Reading.decimal_field, Reading.hex_field, Reading.is_hex_digit, Spelling.hex}
-use Rattle.text_fields.specs.Splitting.{field, field_count, rest, Lacks}
+use Rattle.text_fields.specs.Splitting.{field, rest, Lacks}
 use Rattle.text_fields.proofs.{DecimalLaws.decimal_field-decimal, DecimalLaws.decimal_field_only}
 use Rattle.text_fields.proofs.{HexLaws.hex_field-hex, HexLaws.hex_field_only}
 use Rattle.text_fields.proofs.{LacksLaws.Lacks-decimal, LacksLaws.Lacks-hex}
-use Rattle.text_fields.proofs.SplittingLaws.{Parts, parts_of, field-cut, rest-cut, rest-alone}
+use Rattle.text_fields.proofs.{SplittingLaws.field-cut, SplittingLaws.rest-cut, SplittingLaws.cut_where, SplittingLaws.parts_at}
+use Rattle.text_fields.proofs.ValueLaws.{no_number}
 use Rattle.text_fields.specs.declared.read.FieldError.{FieldError}
-use Rattle.outcome_queries.specs.Names.{abi_name, x_name, lettered, pointer_name, IsNameOf}
+use Rattle.rv_text.specs.Registers.{abi_name, x_name, lettered, pointer_name, IsNameOf}
 use Rattle.outcome_queries.specs.Watched.{Spells, SpellsRegister, SpellsWord}
 use Rattle.outcome_queries.specs.declared.watched.Watched.{Watched}
 use Rattle.outcome_queries.specs.declared.watched.Watched.TheVariants as watched
-
--- a turn of the search for the register of a name
-pub another_name : (name : List ℕ) (k : ℕ) → ((r : ℕ) → IsNameOf r name → k ≤ r)
-    → ((name ≡ abi_name k) ⊎ (name ≡ x_name k) → ⊥) → (r : ℕ) → IsNameOf r name → k + 1 ≤ r
-another_name name k below other r is = by_test (r == k) refl
-  where
-    by_test : (b : Bool) → (r == k) ≡ b → k + 1 ≤ r
-    by_test true same = let is_k : r ≡ k = grind arith in absurd (other (rw is_k at is.name))
-    by_test false apart =
-        let least = below r is in
-        let not_k : r ≢ k = grind arith in grind arith
 
 -- a byte that stands in no name, no number and no address
 pub record IsMark (s : ℕ) : Type 0 where
@@ -90,29 +80,6 @@ pub either_lacks : (s r : ℕ) (name : List ℕ) → IsMark s → r ≤ 31 → (
     → Lacks s name
 either_lacks s r name mark small (inl is) = rw is (abi_lacks s r mark small)
 either_lacks s r name mark small (inr is) = rw is (lettered_lacks s 120 r mark (letters_of s mark).x small)
-
--- a text that is cut: what stands behind the cut isn't nothing
-pub cut_where : (s : ℕ) (text : List ℕ) → rest s text ≢ [] → text ≡ field s text ++ s ∷ rest s text
-cut_where s text some = by_count (field_count s text) refl
-  where
-    parts : Parts s text
-    parts = parts_of s text
-
-    by_count : (n : ℕ) → field_count s text ≡ n → text ≡ field s text ++ s ∷ rest s text
-    by_count zero is = let count = parts.count in absurd (omega (arith, count, is))
-    by_count (suc zero) is =
-        let whole : Lacks s text = rw (parts.alone is) parts.lacks in absurd (some (rest-alone s text whole))
-    by_count (suc (suc n)) is = (parts.cut (omega (arith, is))).0
-
-pub no_number : (max n : ℕ) → decimal_field max [] ≢ Ok n
-unfolding decimal_field
-no_number max n = λ is. cc
-
--- what is cut from a text that is put together
-pub parts_at : (s : ℕ) (text first others : List ℕ) → text ≡ first ++ s ∷ others → Lacks s first
-    → (field s text ≡ first) × (rest s text ≡ others)
-parts_at s text first others is lacks =
-    (rw is (field-cut s first others lacks), rw is (rest-cut s first others lacks))
 
 -- a number behind a cut
 pub number_found : (s max n : ℕ) (text lead others : List ℕ) → lead ≡ field s text → others ≡ rest s text

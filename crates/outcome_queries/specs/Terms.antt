@@ -1,24 +1,9 @@
 -- How the terms of a condition are written. (This project's own choice.)
-use Rattle.std.specs.Prelude.{◌≡◌, ◌⊎◌, ℕ, ◌-◌, ◌^◌, ◌≤◌, ◌<◌, List, ◌∷◌, ◌++◌, length, take, drop, codes}
+use Rattle.std.specs.Prelude.{◌≡◌, ℕ, ◌-◌, ◌≤◌, List, ◌∷◌, ◌++◌, length, take, drop, codes}
 use Rattle.std.specs.{Char.is_ascii_whitespace, Fmt.decimal, List.prefix_len, List.suffix_len}
-use Rattle.text_fields.specs.Spelling.{hex}
+use Rattle.text_fields.specs.Values.{SpellsValue}
 use Rattle.outcome_queries.specs.{declared.term.Term.Term, Watched.Spells}
 use Rattle.outcome_queries.specs.declared.term.Term.TheVariants as terms
-
--- A number: decimal, or hexadecimal behind `0x`.
-pub record SpellsDecimal (text : List ℕ) (value : ℕ) : Type 0 where
-  pub in_range : value ≤ 2 ^ 32 - 1
-  pub spelled : text ≡ decimal value
-
-pub record SpellsHexadecimal (text : List ℕ) (value : ℕ) : Type 0 where
-  pub digits : ℕ
-  pub some : 1 ≤ digits
-  pub few : digits ≤ 8
-  pub in_range : value < 16 ^ digits
-  pub spelled : text ≡ codes "0x" ++ hex digits value
-
-abbrev pub SpellsValue : List ℕ → ℕ → Type 0
-SpellsValue text value = SpellsDecimal text value ⊎ SpellsHexadecimal text value
 
 -- `h` and the number of a hart; `stopped` and a cause.
 pub record SpellsHart (text : List ℕ) (hart : ℕ) : Type 0 where

@@ -2,7 +2,8 @@
 use Rattle.std.specs.Prelude.{◌≡◌, ℕ, ◌≤◌, ◌<◌, ◌^◌, List, ◌∷◌, ◌++◌, codes}
 use Rattle.std.specs.Fmt.{decimal}
 use Rattle.text_fields.specs.Spelling.{hex}
-use Rattle.outcome_queries.specs.{declared.watched.Watched.Watched, Names.IsNameOf}
+use Rattle.rv_text.specs.Registers.{IsNameOf}
+use Rattle.outcome_queries.specs.declared.watched.Watched.{Watched}
 use Rattle.outcome_queries.specs.declared.watched.Watched.TheVariants as watched
 
 -- A name of the register, `@`, and the hart.

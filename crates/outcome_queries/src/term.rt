@@ -3,9 +3,8 @@ ghost use Rattle.outcome_queries.specs.declared.term.Term.{Term as AnyTerm};
 ghost use Rattle.outcome_queries.specs.Terms.{Means, IsOfEnd, IsOfWatched, SpellsTerm, SpellsHart};
 ghost use Rattle.outcome_queries.specs.Terms.{SpellsCause, trimmed};
 
-use crate::value::read_value;
 use crate::watched::{Watched, read_watched};
-use text_fields::{read_decimal, split_field};
+use text_fields::{read_decimal, read_value, split_field};
 
 /// What a condition says of an end, in part.
 #[derive(Clone, Copy, Drop)]

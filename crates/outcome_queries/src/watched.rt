@@ -2,8 +2,8 @@ ghost use Rattle.std.specs.Prelude.{◌≡◌, ℕ, true, false, codes, IfSome, 
 ghost use Rattle.outcome_queries.specs.declared.watched.Watched.{Watched as AnyWatched};
 ghost use Rattle.outcome_queries.specs.Watched.{Spells, SpellsRegister, SpellsWord};
 
-use crate::names::register_named;
 use numbers::Reg;
+use rv_text::register_named;
 use text_fields::{read_decimal, read_hex, split_field};
 
 /// What is looked at in the end of a program.

@@ -7,7 +7,7 @@ use Rattle.smt_model.specs.{declared.config.Status.TheVariants.Ended}
 use Rattle.smt_model.specs.{declared.config.Status.TheVariants.Stopped}
 use Rattle.watched_outcomes.specs.{Endings.Ending, declared.watch.Watch.Watch}
 use Rattle.watched_outcomes.specs.declared.watch.WatchedRegister.{WatchedRegister}
-use Rattle.outcome_queries.specs.Names.{abi_name}
+use Rattle.rv_text.specs.Registers.{abi_name}
 
 -- A text for each member of a list, of its index from `index` on.
 abbrev pub each_from : {A : Type 0} → (ℕ → A → List ℕ) → ℕ → List A → List ℕ

@@ -9,8 +9,8 @@ ghost use Rattle.outcome_text.specs.Line.{register_text, registers_text, word_te
 ghost use Rattle.outcome_text.specs.Line.{word_lead, output_lead, output_text, outcome_line};
 
 use arrayvec::ArrayString;
-use outcome_queries::push_abi_name;
 use report_lines::write_bytes;
+use rv_text::push_abi_name;
 use smt_model::Status;
 use std::io;
 use std::io::Write;

@@ -17,7 +17,9 @@ use Rattle.rv_text.specs.Spelling.{HasWord}
 use Rattle.rv_text.specs.Reading.{◌>>=◌, first_at, next_at, base_at, address_at, signed_at, target_at, end_at}
 use Rattle.rv_text.specs.Reading.{upper_operands, jump_operands, branch_operands, memory_operands, immediate_operands}
 use Rattle.rv_text.specs.Reading.{shift_operands, register_operands, load_reserved_operands, atomic_operands, atomic_at}
-use Rattle.rv_text.specs.Reading.{instr_at}
+use Rattle.rv_text.specs.Reading.{no_operands, upper_of, jump_of, branch_of, load_of, store_of, immediate_of, shift_of}
+use Rattle.rv_text.specs.Reading.{register_of, reserved_of, atomic_of, operands_at, instr_at}
+use Rattle.rv_text.specs.{declared.operands.Operands.Operands, Operands.instr_with}
 use Rattle.rv_text.proofs.FieldLaws.{ok_is, IsField, EndsAt, register_is, signed_is, amount_is, upper_is}
 use Rattle.rv_text.proofs.TargetLaws.{target_is}
 use Rattle.rv_text.proofs.RowLaws.{end_at_takes, end_at_again, two_takes, two_again, two_alone_takes, two_alone_again}
@@ -58,80 +60,82 @@ pub record IsRead (pc : ℕ) (m : Mnemonic) (text : List ℕ) (i : Instr) : Type
   pub spelled : text ≡ operands_of i pc
 
 -- what is true of each instruction that these operands make
-made : {X : Type 0} (pc : ℕ) (m : Mnemonic) (text : List ℕ) (read : Result X TextRefused) (make : X → Instr)
-    → ((x : X) → read ≡ Ok x → IsRead pc m text (make x)) → (i : Instr) → (read >>= λ x. Ok (make x)) ≡ Ok i
-    → IsRead pc m text i
-made pc m text (Ok x) make h i e = subst (λ (y : Instr). IsRead pc m text y) (ok_is (make x) i e) (h x refl)
-made pc m text (Err d) make h i e = absurd cc
+made : {X : Type 0} (pc : ℕ) (m : Mnemonic) (text : List ℕ) (read : Result X TextRefused) (of : X → Operands)
+    → ((x : X) → read ≡ Ok x → IsRead pc m text (instr_with m (of x))) → (i : Instr)
+    → (read >>= (λ x. Ok (of x)) >>= λ o. Ok (instr_with m o)) ≡ Ok i → IsRead pc m text i
+made pc m text (Ok x) of h i e =
+    subst (λ (y : Instr). IsRead pc m text y) (ok_is (instr_with m (of x)) i e) (h x refl)
+made pc m text (Err d) of h i e = absurd cc
 
 atomic_takes : (pc : ℕ) (op : AtomicOp) (ordering : Ordering) (text : List ℕ) (i : Instr)
-    → atomic_at op ordering text ≡ Ok i → IsRead pc (Atomic op ordering) text i
-unfolding atomic_at load_reserved_operands atomic_operands
+    → (atomic_at op text >>= λ o. Ok (instr_with (Atomic op ordering) o)) ≡ Ok i
+    → IsRead pc (Atomic op ordering) text i
+unfolding instr_with load_reserved_operands atomic_operands
 atomic_takes pc LoadReserved ordering text i e =
-    made pc (Atomic LoadReserved ordering) text (load_reserved_operands text) (λ x. instr.LoadReserved x.0 x.1 ordering)
+    made pc (Atomic LoadReserved ordering) text (load_reserved_operands text) reserved_of
     (λ x read. let t = two_takes first_is address_is (codes ")") text x read in
     record { row = refl; in_range = (t.1, t.2); has_word = tt; spelled = t.0 }) i e
 atomic_takes pc StoreConditional ordering text i e =
     made pc (Atomic StoreConditional ordering) text (atomic_operands text)
-    (λ x. instr.StoreConditional x.0 x.2 x.1 ordering)
+    atomic_of
     (λ x read. let t = three_takes first_is next_is address_is (codes ")") text x read in
     record { row = refl; in_range = (t.1, t.3, t.2); has_word = tt; spelled = t.0 }) i e
 atomic_takes pc (Amo kind) ordering text i e =
-    made pc (Atomic (Amo kind) ordering) text (atomic_operands text) (λ x. instr.Amo kind x.0 x.2 x.1 ordering)
+    made pc (Atomic (Amo kind) ordering) text (atomic_operands text) atomic_of
     (λ x read. let t = three_takes first_is next_is address_is (codes ")") text x read in
     record { row = refl; in_range = (t.1, t.3, t.2); has_word = tt; spelled = t.0 }) i e
 
 pub instr_takes : (pc : ℕ) → pc < 2 ^ 32 → (m : Mnemonic) (text : List ℕ) (i : Instr) → instr_at pc m text ≡ Ok i
     → IsRead pc m text i
-unfolding instr_at upper_operands jump_operands branch_operands memory_operands immediate_operands shift_operands
-    register_operands
-instr_takes pc here Lui text i e = made pc Lui text (upper_operands text) (λ x. instr.Lui x.0 x.1)
+unfolding instr_at operands_at instr_with upper_operands jump_operands branch_operands memory_operands
+    immediate_operands shift_operands register_operands
+instr_takes pc here Lui text i e = made pc Lui text (upper_operands text) upper_of
     (λ x read. let t = two_alone_takes first_is upper_is text x read in
     record { row = refl; in_range = (t.1, t.2.0); has_word = t.2.1; spelled = t.0 }) i e
-instr_takes pc here Auipc text i e = made pc Auipc text (upper_operands text) (λ x. instr.Auipc x.0 x.1)
+instr_takes pc here Auipc text i e = made pc Auipc text (upper_operands text) upper_of
     (λ x read. let t = two_alone_takes first_is upper_is text x read in
     record { row = refl; in_range = (t.1, t.2.0); has_word = t.2.1; spelled = t.0 }) i e
-instr_takes pc here Jal text i e = made pc Jal text (jump_operands pc text) (λ x. instr.Jal x.0 x.1)
+instr_takes pc here Jal text i e = made pc Jal text (jump_operands pc text) jump_of
     (λ x read. let t = two_alone_takes first_is (jump_is pc here) text x read in
     record { row = refl; in_range = (t.1, t.2); has_word = tt; spelled = t.0 }) i e
-instr_takes pc here Jalr text i e = made pc Jalr text (memory_operands text) (λ x. instr.Jalr x.0 x.2 x.1)
+instr_takes pc here Jalr text i e = made pc Jalr text (memory_operands text) load_of
     (λ x read. let t = three_takes first_is immediate_is base_is (codes ")") text x read in
     record { row = refl; in_range = (t.1, t.3, t.2); has_word = tt; spelled = t.0 }) i e
 instr_takes pc here (Branch op) text i e =
-    made pc (Branch op) text (branch_operands pc text) (λ x. instr.Branch op x.0 x.1 x.2)
+    made pc (Branch op) text (branch_operands pc text) branch_of
     (λ x read. let t = three_alone_takes first_is next_is (branch_is pc here) text x read in
     record { row = refl; in_range = (t.1, t.2, t.3); has_word = tt; spelled = t.0 }) i e
-instr_takes pc here (Load op) text i e = made pc (Load op) text (memory_operands text) (λ x. instr.Load op x.0 x.2 x.1)
+instr_takes pc here (Load op) text i e = made pc (Load op) text (memory_operands text) load_of
     (λ x read. let t = three_takes first_is immediate_is base_is (codes ")") text x read in
     record { row = refl; in_range = (t.1, t.3, t.2); has_word = tt; spelled = t.0 }) i e
 instr_takes pc here (Store op) text i e =
-    made pc (Store op) text (memory_operands text) (λ x. instr.Store op x.0 x.2 x.1)
+    made pc (Store op) text (memory_operands text) store_of
     (λ x read. let t = three_takes first_is immediate_is base_is (codes ")") text x read in
     record { row = refl; in_range = (t.1, t.3, t.2); has_word = tt; spelled = t.0 }) i e
 instr_takes pc here (Immediate op) text i e =
-    made pc (Immediate op) text (immediate_operands text) (λ x. instr.Immediate op x.0 x.1 x.2)
+    made pc (Immediate op) text (immediate_operands text) immediate_of
     (λ x read. let t = three_alone_takes first_is next_is immediate_is text x read in
     record { row = refl; in_range = (t.1, t.2, t.3); has_word = tt; spelled = t.0 }) i e
 instr_takes pc here (Shift op) text i e =
-    made pc (Shift op) text (shift_operands text) (λ x. instr.Shift op x.0 x.1 x.2)
+    made pc (Shift op) text (shift_operands text) shift_of
     (λ x read. let t = three_alone_takes first_is next_is amount_is text x read in
     record { row = refl; in_range = (t.1, t.2, t.3); has_word = tt; spelled = t.0 }) i e
 instr_takes pc here (Register op) text i e =
-    made pc (Register op) text (register_operands text) (λ x. instr.Register op x.0 x.1 x.2)
+    made pc (Register op) text (register_operands text) register_of
     (λ x read. let t = three_alone_takes first_is next_is next_is text x read in
     record { row = refl; in_range = (t.1, t.2, t.3); has_word = tt; spelled = t.0 }) i e
 instr_takes pc here (MulDiv op) text i e =
-    made pc (MulDiv op) text (register_operands text) (λ x. instr.MulDiv op x.0 x.1 x.2)
+    made pc (MulDiv op) text (register_operands text) register_of
     (λ x read. let t = three_alone_takes first_is next_is next_is text x read in
     record { row = refl; in_range = (t.1, t.2, t.3); has_word = tt; spelled = t.0 }) i e
-instr_takes pc here Fence text i e = made pc Fence text (end_at [] text) (λ x. instr.Fence)
+instr_takes pc here Fence text i e = made pc Fence text (end_at [] text) (λ x. no_operands)
     (λ x read. record { row = refl; in_range = tt; has_word = tt; spelled = end_at_takes [] text x read }) i e
 instr_takes pc here InstructionFence text i e =
-    made pc InstructionFence text (end_at [] text) (λ x. instr.InstructionFence)
+    made pc InstructionFence text (end_at [] text) (λ x. no_operands)
     (λ x read. record { row = refl; in_range = tt; has_word = tt; spelled = end_at_takes [] text x read }) i e
-instr_takes pc here Ecall text i e = made pc Ecall text (end_at [] text) (λ x. instr.Ecall)
+instr_takes pc here Ecall text i e = made pc Ecall text (end_at [] text) (λ x. no_operands)
     (λ x read. record { row = refl; in_range = tt; has_word = tt; spelled = end_at_takes [] text x read }) i e
-instr_takes pc here Ebreak text i e = made pc Ebreak text (end_at [] text) (λ x. instr.Ebreak)
+instr_takes pc here Ebreak text i e = made pc Ebreak text (end_at [] text) (λ x. no_operands)
     (λ x read. record { row = refl; in_range = tt; has_word = tt; spelled = end_at_takes [] text x read }) i e
 instr_takes pc here (Atomic op ordering) text i e = atomic_takes pc op ordering text i e
 
@@ -139,7 +143,7 @@ instr_takes pc here (Atomic op ordering) text i e = atomic_takes pc op ordering 
 
 pub instr_again : (pc : ℕ) → pc < 2 ^ 32 → (i : Instr) → IsInstructionInRange i → HasWord i
     → instr_at pc (mnemonic_of i) (operands_of i pc) ≡ Ok i
-unfolding instr_at atomic_at upper_operands jump_operands branch_operands memory_operands immediate_operands
+unfolding instr_at operands_at instr_with upper_operands jump_operands branch_operands memory_operands immediate_operands
     shift_operands register_operands load_reserved_operands atomic_operands register_text signed_text
     amount_text hex_text
 instr_again pc here (instr.Lui rd imm) h w = rw (two_alone_again first_is upper_is rd imm h.0 (h.1, w) refl refl) refl

@@ -1,3 +1,5 @@
 pub mod Mnemonic
+pub mod Operands
 pub mod Spelling
 pub mod Reading
+pub mod Registers

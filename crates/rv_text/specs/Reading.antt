@@ -6,12 +6,12 @@ use Rattle.std.specs.Prelude.{slice_index, codes, unwrap_or, position, Result, O
 use Rattle.std.specs.{Char.is_ascii_digit, Char.is_ascii_hexdigit, List.position_or_len}
 use Rattle.std.specs.{Str.bytes_eq}
 use Rattle.rv_word.specs.Word.{signed, difference_of}
-use Rattle.rv_instr.specs.{declared.instr.Instr.Instr, declared.instr.Ordering.Ordering}
-use Rattle.rv_instr.specs.declared.instr.Instr.TheVariants as instr
+use Rattle.rv_instr.specs.declared.instr.Instr.{Instr}
 use Rattle.text_fields.specs.{declared.read.FieldError.FieldError, Reading.decimal_field}
 use Rattle.text_fields.specs.{Reading.signed_field, Reading.hex_field}
 use Rattle.text_fields.specs.declared.read.FieldError.TheVariants as fields
 use Rattle.rv_text.specs.{declared.refused.TextRefused.TextRefused}
+use Rattle.rv_text.specs.{declared.operands.Operands.Operands, Operands.instr_with}
 use Rattle.rv_text.specs.{declared.mnemonic.Mnemonic.Mnemonic, declared.mnemonic.AtomicOp.AtomicOp}
 use Rattle.rv_text.specs.{declared.mnemonic.AtomicOp.TheVariants.LoadReserved}
 use Rattle.rv_text.specs.{declared.mnemonic.AtomicOp.TheVariants.StoreConditional}
@@ -212,30 +212,101 @@ load_reserved_operands text = two_fields first_at address_at (codes ")") text
 unfoldable pub atomic_operands : List ℕ → Result (ℕ × ℕ × ℕ) TextRefused
 atomic_operands text = three_fields first_at next_at address_at (codes ")") text
 
-unfoldable pub atomic_at : AtomicOp → Ordering → List ℕ → Result Instr TextRefused
-atomic_at LoadReserved ordering text =
-    load_reserved_operands text >>= λ x. Ok (instr.LoadReserved x.0 x.1 ordering)
-atomic_at StoreConditional ordering text =
-    atomic_operands text >>= λ x. Ok (instr.StoreConditional x.0 x.2 x.1 ordering)
-atomic_at (Amo kind) ordering text =
-    atomic_operands text >>= λ x. Ok (instr.Amo kind x.0 x.2 x.1 ordering)
+-- ---- the same as operands
+
+abbrev pub no_operands : Operands
+no_operands = record { rd = 0; rs1 = 0; rs2 = 0; offset = pos 0; upper = 0; amount = 0 }
+
+abbrev pub upper_of : ℕ × ℕ → Operands
+upper_of x = record { rd = x.0; rs1 = 0; rs2 = 0; offset = pos 0; upper = x.1; amount = 0 }
+
+abbrev pub jump_of : ℕ × ℤ → Operands
+jump_of x = record { rd = x.0; rs1 = 0; rs2 = 0; offset = x.1; upper = 0; amount = 0 }
+
+abbrev pub branch_of : ℕ × ℕ × ℤ → Operands
+branch_of x = record { rd = 0; rs1 = x.0; rs2 = x.1; offset = x.2; upper = 0; amount = 0 }
+
+abbrev pub load_of : ℕ × ℤ × ℕ → Operands
+load_of x = record { rd = x.0; rs1 = x.2; rs2 = 0; offset = x.1; upper = 0; amount = 0 }
+
+abbrev pub store_of : ℕ × ℤ × ℕ → Operands
+store_of x = record { rd = 0; rs1 = x.2; rs2 = x.0; offset = x.1; upper = 0; amount = 0 }
+
+abbrev pub immediate_of : ℕ × ℕ × ℤ → Operands
+immediate_of x = record { rd = x.0; rs1 = x.1; rs2 = 0; offset = x.2; upper = 0; amount = 0 }
+
+abbrev pub shift_of : ℕ × ℕ × ℕ → Operands
+shift_of x = record { rd = x.0; rs1 = x.1; rs2 = 0; offset = pos 0; upper = 0; amount = x.2 }
+
+abbrev pub register_of : ℕ × ℕ × ℕ → Operands
+register_of x = record { rd = x.0; rs1 = x.1; rs2 = x.2; offset = pos 0; upper = 0; amount = 0 }
+
+abbrev pub reserved_of : ℕ × ℕ → Operands
+reserved_of x = record { rd = x.0; rs1 = x.1; rs2 = 0; offset = pos 0; upper = 0; amount = 0 }
+
+abbrev pub atomic_of : ℕ × ℕ × ℕ → Operands
+atomic_of x = record { rd = x.0; rs1 = x.2; rs2 = x.1; offset = pos 0; upper = 0; amount = 0 }
+
+abbrev pub Form : Type 0
+Form = List ℕ → Result Operands TextRefused
+
+abbrev pub upper_form : Form
+upper_form text = upper_operands text >>= λ x. Ok (upper_of x)
+
+abbrev pub jump_form : ℕ → Form
+jump_form pc text = jump_operands pc text >>= λ x. Ok (jump_of x)
+
+abbrev pub branch_form : ℕ → Form
+branch_form pc text = branch_operands pc text >>= λ x. Ok (branch_of x)
+
+abbrev pub load_form : Form
+load_form text = memory_operands text >>= λ x. Ok (load_of x)
+
+abbrev pub store_form : Form
+store_form text = memory_operands text >>= λ x. Ok (store_of x)
+
+abbrev pub immediate_form : Form
+immediate_form text = immediate_operands text >>= λ x. Ok (immediate_of x)
+
+abbrev pub shift_form : Form
+shift_form text = shift_operands text >>= λ x. Ok (shift_of x)
+
+abbrev pub register_form : Form
+register_form text = register_operands text >>= λ x. Ok (register_of x)
+
+abbrev pub reserved_form : Form
+reserved_form text = load_reserved_operands text >>= λ x. Ok (reserved_of x)
+
+abbrev pub atomic_form : Form
+atomic_form text = atomic_operands text >>= λ x. Ok (atomic_of x)
+
+abbrev pub no_form : Form
+no_form text = end_at [] text >>= λ x. Ok no_operands
+
+abbrev pub atomic_at : AtomicOp → Form
+atomic_at LoadReserved text = reserved_form text
+atomic_at StoreConditional text = atomic_form text
+atomic_at (Amo kind) text = atomic_form text
+
+-- the operands of a row that stands at pc
+unfoldable pub operands_at : ℕ → Mnemonic → Form
+operands_at pc Lui text = upper_form text
+operands_at pc Auipc text = upper_form text
+operands_at pc Jal text = jump_form pc text
+operands_at pc Jalr text = load_form text
+operands_at pc (Branch op) text = branch_form pc text
+operands_at pc (Load op) text = load_form text
+operands_at pc (Store op) text = store_form text
+operands_at pc (Immediate op) text = immediate_form text
+operands_at pc (Shift op) text = shift_form text
+operands_at pc (Register op) text = register_form text
+operands_at pc (MulDiv op) text = register_form text
+operands_at pc Fence text = no_form text
+operands_at pc InstructionFence text = no_form text
+operands_at pc Ecall text = no_form text
+operands_at pc Ebreak text = no_form text
+operands_at pc (Atomic op ordering) text = atomic_at op text
 
 -- the instruction of a row that stands at pc and has these operands
 unfoldable pub instr_at : ℕ → Mnemonic → List ℕ → Result Instr TextRefused
-instr_at pc Lui text = upper_operands text >>= λ x. Ok (instr.Lui x.0 x.1)
-instr_at pc Auipc text = upper_operands text >>= λ x. Ok (instr.Auipc x.0 x.1)
-instr_at pc Jal text = jump_operands pc text >>= λ x. Ok (instr.Jal x.0 x.1)
-instr_at pc Jalr text = memory_operands text >>= λ x. Ok (instr.Jalr x.0 x.2 x.1)
-instr_at pc (Branch op) text = branch_operands pc text >>= λ x. Ok (instr.Branch op x.0 x.1 x.2)
-instr_at pc (Load op) text = memory_operands text >>= λ x. Ok (instr.Load op x.0 x.2 x.1)
-instr_at pc (Store op) text = memory_operands text >>= λ x. Ok (instr.Store op x.0 x.2 x.1)
-instr_at pc (Immediate op) text =
-    immediate_operands text >>= λ x. Ok (instr.Immediate op x.0 x.1 x.2)
-instr_at pc (Shift op) text = shift_operands text >>= λ x. Ok (instr.Shift op x.0 x.1 x.2)
-instr_at pc (Register op) text = register_operands text >>= λ x. Ok (instr.Register op x.0 x.1 x.2)
-instr_at pc (MulDiv op) text = register_operands text >>= λ x. Ok (instr.MulDiv op x.0 x.1 x.2)
-instr_at pc Fence text = end_at [] text >>= λ x. Ok instr.Fence
-instr_at pc InstructionFence text = end_at [] text >>= λ x. Ok instr.InstructionFence
-instr_at pc Ecall text = end_at [] text >>= λ x. Ok instr.Ecall
-instr_at pc Ebreak text = end_at [] text >>= λ x. Ok instr.Ebreak
-instr_at pc (Atomic op ordering) text = atomic_at op ordering text
+instr_at pc mnemonic text = operands_at pc mnemonic text >>= λ x. Ok (instr_with mnemonic x)

@@ -169,7 +169,8 @@ fn mul_div_named(text: &str) -> Option<MulDivOp>
     })
 }
 
-fn atomic(text: &str) -> Option<AtomicOp>
+/// The atomic with this name, which stands before its width and its ordering bits.
+pub fn atomic_named(text: &str) -> Option<AtomicOp>
     ensures found { IfSome result (λ op. text.now ≡ atomic_name op) }
     ensures none { IfNone result ((op : _) → text.now ≡ atomic_name op → ⊥) }
 {
@@ -204,7 +205,7 @@ fn ordering(text: &str) -> Option<Ordering>
 }
 
 /// The row whose name the text is.
-pub(crate) fn mnemonic_named(text: &str) -> Option<Mnemonic>
+pub fn mnemonic_named(text: &str) -> Option<Mnemonic>
     ensures found { IfSome result (λ m. text.now ≡ mnemonic_name m) }
     ensures only { (m : _) → text.now ≡ mnemonic_name m → result ≡ Some m }
 {
@@ -214,5 +215,5 @@ pub(crate) fn mnemonic_named(text: &str) -> Option<Mnemonic>
     let Some((name, bits)) = text.split_once('.') else {
         return plain(text);
     };
-    Some(Mnemonic::Atomic(atomic(name)?, ordering(bits)?))
+    Some(Mnemonic::Atomic(atomic_named(name)?, ordering(bits)?))
 }

@@ -9,3 +9,4 @@ pub mod OptionalLaws
 pub mod PairLemmas
 pub mod SignedLaws
 pub mod SplittingLaws
+pub mod ValueLaws

@@ -1,6 +1,6 @@
 -- A field without separators is cut off again, and the cut parts make the whole.
 
-use Rattle.std.proofs.Common.{◌≡◌, ℕ, suc, ◌+◌, ◌≤◌, Bool, true, false, ◌==◌, List, [], ◌∷◌, ◌++◌, refl, sym, ◌∙◌, ap}
+use Rattle.std.proofs.Common.{◌≡◌, ◌≢◌, ℕ, zero, suc, ◌+◌, ◌≤◌, Bool, true, false, ◌==◌, List, [], ◌∷◌, ◌++◌, refl, sym, ◌∙◌, ap}
 use Rattle.std.proofs.Common.{arith}
 use Rattle.std.proofs.{lemmas.Bool.Decides.nat_tests, lemmas.List.Sums.sum_by-cons}
 use Rattle.std.specs.List.{position_or_len}
@@ -135,3 +135,22 @@ parts_of s [] = record {
   cut = λ two. absurd (omega (arith, count-empty s));
 }
 parts_of s (c ∷ cs) = by_first (c == s) s c cs refl (parts_of s cs)
+
+-- a text that is cut: what stands behind the cut isn't nothing
+pub cut_where : (s : ℕ) (text : List ℕ) → rest s text ≢ [] → text ≡ field s text ++ s ∷ rest s text
+cut_where s text some = by_count (field_count s text) refl
+  where
+    parts : Parts s text
+    parts = parts_of s text
+
+    by_count : (n : ℕ) → field_count s text ≡ n → text ≡ field s text ++ s ∷ rest s text
+    by_count zero is = let count = parts.count in absurd (omega (arith, count, is))
+    by_count (suc zero) is =
+        let whole : Lacks s text = rw (parts.alone is) parts.lacks in absurd (some (rest-alone s text whole))
+    by_count (suc (suc n)) is = (parts.cut (omega (arith, is))).0
+
+-- what is cut from a text that is put together
+pub parts_at : (s : ℕ) (text first others : List ℕ) → text ≡ first ++ s ∷ others → Lacks s first
+    → (field s text ≡ first) × (rest s text ≡ others)
+parts_at s text first others is lacks =
+    (rw is (field-cut s first others lacks), rw is (rest-cut s first others lacks))

@@ -3,3 +3,4 @@ pub mod Printing
 pub mod Reading
 pub mod Spelling
 pub mod Splitting
+pub mod Values

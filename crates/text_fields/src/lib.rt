@@ -1,8 +1,8 @@
 //! Fields of text: decimal and hexadecimal numbers, printed and read, and a text split into its
 //! fields.
 //!
-//! Read in this order: `print`, `pairs` and `numbers` (its quick parts), `split`, `read`, `first`,
-//! `laws` (printing and reading are each other's inverse).
+//! Read in this order: `print`, `pairs` and `numbers` (its quick parts), `split`, `read`, `value`,
+//! `first`, `laws` (printing and reading are each other's inverse).
 #![tactic(auto)]
 
 pub mod first;
@@ -12,6 +12,7 @@ mod pairs;
 pub mod print;
 pub mod read;
 pub mod split;
+pub mod value;
 
 pub use first::{first_decimal, first_hex, first_optional_hex};
 pub use numbers::push_number;
@@ -21,3 +22,4 @@ pub use read::{
     read_signed_decimal,
 };
 pub use split::{field_count, split_field};
+pub use value::read_value;

@@ -15,8 +15,8 @@ pub returns-clause-only : goal.returns-clause-only
 returns-clause-only c =
     let parts =
     rw c.in-Some.is at (split_parts 46 c.args.text.now c.split_once.result c.split_once.ensures.cases (lit< tt)) in
-    let is : c.args.text.now ≡ mnemonic_name (Atomic c.in_ok-atomic.field-0 c.in_ok-ordering.field-0) =
-    parts.0 ∙ rw (c.in_ok-atomic.ensures.found, c.in_ok-ordering.ensures.found) refl in
+    let is : c.args.text.now ≡ mnemonic_name (Atomic c.in_ok-atomic_named.field-0 c.in_ok-ordering.field-0) =
+    parts.0 ∙ rw (c.in_ok-atomic_named.ensures.found, c.in_ok-ordering.ensures.found) refl in
     only_named c.args.text.now _ is
 
 pub returns-in_default-clause-found : goal.returns-in_default-clause-found
@@ -26,4 +26,4 @@ pub returns-clause-found : goal.returns-clause-found
 returns-clause-found c =
     let parts =
     rw c.in-Some.is at (split_parts 46 c.args.text.now c.split_once.result c.split_once.ensures.cases (lit< tt)) in
-    parts.0 ∙ rw (c.in_ok-atomic.ensures.found, c.in_ok-ordering.ensures.found) refl
+    parts.0 ∙ rw (c.in_ok-atomic_named.ensures.found, c.in_ok-ordering.ensures.found) refl

@@ -1,10 +1,11 @@
-//! The numbers of a condition.
+//! A number in either base.
 
 ghost use Rattle.std.specs.Prelude.{◌≡◌, ℕ, true, false, codes, IfSome, IfNone};
 ghost use Rattle.std.specs.Prelude.{◌&&◌, nat_le, length};
-ghost use Rattle.outcome_queries.specs.Terms.{SpellsValue, SpellsHexadecimal};
+ghost use Rattle.text_fields.specs.Values.{SpellsValue, SpellsHexadecimal};
 
-use text_fields::{read_decimal, read_hex, split_field};
+use crate::read::{read_decimal, read_hex};
+use crate::split::split_field;
 
 /// A number: decimal, or `0x` and one to eight hexadecimal digits.
 pub fn read_value(text: &[u8]) -> Option<u32>

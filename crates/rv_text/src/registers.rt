@@ -3,17 +3,17 @@
 ghost use Rattle.std.specs.Prelude.{◌≡◌, ℕ, ◌+◌, ◌-◌, ◌≤◌, ◌<◌, ◌++◌, ◌⊎◌, true, false, length};
 ghost use Rattle.std.specs.Prelude.{IfSome, IfNone};
 ghost use Rattle.arrayvec.specs.ArrayString.{array_string_len};
-ghost use Rattle.outcome_queries.specs.Names.{abi_name, x_name, lettered, pointer_name, IsNameOf};
+ghost use Rattle.rv_text.specs.Registers.{abi_name, x_name, lettered, pointer_name, IsNameOf};
 
 use arrayvec::ArrayString;
-use numbers::Reg;
+use rv_instr::Reg;
 use text_fields::{push_ascii, push_small_number};
 
 /// Room for the name of a register.
 type Name = ArrayString<4>;
 
 /// Appends the name of a register in the calling convention, as `a0`.
-#[tactic(auto, unfolding(crate::specs::Names::abi_name))]
+#[tactic(auto, unfolding(crate::specs::Registers::abi_name))]
 pub fn push_abi_name<const N: usize>(text: &mut ArrayString<N>, register: Reg)
     requires { array_string_len text.old + 4 ≤ N }
     ensures spelled { text.new.bytes ≡ text.old.bytes ++ abi_name register }
@@ -35,7 +35,7 @@ pub fn push_abi_name<const N: usize>(text: &mut ArrayString<N>, register: Reg)
 }
 
 /// The names that have no number.
-#[tactic(auto, unfolding(crate::specs::Names::pointer_name))]
+#[tactic(auto, unfolding(crate::specs::Registers::pointer_name))]
 fn pointer_name(register: Reg) -> &'static str
     ensures name { result.now ≡ pointer_name register }
     ensures short { length result.now ≤ 4 }

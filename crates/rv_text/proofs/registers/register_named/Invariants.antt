@@ -1,6 +1,6 @@
 use Rattle.std.proofs.Common.{ℕ, ◌≤◌}
-use Rattle.outcome_queries.specs.Names.{IsNameOf}
-use Rattle.outcome_queries.proofs.names.register_named.Given as goal
+use Rattle.rv_text.specs.Registers.{IsNameOf}
+use Rattle.rv_text.proofs.registers.register_named.Given as goal
 
 -- none of the registers so far has the name
 abbrev pub invariant-loop-register : goal.invariant-loop-register

@@ -1,7 +1,7 @@
 use Rattle.std.proofs.Common.{sym, ◌∙◌}
-use Rattle.outcome_queries.proofs.TermReading.{hexadecimal_found, hexadecimal_lead, hexadecimal_length}
-use Rattle.outcome_queries.proofs.TermReading.{hexadecimal_none}
-use Rattle.outcome_queries.proofs.value.read_hexadecimal.Goals as goal
+use Rattle.text_fields.proofs.ValueLaws.{hexadecimal_found, hexadecimal_lead, hexadecimal_length}
+use Rattle.text_fields.proofs.ValueLaws.{hexadecimal_none}
+use Rattle.text_fields.proofs.value.read_hexadecimal.Goals as goal
 
 pub returns-then-not-is_zero-clause-none : goal.returns-then-not-is_zero-clause-none
 returns-then-not-is_zero-clause-none c =

@@ -1,7 +1,7 @@
 use Rattle.std.proofs.Common.{◌≡◌, ℕ, ◌≤◌, ◌<◌, ◌⊎◌, List, inl, inr, arith}
-use Rattle.outcome_queries.specs.Names.{abi_name, x_name, IsNameOf}
-use Rattle.outcome_queries.proofs.Reading.{another_name}
-use Rattle.outcome_queries.proofs.names.register_named.Goals as goal
+use Rattle.rv_text.specs.Registers.{abi_name, x_name, IsNameOf}
+use Rattle.rv_text.proofs.RegisterNames.{another_name}
+use Rattle.rv_text.proofs.registers.register_named.Goals as goal
 
 pub loop-register-init : goal.loop-register-init
 loop-register-init c = λ r is. is.first

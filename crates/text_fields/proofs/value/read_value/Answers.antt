@@ -1,5 +1,5 @@
-use Rattle.outcome_queries.proofs.TermReading.{value_found_of, value_is, value_none_of}
-use Rattle.outcome_queries.proofs.value.read_value.Goals as goal
+use Rattle.text_fields.proofs.ValueLaws.{value_found_of, value_is, value_none_of}
+use Rattle.text_fields.proofs.value.read_value.Goals as goal
 
 pub returns-in-Ok-clause-found : goal.returns-in-Ok-clause-found
 returns-in-Ok-clause-found c = value_is c.args.text.now c.in-Ok.value c.in-Ok.ensures.field
