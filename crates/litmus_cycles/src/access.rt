@@ -1,3 +1,6 @@
+/// How many accesses a hart makes at most, and how many an execution has.
+pub(crate) const MOST_ACCESSES: usize = 32;
+
 /// What one hart does with memory at a step.
 #[derive(Clone, Copy, Drop)]
 pub(crate) struct Access {

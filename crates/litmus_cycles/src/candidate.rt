@@ -2,11 +2,10 @@
 //! write its place in coherence order, and of each store-conditional that fails the write that broke its
 //! reservation.
 
-use crate::access::Access;
+use crate::access::{Access, MOST_ACCESSES};
 use crate::choices::Choices;
 use crate::ending::Ending;
 use crate::event::MemoryEvent;
-use crate::hart::MOST_EVENTS;
 use crate::number::initial_number;
 use crate::relating::source_rank;
 use crate::runs::AllRuns;
@@ -96,7 +95,7 @@ fn add_events(
         let Some(run) = runs.run(hart, *index) else {
             return Ok(false);
         };
-        if events.len().saturating_add(run.accesses.len()) > MOST_EVENTS {
+        if events.len().saturating_add(run.accesses.len()) > MOST_ACCESSES {
             return Ok(false);
         }
         add_accesses(hart, run.accesses.as_slice(), events)?;
