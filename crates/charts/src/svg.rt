@@ -11,6 +11,7 @@ use page::Page;
 use std::io;
 use std::io::Write;
 use strip::write_strip;
+use svg_drawing::write_end;
 
 /// The most instructions that a picture has.
 pub const MOST_PICTURED: usize = 4000;
@@ -55,7 +56,7 @@ pub fn write_svg<W: Write>(
         top = write_rows(rows, first, events, view, &band, &page, &widths, top, out)?;
         top = page.below_band(top);
     }
-    out.write_all(b"</svg>\n")
+    write_end(out)
 }
 
 /// Writes the rows of a band from this height on. Answers where the next one would stand.

@@ -1,11 +1,10 @@
 -- How the accesses of an execution are related, what a cycle of them is, and what a candidate execution.
 -- [Shasha and Snir 1988; Alglave, Maranget and Tautschnig 2014, "Herding Cats"]
-use Rattle.std.specs.Prelude.{ℕ, ◌%◌, ◌^◌, ◌==◌, nat_lt, Bool, true, false, not, ◌&&◌, ◌||◌, if◌then◌else◌}
+use Rattle.std.specs.Prelude.{ℕ, ◌==◌, nat_lt, Bool, true, false, not, ◌&&◌, ◌||◌, if◌then◌else◌}
 use Rattle.std.specs.Prelude.{List, [], ◌∷◌, length, slice_get, Option, Some, None, is_some, option_and_then}
-use Rattle.std.specs.{Option.option_map_or, Option.option_map, List.list_all}
+use Rattle.std.specs.{Option.option_map_or, List.list_all}
 use Rattle.litmus_tests.specs.declared.test.LitmusTest.{LitmusTest}
-use Rattle.litmus_tests.specs.declared.value.Value.{Value}
-use Rattle.litmus_tests.specs.Conditions.{number_of}
+use Rattle.litmus_runs.specs.Numbers.{initial_number}
 use Rattle.rv_instr.specs.{declared.kind.Kind.Kind, Kinds.kind_of_instr}
 use Rattle.rv_instr.specs.declared.kind.Kind.TheVariants.{Computing, Loading, Storing, Reserving, Conditional, Atomic}
 use Rattle.litmus_tests.specs.declared.step.LitmusStep.{LitmusStep}
@@ -78,15 +77,6 @@ is_closed (edge ∷ edges) = leads edge.to edges edge.from
 
 abbrev pub is_cycle : List MemoryEvent → List Edge → Bool
 is_cycle events edges = list_all (is_edge events) edges && is_closed edges
-
--- The word that a value is: its number, where the address of its location is a word.
-abbrev pub word_of : Value → ℕ
-word_of value = number_of value % 2 ^ 32
-
--- The number that a location has at the start.
-abbrev pub initial_number : LitmusTest → ℕ → Option ℕ
-initial_number test location =
-    option_map (λ found. word_of found.initial) (slice_get test.locations.items location)
 
 -- What an event writes to a location.
 abbrev pub written_at : MemoryEvent → ℕ → Option ℕ

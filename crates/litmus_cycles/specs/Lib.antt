@@ -1,3 +1,2 @@
 pub mod Executions
 pub mod Explained
-pub mod Steps

@@ -2,13 +2,10 @@
 //! write its place in coherence order, and of each store-conditional that fails the write that broke its
 //! reservation.
 
-use crate::access::{Access, MOST_ACCESSES};
-use crate::choices::Choices;
 use crate::ending::Ending;
 use crate::event::MemoryEvent;
-use crate::number::initial_number;
 use crate::relating::source_rank;
-use crate::runs::AllRuns;
+use litmus_runs::{Access, AllRuns, Choices, MOST_ACCESSES, initial_number};
 use litmus_tests::LitmusTest;
 use std::alloc::{AllocError, Global};
 

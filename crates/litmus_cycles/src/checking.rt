@@ -10,8 +10,8 @@ ghost use Rattle.litmus_cycles.specs.Executions.{is_between, is_broken, is_forwa
 
 use crate::event::{Edge, MemoryEvent};
 use crate::explanation::Broken;
-use crate::number::initial_number;
 use crate::relating::{is_edge, is_related, source_rank};
+use litmus_runs::initial_number;
 use litmus_tests::{LitmusStep, LitmusTest};
 use rv_instr::Kind;
 

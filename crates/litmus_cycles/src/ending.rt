@@ -1,8 +1,7 @@
 //! Whether a condition holds where harts have chosen their runs, as far as that can be said.
 
 use crate::event::MemoryEvent;
-use crate::number::{initial_number, word_of};
-use crate::runs::AllRuns;
+use litmus_runs::{AllRuns, initial_number, word_of};
 use litmus_tests::{Condition, LitmusTest, Observed, Term};
 use numbers::Reg;
 

@@ -5,12 +5,11 @@ ghost use Rattle.litmus_cycles.specs.Explained.{IsShown};
 
 use crate::candidate::{Candidate, next_candidate};
 use crate::checking::{is_broken, is_candidate, is_cycle, is_order};
-use crate::choices::Choices;
 use crate::cycles::{broken, order_of, shortest_cycle};
 use crate::event::{Edge, MemoryEvent};
 use crate::explanation::{Broken, Explanation, Shown};
 use crate::related::Related;
-use crate::runs::all_runs;
+use litmus_runs::{Choices, all_runs};
 use litmus_tests::LitmusTest;
 use std::alloc::{AllocError, Global};
 

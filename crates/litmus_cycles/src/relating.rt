@@ -75,7 +75,7 @@ fn relates(events: &[MemoryEvent], edge: &Edge, a: &MemoryEvent, b: &MemoryEvent
 }
 
 /// Whether both events are there, and related so.
-pub(crate) fn is_edge(events: &[MemoryEvent], edge: &Edge) -> bool
+pub fn is_edge(events: &[MemoryEvent], edge: &Edge) -> bool
     ensures { result ≡ is_edge events.now edge.now }
 {
     let Some(a) = events.get(edge.from) else {

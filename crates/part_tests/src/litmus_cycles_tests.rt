@@ -2,7 +2,8 @@
 //! Tautschnig, "Herding Cats", 2014), and texts made by hand.
 
 use crate::rows::holds;
-use litmus_cycles::{draw_explanation, explain_forbidden, write_explanation};
+use explained_cycles::{draw_explanation, write_explanation};
+use litmus_cycles::explain_forbidden;
 use litmus_tests::{
     Condition, LitmusStep, LitmusTest, Location, Observed, Quantifier, RegisterStart, Term, Thread,
     Value,

@@ -9,6 +9,7 @@ use crate::view::{Band, View, first_left};
 use numbers::sizes::MOST_HARTS;
 use std::io;
 use std::io::Write;
+use svg_drawing::{write_begin, write_style};
 
 /// The width of a column, the height of a row, and the width of a character, in the picture's units.
 const COLUMN: u32 = 12;
@@ -35,8 +36,7 @@ const COLUMNS_A_NUMBER: u32 = 10;
 /// The colours that the colour-blind can tell, one for each of eight harts (Okabe and Ito, "Color
 /// Universal Design", 2008; a grey in place of black, which a dark page would hide). The eight harts
 /// behind them have the same colours with a thick edge, and the legend shows both.
-const STYLE: &str = "<style>
-text{font:12px monospace;fill:#1b1b1b}
+const STYLE: &str = "text{font:12px monospace;fill:#1b1b1b}
 .page{fill:#ffffff}
 .grid{stroke:#d5d5d5}
 .far{fill:#6a6a6a}
@@ -61,7 +61,6 @@ text{fill:#ececec}
 .x{fill:#ff9d66}
 .again{stroke:#ff9d66}
 }
-</style>
 ";
 
 /// Where the parts of a picture stand.
@@ -120,12 +119,9 @@ impl Page {
     /// Writes the head of the file, the style, and which colour is which hart's.
     pub fn write_head<W: Write>(&self, rows: &[Row], view: &View, out: &mut W) -> io::Result<()> {
         let (width, height) = (self.width, self.height);
-        out.write_all(b"<svg xmlns=\"http://www.w3.org/2000/svg\" ")?;
-        write!(out, "width=\"{width}\" height=\"{height}\" ")?;
-        writeln!(out, "viewBox=\"0 0 {width} {height}\">")?;
+        write_begin(width, height, out)?;
         write_title(view, out)?;
-        out.write_all(STYLE.as_bytes())?;
-        out.write_all(b"<rect class=\"page\" width=\"100%\" height=\"100%\"/>\n")?;
+        write_style(STYLE, out)?;
         write_legend(rows, view, out)
     }
 

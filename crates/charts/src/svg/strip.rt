@@ -8,6 +8,7 @@ use crate::view::Band;
 use events::Event;
 use std::io;
 use std::io::Write;
+use svg_drawing::write_label;
 
 /// Writes the row of the instruction with this number, at this height of a band: its name, a bar
 /// where it is in the pipeline, and a letter for each of its events. A bar that is dashed is of one
@@ -163,10 +164,7 @@ fn write_marks<W: Write>(
                 "<circle class=\"again\" cx=\"{x}\" cy=\"{y}\" r=\"7\"/>"
             )?;
             let behind = x.saturating_add(12);
-            writeln!(
-                out,
-                "<text class=\"x\" x=\"{behind}\" y=\"{base}\">replayed</text>"
-            )?;
+            write_label("x", behind, base, "replayed", out)?;
         }
     }
     Ok(())

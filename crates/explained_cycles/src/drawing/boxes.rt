@@ -1,12 +1,13 @@
 //! The boxes of accesses, and of what is there at the start.
 
 use super::layout::{Corner, Layout};
-use crate::event::MemoryEvent;
 use crate::naming::{instruction_of, write_access, write_event_name, write_location, write_number};
-use crate::number::initial_number;
+use litmus_cycles::MemoryEvent;
+use litmus_runs::initial_number;
 use litmus_tests::LitmusTest;
 use std::io;
 use std::io::Write;
+use svg_drawing::write_label;
 
 /// Writes the boxes of the events, the names of their harts, and a box for each location of which a read reads
 /// what is there at the start.
@@ -74,10 +75,7 @@ fn write_box<W: Write>(
     write_access(test, event, out)?;
     out.write_all(b"</text>\n")?;
     let (below, instruction) = (y.saturating_add(16), instruction_of(test, event));
-    writeln!(
-        out,
-        "<text class=\"far\" x=\"{x}\" y=\"{below}\">{instruction}</text>"
-    )
+    write_label("far", x, below, instruction.as_str(), out)
 }
 
 fn write_frame<W: Write>(

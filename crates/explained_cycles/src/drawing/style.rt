@@ -1,15 +1,13 @@
 //! The style of a picture, and which colour is which relation's.
 
-use crate::event::Relation;
 use crate::naming::relation_name;
-use shown_text::write_shown;
+use litmus_cycles::Relation;
 use std::io;
 use std::io::Write;
 
 /// The colours that the colour-blind can tell, one for each relation (Okabe and Ito, "Color Universal Design",
 /// 2008; a grey in place of black, which a dark page would hide).
-pub(super) const STYLE: &str = "<style>
-text{font:12px monospace;fill:#1b1b1b}
+pub(super) const STYLE: &str = "text{font:12px monospace;fill:#1b1b1b}
 .name{font:bold 14px monospace}
 .page{fill:#ffffff}
 .far{fill:#5b5b5b}
@@ -46,7 +44,6 @@ text{fill:#ececec}
 .fr-is{fill:#2fc79b}
 .breaks-is{fill:#e0a0c4}
 }
-</style>
 ";
 
 /// All relations, in the order in which they are told.
@@ -84,20 +81,6 @@ pub(super) fn write_legend<W: Write>(out: &mut W) -> io::Result<()> {
             "<text class=\"{name}-is\" x=\"{text}\" y=\"86\">{name}</text>"
         )?;
         x = x.saturating_add(72);
-    }
-    Ok(())
-}
-
-/// Writes a text of XML, a control character as `\x` and its two hexadecimal digits. What isn't ASCII is a
-/// question mark.
-pub(super) fn write_escaped<W: Write>(text: &[u8], out: &mut W) -> io::Result<()> {
-    for byte in text {
-        match byte {
-            b'<' => out.write_all(b"&lt;")?,
-            b'&' => out.write_all(b"&amp;")?,
-            0x80.. => out.write_all(b"?")?,
-            _ => write_shown(&[*byte], out)?,
-        }
     }
     Ok(())
 }

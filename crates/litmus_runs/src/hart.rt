@@ -10,7 +10,7 @@ ghost use Rattle.smt_model.specs.Reservations.{
   holds_word,
 };
 ghost use Rattle.litmus_tests.specs.WellFormed.{is_straight};
-ghost use Rattle.litmus_cycles.specs.Steps.{
+ghost use Rattle.litmus_runs.specs.Steps.{
   behind_branch,
   computed_by,
   datum_of,

@@ -1,10 +1,9 @@
 //! An explanation as lines of text.
 
-use crate::event::{Edge, MemoryEvent, Relation};
-use crate::explanation::{Broken, Explanation, Shown};
 use crate::naming::{
     instruction_of, relation_name, write_access, write_event_name, write_location,
 };
+use litmus_cycles::{Broken, Edge, Explanation, MemoryEvent, Relation, Shown};
 use litmus_tests::LitmusTest;
 use std::io;
 use std::io::Write;

@@ -3,9 +3,8 @@
 
 use super::layout::{Corner, Layout};
 use super::style::RELATIONS;
-use crate::event::{Edge, MemoryEvent, Relation};
 use crate::naming::relation_name;
-use crate::relating::is_edge;
+use litmus_cycles::{Edge, MemoryEvent, Relation, is_edge};
 use std::io;
 use std::io::Write;
 

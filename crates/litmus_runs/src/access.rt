@@ -1,9 +1,9 @@
 /// How many accesses a hart makes at most, and how many an execution has.
-pub(crate) const MOST_ACCESSES: usize = 32;
+pub const MOST_ACCESSES: usize = 32;
 
 /// What one hart does with memory at a step.
 #[derive(Clone, Copy, Drop)]
-pub(crate) struct Access {
+pub struct Access {
     pub step: usize,
     pub location: usize,
     pub reads: Option<u32>,

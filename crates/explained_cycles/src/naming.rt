@@ -3,9 +3,9 @@
 ghost use Rattle.std.specs.Prelude.{IsTrue};
 ghost use Rattle.rv_instr.specs.Table.{IsInstructionInRange};
 
-use crate::event::{MemoryEvent, Relation};
-use crate::number::word_of;
 use arrayvec::ArrayString;
+use litmus_cycles::{MemoryEvent, Relation};
+use litmus_runs::word_of;
 use litmus_tests::{LitmusStep, LitmusTest, Value};
 use rv_instr::Instr;
 use std::io;

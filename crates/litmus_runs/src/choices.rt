@@ -12,7 +12,7 @@ struct Choice {
 /// The choices of one way. Whoever asks for them in the same order goes through all ways, one after the other:
 /// `choose` answers the first of those that weren't asked for yet, and `advance` goes on to the next way.
 #[derive(Drop)]
-pub(crate) struct Choices {
+pub struct Choices {
     made: Vec<Choice>,
     /// How many were asked for on this way.
     asked: usize,

@@ -1,14 +1,14 @@
 //! The numbers that the values of a test are, as words.
 
 ghost use Rattle.std.specs.Prelude.{◌≡◌};
-ghost use Rattle.litmus_cycles.specs.Executions.{initial_number, word_of};
+ghost use Rattle.litmus_runs.specs.Numbers.{initial_number, word_of};
 
 use elf_image::RAM_START;
 use litmus_tests::{LitmusTest, Value};
 
 /// The word that a value is. An address is one where the test has few enough locations, as each has that makes
 /// sense.
-pub(crate) fn word_of(value: Value) -> u32
+pub fn word_of(value: Value) -> u32
     ensures { result ≡ word_of value }
 {
     match value {
@@ -21,7 +21,7 @@ pub(crate) fn word_of(value: Value) -> u32
 }
 
 /// The number that a location has at the start, where it is there.
-pub(crate) fn initial_number(test: &LitmusTest, location: usize) -> Option<u32>
+pub fn initial_number(test: &LitmusTest, location: usize) -> Option<u32>
     ensures { result ≡ initial_number test.now location }
 {
     let found = test.locations.get(location)?;

@@ -5,16 +5,16 @@ mod boxes;
 mod layout;
 mod style;
 
-use crate::event::{Edge, MemoryEvent};
-use crate::explanation::{Explanation, Shown};
 use crate::writing::{verdict, write_way};
 use arrows::{Part, write_arrows};
 use boxes::write_boxes;
 use layout::Layout;
+use litmus_cycles::{Edge, Explanation, MemoryEvent, Shown};
 use litmus_tests::LitmusTest;
 use std::io;
 use std::io::Write;
-use style::{STYLE, write_escaped, write_legend};
+use style::{STYLE, write_legend};
+use svg_drawing::{write_begin, write_end, write_shown_text, write_style};
 
 /// Draws the execution that an explanation shows as one SVG file (docs/FORMATS.md): a column a hart, with its
 /// accesses one below the other, and arrows with their relations, those of the cycle thick. Where none is shown,
@@ -47,7 +47,7 @@ fn draw<W: Write>(
     write_arrows(Part::Lines, events, edges, &layout, out)?;
     write_boxes(test, events, &layout, out)?;
     write_arrows(Part::Names, events, edges, &layout, out)?;
-    out.write_all(b"</svg>\n")
+    write_end(out)
 }
 
 fn write_head<W: Write>(
@@ -58,16 +58,13 @@ fn write_head<W: Write>(
     out: &mut W,
 ) -> io::Result<()> {
     let (width, height) = (layout.width(), layout.height());
-    out.write_all(b"<svg xmlns=\"http://www.w3.org/2000/svg\" ")?;
-    write!(out, "width=\"{width}\" height=\"{height}\" ")?;
-    writeln!(out, "viewBox=\"0 0 {width} {height}\">")?;
+    write_begin(width, height, out)?;
     out.write_all(b"<title>")?;
-    write_escaped(test.name.as_slice(), out)?;
+    write_shown_text(test.name.as_slice(), out)?;
     writeln!(out, ": {}</title>", verdict(explanation))?;
-    out.write_all(STYLE.as_bytes())?;
-    out.write_all(b"<rect class=\"page\" width=\"100%\" height=\"100%\"/>\n")?;
+    write_style(STYLE, out)?;
     out.write_all(b"<text class=\"name\" x=\"24\" y=\"26\">")?;
-    write_escaped(test.name.as_slice(), out)?;
+    write_shown_text(test.name.as_slice(), out)?;
     writeln!(
         out,
         "</text>\n<text x=\"24\" y=\"46\">{}</text>",

@@ -18,14 +18,14 @@ const MOST_ROUNDS: usize = 64;
 
 /// A hart's way to its end: what it does with memory, and what its registers hold then.
 #[derive(Drop)]
-pub(crate) struct Run {
+pub struct Run {
     pub accesses: Vec<Access>,
     pub registers: [u32; 32],
 }
 
 /// The runs of one hart.
 #[derive(Drop)]
-pub(crate) struct HartRuns {
+pub struct HartRuns {
     pub runs: Vec<Run>,
     /// Whether these are all.
     pub is_whole: bool,
@@ -33,7 +33,7 @@ pub(crate) struct HartRuns {
 
 /// The runs of all harts.
 #[derive(Drop)]
-pub(crate) struct AllRuns {
+pub struct AllRuns {
     pub harts: Vec<HartRuns>,
     pub is_whole: bool,
 }
@@ -56,7 +56,7 @@ impl AllRuns {
 /// All runs in which each read finds a number that is there at the start, or that some such run writes. A number
 /// that is passed on from write to write was first written by one that depends on none of the others, so as many
 /// rounds find all as runs have writes.
-pub(crate) fn all_runs(test: &LitmusTest, alloc: Global) -> Result<AllRuns, AllocError> {
+pub fn all_runs(test: &LitmusTest, alloc: Global) -> Result<AllRuns, AllocError> {
     let mut known = Known::new(test, alloc)?;
     let mut harts = gather(test, &known, alloc)?;
     for round in 0..MOST_ROUNDS {

@@ -1,6 +1,6 @@
 //! Where the boxes of a picture stand.
 
-use crate::event::MemoryEvent;
+use litmus_cycles::MemoryEvent;
 use litmus_tests::LitmusTest;
 
 /// The size of a box, and the room between two beside and below each other, in the picture's units.

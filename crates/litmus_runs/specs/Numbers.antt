@@ -1,0 +1,14 @@
+-- The numbers of a litmus test, as words.
+use Rattle.std.specs.Prelude.{ℕ, ◌%◌, ◌^◌, Option, slice_get}
+use Rattle.std.specs.Option.{option_map}
+use Rattle.litmus_tests.specs.declared.{value.Value.Value, test.LitmusTest.LitmusTest}
+use Rattle.litmus_tests.specs.Conditions.{number_of}
+
+-- The word that a value is: its number, where the address of its location is a word.
+abbrev pub word_of : Value → ℕ
+word_of value = number_of value % 2 ^ 32
+
+-- The number that a location has at the start.
+abbrev pub initial_number : LitmusTest → ℕ → Option ℕ
+initial_number test location =
+    option_map (λ found. word_of found.initial) (slice_get test.locations.items location)

@@ -1,0 +1,21 @@
+//! The ways of a litmus test's harts through their steps: each hart by itself, by the numbers that it may read, which are
+//! those that are there at the start and those that some hart may write.
+//!
+//! Proved of one step (`specs/Steps`): an instruction computes and does what the definitions say (`exec`, `effect_of`),
+//! where it finds some number, and reservations are theirs. That all ways are found is only tested.
+//!
+//! Read in this order: `number` (the words that values are), `access` (what a hart does with memory at a step),
+//! `choices`, `known` (the numbers that a location may have), `hart` (one step), `runs` (all ways of all harts).
+#![tactic(auto)]
+
+mod access;
+mod choices;
+mod hart;
+mod known;
+mod number;
+mod runs;
+
+pub use access::{Access, MOST_ACCESSES};
+pub use choices::Choices;
+pub use number::{initial_number, word_of};
+pub use runs::{AllRuns, HartRuns, Run, all_runs};
