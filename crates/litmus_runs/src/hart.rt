@@ -33,7 +33,7 @@ use elf_image::RAM_START;
 use events::{Effect, Written};
 use litmus_tests::{Comparison, LitmusStep, RegisterStart};
 use numbers::Reg;
-use rv_execute::{Computed, access_size, effect_of, execute, is_last, reads_memory};
+use rv_execute::{Computed, access_size, effect_of, execute, reads_memory};
 use rv_instr::{Instr, Kind, Op};
 use std::alloc::{AllocError, Global};
 
@@ -320,7 +320,7 @@ fn keep(accesses: &mut Vec<Access>, made: Option<Access>) -> Result<bool, AllocE
 fn reservation_after(op: Op, address: u32, effect: Effect, reserved: Option<u32>) -> Option<u32>
     ensures { result ≡ reservation_after op address effect true reserved }
 {
-    if is_last(effect.next) {
+    if effect.next.is_last() {
         return reserved;
     }
     after_write(effect.write, own_reservation(op.kind(), address, reserved))
