@@ -1,8 +1,6 @@
 -- A litmus test: what is refused of it, and what it comes to, behind a configuration.
-use Rattle.std.specs.Prelude.{◌≡◌, ℕ, false, List, Option, Some, None, is_some, if◌then◌else◌, Result, Ok, Err, IfOk, OnOk}
-use Rattle.std.specs.Prelude.{length}
+use Rattle.std.specs.Prelude.{◌≡◌, ℕ, List, Option, Result, Ok, Err, IfOk, OnOk, length}
 use Rattle.std.proofs.Common.{refl, subst}
-use Rattle.std.proofs.lemmas.Bool.{true≢false}
 use mathlib.Core.Logic.{inl, inr}
 use Rattle.std.specs.Io.KnownBytes.{Appends}
 use Rattle.elf_image.specs.Image.{ProgramImage}
@@ -13,19 +11,8 @@ use Rattle.outcomes.specs.{Found.CoversCores, Found.IsOnce, Refusals.IsRefusedFo
 use Rattle.outcomes.specs.declared.refused.OutcomesRefused.TheVariants as search
 use Rattle.litmus_tests.specs.declared.test.LitmusTest.{LitmusTest}
 use Rattle.sim_inputs.specs.declared.line.LitmusCommand.{LitmusCommand}
-use Rattle.sim_inputs.specs.Files.{written_for_test}
 use Rattle.command_parts.specs.declared.refused.Refused.{Refused}
 use Rattle.plain_commands.specs.Litmus.{TestComesTo, IsSearched, IsTold}
-
--- Where no file is written, neither of the two is.
-neither : {A : Type 0} (first second : Option A) → is_some (if is_some first then first else second) ≡ false
-    → (is_some first ≡ false) × (is_some second ≡ false)
-neither None second none = (refl, none)
-neither (Some one) second none = absurd (true≢false none)
-
-pub nothing_written : (command : LitmusCommand) → is_some (written_for_test command) ≡ false
-    → (is_some command.image ≡ false) × (is_some command.svg ≡ false)
-nothing_written command none = neither command.image command.svg none
 
 -- What a search of so many harts finds is so for as many as the test has.
 module _ (test : LitmusTest) (command : LitmusCommand) (image : ProgramImage) (watch : Watch) (harts : ℕ)
