@@ -31,4 +31,4 @@ class Spelled(NamedTuple):
 
 
 FIRST = Spelled(15, 7, 503)
-SECOND = Spelled(MOST_ACTORS - 1, MOST_HARTS - 1, RENAMED * MOST_HARTS + MOST_EXTRA - 1)
+SECOND = Spelled(31, 15, 1023)

@@ -4,12 +4,18 @@
 ghost use Rattle.std.specs.Prelude.{◌<◌};
 
 use crate::squash::Cause;
+use numbers::sizes::{MOST_ACCESSES, MOST_IN_FLIGHT};
 use reasons::Reason;
 use std::io;
 use std::io::Write;
 
 /// How many are told apart.
 const KINDS: usize = 27;
+
+// They stand in the names.
+const _: () = prove!(MOST_IN_FLIGHT == 64);
+
+const _: () = prove!(MOST_ACCESSES == 16);
 
 /// What is told apart, in the order in which it is written.
 fn names() -> [&'static str; KINDS] {

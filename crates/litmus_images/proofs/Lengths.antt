@@ -14,7 +14,7 @@ use Rattle.smt_model.specs.Basics.{below}
 use Rattle.litmus_tests.specs.declared.step.LitmusStep.{LitmusStep}
 use Rattle.litmus_tests.specs.declared.step.LitmusStep.TheVariants.{Straight, Constant, Branch}
 use Rattle.litmus_tests.specs.declared.test.{LitmusTest.LitmusTest, RegisterStart.RegisterStart, Thread.Thread}
-use Rattle.litmus_tests.specs.WellFormed.{IsThread, IsWellFormed}
+use Rattle.litmus_tests.specs.{Limits.most_thread_words, WellFormed.IsThread, WellFormed.IsWellFormed}
 use Rattle.litmus_tests.specs.WellFormed.{step_length, thread_length}
 use Rattle.litmus_tests.proofs.Lengths.{steps_small, threads_small}
 use Rattle.litmus_images.specs.{Code.block_place, Code.turn_words, Code.dispatch_words, Code.code_of, Words.jump_words}
@@ -81,7 +81,7 @@ place_small steps n few =
     let all = steps_small steps in let part = sum_by-take-le step_length steps n in omega (arith, all, part)
 
 pub blocks_small : (threads : List Thread) → All (IsThread 64) threads
-    → length (flat_map thread_words threads) ≤ 1064 * length threads
+    → length (flat_map thread_words threads) ≤ most_thread_words * length threads
 blocks_small threads sound =
     let all = blocks_length threads in let few = threads_small 64 threads sound in omega (arith, all, few)
 
@@ -91,7 +91,7 @@ take_few (suc n) [] = omega arith
 take_few (suc n) (x ∷ xs) = let part = take_few n xs in omega (arith, part)
 
 pub block_place_small : (threads : List Thread) (hart : ℕ) → All (IsThread 64) threads → length threads ≤ most_harts
-    → block_place threads hart ≤ 1067 * most_harts
+    → block_place threads hart ≤ (3 + most_thread_words) * most_harts
 unfolding block_place
 block_place_small threads hart sound few =
     let blocks = blocks_small (take hart threads) (All-take (IsThread 64) hart threads sound) in

@@ -17,7 +17,7 @@ use Rattle.litmus_tests.specs.declared.step.LitmusStep.TheVariants.{Straight, Co
 use Rattle.litmus_tests.specs.declared.test.{LitmusTest.LitmusTest, Thread.Thread}
 use Rattle.litmus_tests.specs.WellFormed.{IsStart, IsStep, IsThread, IsWellFormed}
 use Rattle.litmus_images.specs.{Words.lower_part, Words.upper_part, Words.constant_words}
-use Rattle.litmus_images.specs.{Words.distance, Words.jump_words}
+use Rattle.litmus_images.specs.{Words.distance, Words.jump_reach, Words.jump_words}
 use Rattle.litmus_images.proofs.{Lengths.place_small, Lengths.block_place_small, Sound.threads_sound}
 use Rattle.litmus_images.specs.{Steps.branch_op, Steps.step_place, Steps.step_words, Steps.words_at, Steps.steps_words}
 use Rattle.litmus_images.specs.{Code.start_words, Code.thread_words, Code.block_place, Code.turn_words}
@@ -51,7 +51,7 @@ upper_in_range value = (omega arith, omega arith)
 branch_in_range : (here there : ℕ) → here ≤ 1000 → there ≤ 1000 → IsDistance 13 (distance here there)
 branch_in_range here there low high = search rules
 
-jump_in_range : (here there : ℕ) → here ≤ 32768 → there ≤ 32768 → IsDistance 21 (distance here there)
+jump_in_range : (here there : ℕ) → here ≤ jump_reach → there ≤ jump_reach → IsDistance 21 (distance here there)
 jump_in_range here there low high = search rules
 
 constant_in_range : (register value : ℕ) → register < 32 → All IsInstructionInRange (constant_words register value)
@@ -109,7 +109,7 @@ thread_in_range thread sound =
     (one_in_range instr.Ebreak tt)
 
 -- the jumps to the blocks
-jump_words_in_range : (here there : ℕ) → here ≤ 32768 → there ≤ 32768 → All IsInstructionInRange (jump_words here there)
+jump_words_in_range : (here there : ℕ) → here ≤ jump_reach → there ≤ jump_reach → All IsInstructionInRange (jump_words here there)
 jump_words_in_range here there low high =
     one_in_range (instr.Jal 0 (distance here there)) (omega arith, jump_in_range here there low high)
 

@@ -21,6 +21,10 @@ constant_words register value =
 abbrev pub distance : ℕ → ℕ → ℤ
 distance here there = pos (4 * there) -ℤ pos (4 * here)
 
+-- How many words a jump reaches either way: JAL's offset has 21 bits, a sign among them, and is in bytes.
+abbrev pub jump_reach : ℕ
+jump_reach = 262143
+
 -- A jump from the one to the other.
 abbrev pub jump_words : ℕ → ℕ → List Instr
 jump_words here there = instr.Jal 0 (distance here there) ∷ []

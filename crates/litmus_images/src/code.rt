@@ -4,7 +4,8 @@ ghost use Rattle.std.specs.Prelude.{◌≡◌, ◌≤◌, ◌<◌, ◌+◌, ◌*
 ghost use Rattle.numbers.specs.Sizes.{most_harts};
 ghost use Rattle.litmus_tests.specs.WellFormed.{IsWellFormed, IsStart, IsThread};
 ghost use Rattle.litmus_images.specs.Code.{start_words, thread_words, block_place, turn_words};
-ghost use Rattle.litmus_images.specs.{Code.dispatch_words, Code.code_of, Words.jump_words};
+ghost use Rattle.litmus_images.specs.{Code.dispatch_words, Code.code_of, Words.jump_reach, Words.jump_words};
+ghost use Rattle.litmus_tests.specs.Limits.{most_locations, most_steps, most_thread_words};
 
 use crate::constants::{distance, number_of, push_constant};
 use crate::steps::push_steps;
@@ -14,7 +15,7 @@ use std::alloc::{AllocError, Global};
 
 /// Appends the words that put numbers into registers.
 fn push_starts(code: &mut Vec<Instr>, starts: &[RegisterStart]) -> Result<(), AllocError>
-    requires { All (IsStart 64) starts.now }
+    requires { All (IsStart most_locations) starts.now }
     ensures { OnOk result (code.new.items ≡ code.old.items ++ flat_map start_words starts.now) }
 {
     for start in starts {
@@ -26,7 +27,7 @@ fn push_starts(code: &mut Vec<Instr>, starts: &[RegisterStart]) -> Result<(), Al
 /// Appends the block of a hart.
 #[tactic(auto, unfolding(crate::specs::Code::thread_words))]
 fn push_thread(code: &mut Vec<Instr>, thread: &Thread) -> Result<(), AllocError>
-    requires { IsThread 64 thread.now }
+    requires { IsThread most_locations thread.now }
     ensures { OnOk result (code.new.items ≡ code.old.items ++ thread_words thread.now) }
 {
     code.push(Instr::Immediate {
@@ -44,9 +45,9 @@ fn push_thread(code: &mut Vec<Instr>, thread: &Thread) -> Result<(), AllocError>
 /// How many words the block of a hart has.
 fn thread_length(thread: &Thread) -> usize
     requires few { length thread.now.starts.items ≤ 31 }
-    requires short { length thread.now.steps.items ≤ 500 }
+    requires short { length thread.now.steps.items ≤ most_steps }
     ensures value { result ≡ length (thread_words thread.now) }
-    ensures small { result ≤ 1064 }
+    ensures small { result ≤ most_thread_words }
 {
     thread.length()
 }
@@ -54,11 +55,11 @@ fn thread_length(thread: &Thread) -> usize
 /// How many words stand before the block of a hart.
 #[tactic(auto, unfolding(crate::specs::Code::block_place))]
 fn block_place(threads: &[Thread], hart: usize) -> usize
-    requires threads { All (IsThread 64) threads.now }
+    requires threads { All (IsThread most_locations) threads.now }
     requires few { (1 ≤ length threads.now) × (length threads.now ≤ most_harts) }
     requires hart { hart < length threads.now }
     ensures value { result ≡ block_place threads.now hart }
-    ensures small { result ≤ 1067 * most_harts }
+    ensures small { result ≤ (3 + most_thread_words) * most_harts }
 {
     let mut place = 3 * (threads.len() - 1) + 1;
     for other in 0..hart {
@@ -69,7 +70,7 @@ fn block_place(threads: &[Thread], hart: usize) -> usize
 
 /// Appends the words by which a hart goes to its block, unless it is a later one.
 fn push_turn(code: &mut Vec<Instr>, threads: &[Thread], hart: usize) -> Result<(), AllocError>
-    requires threads { All (IsThread 64) threads.now }
+    requires threads { All (IsThread most_locations) threads.now }
     requires few { (1 ≤ length threads.now) × (length threads.now ≤ most_harts) }
     requires hart { hart < length threads.now }
     ensures { OnOk result (code.new.items ≡ code.old.items ++ turn_words threads.now hart) }
@@ -92,8 +93,8 @@ fn push_turn(code: &mut Vec<Instr>, threads: &[Thread], hart: usize) -> Result<(
 
 /// Appends a jump from the word with one number to the word with another.
 fn push_jump(code: &mut Vec<Instr>, here: usize, there: usize) -> Result<(), AllocError>
-    requires here { here ≤ 32768 }
-    requires there { there ≤ 32768 }
+    requires here { here ≤ jump_reach }
+    requires there { there ≤ jump_reach }
     ensures { OnOk result (code.new.items ≡ code.old.items ++ jump_words here there) }
 {
     code.push(Instr::Jal {
@@ -106,7 +107,7 @@ fn push_jump(code: &mut Vec<Instr>, here: usize, there: usize) -> Result<(), All
 /// Appends the words by which each hart goes to its block.
 #[tactic(auto, unfolding(crate::specs::Code::dispatch_words))]
 fn push_dispatch(code: &mut Vec<Instr>, threads: &[Thread]) -> Result<(), AllocError>
-    requires threads { All (IsThread 64) threads.now }
+    requires threads { All (IsThread most_locations) threads.now }
     requires few { (1 ≤ length threads.now) × (length threads.now ≤ most_harts) }
     ensures { OnOk result (code.new.items ≡ code.old.items ++ dispatch_words threads.now) }
 {

@@ -2,6 +2,8 @@
 
 ghost use Rattle.std.specs.Prelude.{◌≡◌, ◌<◌, ◌≤◌, ◌++◌, OnOk};
 ghost use Rattle.litmus_images.specs.Words.{lower_part, upper_part, constant_words, distance};
+ghost use Rattle.litmus_images.specs.Words.{jump_reach};
+ghost use Rattle.litmus_tests.specs.Limits.{most_locations};
 ghost use Rattle.litmus_tests.specs.{Conditions.address_of, Conditions.number_of, WellFormed.IsValue};
 
 use elf_image::RAM_START;
@@ -11,7 +13,7 @@ use std::alloc::AllocError;
 
 /// The address of a location's word.
 pub(crate) fn address_of(index: usize) -> u32
-    requires { index < 64 }
+    requires { index < most_locations }
     ensures { result ≡ address_of index }
 {
     RAM_START + 4 * index as u32
@@ -19,7 +21,7 @@ pub(crate) fn address_of(index: usize) -> u32
 
 /// The number that a value is.
 pub(crate) fn number_of(value: Value) -> u32
-    requires { IsValue 64 value }
+    requires { IsValue most_locations value }
     ensures { result ≡ number_of value }
 {
     match value {
@@ -67,8 +69,8 @@ pub(crate) fn push_constant(
 
 /// How many bytes it is from the word with one number to the word with another.
 pub(crate) fn distance(here: usize, there: usize) -> i32
-    requires here { here ≤ 32768 }
-    requires there { there ≤ 32768 }
+    requires here { here ≤ jump_reach }
+    requires there { there ≤ jump_reach }
     ensures { result ≡ distance here there }
 {
     4 * there as i32 - 4 * here as i32

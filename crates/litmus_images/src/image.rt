@@ -4,6 +4,7 @@ ghost use Rattle.std.specs.Prelude.{◌≡◌, ◌++◌, flat_map, All, IfOk, On
 ghost use Rattle.rv_instr.specs.Table.{IsInstructionInRange};
 ghost use Rattle.elf_image.specs.Written.{word_bytes};
 ghost use Rattle.litmus_tests.specs.WellFormed.{IsWellFormed, IsValue};
+ghost use Rattle.litmus_tests.specs.Limits.{most_locations};
 ghost use Rattle.litmus_images.specs.Image.{initial_words, locations_segment, SpellEach, IsSpelled};
 ghost use Rattle.litmus_images.specs.{Image.IsLitmusImage, Image.code_begin, Code.code_of};
 
@@ -41,7 +42,7 @@ fn words_of(code: &[Instr], alloc: Global) -> Result<Vec<u32>, AllocError>
 
 /// The numbers that the locations' words hold at the start.
 fn initial_words(locations: &[Location], alloc: Global) -> Result<Vec<u32>, AllocError>
-    requires { All (λ location. IsValue 64 location.initial) locations.now }
+    requires { All (λ location. IsValue most_locations location.initial) locations.now }
     ensures { IfOk result (λ words. words.items ≡ initial_words locations.now) }
 {
     let mut words = Vec::new(alloc);
@@ -81,7 +82,7 @@ fn push_locations(
     locations: &[Location],
     alloc: Global,
 ) -> Result<(), AllocError>
-    requires { All (λ location. IsValue 64 location.initial) locations.now }
+    requires { All (λ location. IsValue most_locations location.initial) locations.now }
     ensures { OnOk result (segments.new.items ≡ segments.old.items ++ locations_segment locations.now) }
 {
     if locations.is_empty() {

@@ -2,6 +2,7 @@
 
 ghost use Rattle.std.specs.Prelude.{◌≡◌, ◌≤◌, ◌<◌, ◌*◌, ◌++◌, length, All, OnOk};
 ghost use Rattle.litmus_tests.specs.WellFormed.{IsStep};
+ghost use Rattle.litmus_tests.specs.Limits.{most_steps};
 ghost use Rattle.litmus_images.specs.Steps.{step_place, words_at, steps_words, branch_op};
 
 use crate::constants::{distance, push_constant};
@@ -12,7 +13,7 @@ use std::alloc::AllocError;
 /// How many words stand before the step with this index, the end of the steps among them.
 #[tactic(auto, unfolding(crate::specs::Steps::step_place))]
 pub(crate) fn step_place(steps: &[LitmusStep], index: usize) -> usize
-    requires short { length steps.now ≤ 500 }
+    requires short { length steps.now ≤ most_steps }
     requires index { index ≤ length steps.now }
     ensures place { result ≡ step_place steps.now index }
     ensures small { result ≤ 2 * index }
@@ -35,7 +36,7 @@ fn branch_op(comparison: Comparison) -> BranchOp
 
 /// Appends the words of a step.
 fn push_step(code: &mut Vec<Instr>, steps: &[LitmusStep], index: usize) -> Result<(), AllocError>
-    requires short { length steps.now ≤ 500 }
+    requires short { length steps.now ≤ most_steps }
     requires sound { All (IsStep (length steps.now)) steps.now }
     requires index { index < length steps.now }
     ensures { OnOk result (code.new.items ≡ code.old.items ++ words_at steps.now index) }
@@ -61,7 +62,7 @@ fn push_step(code: &mut Vec<Instr>, steps: &[LitmusStep], index: usize) -> Resul
 /// Appends the words of all steps of a hart.
 #[tactic(auto, unfolding(crate::specs::Steps::steps_words))]
 pub(crate) fn push_steps(code: &mut Vec<Instr>, steps: &[LitmusStep]) -> Result<(), AllocError>
-    requires short { length steps.now ≤ 500 }
+    requires short { length steps.now ≤ most_steps }
     requires sound { All (IsStep (length steps.now)) steps.now }
     ensures { OnOk result (code.new.items ≡ code.old.items ++ steps_words steps.now) }
 {

@@ -2,6 +2,7 @@
 
 ghost use Rattle.std.specs.Prelude.{◌≡◌, ◌≤◌, ◌<◌, length, All, IfSome};
 ghost use Rattle.litmus_tests.specs.WellFormed.{IsWellFormed};
+ghost use Rattle.litmus_tests.specs.Limits.{most_locations, most_observed};
 ghost use Rattle.litmus_images.specs.Watching.{register_of, location_of, registers_observed};
 ghost use Rattle.litmus_images.specs.Watching.{words_observed};
 
@@ -51,7 +52,7 @@ pub fn watch_of(test: &LitmusTest) -> Watch
 
 /// The registers that are looked at, in order.
 fn registers_watched(observed: &[Observed]) -> ArrayVec<WatchedRegister, MOST_WATCHED>
-    requires { length observed.now ≤ 64 }
+    requires { length observed.now ≤ most_observed }
     ensures { result.items ≡ registers_observed observed.now }
 {
     let mut registers = ArrayVec::<WatchedRegister, MOST_WATCHED>::new();
@@ -66,8 +67,8 @@ fn registers_watched(observed: &[Observed]) -> ArrayVec<WatchedRegister, MOST_WA
 
 /// The words of the locations that are looked at, in order.
 fn words_watched(observed: &[Observed]) -> ArrayVec<u32, MOST_WATCHED>
-    requires few { length observed.now ≤ 64 }
-    requires there { All (λ each. IfSome (location_of each) (λ index. index < 64)) observed.now }
+    requires few { length observed.now ≤ most_observed }
+    requires there { All (λ each. IfSome (location_of each) (λ index. index < most_locations)) observed.now }
     ensures { result.items ≡ words_observed observed.now }
 {
     let mut words = ArrayVec::<u32, MOST_WATCHED>::new();

@@ -1,6 +1,7 @@
 -- When a litmus test makes sense: what it names is there.
 use Rattle.std.specs.Prelude.{◌≡◌, ℕ, ◌+◌, ◌*◌, ◌≤◌, ◌<◌, Bool, true, false, List, length, sum_by, All, Contains}
 use Rattle.numbers.specs.Sizes.{most_harts}
+use Rattle.litmus_tests.specs.Limits.{most_steps, most_words, most_locations, most_observed}
 use Rattle.rv_instr.specs.{declared.instr.Instr.Instr, Table.IsInstructionInRange}
 use Rattle.rv_instr.specs.declared.instr.Instr.TheVariants as instr
 use Rattle.litmus_tests.specs.declared.value.Value.{Value}
@@ -47,7 +48,7 @@ pub record IsThread (locations : ℕ) (thread : Thread) : Type 0 where
   pub starts : All (IsStart locations) thread.starts.items
   pub few : length thread.starts.items ≤ 31
   pub steps : All (IsStep (length thread.steps.items)) thread.steps.items
-  pub short : length thread.steps.items ≤ 500
+  pub short : length thread.steps.items ≤ most_steps
 
 -- How many words of code a step comes to.
 abbrev pub step_length : LitmusStep → ℕ
@@ -74,10 +75,10 @@ IsCondition locations observed (Either' p first q second) =
 
 pub record IsWellFormed (test : LitmusTest) : Type 0 where
   pub harts : (1 ≤ length test.threads.items) × (length test.threads.items ≤ most_harts)
-  pub locations : length test.locations.items ≤ 64
+  pub locations : length test.locations.items ≤ most_locations
   pub initials : All (λ location. IsValue (length test.locations.items) location.initial) test.locations.items
   pub threads : All (IsThread (length test.locations.items)) test.threads.items
-  pub short : sum_by thread_length test.threads.items ≤ 16000
+  pub short : sum_by thread_length test.threads.items ≤ most_words
   pub condition : IsCondition (length test.locations.items) test.observed.items test.condition
   pub observed : All (IsObserved (length test.threads.items) (length test.locations.items)) test.observed.items
-  pub few : length test.observed.items ≤ 64
+  pub few : length test.observed.items ≤ most_observed

@@ -1,10 +1,13 @@
 ghost use Rattle.std.specs.Prelude.{◌≡◌, ◌≤◌, ◌*◌, length, sum_by};
 ghost use Rattle.litmus_tests.specs.WellFormed.{step_length, thread_length};
+ghost use Rattle.litmus_tests.specs.Limits.{most_steps, most_thread_words};
 
 use crate::condition::{Condition, Observed, Quantifier};
 use crate::step::LitmusStep;
 use crate::value::Value;
 use numbers::Reg;
+
+// Each limit of a proof has the same name in `specs/Limits`.
 
 /// How many steps a hart has at most: each branch then reaches (a branch spans 4 KiB, and a step has two
 /// instructions at most).
@@ -53,9 +56,9 @@ impl Thread {
     /// How many words of code it has.
     pub fn length(&self) -> usize
         requires few { length self.now.starts.items ≤ 31 }
-        requires short { length self.now.steps.items ≤ 500 }
+        requires short { length self.now.steps.items ≤ most_steps }
         ensures value { result ≡ thread_length self.now }
-        ensures small { result ≤ 1064 }
+        ensures small { result ≤ most_thread_words }
     {
         2 + 2 * self.starts.len() + steps_length(&self.steps)
     }
@@ -63,7 +66,7 @@ impl Thread {
 
 /// How many words steps come to.
 fn steps_length(steps: &[LitmusStep]) -> usize
-    requires { length steps.now ≤ 500 }
+    requires { length steps.now ≤ most_steps }
     ensures value { result ≡ sum_by step_length steps.now }
     ensures small { result ≤ 2 * length steps.now }
 {

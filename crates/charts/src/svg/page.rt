@@ -33,6 +33,9 @@ const GAP: u32 = 18;
 /// How many columns lie from one number over them to the next.
 const COLUMNS_A_NUMBER: u32 = 10;
 
+// `STYLE` has a colour for each hart.
+const _: () = prove!(MOST_HARTS == 16);
+
 /// The colours that the colour-blind can tell, one for each of eight harts (Okabe and Ito, "Color
 /// Universal Design", 2008; a grey in place of black, which a dark page would hide). The eight harts
 /// behind them have the same colours with a thick edge, and the legend shows both.
