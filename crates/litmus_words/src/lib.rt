@@ -6,24 +6,24 @@
 //! (`specs/Parts`), and a place is one of the text (`specs/Places`).
 //!
 //! Read in this order: `place` (lines and columns), `refused` (which faults there are); `mnemonic` (the names of
-//! instructions, over those of `rv_text`), `word`, `names` (what a name is), `lexer` (a text is cut into words), `cut`
-//! (words are, at a mark); `take` (one part at a time).
+//! instructions, over those of `rv_text`), `word`, `names` (what a name is), `lexer` (a text is cut into words),
+//! `splitting` (words are, at a mark); `take` (one part at a time).
 #![tactic(auto)]
 
-mod cut;
 mod lexer;
 mod mnemonic;
 mod names;
 mod place;
 mod refused;
+mod splitting;
 mod take;
 mod word;
 
-pub use cut::cut;
 pub use lexer::{name_end, skip_blanks, words_of};
 pub use mnemonic::Mnemonic;
 pub use place::{Place, place_of};
 pub use refused::{Fault, MOST_BYTES, ReadingRefused, Shown, Stop};
+pub use splitting::cut;
 pub use take::{
     begins_with, behind_mark, location, mark, natural, next, nothing, number, register,
     register_but_zero, start_of, value, word_number,

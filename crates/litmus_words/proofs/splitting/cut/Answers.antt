@@ -1,5 +1,5 @@
 use Rattle.litmus_words.proofs.Cutting.{cut_at}
-use Rattle.litmus_words.proofs.cut.cut.Goals as goal
+use Rattle.litmus_words.proofs.splitting.cut.Goals as goal
 
 pub returns-clause-cut : goal.returns-clause-cut
 returns-clause-cut c =
