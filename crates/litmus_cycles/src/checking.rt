@@ -2,7 +2,8 @@
 
 ghost use Rattle.std.specs.Prelude.{◌≡◌, ◌==◌, ◌&&◌, not, nat_lt, length};
 ghost use Rattle.std.specs.List.{list_all};
-ghost use Rattle.litmus_cycles.specs.Executions.{leads, is_closed, is_cycle, is_edge, initial_number, written_at};
+ghost use Rattle.litmus_runs.specs.Numbers.{initial_number};
+ghost use Rattle.litmus_cycles.specs.Executions.{leads, is_closed, is_cycle, is_edge, written_at};
 ghost use Rattle.litmus_cycles.specs.Executions.{has_number, given_by, is_sourced, is_related, is_ranked};
 ghost use Rattle.litmus_cycles.specs.Executions.{is_before, are_apart};
 ghost use Rattle.litmus_cycles.specs.Executions.{all_pairs, accesses_as, does_as, is_made, is_candidate};

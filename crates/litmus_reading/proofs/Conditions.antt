@@ -2,16 +2,16 @@
 use Rattle.std.proofs.Common.{ℕ, ◌≤◌, List, [], ◌∷◌, ◌++◌, refl, sym, subst, arith}
 use Rattle.litmus_tests.specs.declared.condition.Term.{Term}
 use Rattle.litmus_tests.specs.declared.condition.Condition.{Condition, Always, Holds, Not', Both', Either'}
-use Rattle.litmus_reading.specs.declared.word.Word.{Word}
-use Rattle.litmus_reading.specs.declared.word.Token.{Token}
-use Rattle.litmus_reading.specs.declared.word.Token.TheVariants.{Mark}
-use Rattle.litmus_reading.specs.declared.word.Mark.TheVariants as mark
+use Rattle.litmus_words.specs.declared.word.Word.{Word}
+use Rattle.litmus_words.specs.declared.word.Token.{Token}
+use Rattle.litmus_words.specs.declared.word.Token.TheVariants.{Mark}
+use Rattle.litmus_words.specs.declared.word.Mark.TheVariants as mark
 use Rattle.litmus_reading.specs.Grammar.{Syntax, leaf, always, negated, grouped, conjunction, disjunction, text_of}
 use Rattle.litmus_reading.specs.Grammar.{IsAtLevel, Means, ConditionTaken}
 use Rattle.litmus_reading.specs.Grammar.{IsNegation, IsConjunction, IsDisjunction}
-use Rattle.litmus_reading.specs.Parts.{ObservedTaken, ValueTaken}
-use Rattle.litmus_reading.specs.Tokens.{Takes}
-use Rattle.litmus_reading.proofs.Taking.{one_behind_another}
+use Rattle.litmus_words.specs.Parts.{ObservedTaken, ValueTaken}
+use Rattle.litmus_words.specs.Tokens.{Takes}
+use Rattle.litmus_words.proofs.Taking.{one_behind_another}
 
 higher : (syntax : Syntax) (low high : ℕ) → low ≤ high → IsAtLevel low syntax → IsAtLevel high syntax
 higher (leaf text) low high le h = tt

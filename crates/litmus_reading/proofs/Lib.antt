@@ -1,6 +1,2 @@
 pub mod Conditions
-pub mod Cutting
-pub mod Naming
-pub mod Placing
-pub mod Taking
 pub mod Told

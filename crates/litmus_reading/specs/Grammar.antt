@@ -2,12 +2,12 @@
 use Rattle.std.specs.Prelude.{◌≡◌, ℕ, ◌≤◌, List, [], ◌∷◌, ◌++◌}
 use Rattle.litmus_tests.specs.declared.condition.Term.{Term}
 use Rattle.litmus_tests.specs.declared.condition.Condition.{Condition, Always, Holds, Not', Both', Either'}
-use Rattle.litmus_reading.specs.declared.word.Word.{Word}
-use Rattle.litmus_reading.specs.declared.word.Token.{Token}
-use Rattle.litmus_reading.specs.declared.word.Token.TheVariants.{Mark}
-use Rattle.litmus_reading.specs.declared.word.Mark.TheVariants as mark
-use Rattle.litmus_reading.specs.Parts.{SpellsObserved, SpellsValue}
-use Rattle.litmus_reading.specs.Tokens.{Takes}
+use Rattle.litmus_words.specs.declared.word.Word.{Word}
+use Rattle.litmus_words.specs.declared.word.Token.{Token}
+use Rattle.litmus_words.specs.declared.word.Token.TheVariants.{Mark}
+use Rattle.litmus_words.specs.declared.word.Mark.TheVariants as mark
+use Rattle.litmus_words.specs.Parts.{SpellsObserved, SpellsValue}
+use Rattle.litmus_words.specs.Tokens.{Takes}
 
 -- What is looked at, `=`, and the value.
 pub record SpellsTerm (text : List Token) (term : Term) : Type 0 where

@@ -11,15 +11,15 @@ use Rattle.rv_text.specs.declared.mnemonic.Mnemonic.TheVariants as row_of
 use Rattle.rv_text.specs.declared.mnemonic.AtomicOp.TheVariants as atomic
 use Rattle.litmus_reading.specs.declared.instruction.Written.{Written}
 use Rattle.litmus_reading.specs.declared.instruction.Written.TheVariants.{Straight, Constant, Branch}
-use Rattle.litmus_reading.specs.declared.mnemonic.Mnemonic.{Mnemonic}
-use Rattle.litmus_reading.specs.declared.mnemonic.Mnemonic.TheVariants as name
-use Rattle.litmus_reading.specs.declared.word.Token.{Token}
-use Rattle.litmus_reading.specs.declared.word.Token.TheVariants.{Register, Mark}
-use Rattle.litmus_reading.specs.declared.word.Token.TheVariants.{Mnemonic as name_token}
-use Rattle.litmus_reading.specs.declared.word.Mark.TheVariants as mark
-use Rattle.litmus_reading.specs.declared.word.Word.{Word}
-use Rattle.litmus_reading.specs.Parts.{SpellsInteger, SpellsNumber}
-use Rattle.litmus_reading.specs.Tokens.{Takes, tokens}
+use Rattle.litmus_words.specs.declared.mnemonic.Mnemonic.{Mnemonic}
+use Rattle.litmus_words.specs.declared.mnemonic.Mnemonic.TheVariants as name
+use Rattle.litmus_words.specs.declared.word.Token.{Token}
+use Rattle.litmus_words.specs.declared.word.Token.TheVariants.{Register, Mark}
+use Rattle.litmus_words.specs.declared.word.Token.TheVariants.{Mnemonic as name_token}
+use Rattle.litmus_words.specs.declared.word.Mark.TheVariants as mark
+use Rattle.litmus_words.specs.declared.word.Word.{Word}
+use Rattle.litmus_words.specs.Parts.{SpellsInteger, SpellsNumber}
+use Rattle.litmus_words.specs.Tokens.{Takes, tokens}
 
 -- `x5,x6` and `x5,x6,x7`.
 abbrev pub pair : ℕ → ℕ → List Token

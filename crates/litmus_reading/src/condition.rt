@@ -8,13 +8,14 @@ ghost use Rattle.litmus_reading.specs.Grammar.{
   IsConjunction,
   IsDisjunction,
 };
-ghost use Rattle.litmus_reading.specs.Parts.{ObservedTaken};
+ghost use Rattle.litmus_words.specs.Parts.{ObservedTaken};
 
-use crate::refused::{Fault, Stop};
-use crate::take::{behind_mark, location, mark, next, register_but_zero, start_of, value};
-use crate::word::{Mark, Token, Word};
 use litmus_tests::test::MOST_TERMS;
 use litmus_tests::{Condition, Observed, Term};
+use litmus_words::{
+    Fault, Mark, Stop, Token, Word, behind_mark, location, mark, next, register_but_zero, start_of,
+    value,
+};
 use std::alloc::{AllocError, Global};
 
 /// What a condition is read with: how many harts there are, where the text ends, and the allocator.

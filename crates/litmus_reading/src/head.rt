@@ -2,8 +2,7 @@
 
 ghost use Rattle.std.specs.Prelude.{◌≤◌, ◌<◌, length, IfOk};
 
-use crate::lexer::{name_end, skip_blanks};
-use crate::refused::{Fault, Stop};
+use litmus_words::{Fault, Stop, name_end, skip_blanks};
 
 /// Where the name of a test stands, and where its braces begin.
 #[derive(Clone, Copy, Drop)]

@@ -1,18 +1,17 @@
 //! One instruction.
 
 ghost use Rattle.std.specs.Prelude.{◌≡◌, IfOk, pos};
-ghost use Rattle.litmus_reading.specs.Tokens.{tokens};
+ghost use Rattle.litmus_words.specs.Tokens.{tokens};
 ghost use Rattle.litmus_reading.specs.Instructions.{SpellsInstruction, SpellsWritten, SpellsStraight, SpellsRow};
-ghost use Rattle.litmus_reading.specs.declared.mnemonic.Mnemonic.TheVariants as name;
+ghost use Rattle.litmus_words.specs.declared.mnemonic.Mnemonic.TheVariants as name;
 ghost use Rattle.rv_instr.specs.declared.instr.Instr.TheVariants as instr;
 ghost use Rattle.rv_instr.specs.declared.instr.ImmediateOp.TheVariants as immediate_op;
 
-use crate::mnemonic::Mnemonic;
 use crate::operands::{operands_of, register_label, registers_label, two_registers};
-use crate::refused::{Fault, Stop};
-use crate::take::{mark, next, nothing, register, word_number};
-use crate::word::{Mark, Token, Word, bytes_of};
 use litmus_tests::Comparison;
+use litmus_words::{
+    Fault, Mark, Mnemonic, Stop, Token, Word, bytes_of, mark, next, nothing, register, word_number,
+};
 use numbers::Reg;
 use rv_instr::{ImmediateOp, Instr};
 use rv_text::{Mnemonic as Row, instr_with};

@@ -8,40 +8,29 @@
 //! `locations [..]`; and `exists`, `~exists` or `forall` with a condition of terms, `true`, `~`, `not`, `/\`, `\/` and
 //! parentheses. Comments `(* .. *)` may be nested.
 //!
-//! Proved: a test that is read is well formed; what is refused is refused at a place of the text. Of the parts: each
-//! word is what its bytes spell (`specs/Words`), an instruction is the one that its words spell
-//! (`specs/Instructions`), and a condition the one that its words are by the grammar (`specs/Grammar`). Only tested:
-//! what stands before the braces, that the entries of the start, the cells of a column and the labels go where they
-//! belong, what is observed, and which fault is told where.
+//! Proved: a test that is read is well formed; what is refused is refused at a place of the text. Of the parts: an
+//! instruction is the one that its words spell (`specs/Instructions`), what its row is with the operands by
+//! `rv_text`, and a condition the one that its words are by the grammar (`specs/Grammar`). Only tested: what stands
+//! before the braces, that the entries of the start, the cells of a column and the labels go where they belong, what
+//! is observed, and which fault is told where.
 //!
-//! Read in this order: `refused` (which faults there are), `place` (lines and columns); `mnemonic` (the names of
-//! instructions), `word`, `names` (what a name is), `lexer` (a text is cut into words), `cut`; `take` (one part at a
-//! time); `head` (what stands before the braces), `locations` (which there are), `start`, `rows`, `operands`,
-//! `instruction`, `thread` (what a hart does), `condition`, `question`, `observed`;
-//! `sound` (whether a test makes sense); `test`.
+//! Read in this order, behind `litmus_words`: `head` (what stands before the braces), `locations` (which there are),
+//! `start`, `rows` (of the table of harts), `operands`, `instruction`, `thread` (what a hart does), `condition`,
+//! `question`, `observed`; `sound` (whether a test makes sense); `test`.
 #![tactic(auto)]
 
 mod condition;
-mod cut;
 mod head;
 mod instruction;
-mod lexer;
 mod locations;
-mod mnemonic;
-mod names;
 mod observed;
 mod operands;
-mod place;
 mod question;
-mod refused;
 mod rows;
 mod sound;
 mod start;
-mod take;
 mod test;
 mod thread;
-mod word;
 
-pub use place::Place;
-pub use refused::{Fault, ReadingRefused, Shown};
-pub use test::{MOST_BYTES, read_litmus};
+pub use litmus_words::{Fault, MOST_BYTES, Place, ReadingRefused, Shown};
+pub use test::read_litmus;

@@ -1,8 +1,7 @@
 //! The names of locations: those that stand in the braces.
 
-use crate::refused::{Fault, Stop};
-use crate::word::{Token, Word, bytes_of};
 use litmus_tests::test::MOST_LOCATIONS;
+use litmus_words::{Fault, Stop, Token, Word, bytes_of};
 use std::alloc::Global;
 
 /// The names in these words, each where it stands first.

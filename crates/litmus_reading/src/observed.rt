@@ -1,9 +1,9 @@
 //! What tells final states apart: what is listed and what the terms look at, in order.
 
 use crate::question::Question;
-use crate::refused::{Fault, Stop};
 use litmus_tests::Observed;
 use litmus_tests::test::MOST_OBSERVED;
+use litmus_words::{Fault, Stop};
 use std::alloc::Global;
 
 /// What a question looks at, each once: the registers by hart and number, then the locations by index. More than

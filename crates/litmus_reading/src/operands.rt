@@ -1,7 +1,7 @@
 //! The operands of an instruction, all of them, by the row that it is.
 
 ghost use Rattle.std.specs.Prelude.{◌≡◌, ◌∷◌, [], pos, IfOk};
-ghost use Rattle.litmus_reading.specs.Tokens.{Takes, tokens};
+ghost use Rattle.litmus_words.specs.Tokens.{Takes, tokens};
 ghost use Rattle.litmus_reading.specs.Instructions.{
   pair,
   triple,
@@ -15,12 +15,12 @@ ghost use Rattle.litmus_reading.specs.Instructions.{
   OffsetTaken,
   ShortTaken,
 };
-ghost use Rattle.litmus_reading.specs.declared.word.Token.TheVariants as token;
-ghost use Rattle.litmus_reading.specs.declared.word.Mark.TheVariants as mark_of;
+ghost use Rattle.litmus_words.specs.declared.word.Token.TheVariants as token;
+ghost use Rattle.litmus_words.specs.declared.word.Mark.TheVariants as mark_of;
 
-use crate::refused::{Fault, Stop};
-use crate::take::{begins_with, mark, next, nothing, number, register, start_of};
-use crate::word::{Mark, Token, Word};
+use litmus_words::{
+    Fault, Mark, Stop, Token, Word, begins_with, mark, next, nothing, number, register, start_of,
+};
 use numbers::Reg;
 use rv_text::{AtomicOp, Mnemonic as Row, NO_OPERANDS, Operands};
 

@@ -1,11 +1,9 @@
 //! What stands behind the rows: what is looked at, and the condition.
 
 use crate::condition::{Asked, Leaves, read_condition, read_observed};
-use crate::refused::{Fault, Stop};
-use crate::take::{begins_with, behind_mark, mark, next, nothing};
-use crate::word::{Mark, Token, Word};
 use litmus_tests::test::MOST_NESTED;
 use litmus_tests::{Condition, Observed, Quantifier};
+use litmus_words::{Fault, Mark, Stop, Token, Word, begins_with, behind_mark, mark, next, nothing};
 
 /// What is asked, and what it names: what stands in `locations`, and what the terms look at.
 #[derive(Drop)]

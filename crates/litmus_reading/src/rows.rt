@@ -1,9 +1,6 @@
 //! The harts, and the rows below them.
 
-use crate::cut::cut;
-use crate::refused::{Fault, Stop};
-use crate::take::start_of;
-use crate::word::{Mark, Token, Word, is_mark};
+use litmus_words::{Fault, Mark, Stop, Token, Word, cut, is_mark, start_of};
 use numbers::sizes::HART_ROOM;
 
 /// Reads `P0 | P1 ;`: how many harts there are, and the words behind.

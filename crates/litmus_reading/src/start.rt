@@ -2,10 +2,11 @@
 
 ghost use Rattle.std.specs.Prelude.{◌≤◌, length, IfOk};
 
-use crate::refused::{Fault, Stop};
-use crate::take::{behind_mark, location, mark, natural, next, register_but_zero, start_of, value};
-use crate::word::{Mark, Token, Word};
 use litmus_tests::{RegisterStart, Value};
+use litmus_words::{
+    Fault, Mark, Stop, Token, Word, behind_mark, location, mark, natural, next, register_but_zero,
+    start_of, value,
+};
 use numbers::Reg;
 use std::alloc::Global;
 

@@ -2,29 +2,24 @@
 
 ghost use Rattle.std.specs.Prelude.{◌≤◌, length, IfOk, IfErr};
 ghost use Rattle.litmus_tests.specs.WellFormed.{IsWellFormed};
-ghost use Rattle.litmus_reading.specs.Places.{IsRefusedIn};
+ghost use Rattle.litmus_words.specs.Places.{IsRefusedIn};
 
 use crate::condition::Asked;
-use crate::cut::cut;
 use crate::head::{Head, read_head};
-use crate::lexer::{name_end, words_of};
 use crate::locations::{located, locations_in};
 use crate::observed::observed_of;
-use crate::place::place_of;
 use crate::question::read_question;
-use crate::refused::{Fault, ReadingRefused, Shown, Stop};
 use crate::rows::{read_harts, rows_of};
 use crate::sound::makes_sense;
 use crate::start::{Start, read_start};
-use crate::take::start_of;
 use crate::thread::read_steps;
-use crate::word::{Mark, Word, bytes_of};
 use litmus_tests::{LitmusTest, Location, Thread};
+use litmus_words::{
+    Fault, MOST_BYTES, Mark, ReadingRefused, Shown, Stop, Word, bytes_of, cut, name_end, place_of,
+    start_of, words_of,
+};
 use std::alloc::Global;
 use std::str;
-
-/// How many bytes a text has at most.
-pub const MOST_BYTES: usize = 65_536;
 
 /// Reads a litmus test in the subset of herd's format that docs/FORMATS.md states. What is refused for another
 /// reason than want of memory is refused at a place of the text.

@@ -1,15 +1,12 @@
 //! What one hart does: the cells of its column, one below the other.
 
-use crate::cut::cut;
 use crate::instruction::{Written, read_instruction};
 use crate::locations::index_of;
 use crate::operands::is_label;
-use crate::refused::{Fault, Stop};
 use crate::rows::cell_of;
-use crate::take::{behind_mark, start_of};
-use crate::word::{Mark, Word};
 use litmus_tests::LitmusStep;
 use litmus_tests::test::MOST_STEPS;
+use litmus_words::{Fault, Mark, Stop, Word, behind_mark, cut, start_of};
 use std::alloc::Global;
 
 /// The instructions of a hart as they are written, and the labels, each with the index of the step before which it

@@ -10,7 +10,7 @@ use Rattle.outcomes.specs.declared.refused.OutcomesRefused.TheVariants as search
 use Rattle.outcome_text.specs.Listing.{incomplete_text}
 use Rattle.litmus_tests.specs.declared.test.LitmusTest.{LitmusTest}
 use Rattle.litmus_tests.specs.{WellFormed.IsWellFormed, Conditions.holding}
-use Rattle.litmus_reading.specs.Places.{IsPlaceIn}
+use Rattle.litmus_words.specs.Places.{IsPlaceIn}
 use Rattle.litmus_images.specs.{Image.IsLitmusImage, Watching.registers_observed, Watching.words_observed}
 use Rattle.litmus_text.specs.States.{states_text, states_in}
 use Rattle.sim_inputs.specs.declared.line.LitmusCommand.{LitmusCommand}

@@ -2,7 +2,7 @@
 
 ghost use Rattle.std.specs.Prelude.{OnOk};
 ghost use Rattle.std.specs.Io.KnownBytes.{Appends};
-ghost use Rattle.svg_drawing.specs.Page.{end_text, style_text};
+ghost use Rattle.svg_drawing.specs.Page.{end_text, page_text, style_text};
 
 use std::io;
 use std::io::Write;
@@ -22,8 +22,15 @@ pub fn write_style<W: Write>(rules: &str, out: &mut W) -> io::Result<()>
 {
     out.write_all(b"<style>\n")?;
     out.write_all(rules.as_bytes())?;
-    out.write_all(b"</style>\n")?;
-    out.write_all(b"<rect class=\"page\" width=\"100%\" height=\"100%\"/>\n")
+    write_page(out)
+}
+
+/// Writes the end of the style, and the page.
+#[tactic(auto, unfolding(crate::specs::Page::page_text))]
+fn write_page<W: Write>(out: &mut W) -> io::Result<()>
+    ensures { OnOk result (Appends (W.contents out.old) (W.contents out.new) page_text) }
+{
+    out.write_all(b"</style>\n<rect class=\"page\" width=\"100%\" height=\"100%\"/>\n")
 }
 
 /// Writes the end of a picture.

@@ -1,0 +1,4 @@
+pub mod Cutting
+pub mod Naming
+pub mod Placing
+pub mod Taking

@@ -1,0 +1,6 @@
+pub mod Cuts
+pub mod Mnemonics
+pub mod Parts
+pub mod Places
+pub mod Tokens
+pub mod Words

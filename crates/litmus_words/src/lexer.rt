@@ -1,0 +1,154 @@
+//! A text cut into words. Blanks, line ends and comments stand between them.
+
+ghost use Rattle.std.specs.Prelude.{◌≤◌, ◌<◌, length, slice_range, All, IfOk, IfSome};
+ghost use Rattle.litmus_words.specs.Words.{IsMarkNamed, IsWordOf};
+
+use crate::names::{is_of_name, mark_of, name_token, number_token};
+use crate::refused::{Fault, Stop};
+use crate::word::{Mark, Token, Word};
+use std::alloc::Global;
+
+/// The words from this byte on.
+pub fn words_of(text: &[u8], from: usize, alloc: Global) -> Result<Vec<Word>, Stop>
+    requires { from ≤ length text.now }
+    ensures { IfOk result (λ words. All (IsWordOf text.now) words.items) }
+{
+    let mut words = Vec::new(alloc);
+    let mut at = skip_blanks(text, from)?;
+    while at < text.len() {
+        let word = word_at(text, at)?;
+        words.push(word)?;
+        at = skip_blanks(text, word.end)?;
+    }
+    Ok(words)
+}
+
+/// Where the next word begins, or the text ends.
+pub fn skip_blanks(text: &[u8], from: usize) -> Result<usize, Stop>
+    requires { from ≤ length text.now }
+    ensures on { IfOk result (λ at. from ≤ at) }
+    ensures inside { IfOk result (λ at. at ≤ length text.now) }
+{
+    let mut at = from;
+    while at < text.len() {
+        if text[at].is_ascii_whitespace() {
+            at += 1;
+        } else if stands_at(text, at, b'(', b'*') {
+            at = comment_end(text, at)?;
+        } else {
+            return Ok(at);
+        }
+    }
+    Ok(at)
+}
+
+/// Whether two bytes stand there.
+fn stands_at(text: &[u8], at: usize, first: u8, second: u8) -> bool
+    requires { at < length text.now }
+{
+    text[at] == first && text.get(at + 1) == Some(&second)
+}
+
+/// The byte behind the comment that begins there. Comments may stand in it.
+fn comment_end(text: &[u8], from: usize) -> Result<usize, Stop>
+    requires { from < length text.now }
+    ensures on { IfOk result (λ at. from < at) }
+    ensures inside { IfOk result (λ at. at ≤ length text.now) }
+{
+    let mut depth = 0usize;
+    let mut at = from;
+    while text.len() - at >= 2 {
+        if text[at] == b'(' && text[at + 1] == b'*' {
+            depth += 1;
+            at += 2;
+        } else if text[at] == b'*' && text[at + 1] == b')' {
+            at += 2;
+            if depth <= 1 {
+                return Ok(at);
+            }
+            depth -= 1;
+        } else {
+            at += 1;
+        }
+    }
+    Err(Stop::at(from, Fault::EndlessComment))
+}
+
+/// The word that begins there.
+fn word_at(text: &[u8], at: usize) -> Result<Word, Stop>
+    requires { at < length text.now }
+    ensures start { IfOk result (λ word. at < word.end) }
+    ensures inside { IfOk result (λ word. word.end ≤ length text.now) }
+    ensures spelled { IfOk result (IsWordOf text.now) }
+{
+    let first = text[at];
+    if first.is_ascii_alphabetic() || first == b'_' {
+        let end = name_end(text, at + 1);
+        return Ok(Word {
+            start: at,
+            end,
+            token: name_token(&text[at..end]),
+        });
+    }
+    if first.is_ascii_digit() {
+        return number_at(text, at);
+    }
+    match mark_at(text, at) {
+        Some((mark, end)) => Ok(Word {
+            start: at,
+            end,
+            token: Token::Mark(mark),
+        }),
+        None => Err(Stop::at(at, Fault::NotOfSubset)),
+    }
+}
+
+/// The number that begins there.
+fn number_at(text: &[u8], at: usize) -> Result<Word, Stop>
+    requires { at < length text.now }
+    ensures start { IfOk result (λ word. at < word.end) }
+    ensures inside { IfOk result (λ word. word.end ≤ length text.now) }
+    ensures spelled { IfOk result (IsWordOf text.now) }
+{
+    let end = name_end(text, at + 1);
+    match number_token(&text[at..end]) {
+        Ok(token) => Ok(Word {
+            start: at,
+            end,
+            token,
+        }),
+        Err(fault) => Err(Stop::at(at, fault)),
+    }
+}
+
+/// Where a name ends that goes on at this byte.
+pub fn name_end(text: &[u8], from: usize) -> usize
+    requires { from ≤ length text.now }
+    ensures on { from ≤ result }
+    ensures inside { result ≤ length text.now }
+{
+    let mut at = from;
+    while at < text.len() && is_of_name(text[at]) {
+        at += 1;
+    }
+    at
+}
+
+/// The mark that begins there, and the byte behind it.
+fn mark_at(text: &[u8], at: usize) -> Option<(Mark, usize)>
+    requires { at < length text.now }
+    ensures on { IfSome result (λ p. at < p.1) }
+    ensures inside { IfSome result (λ p. p.1 ≤ length text.now) }
+    ensures mark { IfSome result (λ p. IsMarkNamed (slice_range text.now at p.1) p.0) }
+{
+    if let Some(mark) = mark_of(&text[at..at + 1]) {
+        return Some((mark, at + 1));
+    }
+    if text.len() - at < 2 {
+        return None;
+    }
+    match mark_of(&text[at..at + 2]) {
+        Some(mark) => Some((mark, at + 2)),
+        None => None,
+    }
+}

@@ -1,0 +1,31 @@
+//! The words of a litmus test: a text in herd's format for RISC-V is cut into them, each with its place, and parts of a
+//! test are taken off their front.
+//!
+//! Proved: each word is what its bytes spell (`specs/Words`), an instruction's name is that of a row of the instruction
+//! table or one that assemblers write beside (`specs/Mnemonics`), a part that is taken is what its words spell
+//! (`specs/Parts`), and a place is one of the text (`specs/Places`).
+//!
+//! Read in this order: `place` (lines and columns), `refused` (which faults there are); `mnemonic` (the names of
+//! instructions, over those of `rv_text`), `word`, `names` (what a name is), `lexer` (a text is cut into words),
+//! `splitting` (words are, at a mark); `take` (one part at a time).
+#![tactic(auto)]
+
+mod lexer;
+mod mnemonic;
+mod names;
+mod place;
+mod refused;
+mod splitting;
+mod take;
+mod word;
+
+pub use lexer::{name_end, skip_blanks, words_of};
+pub use mnemonic::Mnemonic;
+pub use place::{Place, place_of};
+pub use refused::{Fault, MOST_BYTES, ReadingRefused, Shown, Stop};
+pub use splitting::cut;
+pub use take::{
+    begins_with, behind_mark, location, mark, natural, next, nothing, number, register,
+    register_but_zero, start_of, value, word_number,
+};
+pub use word::{Mark, Token, Word, bytes_of, is_mark};

@@ -1,0 +1,149 @@
+//! What a name and a number are.
+
+ghost use Rattle.std.specs.Prelude.{◌≡◌, ◌∷◌, IfOk, IfSome};
+ghost use Rattle.std.specs.Fmt.{decimal};
+ghost use Rattle.litmus_words.specs.Words.{IsMarkNamed, IsRegisterNamed, SpellsToken};
+
+use crate::mnemonic::mnemonic_named;
+use crate::refused::Fault;
+use crate::word::{Mark, Token};
+use numbers::Reg;
+use rv_text::register_named;
+use std::str;
+use text_fields::{read_decimal, read_value};
+
+/// Whether a name or a number goes on with this byte.
+pub fn is_of_name(byte: u8) -> bool {
+    byte.is_ascii_alphanumeric() || byte == b'_' || byte == b'.'
+}
+
+/// What a name is: a register, a hart, a mark, an instruction, or a name of which no more is known.
+pub fn name_token(name: &[u8]) -> Token
+    ensures { SpellsToken name.now result }
+{
+    if let Some(register) = register_of(name) {
+        return Token::Register(register);
+    }
+    match str::from_utf8(name) {
+        Ok(name) => text_token(name),
+        Err(_) => Token::Name,
+    }
+}
+
+/// What a name is that is no register.
+fn text_token(name: &str) -> Token
+    ensures { SpellsToken name.now result }
+{
+    if let Some(mark) = mark_named(name) {
+        return Token::Mark(mark);
+    }
+    if let Some(mnemonic) = mnemonic_named(name) {
+        return Token::Mnemonic(mnemonic);
+    }
+    match hart_named(name.as_bytes()) {
+        Some(hart) => Token::Hart(hart),
+        None => Token::Name,
+    }
+}
+
+/// The register of this name, x0 to x31.
+fn register_of(name: &[u8]) -> Option<Reg>
+    ensures { IfSome result (IsRegisterNamed name.now) }
+{
+    if name == b"x0".as_slice() || name == b"zero".as_slice() {
+        return Some(0);
+    }
+    if name == b"fp".as_slice() {
+        return Some(8);
+    }
+    register_named(name)
+}
+
+/// The mark that these bytes are.
+pub fn mark_of(bytes: &[u8]) -> Option<Mark>
+    ensures { IfSome result (IsMarkNamed bytes.now) }
+{
+    match str::from_utf8(bytes) {
+        Ok(name) => mark_named(name),
+        Err(_) => None,
+    }
+}
+
+/// The mark of this name.
+fn mark_named(name: &str) -> Option<Mark>
+    ensures { IfSome result (IsMarkNamed name.now) }
+{
+    match sign_named(name) {
+        Some(mark) => Some(mark),
+        None => keyword_named(name),
+    }
+}
+
+/// The marks that aren't names.
+fn sign_named(name: &str) -> Option<Mark>
+    ensures { IfSome result (IsMarkNamed name.now) }
+{
+    Some(match name {
+        "," => Mark::Comma,
+        ":" => Mark::Colon,
+        ";" => Mark::Semicolon,
+        "|" => Mark::Bar,
+        "=" => Mark::Equals,
+        "-" => Mark::Minus,
+        "(" => Mark::LeftParenthesis,
+        ")" => Mark::RightParenthesis,
+        "[" => Mark::LeftBracket,
+        "]" => Mark::RightBracket,
+        "{" => Mark::LeftBrace,
+        "}" => Mark::RightBrace,
+        "~" => Mark::Not,
+        "/\\" => Mark::And,
+        "\\/" => Mark::Or,
+        _ => return None,
+    })
+}
+
+/// The names that are read as marks.
+fn keyword_named(name: &str) -> Option<Mark>
+    ensures { IfSome result (IsMarkNamed name.now) }
+{
+    Some(match name {
+        "not" => Mark::Not,
+        "true" => Mark::True,
+        "exists" => Mark::Exists,
+        "forall" => Mark::ForAll,
+        "locations" => Mark::Locations,
+        "filter" => Mark::Filter,
+        "int" | "unsigned" | "uint32_t" | "int32_t" => Mark::Type,
+        _ => return None,
+    })
+}
+
+/// `P` and the number of a hart.
+fn hart_named(name: &[u8]) -> Option<u32>
+    ensures { IfSome result (λ hart. name.now ≡ 80 ∷ decimal hart) }
+{
+    let Some((letter, digits)) = name.split_first() else {
+        return None;
+    };
+    if *letter != b'P' {
+        return None;
+    }
+    match read_decimal(digits, u32::MAX) {
+        Ok(hart) => Some(hart),
+        Err(_) => None,
+    }
+}
+
+/// What a word is that begins with a digit.
+pub fn number_token(digits: &[u8]) -> Result<Token, Fault>
+    ensures { IfOk result (SpellsToken digits.now) }
+{
+    if let Some(number) = read_value(digits) {
+        return Ok(Token::Number(number));
+    }
+    if digits.iter().all(|digit| digit.is_ascii_digit()) {
+        return Err(Fault::NumberTooLarge);
+    }
+    Err(Fault::NotOfSubset)
+}

@@ -1,0 +1,77 @@
+//! The words of a text.
+
+ghost use Rattle.std.specs.Prelude.{◌≡◌, true};
+ghost use Rattle.litmus_words.specs.declared.word.Token.TheVariants as token;
+
+use crate::mnemonic::Mnemonic;
+use numbers::Reg;
+
+/// What one word is.
+#[derive(Clone, Copy, Drop)]
+pub enum Token {
+    /// x0 to x31, by number or by the name in the calling convention.
+    Register(Reg),
+    Number(u32),
+    /// `P0`.
+    Hart(u32),
+    Mnemonic(Mnemonic),
+    Mark(Mark),
+    /// A name of which no more is known.
+    Name,
+    /// The name of a location, by its index.
+    Location(usize),
+}
+
+/// The marks, and the names that are read as marks.
+#[derive(Clone, Copy, PartialEq, Eq, Drop)]
+pub enum Mark {
+    Comma,
+    Colon,
+    Semicolon,
+    Bar,
+    Equals,
+    Minus,
+    LeftParenthesis,
+    RightParenthesis,
+    LeftBracket,
+    RightBracket,
+    LeftBrace,
+    RightBrace,
+    /// `~` and `not`.
+    Not,
+    /// `/\`.
+    And,
+    /// `\/`.
+    Or,
+    True,
+    Exists,
+    ForAll,
+    Locations,
+    /// `filter`, which is refused wherever it stands.
+    Filter,
+    /// `int`, `uint32_t`, `int32_t`, `unsigned`.
+    Type,
+}
+
+/// A word: what it is, the byte at which it begins, and the one behind it.
+#[derive(Clone, Copy, Drop)]
+pub struct Word {
+    pub start: usize,
+    pub end: usize,
+    pub token: Token,
+}
+
+/// The bytes of a word.
+pub fn bytes_of(text: &[u8], word: Word) -> &[u8] {
+    text.get(word.start..word.end).unwrap_or(&[])
+}
+
+/// Whether the word is this mark.
+pub fn is_mark(word: Word, mark: Mark) -> bool
+    ensures { result ≡ true → word.token ≡ token.Mark mark }
+{
+    match word.token {
+        Token::Mark(found) => found == mark,
+        _ => false,
+    }
+}
