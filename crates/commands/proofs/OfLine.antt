@@ -122,7 +122,7 @@ migration_says (Err why) trace Traced old new status is = absurd is.1
 
 explain_says : (config image : Read) (old new : Option (List ℕ)) (status : ℕ)
     → ExplainLineComesTo config image old new status → IsTrue (says_harts status)
-explain_says (Ok text) (Ok file) old new status is = zero_says status is.2.2.2.1.zero
+explain_says (Ok text) (Ok file) old new status is = zero_says status is.2.3.1.zero
 explain_says (Ok text) (Err why) old new status is = absurd is.2
 explain_says (Err why) image old new status is = absurd is
 

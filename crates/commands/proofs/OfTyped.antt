@@ -4,21 +4,15 @@ use Rattle.std.specs.Io.KnownBytes.{Keeps}
 use Rattle.elf_image.specs.{Loaded.IsImageOf}
 use Rattle.elf_image.specs.Image.{ProgramImage}
 use Rattle.core_state.specs.{View.CoreView}
-use Rattle.scripts.specs.{Script.pieces}
 use Rattle.sim_inputs.specs.{declared.settings.Settings.Settings, Configuration.IsConfiguration}
 use Rattle.report_lines.specs.Statuses.{says_harts}
 use Rattle.core_commands.specs.{declared.wanted.Wanted.Wanted}
 use Rattle.command_parts.specs.{Inputs.Read}
 use Rattle.core_commands.specs.{Account.statuses_of}
 use Rattle.command_parts.specs.{Refused.PassesAll}
-use Rattle.core_commands.specs.{Step.IsAsking, Prompt.PromptComesTo}
+use Rattle.core_commands.specs.{Prompt.PromptComesTo}
 use Rattle.commands.specs.{Typed.TypedComesTo}
 use Rattle.commands.proofs.Sound.{prints_kept, status_says}
-
--- An empty text is a script, that of no words.
-pub empty_asks : IsAsking []
-unfolding pieces
-empty_asks = ([], tt)
 
 module _ {P : Type 0} (predicts : P → ℕ → ℕ → ℕ → ℕ → P → Type 0) (before : P) (settings : Settings)
     (input : Option (List ℕ)) (wanted : Wanted) (Traced : CoreView → Type 0) where

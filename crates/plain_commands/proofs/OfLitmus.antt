@@ -5,7 +5,7 @@ use mathlib.Core.Logic.{inl, inr}
 use Rattle.std.specs.Io.KnownBytes.{Appends}
 use Rattle.elf_image.specs.Image.{ProgramImage}
 use Rattle.outcome_text.specs.Listing.{incomplete_text}
-use Rattle.outcomes.specs.{Found.Found, Found.InEachSetup, Found.AreAll}
+use Rattle.outcomes.specs.{Found.Found, Found.InEachSetup, Found.IsExactList}
 use Rattle.watched_outcomes.specs.{declared.watch.Watch.Watch}
 use Rattle.outcomes.specs.{Found.CoversCores, Found.IsOnce, Refusals.IsRefusedFor}
 use Rattle.outcomes.specs.declared.refused.OutcomesRefused.TheVariants as search
@@ -18,7 +18,7 @@ use Rattle.plain_commands.specs.Litmus.{TestComesTo, IsSearched, IsTold}
 module _ (test : LitmusTest) (command : LitmusCommand) (image : ProgramImage) (watch : Watch) (harts : ℕ)
     (count : harts ≡ length test.threads.items) (searched : IsSearched test image watch)
     (old new : Option (List ℕ)) where
-  pub all_told : (found : Found) → InEachSetup image harts (λ setup. AreAll setup watch found)
+  pub all_told : (found : Found) → InEachSetup image harts (λ setup. IsExactList setup watch found)
       → InEachSetup image harts (λ setup. CoversCores setup watch found) → IsOnce found
       → (answer : Result ℕ Refused) → OnOk answer (IsTold test command found.listed old new)
       → IfOk answer (λ status. status ≡ 0) → IfOk answer (TestComesTo test command old new)
@@ -27,7 +27,7 @@ module _ (test : LitmusTest) (command : LitmusCommand) (image : ProgramImage) (w
     watch = watch;
     searched = searched;
     found = found;
-    all = subst (λ n. InEachSetup image n (λ setup. AreAll setup watch found)) count all;
+    all = subst (λ n. InEachSetup image n (λ setup. IsExactList setup watch found)) count all;
     cores = subst (λ n. InEachSetup image n (λ setup. CoversCores setup watch found)) count cores;
     once = once;
     told = told;

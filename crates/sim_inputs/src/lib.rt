@@ -2,12 +2,13 @@
 //! configuration, read by `toml`. No other crate sees `clap` or `toml`.
 //!
 //! Read in this order: `line` (what the words may ask for), `files` (the files that they name),
-//! `words` (how they are read), `description` (the command line as it is described to `clap`),
-//! `forms` (what stands behind it of files), `limits` (what stands in its texts for the limits of a core); then
-//! `settings`, `configuration` (how they are read), `roles` and `ranges` (its parts), `explained`
-//! (which fault a refused configuration has).
+//! `words` (how they are read), `clap_errors` (what is made of an error of `clap`), `description` (the command
+//! line as it is described to `clap`), `forms` (what stands behind it of files), `limits` (what stands in its
+//! texts for the limits of a core); then `settings`, `configuration` (how they are read), `roles` and `ranges`
+//! (its parts), `explained` (which fault a refused configuration has).
 #![tactic(auto)]
 
+mod clap_errors;
 mod configuration;
 mod description;
 mod explained;

@@ -1,5 +1,5 @@
 ghost use Rattle.std.specs.Prelude.{◌≡◌, map, option_map, IfOk, IfErr};
-ghost use Rattle.clap.specs.Words.{first_of, found_of, kind_of, rows_of, subcommand_rows_of};
+ghost use Rattle.clap.specs.Words.{first_of, found_of, rows_of, subcommand_rows_of};
 ghost use Rattle.sim_inputs.specs.CommandLine.{is_flag_set, Finds, IsCommandOf, Names, Asks};
 ghost use Rattle.sim_inputs.specs.CommandLine.{IsProgramCommandOf};
 ghost use Rattle.sim_inputs.specs.CommandLine.{IsStep, IsRun, IsCheck, IsPlain, IsSchedule, IsScript};
@@ -8,20 +8,19 @@ ghost use Rattle.sim_inputs.specs.CommandLine.{is_reported, can_be_plain, number
 ghost use Rattle.sim_inputs.specs.CommandLine.{has_named_folder};
 ghost use Rattle.sim_inputs.specs.CommandLine.{IsOutcomes, can_be_searched, are_orders_together};
 ghost use Rattle.sim_inputs.specs.CommandLine.{has_one_file, IsLitmus, can_be_tested, IsMigrate};
-ghost use Rattle.sim_inputs.specs.CommandLine.{AreWordsRefusedFor, IsRefusalOf};
+ghost use Rattle.sim_inputs.specs.CommandLine.{AreWordsRefusedFor};
 
+use crate::clap_errors::refusal;
 use crate::description::describe;
 use crate::files::reads_input_once;
-use crate::limits::with_limits;
 use crate::line::{
     ChartCommand, CheckCommand, Command, ExplainCommand, Line, ListCommand, LitmusCommand,
     MigrateCommand, OutcomesCommand, PlainCommand, ProgramCommand, RunCommand, ScheduleCommand,
     ScriptCommand, StepCommand, WordsRefused,
 };
-use clap::error::ErrorKind;
-use clap::{ArgMatches, Error};
+use clap::ArgMatches;
 use numbers::sizes::{MOST_EVENTS, MOST_HARTS};
-use std::alloc::{AllocError, Global};
+use std::alloc::Global;
 use text_fields::read_decimal;
 
 /// The place of the last event that a history may have.
@@ -385,24 +384,4 @@ fn is_set(found: &ArgMatches<'_>, name: &str) -> bool
         Some(value) => value == "true",
         None => false,
     }
-}
-
-/// What is made of an error of `clap`.
-fn refusal(error: Error, alloc: Global) -> WordsRefused
-    ensures { IsRefusalOf (kind_of error) result }
-{
-    match error.kind() {
-        ErrorKind::OutOfMemory => WordsRefused::Memory,
-        ErrorKind::DisplayHelp => match help_in(&error, alloc) {
-            Ok(text) => WordsRefused::Help(text),
-            Err(_) => WordsRefused::Memory,
-        },
-        _ => WordsRefused::Refused,
-    }
-}
-
-/// The help that an error of `clap` has, with the limits.
-fn help_in(error: &Error, alloc: Global) -> Result<String, AllocError> {
-    let help = error.to_string(alloc)?;
-    with_limits(help, alloc)
 }

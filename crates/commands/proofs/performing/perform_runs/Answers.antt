@@ -1,5 +1,5 @@
 use Rattle.std.proofs.Common.{ap, ◌∙◌}
-use Rattle.core_commands.proofs.OfStress.{many_performed, one_performed}
+use Rattle.commands.proofs.OfRuns.{many_performed, one_performed}
 use Rattle.commands.proofs.performing.perform_runs.Goals as goal
 
 pub returns-in-Some : goal.returns-in-Some

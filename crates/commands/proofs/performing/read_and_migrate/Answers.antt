@@ -1,5 +1,5 @@
 -- Behind a migration that is refused, and one that was made.
-use Rattle.None.proofs.OfMigrate.{core_sizes, migrate_refusal}
+use Rattle.commands.proofs.OfMigration.{core_sizes, migrate_refusal}
 use Rattle.commands.proofs.performing.read_and_migrate.Goals as goal
 
 pub perform_migrate-requires-clause-sizes : goal.perform_migrate-requires-clause-sizes

@@ -1,5 +1,5 @@
 -- Behind a test that is refused, and before and behind the flush.
-use Rattle.plain_commands.proofs.OfLitmus.{test_refusal, test_output, test_flushed}
+use Rattle.commands.proofs.OfTest.{test_refusal, test_output, test_flushed}
 use Rattle.commands.proofs.performing.read_and_test.Goals as goal
 
 pub returns-in-Err-clause-refused : goal.returns-in-Err-clause-refused

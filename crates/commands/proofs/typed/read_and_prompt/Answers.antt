@@ -4,7 +4,8 @@ use Rattle.sim_inputs.specs.declared.line.ProgramCommand.TheVariants.{Step}
 use Rattle.command_parts.specs.declared.refused.Refused.TheVariants.{Output}
 use Rattle.core_commands.specs.Wanted.{step_wants}
 use Rattle.commands.proofs.OfLine.{accepted_of, command_refusal}
-use Rattle.commands.proofs.OfTyped.{empty_asks, typed_flushed}
+use Rattle.core_commands.proofs.OfPrompt.{empty_asks}
+use Rattle.commands.proofs.OfTyped.{typed_flushed}
 use Rattle.commands.proofs.typed.read_and_prompt.Goals as goal
 
 pub returns-in-Err-clause-refused : goal.returns-in-Err-clause-refused

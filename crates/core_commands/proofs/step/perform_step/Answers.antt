@@ -1,3 +1,4 @@
+use Rattle.std.proofs.Common.{◌∙◌}
 use Rattle.std.proofs.lemmas.Result.{IfErr-weaker}
 use Rattle.core_commands.proofs.OfAnswer.{with_both}
 use Rattle.core_commands.proofs.OfStep.{report_refusal, comes_to, unreported}
@@ -9,17 +10,18 @@ returns g c =
     let account = c.write_account.ensures in
     let answer = c.write_account.result in
     let reported = rw c.idle_of-idle.ensures at account.reported in
+    let traced = rw asked.unwritten at account.traced in
     record {
       refused =
           IfErr-weaker answer _ _
           (λ reason is. report_refusal c.args.settings.now c.args.script.now reason asked.accepted asked.script is)
           account.refused;
       ended =
-          with_both answer _ _ _ account.traced reported
+          with_both answer _ _ _ traced reported
           (λ traced status reported. comes_to c.args.settings.now c.args.image.now c.args.script.now c.args.why
           c.args.wanted c.in_ok-finished.finished.core c.in_ok-finished.finished.idle _ _ _ _ status
           asked.accepted asked.script asked.setup asked.limit asked.shown asked.printed traced reported);
-      unwanted = account.unwanted;
+      unwanted = λ none. account.unwanted none ∙ asked.unwritten;
       unbroken = account.unbroken;
       finished = account.finished;
       unreported = λ failed.
