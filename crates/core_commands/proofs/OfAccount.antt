@@ -12,7 +12,7 @@ use Rattle.history_counts.specs.{declared.counts.Counts.Counts}
 use Rattle.history_counts.proofs.Listing.{how_many-reverse}
 use Rattle.report_lines.specs.Lines.{records_text, status_number}
 use Rattle.reports.specs.Report.{is_load_record, looks_line}
-use Rattle.report_lines.proofs.Appending.{appends_more}
+use Rattle.text_fields.proofs.Appending.{appends_more}
 use Rattle.core_commands.specs.declared.wanted.Wanted.{Wanted}
 use Rattle.core_commands.specs.Account.{AreTables, IsReported, looks_of, statuses_of, retired_of, body_text, body_of}
 use Rattle.core_commands.specs.Account.{counts_in, idle_of}

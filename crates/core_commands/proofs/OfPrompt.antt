@@ -8,7 +8,7 @@ use Rattle.text_fields.specs.{Printing.Prints}
 use Rattle.scripts.specs.{Script.pieces, Lines.words_in}
 use Rattle.prompts.specs.{declared.prompting.Ended.Ended, Prompted.IsPrompted}
 use Rattle.sim_inputs.specs.{declared.settings.Settings.Settings}
-use Rattle.report_lines.proofs.Appending.{appends_more}
+use Rattle.text_fields.proofs.Appending.{appends_more}
 use Rattle.core_commands.specs.{declared.wanted.Wanted.Wanted}
 use Rattle.core_commands.specs.{Account.IsReported, Account.idle_of}
 use Rattle.command_parts.specs.{Refused.AreAccepted, Refused.AreRefused}

@@ -9,7 +9,7 @@ use Rattle.smt_core.specs.Shown.{Shown}
 use Rattle.text_fields.specs.{Printing.Prints}
 use Rattle.scripts.specs.{Session.AreCounted}
 use Rattle.sim_inputs.specs.declared.settings.Settings.{Settings}
-use Rattle.report_lines.proofs.Appending.{appends_more}
+use Rattle.text_fields.proofs.Appending.{appends_more}
 use Rattle.command_parts.specs.declared.refused.Refused.{Refused}
 use Rattle.command_parts.specs.declared.refused.Refused.TheVariants.{Image, Memory}
 use Rattle.command_parts.specs.declared.refused.Refused.TheVariants.{Output}

@@ -3,7 +3,7 @@ use Rattle.std.specs.Prelude.{◌≡◌, ℕ, Some, None}
 use Rattle.events.specs.declared.effect.Outcome.{Outcome}
 use Rattle.exec_units.specs.Job.{JobView}
 use Rattle.retire_squash.specs.declared.active.Active.{Active}
-use Rattle.smt_model.specs.{Nexts.redirect_pc, Picture.Picture, Steps.IsComplete}
+use Rattle.smt_model.specs.{Nexts.redirect_pc, Picture.Picture, Steps.HasCompleted}
 use Rattle.smt_model.specs.{Steps.IsMisprediction, Steps.op_in}
 use Rattle.core_parts.specs.declared.slot.OpenJob.{OpenJob}
 
@@ -20,6 +20,6 @@ pub record IsSameJob (job : OpenJob) (view : JobView) : Type 0 where
 pub record IsFinish (p q : Picture) (h k : ℕ) (a : Active) (o : Outcome) : Type 0 where
   pub phys : a.phys ≡ p.phys a.seq
   pub op : a.op ≡ op_in p a.seq
-  pub straight : redirect_pc o.next a.predicted ≡ None → IsComplete p q h a.seq k o (p.fetch_pc h)
+  pub straight : redirect_pc o.next a.predicted ≡ None → HasCompleted p q h a.seq k o (p.fetch_pc h)
   pub mispredicts : (pc : ℕ) → redirect_pc o.next a.predicted ≡ Some pc
       → IsMisprediction p q h a.seq k o pc

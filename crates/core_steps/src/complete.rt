@@ -9,7 +9,7 @@ ghost use Rattle.smt_model.specs.Exec.{Computed};
 ghost use Rattle.smt_model.specs.Faults.{checked};
 ghost use Rattle.smt_model.specs.Outcomes.{outcome_of};
 ghost use Rattle.smt_model.specs.Picture.{Picture};
-ghost use Rattle.smt_model.specs.Steps.{IsComplete, IsDrop, op_in};
+ghost use Rattle.smt_model.specs.Steps.{HasCompleted, IsDrop, op_in};
 ghost use Rattle.core_parts.specs.Agree.{IsActive, PartsAgree, KeepsSizes, From};
 ghost use Rattle.core_steps.specs.Checkpoints.{released_by};
 ghost use Rattle.core_steps.specs.Complete.{IsSameJob, IsFinish};
@@ -155,7 +155,7 @@ fn write_outcome(
     requires inside { job.now.hart < length parts.old.harts.items }
     requires place { job.now.hart < length parts.old.accesses }
     ensures agrees { (p q : Picture) → PartsAgree p parts.old
-        → IsComplete p q job.now.hart active.now.seq actor outcome.now goes_on
+        → HasCompleted p q job.now.hart active.now.seq actor outcome.now goes_on
         → active.now.phys ≡ p.phys active.now.seq → active.now.op ≡ op_in p active.now.seq
         → PartsAgree q parts.new }
     ensures sizes { KeepsSizes parts.old parts.new }

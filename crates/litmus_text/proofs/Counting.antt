@@ -9,7 +9,7 @@ use Rattle.outcomes.specs.{Found.Told}
 use Rattle.litmus_tests.specs.declared.test.LitmusTest.{LitmusTest}
 use Rattle.litmus_tests.specs.Conditions.{holding, holds}
 use Rattle.litmus_text.specs.States.{states_in, holds_of}
-use Rattle.litmus_text.proofs.Appending.{member}
+use Rattle.text_fields.proofs.Appending.{member}
 
 module _ (test : LitmusTest) where
   -- the states are those of the outcomes

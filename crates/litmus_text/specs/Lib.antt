@@ -1,4 +1,3 @@
-pub mod Each
 pub mod Value
 pub mod Condition
 pub mod State

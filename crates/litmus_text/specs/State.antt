@@ -7,7 +7,7 @@ use Rattle.smt_model.specs.{declared.config.Status.TheVariants.Ended}
 use Rattle.smt_model.specs.{declared.config.Status.TheVariants.Stopped}
 use Rattle.outcomes.specs.{Found.Told}
 use Rattle.watched_outcomes.specs.{Endings.Ending}
-use Rattle.litmus_text.specs.Each.{each_from}
+use Rattle.text_fields.specs.Each.{each_from}
 use Rattle.litmus_tests.specs.declared.test.LitmusTest.{LitmusTest}
 use Rattle.litmus_tests.specs.declared.condition.Observed.{Observed}
 use Rattle.litmus_images.specs.Watching.{final_state}

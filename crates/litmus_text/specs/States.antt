@@ -2,7 +2,7 @@
 -- and Tautschnig 2014, "Herding Cats"]
 use Rattle.std.specs.Prelude.{ℕ, Bool, List, ◌++◌, length, map}
 use Rattle.outcomes.specs.{Found.Told}
-use Rattle.litmus_text.specs.Each.{each_from}
+use Rattle.text_fields.specs.Each.{each_from}
 use Rattle.litmus_tests.specs.declared.test.LitmusTest.{LitmusTest}
 use Rattle.litmus_tests.specs.Conditions.{FinalState, holds, holding, is_as_asked}
 use Rattle.litmus_images.specs.Watching.{final_state}

@@ -3,7 +3,7 @@
 ghost use Rattle.std.specs.Prelude.{◌≡◌, ◌<◌, ◌≤◌, OnOk, Some, length, slice_get, position};
 ghost use Rattle.std.specs.Io.KnownBytes.{Appends};
 ghost use Rattle.litmus_tests.specs.declared.condition.Observed.{Observed as AnyObserved};
-ghost use Rattle.litmus_text.specs.Each.{each_from};
+ghost use Rattle.text_fields.specs.Each.{each_from};
 ghost use Rattle.litmus_text.specs.State.{state_line, part_text, equation_text, space_of, stop_text, stopped_text};
 ghost use Rattle.litmus_text.specs.State.{is_told, first_told, space_before};
 

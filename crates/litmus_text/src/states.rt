@@ -5,7 +5,7 @@ ghost use Rattle.std.specs.Io.KnownBytes.{Appends};
 ghost use Rattle.litmus_tests.specs.WellFormed.{IsWellFormed};
 ghost use Rattle.litmus_tests.specs.Conditions.{holding};
 ghost use Rattle.outcomes.specs.Found.{Told};
-ghost use Rattle.litmus_text.specs.Each.{each_from};
+ghost use Rattle.text_fields.specs.Each.{each_from};
 ghost use Rattle.litmus_text.specs.State.{told_line};
 ghost use Rattle.litmus_text.specs.States.{states_text, states_in, holds_of};
 

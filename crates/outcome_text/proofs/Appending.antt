@@ -2,7 +2,7 @@
 use Rattle.std.proofs.Common.{◌≡◌, ℕ, zero, suc, ◌+◌, ◌<◌, List, [], ◌∷◌, ◌++◌, length, take, get_or, Some, Option, sym, ap}
 use Rattle.std.proofs.Common.{subst, ◌∙◌, append_assoc, append-nil, arith, slice_get, slice_index}
 use Rattle.std.specs.Io.KnownBytes.{Appends}
-use Rattle.report_lines.proofs.Appending.{appends_more}
+use Rattle.text_fields.proofs.Appending.{each_step, member, told_step}
 use Rattle.std.proofs.Common.{Bool, true, false, ◌||◌, refl}
 use Rattle.std.specs.List.{list_any}
 use Rattle.std.proofs.lemmas.List.Folds.{list_any_at, list_any_more}
@@ -11,48 +11,8 @@ use Rattle.watched_outcomes.specs.{declared.watch.Watch.Watch}
 use Rattle.outcome_queries.specs.declared.term.Term.{Term}
 use Rattle.watched_outcomes.specs.declared.watch.WatchedRegister.{WatchedRegister}
 use Rattle.outcome_text.specs.Line.{register_text, word_text}
-use Rattle.outcome_text.specs.{Line.each_from, Listing.holds_of, Listing.place_of, Listing.place_text}
-
-pub each_from_suc : {A : Type 0} (text : ℕ → A → List ℕ) (first : ℕ) (xs : List A) (i : ℕ) (d : A) → i < length xs
-    → each_from text first (take (suc i) xs) ≡ each_from text first (take i xs) ++ text (first + i) (get_or xs i d)
-each_from_suc text first [] i d inside = absurd (omega arith)
-each_from_suc text first (x ∷ xs) zero d inside =
-    let same : first + 0 ≡ first = omega arith in append-nil (text first x) ∙ ap (λ k. text k x) (sym same)
-each_from_suc text first (x ∷ xs) (suc i) d inside =
-    let same : first + 1 + i ≡ first + suc i = omega arith in
-    ap (λ t. text first x ++ t) (each_from_suc text (first + 1) xs i d (omega arith))
-    ∙ sym (append_assoc (text first x) (each_from text (first + 1) (take i xs)) (text (first + 1 + i) (get_or xs i d)))
-    ∙ ap (λ k. (text first x ++ each_from text (first + 1) (take i xs)) ++ text k (get_or xs i d)) same
-
--- a turn of a loop over a list
-pub each_step : {A : Type 0} (text : ℕ → A → List ℕ) (old mid new : Option (List ℕ)) (xs : List A) (i : ℕ) (d : A)
-    → i < length xs → Appends old mid (each_from text 0 (take i xs)) → Appends mid new (text i (get_or xs i d))
-    → Appends old new (each_from text 0 (take (i + 1) xs))
-each_step text old mid new xs i d inside before next =
-    let on : i + 1 ≡ suc i = omega arith in
-    let same : 0 + i ≡ i = omega arith in
-    let more : each_from text 0 (take (i + 1) xs) ≡ each_from text 0 (take i xs) ++ text i (get_or xs i d) =
-    ap (λ n. each_from text 0 (take n xs)) on ∙ each_from_suc text 0 xs i d inside
-    ∙ ap (λ k. each_from text 0 (take i xs) ++ text k (get_or xs i d)) same in
-    subst (λ t. Appends old new t) (sym more) (appends_more old mid new _ _ before next)
-
--- the member at an index that is inside
-member : {A : Type 0} (xs : List A) (i : ℕ) → i < length xs → (x : A) × (slice_get xs i ≡ Some x)
-    × ((d : A) → get_or xs i d ≡ x)
-member [] i inside = absurd (omega arith)
-member (x ∷ xs) zero inside = (x, refl, λ d. refl)
-member (x ∷ xs) (suc i) inside = member xs i (omega arith)
-
--- a turn of a loop that asks for the member
-pub told_step : (text : ℕ → Told → List ℕ) (old mid new : Option (List ℕ)) (xs : List Told) (i n : ℕ)
-    → i < n → n ≡ length xs → Appends old mid (each_from text 0 (take i xs))
-    → ((told : Told) → slice_get xs i ≡ Some told → Appends mid new (text i told))
-    → Appends old new (each_from text 0 (take (i + 1) xs))
-told_step text old mid new xs i n below count before next =
-    let inside : i < length xs = omega (arith, below, count) in
-    let one = member xs i inside in
-    each_step text old mid new xs i one.0 inside before
-    (subst (λ (t : Told). Appends mid new (text i t)) (sym (one.2 one.0)) (next one.0 one.1))
+use Rattle.text_fields.specs.Each.{each_from}
+use Rattle.outcome_text.specs.{Listing.holds_of, Listing.place_of, Listing.place_text}
 
 pub place_step : (watch : Watch) (terms : List Term) (old mid new : Option (List ℕ)) (xs : List Told) (i n : ℕ) (b : Bool)
     → i < n → n ≡ length xs → ((told : Told) → slice_get xs i ≡ Some told → b ≡ holds_of watch terms told)

@@ -2,17 +2,13 @@
 use Rattle.std.specs.Prelude.{ℕ, ◌+◌, ◌==◌, if◌then◌else◌, List, [], ◌∷◌, ◌++◌, codes, flat_map, length, slice_index}
 use Rattle.std.specs.{Fmt.decimal}
 use Rattle.text_fields.specs.Spelling.{hex}
+use Rattle.text_fields.specs.Each.{each_from}
 use Rattle.smt_model.specs.{declared.config.Status.Status, declared.config.Status.TheVariants.Going}
 use Rattle.smt_model.specs.{declared.config.Status.TheVariants.Ended}
 use Rattle.smt_model.specs.{declared.config.Status.TheVariants.Stopped}
 use Rattle.watched_outcomes.specs.{Endings.Ending, declared.watch.Watch.Watch}
 use Rattle.watched_outcomes.specs.declared.watch.WatchedRegister.{WatchedRegister}
 use Rattle.rv_text.specs.Registers.{abi_name}
-
--- A text for each member of a list, of its index from `index` on.
-abbrev pub each_from : {A : Type 0} → (ℕ → A → List ℕ) → ℕ → List A → List ℕ
-each_from text index [] = []
-each_from text index (one ∷ others) = text index one ++ each_from text (index + 1) others
 
 -- How each hart has ended.
 abbrev pub comma_of : ℕ → List ℕ

@@ -6,7 +6,8 @@ use Rattle.report_lines.specs.Lines.{count_line}
 use Rattle.outcomes.specs.{Found.Told, Found.Found}
 use Rattle.watched_outcomes.specs.{declared.watch.Watch.Watch}
 use Rattle.outcome_queries.specs.{declared.term.Term.Term, Holding.term_holds}
-use Rattle.outcome_text.specs.Line.{each_from, outcome_line}
+use Rattle.text_fields.specs.Each.{each_from}
+use Rattle.outcome_text.specs.Line.{outcome_line}
 
 -- The condition holds of the outcome: all its terms do.
 abbrev pub holds_of : Watch → List Term → Told → Bool

@@ -3,7 +3,7 @@
 ghost use Rattle.std.specs.Prelude.{◌≡◌, ◌<◌, length, Some, OnOk, slice_get};
 ghost use Rattle.std.specs.Io.KnownBytes.{Appends};
 ghost use Rattle.std.specs.List.{list_any};
-ghost use Rattle.outcome_text.specs.Line.{each_from};
+ghost use Rattle.text_fields.specs.Each.{each_from};
 ghost use Rattle.outcome_text.specs.Listing.{holds_of, place_of, place_text, yes_text, exists_text};
 ghost use Rattle.outcomes.specs.Found.{Told};
 

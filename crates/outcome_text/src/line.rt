@@ -4,7 +4,8 @@ ghost use Rattle.std.specs.Prelude.{◌≡◌, ◌+◌, ◌≤◌, ◌++◌, len
 ghost use Rattle.std.specs.Io.KnownBytes.{Appends};
 ghost use Rattle.arrayvec.specs.ArrayString.{array_string_len};
 ghost use Rattle.text_fields.specs.Spelling.{hex};
-ghost use Rattle.outcome_text.specs.Line.{each_from, status_words, status_text, comma_of, semicolon_of};
+ghost use Rattle.text_fields.specs.Each.{each_from};
+ghost use Rattle.outcome_text.specs.Line.{status_words, status_text, comma_of, semicolon_of};
 ghost use Rattle.outcome_text.specs.Line.{register_text, registers_text, word_text, words_text};
 ghost use Rattle.outcome_text.specs.Line.{word_lead, output_lead, output_text, outcome_line};
 

@@ -3,7 +3,7 @@
 ghost use Rattle.std.specs.Prelude.{◌≡◌, ◌<◌, length, Some, slice_get, OnOk};
 ghost use Rattle.std.specs.Io.KnownBytes.{Appends};
 ghost use Rattle.outcomes.specs.Found.{Told};
-ghost use Rattle.outcome_text.specs.Line.{each_from};
+ghost use Rattle.text_fields.specs.Each.{each_from};
 ghost use Rattle.outcome_text.specs.Listing.{told_line, ends_text, outcomes_text, incomplete_text};
 
 use crate::line::write_line;

@@ -12,7 +12,7 @@ use Rattle.outcome_laws.specs.Paths.{path, can_step, IsEnd, RunsArePaths}
 use Rattle.watched_outcomes.specs.declared.watch.{Watch.Watch, WatchedRegister.WatchedRegister}
 use Rattle.watched_outcomes.specs.{Endings.Ending, Endings.ending_of, Endings.watched_in, Endings.word_in, Watching.AreThere}
 use Rattle.watched_outcomes.specs.{Watching.is_register_there}
-use Rattle.outcomes.specs.Found.{Found, EndsSo, IsComplete, AllAreOver, CoversCores, committed_in, core_word, core_ending}
+use Rattle.outcomes.specs.Found.{Found, EndsSo, ListsAll, AllAreOver, CoversCores, committed_in, core_word, core_ending}
 use Rattle.outcomes.proofs.{Endings.map_members, Graph.none_behind}
 
 last_false : (a b : Bool) → b ≡ false → (a && b) ≡ false
@@ -58,7 +58,7 @@ module _ (setup : Setup) (watch : Watch) (there : AreThere setup.harts watch) (p
   leads_to paths = sym (paths setup (order past)) ∙ ap (option_map (λ (r : Run). r.state)) is.runs
 
 pub covers_cores : EachIsSequential → RunsArePaths → (setup : Setup) (watch : Watch) (found : Found)
-    → AreThere setup.harts watch → IsComplete setup watch found → CoversCores setup watch found
+    → AreThere setup.harts watch → ListsAll setup watch found → CoversCores setup watch found
 covers_cores headline paths setup watch found there complete past legal over =
     let is = headline setup past legal in
     complete (reverse (order past)) (core_ending setup watch past) (record {

@@ -15,7 +15,7 @@ use Rattle.watched_outcomes.specs.declared.{watch.Watch.Watch}
 use Rattle.outcomes.specs.{Lists.HasEnding, Refusals.AreWatched}
 use Rattle.watched_outcomes.specs.{Endings.Ending, Endings.ending_of, Watching.AreThere}
 use Rattle.outcomes.specs.Collected.{ending_at, IsOfEnd, AreOutcomes}
-use Rattle.outcomes.specs.Found.{Found, Told, EndsSo, HasOutcome, IsComplete, IsSound, IsExactList}
+use Rattle.outcomes.specs.Found.{Found, Told, EndsSo, HasOutcome, ListsAll, IsSound, IsExactList}
 use Rattle.outcomes.specs.Told.{told_of, order_at}
 use Rattle.outcomes.proofs.{Listing.contains_map, Listing.mapped_from, Endings.alike_ends}
 use Rattle.outcomes.proofs.Graph.{watched, live, visited, table, enough, start_settles, state_at, is_listed, is_end}
@@ -44,7 +44,7 @@ module _ (setup : Setup) (m : Machine) (begun : Begun) (graph_of : Graph State â
     has.2,
   )
 
-  pub complete : IsComplete setup watch found
+  pub complete : ListsAll setup watch found
   complete order e ends =
       let seen = every_end_is_visited setup (watched setup m begun graph_of sound graph begins image harts)
       (live setup m begun graph_of sound graph begins image harts)

@@ -39,8 +39,8 @@ abbrev pub HasOutcome : Found → Ending → Type 0
 HasOutcome found e = (t : Told) × Contains found.listed t × (t.ending ≡ e)
 
 -- Complete: whatever order ends so, that outcome is listed.
-abbrev pub IsComplete : Setup → Watch → Found → Type 0
-IsComplete setup watch found = (order : List ℕ) (e : Ending) → EndsSo setup watch order e → HasOutcome found e
+abbrev pub ListsAll : Setup → Watch → Found → Type 0
+ListsAll setup watch found = (order : List ℕ) (e : Ending) → EndsSo setup watch order e → HasOutcome found e
 
 -- Sound: the order of each outcome that is listed ends so.
 abbrev pub IsSound : Setup → Watch → Found → Type 0
@@ -58,7 +58,7 @@ IsStuckTold setup (Some order) =
 
 -- All of it.
 pub record IsExactList (setup : Setup) (watch : Watch) (found : Found) : Type 0 where
-  pub complete : IsComplete setup watch found
+  pub complete : ListsAll setup watch found
   pub sound : IsSound setup watch found
   pub stuck : IsStuckTold setup found.stuck
 

@@ -104,7 +104,7 @@ fn search_all<O: Onlooker>(
         Ok(search) => search,
         Err(why) => return Err(why),
     };
-    tell(&machine, begun, search, watch, alloc)
+    outcomes_of(&machine, begun, search, watch, alloc)
 }
 
 /// Looks whether all that is watched is there.
@@ -151,7 +151,7 @@ fn search_from<O: Onlooker>(
 }
 
 /// The outcomes of a search's ends, and whether each state can go on to one.
-fn tell(
+fn outcomes_of(
     machine: &CondensedMachine,
     begun: Begun,
     search: Search<State, u16>,

@@ -4,7 +4,7 @@ use Rattle.std.specs.Prelude.{option_map, [], Result, Ok, Err, IfOk}
 use Rattle.std.specs.Io.KnownBytes.{Appends}
 use Rattle.std.proofs.Common.{inl, inr, sym, ap, subst, ◌∙◌}
 use Rattle.std.proofs.{lemmas.List.take_more, lemmas.List.flat_map_more}
-use Rattle.report_lines.proofs.Appending.{appends_more}
+use Rattle.text_fields.proofs.Appending.{appends_more}
 use Rattle.stress_runs.specs.Kept.{order_line, order_text}
 use Rattle.elf_image.specs.Image.{ProgramImage}
 use Rattle.outcomes.specs.{Found.Found}

@@ -14,7 +14,7 @@ use Rattle.rounds.specs.declared.stopped.RoundsStopped.{RoundsStopped}
 use Rattle.rounds.specs.declared.stopped.RoundsStopped.TheVariants as stopped
 use Rattle.rounds.specs.Rounds.{HasLeft}
 use Rattle.sim_inputs.specs.declared.settings.Settings.{Settings}
-use Rattle.report_lines.proofs.Appending.{appends_more}
+use Rattle.text_fields.proofs.Appending.{appends_more}
 use Rattle.plain_commands.specs.PlainRounds.{InRounds, IsRoundsRefusal, IsReported, RoundsComeTo, rounds_refusal}
 
 -- ---- With rounds or without

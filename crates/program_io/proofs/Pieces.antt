@@ -1,6 +1,6 @@
 -- What was appended in pieces.
 use Rattle.std.specs.Prelude.{◌≡◌, ℕ, List, ◌++◌}
-use Rattle.report_lines.proofs.Appending.{appended_twice}
+use Rattle.text_fields.proofs.Appending.{appended_twice}
 
 pub four_pieces : (old one two three new a b c d : List ℕ) → one ≡ old ++ a → two ≡ one ++ b → three ≡ two ++ c
     → new ≡ three ++ d → new ≡ old ++ (a ++ (b ++ (c ++ d)))

@@ -4,7 +4,7 @@ use Rattle.std.proofs.Common.{sym, subst}
 use Rattle.std.specs.Io.KnownBytes.{Appends}
 use Rattle.std.proofs.KnownBytes.{Appends-nil}
 use Rattle.text_fields.specs.Printing.{Prints}
-use Rattle.report_lines.proofs.Appending.{appends_more}
+use Rattle.text_fields.proofs.Appending.{appends_more}
 use Rattle.prompts.specs.declared.command.Command.TheVariants.{Quit}
 use Rattle.prompts.specs.declared.session.Complaint.{Complaint}
 use Rattle.prompts.specs.declared.session.Complaint.TheVariants as complaint

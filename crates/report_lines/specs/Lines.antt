@@ -3,6 +3,7 @@ use Rattle.std.specs.Prelude.{ℕ, ◌+◌, Bool, false, ◌==◌, if◌then◌e
 use Rattle.std.specs.Prelude.{codes, flat_map}
 use Rattle.std.specs.{List.list_any, List.list_all, Fmt.decimal}
 use Rattle.text_fields.specs.Spelling.{hex}
+use Rattle.text_fields.specs.Each.{each_from}
 use Rattle.events.specs.{declared.effect.Record.Record}
 use Rattle.event_text.specs.{Line.record_text_of}
 use Rattle.smt_model.specs.{declared.config.Status.Status, declared.config.Status.TheVariants.Going}
@@ -35,11 +36,6 @@ status_text (Stopped cause) = codes " stopped " ++ decimal cause
 -- A line for each hart, in order, from the hart of this number on.
 abbrev pub hart_line : ℕ → Status → List ℕ
 hart_line hart status = codes "hart " ++ (decimal hart ++ (status_text status ++ 10 ∷ []))
-
--- A text for each of these, in order, the first of which has this number.
-abbrev pub each_from : {X : Type 0} → (ℕ → X → List ℕ) → ℕ → List X → List ℕ
-each_from text first [] = []
-each_from text first (x ∷ others) = text first x ++ each_from text (first + 1) others
 
 abbrev pub hart_lines : ℕ → List Status → List ℕ
 hart_lines hart statuses = each_from hart_line hart statuses

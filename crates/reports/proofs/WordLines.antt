@@ -6,7 +6,7 @@ use Rattle.std.proofs.{lemmas.List.flat_map_more, lemmas.List.FromFn.map-range_w
 use Rattle.std.proofs.{lemmas.Bool.Decides.nat_tests}
 use Rattle.elf_image.specs.Image.{ProgramImage, code_start, code_size, code_word, word_now, word_in}
 use Rattle.reports.specs.Listing.{word_addresses}
-use Rattle.report_lines.proofs.Appending.{appends_more}
+use Rattle.text_fields.proofs.Appending.{appends_more}
 
 lines_more : (line : ℕ → List ℕ) (start n : ℕ)
     → flat_map line (word_addresses start (n + 1)) ≡ flat_map line (word_addresses start n) ++ line (start + 4 * n)

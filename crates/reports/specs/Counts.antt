@@ -6,7 +6,8 @@ use Rattle.rv_instr.specs.declared.op.UnitKind.{UnitKind}
 use Rattle.rv_instr.specs.declared.op.UnitKind.TheVariants.{Alu, Mul, Mem}
 use Rattle.smt_model.specs.Basics.{below}
 use Rattle.history_counts.specs.{declared.counts.Counts.Counts, Numbers.retired_by}
-use Rattle.report_lines.specs.Lines.{count_line, each_from}
+use Rattle.text_fields.specs.Each.{each_from}
+use Rattle.report_lines.specs.Lines.{count_line}
 use Rattle.reports.specs.{declared.form.Form.Form, Form.number_text}
 
 -- Its events, by kind.

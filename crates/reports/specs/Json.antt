@@ -10,7 +10,7 @@ use Rattle.smt_model.specs.{declared.config.Status.TheVariants.Ended}
 use Rattle.smt_model.specs.{declared.config.Status.TheVariants.Stopped}
 use Rattle.history_counts.specs.{declared.counts.Counts.Counts}
 use Rattle.reports.specs.declared.form.Form.TheVariants.{Members}
-use Rattle.report_lines.specs.Lines.{each_from}
+use Rattle.text_fields.specs.Each.{each_from}
 use Rattle.reports.specs.{Form.member_text, Counts.counts_text}
 
 -- How many events and retired instructions there are, and how many jobs are with units.

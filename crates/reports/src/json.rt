@@ -3,7 +3,7 @@
 ghost use Rattle.std.specs.Prelude.{◌≡◌, ◌+◌, ◌≤◌, ◌++◌, codes, length, OnOk};
 ghost use Rattle.std.specs.Io.KnownBytes.{Appends};
 ghost use Rattle.arrayvec.specs.ArrayString.{array_string_len};
-ghost use Rattle.report_lines.specs.Lines.{each_from};
+ghost use Rattle.text_fields.specs.Each.{each_from};
 ghost use Rattle.reports.specs.Json.{counts_member, counts_object, hart_object, harts_member, json_text};
 ghost use Rattle.reports.specs.Json.{idle_array, idle_item, idle_member, lead_of, output_member};
 ghost use Rattle.reports.specs.Json.{sizes_text, status_members};

@@ -6,7 +6,7 @@ use Rattle.std.specs.{Io.KnownBytes.Appends, declared.option.Option.Option}
 use Rattle.std.proofs.{lemmas.Grind.common_steps, lemmas.List.flat_map_more, lemmas.List.reverse-append}
 use Rattle.events.specs.declared.effect.Record.{Record}
 use Rattle.report_lines.specs.Lines.{record_line, records_text}
-use Rattle.report_lines.proofs.Appending.{appends_more}
+use Rattle.text_fields.proofs.Appending.{appends_more}
 
 after_nothing : (xs : List ℕ) → xs ++ [] ≡ xs
 after_nothing xs = grind (arith, common_steps)

@@ -4,7 +4,7 @@ use Rattle.std.specs.Io.KnownBytes.{Appends}
 use Rattle.std.proofs.Common.{sym, ap, subst, ◌∙◌, append-nil}
 use Rattle.std.proofs.{lemmas.List.map_more, lemmas.List.Concat.flat_map-append}
 use Rattle.scripts.specs.Lines.{line_text}
-use Rattle.scripts.proofs.Written.{appends_more}
+use Rattle.text_fields.proofs.Appending.{appends_more}
 use Rattle.smt_model.specs.declared.turn.Turn.{Turn}
 use Rattle.schedules.specs.{declared.units.Units.Units, Turns.turn_words, Turns.turn_lines}
 

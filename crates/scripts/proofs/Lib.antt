@@ -3,7 +3,6 @@ pub mod Decimals
 pub mod Spellings
 pub mod Pieces
 pub mod Reading
-pub mod Written
 pub mod Lines
 pub mod Unambiguous
 pub mod Asking

@@ -22,7 +22,8 @@ use Rattle.scripts.specs.Session.{AreAsked, Counted, HasReplied, HaveCounted, Ar
 use Rattle.scripts.specs.declared.actions.Action.TheVariants as action
 use Rattle.core_lock.specs.Asks.{Replied}
 use Rattle.scripts.specs.Session.{unasked, HasGuessed, AreGuessed, AreAskedWith, PrintsGuessed}
-use Rattle.scripts.proofs.{Asking.guessed_both, Asking.guessed_none, Written.appends_more}
+use Rattle.text_fields.proofs.Appending.{appends_more}
+use Rattle.scripts.proofs.{Asking.guessed_both, Asking.guessed_none}
 
 pub after_nothing : {X : Type 0} (xs : List X) → xs ++ [] ≡ xs
 after_nothing xs = grind (arith, common_steps)

@@ -44,7 +44,7 @@ pub fn explore<M: Machine, O: Onlooker>(
     while (place as usize) < sweep.states.len() {
         expand(&mut sweep, machine, place, budget)?;
         place += 1;
-        tell(onlooker, sweep.states.len() as u32, place);
+        show_progress(onlooker, sweep.states.len() as u32, place);
     }
     let Sweep {
         harts,
@@ -62,8 +62,8 @@ pub fn explore<M: Machine, O: Onlooker>(
     })
 }
 
-/// Tells the onlooker, once in so many states.
-fn tell<O: Onlooker>(onlooker: &O, states: u32, swept: u32) {
+/// Shows the onlooker how far the search is, once in so many states.
+fn show_progress<O: Onlooker>(onlooker: &O, states: u32, swept: u32) {
     if swept % STATES_BETWEEN_LOOKS == 0 {
         onlooker.see(states, swept);
     }

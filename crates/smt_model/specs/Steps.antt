@@ -149,7 +149,7 @@ FillsValues p q register filled = (x : ℕ) → q.free x ≡ false
 abbrev pub EndsJob : Picture → Picture → ℕ → Type 0
 EndsJob p q k = (j : ℕ) → q.job j ≡ (if j == k then None else p.job j)
 
-pub record IsComplete (p q : Picture) (h n k : ℕ) (o : Outcome) (goes_on : ℕ) : Type 0 where
+pub record HasCompleted (p q : Picture) (h n k : ℕ) (o : Outcome) (goes_on : ℕ) : Type 0 where
   pub of_hart : is_hart_of p h n ≡ true
   pub lent : p.job k ≡ Some n
   pub waited : p.fate n ≡ Issued
@@ -221,7 +221,7 @@ pub record IsSquash (p q : Picture) (h n : ℕ) : Type 0 where
 -- are squashed.
 pub record IsMisprediction (p q : Picture) (h n k : ℕ) (o : Outcome) (goes_on : ℕ) : Type 0 where
   pub middle : Picture
-  pub complete : IsComplete p middle h n k o goes_on
+  pub complete : HasCompleted p middle h n k o goes_on
   pub squash : IsSquash middle q h n
 
 -- ---- Retirement of n, the first of hart h's flight, which goes on at `goes_on`

@@ -1,3 +1,4 @@
+pub mod Appending
 pub mod DecimalLaws
 pub mod DecimalSteps
 pub mod DigitTable

@@ -1,4 +1,5 @@
 pub mod Counting
+pub mod Each
 pub mod Printing
 pub mod Reading
 pub mod Spelling

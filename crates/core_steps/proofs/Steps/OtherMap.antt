@@ -7,7 +7,7 @@ use Rattle.std.proofs.lemmas.Bool.Decides.{nat_tests}
 use Rattle.events.specs.declared.effect.Outcome.{Outcome}
 use Rattle.rename_map.specs.Maps.{Maps, lookup}
 use Rattle.smt_model.specs.{Kinds.destination, Picture.Picture}
-use Rattle.smt_model.specs.Steps.{IsComplete, IsSquash, IsSameHart, IsSameInstruction, KeepsReadings, AreOwn, youngest}
+use Rattle.smt_model.specs.Steps.{HasCompleted, IsSquash, IsSameHart, IsSameInstruction, KeepsReadings, AreOwn, youngest}
 use Rattle.smt_model.specs.Steps.{up_to, renamed_map, op_in}
 use Rattle.core_parts.specs.Agree.{HartAgrees, PartsAgree}
 use Rattle.core_steps.specs.Checkpoints.{with_map, with_map_if}
@@ -143,8 +143,8 @@ instruction_through : (row : ℕ → ℕ) (p m : Picture) (h t : ℕ) → IsSame
     → IsSameInstruction (with_map row p h) (with_map row m h) t
 instruction_through row p m h t same = record { fate = same.fate; phys = same.phys; completion = same.completion }
 
-completes_with : (row : ℕ → ℕ) (p m : Picture) (h n k : ℕ) (o : Outcome) (pc : ℕ) → IsComplete p m h n k o pc
-    → IsComplete (with_map row p h) (with_map row m h) h n k o pc
+completes_with : (row : ℕ → ℕ) (p m : Picture) (h n k : ℕ) (o : Outcome) (pc : ℕ) → HasCompleted p m h n k o pc
+    → HasCompleted (with_map row p h) (with_map row m h) h n k o pc
 completes_with row p m h n k o pc s =
     let own = s.stays.hart in
     let shared = s.stays.shared in
@@ -200,8 +200,8 @@ completes_with row p m h n k o pc s =
     }
 
 pub completes_if : (restored : Bool) (row : ℕ → ℕ) (p m : Picture) (h n k : ℕ) (o : Outcome) (pc : ℕ)
-    → IsComplete p m h n k o pc
-    → IsComplete (with_map_if restored row p h) (with_map_if restored row m h) h n k o pc
+    → HasCompleted p m h n k o pc
+    → HasCompleted (with_map_if restored row p h) (with_map_if restored row m h) h n k o pc
 completes_if true row p m h n k o pc s = completes_with row p m h n k o pc s
 completes_if false row p m h n k o pc s = s
 

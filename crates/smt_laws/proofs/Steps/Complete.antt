@@ -8,7 +8,7 @@ use Rattle.events.specs.{declared.effect.Outcome.Outcome, declared.event.Event.E
 use Rattle.events.specs.{declared.event.Event.TheVariants.Complete}
 use Rattle.smt_model.specs.{Setup.Setup, Rules.refused, Rules.is_legal, Rules.computed_at, Jobs.job, Picture.picture}
 use Rattle.smt_model.specs.{Picture.source_register_in, Exec.Computed, Nexts.is_last, Outcomes.outcome_of}
-use Rattle.smt_model.specs.{Outcomes.outcome_by, Looks.first_look, Fetching.fetch_pc, Steps.IsComplete}
+use Rattle.smt_model.specs.{Outcomes.outcome_by, Looks.first_look, Fetching.fetch_pc, Steps.HasCompleted}
 use Rattle.smt_model.specs.{Steps.WakesReadings, Steps.filled_value}
 use Rattle.smt_model.specs.Kinds.{first_source, second_source, writes_register, Kind, Computing, Loading, Storing}
 use Rattle.smt_model.specs.Kinds.{Reserving, Conditional, Atomic, kind_of}
@@ -154,7 +154,7 @@ untouched-Complete setup past legal actor n outcome ok =
 pub steps-Complete : (setup : Setup) (past : List Event) → is_legal setup past → (actor n : ℕ) (outcome : Outcome)
     → refused setup past (Complete actor n outcome) ≡ None → mispredicts past n outcome.next ≡ false → (h : ℕ)
     → is_of past h n ≡ true
-    → IsComplete (picture setup past) (picture setup (Complete actor n outcome ∷ past)) h n actor outcome
+    → HasCompleted (picture setup past) (picture setup (Complete actor n outcome ∷ past)) h n actor outcome
     (fetch_pc setup past h)
 steps-Complete setup past legal actor n outcome ok straight h of_n =
     let e = Complete actor n outcome in

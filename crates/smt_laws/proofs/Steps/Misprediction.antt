@@ -19,7 +19,7 @@ use Rattle.smt_laws.proofs.{Registers.Committing.committer-Complete, Events.Calm
 use Rattle.smt_model.proofs.{Fates.Moves.complete_lent, Fates.Numbers.same_hart-at}
 use Rattle.smt_laws.proofs.Steps.Drop.{job_done}
 use Rattle.smt_laws.proofs.Events.Mapping.{youngest-same}
-use Rattle.smt_model.specs.Steps.{IsSameHart, IsComplete, IsSquash, IsMisprediction, IsSameInstruction, ReadsTheSame}
+use Rattle.smt_model.specs.Steps.{IsSameHart, HasCompleted, IsSquash, IsMisprediction, IsSameInstruction, ReadsTheSame}
 use Rattle.smt_model.specs.Steps.{woken_reading, filled_value, up_to}
 use Rattle.smt_laws.proofs.Steps.Complete.{now-Complete, was-Complete, completion-Complete, no_value, values-Complete}
 use Rattle.smt_laws.proofs.Steps.Complete.{readings-Complete, untouched-Complete}
@@ -50,7 +50,7 @@ at_other s n x y other = let apart_too : (s == n) ≡ false = grind (arith, nat_
 completes : (setup : Setup) (past : List Event) → is_legal setup past → (actor n : ℕ) (o : Outcome)
     → refused setup past (Complete actor n o) ≡ None
     → (h goes_on : ℕ) → is_of past h n ≡ true
-    → IsComplete (picture setup past) (misprediction_middle setup past h n actor o goes_on) h n actor o goes_on
+    → HasCompleted (picture setup past) (misprediction_middle setup past h n actor o goes_on) h n actor o goes_on
 completes setup past legal actor n o ok h goes_on of_n = record {
   of_hart = of_n;
   lent = complete_lent setup past actor n o ok;

@@ -15,7 +15,7 @@ use Rattle.load_store.specs.Queues.{Changes}
 use Rattle.smt_model.specs.Fates.{Renamed, Issued, Completed, is, stage as stage_number}
 use Rattle.smt_model.specs.Looks.{stored_by}
 use Rattle.smt_model.specs.Picture.{Picture}
-use Rattle.smt_model.specs.Steps.{IsComplete, IsDrop, KeepsFetched, KeepsJobs, EndsJob, filled_value, op_in}
+use Rattle.smt_model.specs.Steps.{HasCompleted, IsDrop, KeepsFetched, KeepsJobs, EndsJob, filled_value, op_in}
 use Rattle.core_steps.specs.{Accesses.with_outcome, Checkpoints.released_by}
 use Rattle.core_parts.specs.Agree.{IsActive, HartAgrees, PartsAgree, ValuesAgree, JobsAgree}
 use Rattle.core_steps.specs.Filled.{IsFilled}
@@ -72,7 +72,7 @@ completed_hart n op o pc x =
       fetch_pc = pc;
     }
 
-module _ (p q : Picture) (h n k : ℕ) (o : Outcome) (pc : ℕ) (s : IsComplete p q h n k o pc) where
+module _ (p q : Picture) (h n k : ℕ) (o : Outcome) (pc : ℕ) (s : HasCompleted p q h n k o pc) where
   active_completed : (x : Active) → IsActive p h x → x.seq ≡ n → IsActive q h (record x { stage = stage.Completed o })
   active_completed x was own = record {
     fetched = s.stays.shared.fetches.fetched x.seq ∙ was.fetched;
@@ -143,7 +143,7 @@ pub record IsCompleted (h n k : ℕ) (op : Op) (o : Outcome) (pc : ℕ) (phys : 
 
 pub parts_completed : (p q : Picture) (h n k : ℕ) (op : Op) (o : Outcome) (pc : ℕ) (phys : Option ℕ)
     (old between new : Parts) → h < length old.harts.items
-    → PartsAgree p old → IsComplete p q h n k o pc → phys ≡ p.phys n → op ≡ op_in p n
+    → PartsAgree p old → HasCompleted p q h n k o pc → phys ≡ p.phys n → op ≡ op_in p n
     → IsCompleted h n k op o pc phys old between new → PartsAgree q new
 parts_completed p q h n k op o pc phys old between new inside agrees s is_phys is_op is =
     let kept = s.stays.shared.kept in

@@ -1,4 +1,4 @@
-use Rattle.litmus_text.proofs.Appending.{told_step}
+use Rattle.text_fields.proofs.Appending.{told_step}
 use Rattle.litmus_text.specs.State.{part_text}
 use Rattle.litmus_text.proofs.state.write_parts.Goals as goal
 

@@ -1,5 +1,5 @@
 use Rattle.litmus_text.specs.State.{stop_text}
-use Rattle.litmus_text.proofs.Appending.{each_step}
+use Rattle.text_fields.proofs.Appending.{each_step}
 use Rattle.litmus_text.proofs.state.write_stops.Goals as goal
 
 pub loop-index-preserved : goal.loop-index-preserved

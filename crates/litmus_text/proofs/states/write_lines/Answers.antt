@@ -1,4 +1,4 @@
-use Rattle.litmus_text.proofs.Appending.{told_step}
+use Rattle.text_fields.proofs.Appending.{told_step}
 use Rattle.litmus_text.specs.State.{told_line}
 use Rattle.litmus_text.proofs.states.write_lines.Goals as goal
 

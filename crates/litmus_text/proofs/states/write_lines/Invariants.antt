@@ -1,6 +1,6 @@
 use Rattle.std.proofs.Common.{take}
 use Rattle.std.specs.Io.KnownBytes.{Appends}
-use Rattle.litmus_text.specs.Each.{each_from}
+use Rattle.text_fields.specs.Each.{each_from}
 use Rattle.litmus_text.specs.State.{told_line}
 use Rattle.litmus_text.proofs.states.write_lines.Given as goal
 

@@ -1,6 +1,7 @@
 use Rattle.std.proofs.Common.{take}
 use Rattle.std.specs.Io.KnownBytes.{Appends}
-use Rattle.outcome_text.specs.{Line.each_from, Listing.place_text}
+use Rattle.text_fields.specs.Each.{each_from}
+use Rattle.outcome_text.specs.{Listing.place_text}
 use Rattle.outcome_text.proofs.exists.write_places.Given as goal
 
 -- so many are written

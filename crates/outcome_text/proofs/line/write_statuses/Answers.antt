@@ -1,5 +1,5 @@
 use Rattle.outcome_text.specs.Line.{status_text}
-use Rattle.outcome_text.proofs.Appending.{each_step}
+use Rattle.text_fields.proofs.Appending.{each_step}
 use Rattle.outcome_text.proofs.line.write_statuses.Goals as goal
 
 pub loop-index-preserved : goal.loop-index-preserved

@@ -1,6 +1,7 @@
 use Rattle.std.proofs.Common.{take, slice_index}
 use Rattle.std.specs.Io.KnownBytes.{Appends}
-use Rattle.outcome_text.specs.Line.{each_from, status_text}
+use Rattle.text_fields.specs.Each.{each_from}
+use Rattle.outcome_text.specs.Line.{status_text}
 use Rattle.outcome_text.proofs.line.write_statuses.Given as goal
 
 -- so many are written

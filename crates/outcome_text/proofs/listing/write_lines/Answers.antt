@@ -1,5 +1,5 @@
 use Rattle.outcome_text.specs.Listing.{told_line}
-use Rattle.outcome_text.proofs.Appending.{told_step}
+use Rattle.text_fields.proofs.Appending.{told_step}
 use Rattle.outcome_text.proofs.listing.write_lines.Goals as goal
 
 pub loop-index-preserved : goal.loop-index-preserved

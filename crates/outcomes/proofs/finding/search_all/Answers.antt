@@ -18,15 +18,15 @@ pub returns-clause-all : goal.returns-clause-all
 returns-clause-all g c =
     let same = c.in-Ok-search_from.ensures.program ∙ c.in-Ok-begin.ensures.grows.program in
     of_same (λ image harts found. InEachSetup image harts (λ setup. IsExactList setup c.args.watch.now found)) _ _ _ _
-    c.tell.result (ap (λ (p : Program). p.image) same) (ap (λ (p : Program). p.harts) same) c.tell.ensures.all
+    c.outcomes_of.result (ap (λ (p : Program). p.image) same) (ap (λ (p : Program). p.harts) same) c.outcomes_of.ensures.all
 
 pub returns-clause-cores : goal.returns-clause-cores
 returns-clause-cores g c =
     let same = c.in-Ok-search_from.ensures.program ∙ c.in-Ok-begin.ensures.grows.program in
     of_same (λ image harts found. InEachSetup image harts (λ setup. CoversCores setup c.args.watch.now found)) _ _ _ _
-    c.tell.result (ap (λ (p : Program). p.image) same) (ap (λ (p : Program). p.harts) same) c.tell.ensures.cores
+    c.outcomes_of.result (ap (λ (p : Program). p.image) same) (ap (λ (p : Program). p.harts) same) c.outcomes_of.ensures.cores
 
 pub returns-clause-refused : goal.returns-clause-refused
 returns-clause-refused g c =
-    for_memory c.args.machine.program.image c.args.machine.program.harts c.args.watch.now c.args.budget c.tell.result
-    c.tell.ensures.refused
+    for_memory c.args.machine.program.image c.args.machine.program.harts c.args.watch.now c.args.budget c.outcomes_of.result
+    c.outcomes_of.ensures.refused

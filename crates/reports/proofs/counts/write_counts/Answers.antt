@@ -1,6 +1,6 @@
 use Rattle.std.proofs.lemmas.Result.{on_ok_weaker}
 use Rattle.reports.specs.Counts.{counts_text}
-use Rattle.report_lines.proofs.Appending.{appends_more}
+use Rattle.text_fields.proofs.Appending.{appends_more}
 use Rattle.reports.proofs.counts.write_counts.Goals as goal
 
 pub returns : goal.returns

@@ -1,7 +1,7 @@
 use Rattle.reports.specs.Counts.{idle_line}
-use Rattle.report_lines.proofs.Appending.{harts_step}
+use Rattle.text_fields.proofs.Appending.{each_step}
 use Rattle.reports.proofs.idle.report_idle.Goals as goal
 
 pub loop-actor-preserved : goal.loop-actor-preserved
 loop-actor-preserved g c =
-    harts_step idle_line _ _ _ _ _ _ c.loop-actor-test.true c.loop-actor.invariant c.in_ok-write_actor.ensures
+    each_step idle_line _ _ _ _ _ _ c.loop-actor-test.true c.loop-actor.invariant c.in_ok-write_actor.ensures

@@ -1,6 +1,6 @@
 use Rattle.std.proofs.Common.{take}
 use Rattle.std.specs.Io.KnownBytes.{Appends}
-use Rattle.report_lines.specs.Lines.{each_from}
+use Rattle.text_fields.specs.Each.{each_from}
 use Rattle.reports.specs.{Counts.idle_line}
 use Rattle.reports.proofs.idle.report_idle.Given as goal
 

@@ -1,5 +1,5 @@
 use Rattle.std.specs.Prelude.{codes}
-use Rattle.report_lines.proofs.Appending.{appended_twice}
+use Rattle.text_fields.proofs.Appending.{appended_twice}
 use Rattle.reports.proofs.json.push_status.Goals as goal
 
 pub returns-in-Ended-clause-spelled : goal.returns-in-Ended-clause-spelled

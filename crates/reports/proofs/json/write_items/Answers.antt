@@ -1,7 +1,7 @@
 use Rattle.reports.specs.Json.{idle_item}
-use Rattle.report_lines.proofs.Appending.{harts_step}
+use Rattle.text_fields.proofs.Appending.{each_step}
 use Rattle.reports.proofs.json.write_items.Goals as goal
 
 pub loop-actor-preserved : goal.loop-actor-preserved
 loop-actor-preserved g c =
-    harts_step idle_item _ _ _ _ _ _ c.loop-actor-test.true c.loop-actor.invariant c.in_ok-write_item.ensures
+    each_step idle_item _ _ _ _ _ _ c.loop-actor-test.true c.loop-actor.invariant c.in_ok-write_item.ensures

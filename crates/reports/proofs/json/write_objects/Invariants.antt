@@ -1,6 +1,6 @@
 use Rattle.std.proofs.Common.{take}
 use Rattle.std.specs.Io.KnownBytes.{Appends}
-use Rattle.report_lines.specs.Lines.{each_from}
+use Rattle.text_fields.specs.Each.{each_from}
 use Rattle.reports.specs.{Json.hart_object}
 use Rattle.reports.proofs.json.write_objects.Given as goal
 

@@ -1,6 +1,7 @@
-use Rattle.shown_text.proofs.Written.{bytes_step}
+use Rattle.text_fields.proofs.Appending.{flat_step}
+use Rattle.shown_text.specs.Shown.{shown_byte}
 use Rattle.shown_text.proofs.shown.write_shown.Goals as goal
 
 pub loop-byte-preserved : goal.loop-byte-preserved
 loop-byte-preserved g c =
-    bytes_step _ _ _ _ _ _ c.loop-byte-test.true c.loop-byte.invariant c.in_ok-write_byte.ensures
+    flat_step shown_byte _ _ _ _ _ _ c.loop-byte-test.true c.loop-byte.invariant c.in_ok-write_byte.ensures

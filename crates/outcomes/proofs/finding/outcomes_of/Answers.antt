@@ -6,7 +6,7 @@ use Rattle.outcomes.specs.{Told.found_of, Told.told_of}
 use Rattle.watched_outcomes.specs.{Watching.AreThere}
 use Rattle.outcomes.proofs.Listing.{once_told}
 use Rattle.outcomes.proofs.{Telling.all_told, Telling.stuck_inside, Cores.covers_cores}
-use Rattle.outcomes.proofs.finding.tell.Goals as goal
+use Rattle.outcomes.proofs.finding.outcomes_of.Goals as goal
 
 pub invariant_of-result : goal.invariant_of-result
 invariant_of-result c = record {
