@@ -2,7 +2,6 @@
 
 ghost use Rattle.std.specs.Prelude.{◌≡◌, ◌≤◌, IfOk, IfErr, length, reverse};
 ghost use Rattle.std.specs.Prelude.{true, false};
-ghost use Rattle.numbers.specs.Sizes.{most_actors};
 ghost use Rattle.elf_image.specs.Image.{ProgramImage};
 ghost use Rattle.smt_core.specs.Shown.{Shown};
 ghost use Rattle.smt_model.specs.Setup.{is_accepted};
@@ -13,13 +12,11 @@ ghost use Rattle.core_commands.specs.Check.{IsTraceRefusal, IsHistoryRefusal, se
 
 use crate::account::report_core;
 use crate::wanted::Wanted;
-use arrayvec::ArrayVec;
 use command_parts::Refused;
 use elf_image::Image;
 use event_text::{Trace, TraceHead, TraceRefused, read_trace};
-use events::Role;
+use events::copied_roles;
 use history_check::{CheckRefused, Checked, check};
-use numbers::sizes::MOST_ACTORS;
 use sim_inputs::Settings;
 use smt_model::Config;
 use std::alloc::Global;
@@ -73,20 +70,9 @@ pub(crate) fn config_by(settings: &Settings, head: &TraceHead) -> Config
             harts: header.harts(),
             extra: header.extra(),
             queue: header.queue(),
-            roles: copy_of(header.roles()),
+            roles: copied_roles(header.roles()),
         },
     }
-}
-
-fn copy_of(roles: &[Role]) -> ArrayVec<Role, MOST_ACTORS>
-    requires { length roles.now ≤ most_actors }
-    ensures { result.items ≡ roles.now }
-{
-    let mut copy = ArrayVec::new();
-    for role in roles {
-        copy.push(*role);
-    }
-    copy
 }
 
 /// The core that a trace is of, which has followed its events, with room for no more.

@@ -6,3 +6,4 @@ pub mod Reasons
 pub mod Knowledge
 pub mod BoardRule
 pub mod Seats
+pub mod Steps

@@ -6,6 +6,7 @@ ghost use Rattle.smt_model.specs.Account.{event_count, last_event_of};
 ghost use Rattle.core_lock.specs.Asks.{Replied, IsPredictedBy, asked_of, event_in, grown_by};
 ghost use Rattle.core_lock.specs.Asks.{is_reply};
 ghost use Rattle.core_lock.specs.Passes.{IsTold, more, more_idle, later, going_in, places};
+ghost use Rattle.core_lock.specs.Steps.{HasStepped};
 ghost use Rattle.smt_core.specs.Shown.{Shown};
 
 mod agreement;
@@ -103,22 +104,26 @@ impl<L: Origin> Held<L> {
     /// the code of that step alone, and what of the reply isn't read isn't made.
     #[inline(always)]
     pub fn step<P: Predict>(&mut self, pass: &mut Pass<L>, ask: Ask, predict: &mut P) -> Reply<L>
-        ensures maker { result.actor ≡ pass.old.actor }
-        ensures asked { result.asked ≡ asked_of ask }
-        ensures answer { Replied pass.old.actor ask self.old.core result.said self.new.core }
-        ensures predicted { IsPredictedBy P.predicts predict.old
-            (asked_of ask) result.said predict.new }
-        ensures grows { self.new.core ≡ grown_by (event_in result.said) self.old.core }
-        ensures going { result.going ≡ going_in self.new.core }
-        ensures actor { pass.new.actor ≡ pass.old.actor }
-        ensures count { pass.new.count ≡ more pass.old.count (event_in result.said) }
-        ensures last { pass.new.last ≡ later pass.old.last (event_in result.said) }
-        ensures idle { pass.new.idle ≡ more_idle pass.old.idle result.said }
-        ensures own { is_reply pass.old.actor (asked_of ask) result.said ≡ true }
-        ensures shown { Shown self.old.core × Shown self.new.core }
+        ensures stepped { HasStepped P.predicts ask self.old.core self.new.core predict.old predict.new
+            (record {
+              actor = pass.old.actor;
+              count = pass.old.count;
+              last = pass.old.last;
+              idle = pass.old.idle;
+            })
+            (record {
+              actor = pass.new.actor;
+              count = pass.new.count;
+              last = pass.new.last;
+              idle = pass.new.idle;
+            })
+            (record {
+              actor = result.actor;
+              asked = result.asked;
+              going = result.going;
+              said = result.said;
+            }) }
         ensures origin { (self.old.core.setup ≡ L.setup) × (self.old.core.limit ≡ L.limit) }
-        ensures told { IsTold self.old.core.past pass.old.actor pass.old.count pass.old.last
-            → IsTold self.new.core.past pass.new.actor pass.new.count pass.new.last }
     {
         let actor = pass.actor;
         let asked = ask.asked();

@@ -16,7 +16,7 @@ use Rattle.litmus_tests.specs.declared.step.LitmusStep.TheVariants.{Straight, Co
 use Rattle.litmus_tests.specs.declared.step.Comparison.{Comparison}
 use Rattle.litmus_tests.specs.declared.step.Comparison.TheVariants.{Equal, Different}
 use Rattle.litmus_runs.specs.declared.access.Access.{Access}
-use Rattle.litmus_runs.specs.declared.hart.{Hart.Hart, Found.Found}
+use Rattle.litmus_runs.specs.declared.{hart.Hart.Hart, finding.Found.Found}
 
 -- What is computed of these registers. No step of a litmus test depends on where it stands.
 abbrev pub computed_by : Op → List ℕ → Computed

@@ -5,14 +5,19 @@
 //! where it finds some number, and reservations are theirs. That all ways are found is only tested.
 //!
 //! Read in this order: `number` (the words that values are), `access` (what a hart does with memory at a step),
-//! `choices`, `known` (the numbers that a location may have), `hart` (one step), `runs` (all ways of all harts).
+//! `choices`, `known` (the numbers that a location may have), `registers`, `reservation`, `finding` (what an instruction
+//! finds), `made` (the access that it makes), `hart` (one step), `runs` (all ways of all harts).
 #![tactic(auto)]
 
 mod access;
 mod choices;
+mod finding;
 mod hart;
 mod known;
+mod made;
 mod number;
+mod registers;
+mod reservation;
 mod runs;
 
 pub use access::{Access, MOST_ACCESSES};

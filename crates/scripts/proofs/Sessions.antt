@@ -1,7 +1,7 @@
 -- One action after another, and the asks of a unit.
 use Rattle.std.specs.Prelude.{◌≡◌, ℕ, ◌+◌, ◌<◌, zero, suc, Bool, true, false, is_some, List, [], ◌∷◌, ◌++◌}
 use Rattle.std.specs.Prelude.{length, take, get_or, replicate, slice_index_or, slice_set}
-use Rattle.std.specs.Prelude.{Option, Some, None, Result, Ok, Err, IfOk, OnOk}
+use Rattle.std.specs.Prelude.{Option, Some, None, Result, Ok, Err, IfOk, OnOk, IsTrue, ◌↔◌, sum}
 use Rattle.std.specs.Result.{result_and}
 use Rattle.std.proofs.Common.{refl, sym, ap, subst, ◌∙◌, append_assoc, arith}
 use Rattle.std.specs.Io.KnownBytes.{Appends, Keeps as StaysKnown, append_known}
@@ -12,6 +12,10 @@ use Rattle.std.proofs.lemmas.List.{take_more, flat_map_more}
 use Rattle.exec_units.specs.Job.{JobView, DoneView}
 use Rattle.text_fields.specs.Printing.{Prints}
 use Rattle.core_state.specs.View.{CoreView}
+use Rattle.smt_model.specs.Setup.{Setup}
+use Rattle.smt_core.specs.declared.finished.Finished.{Finished}
+use Rattle.smt_core.specs.{Counts.AreCounts, Shown.Shown}
+use Rattle.scripts.specs.Run.{HasRunScript}
 use Rattle.core_lock.specs.{declared.ask.Ask.Ask, declared.ask.Said.Said}
 use Rattle.core_lock.specs.declared.ask.Ask.TheVariants as ask
 use Rattle.scripts.specs.{declared.actions.Action.Action, declared.actions.ScriptWord.ScriptWord}
@@ -329,47 +333,41 @@ module _ {P : Type 0} (predicts : P → ℕ → ℕ → ℕ → ℕ → P → Ty
 
   -- ---- All words, of a core whose actors hold nothing
 
-  pub asked_whole : {A E F : Type 0} (written : Result A E) (left : F) (core : F → CoreView) (idle : F → List ℕ)
-      (words : List ScriptWord) (first : CoreView) (old new : Counted) (held now : Holding) (before after : P)
-      (was out : Option (List ℕ)) → held ≡ nobody → old ≡ uncounted first → core left ≡ new.core → idle left ≡ new.idle
+  pub run_whole : {A E : Type 0} (written : Result A E) (left : Finished) (words : List ScriptWord) (named : Setup)
+      (first : CoreView) (old new : Counted) (held now : Holding) (before after : P) (was out : Option (List ℕ))
+      → held ≡ nobody → old ≡ uncounted first → left.core ≡ new.core → left.idle ≡ new.idle
+      → left.core.setup ≡ first.setup → left.core.limit ≡ first.limit
+      → IsTrue left.told → (IsTrue left.own ↔ (first.setup ≡ named)) → AreCounts left.core.past left.counts
+      → sum left.counts ≡ length left.core.past → Shown left.core
       → OnOk written (PrintsGuessed predicts old.core new.core before after was out
       (AllAct HasReplied (actions_of words) held now old new))
-      → IfOk (result_and written (Ok left))
-      (λ end. Prints was out (HaveCounted words first (core end) (idle end)))
-  asked_whole (Ok value) left core idle words first old new held now before after was out none start is are one =
+      → IfOk (result_and written (Ok left)) (HasRunScript predicts before after words named first was out)
+  run_whole (Ok value) left words named first old new held now before after was out
+      none start is are setup limit told own counts counted shown one =
       let text = one.printed.0 in
       let acted = subst (λ h. AllAct HasReplied (actions_of words) h now old new text) none one.printed.1 in
       let begun = subst (λ c. AllAct HasReplied (actions_of words) nobody now c new text) start acted in
-      let ended : new ≡ record { core = core left; idle = idle left } = same_counted new (core left) (idle left) is are in (
-        text,
-        (now, subst (λ c. AllAct HasReplied (actions_of words) nobody now (uncounted first) c text) ended begun),
-        one.printed.2,
-      )
-  asked_whole (Err error) left core idle words first old new held now before after was out none start is are one = tt
-
-  pub guessed_whole : {A E F : Type 0} (written : Result A E) (left : F) (core : F → CoreView)
-      (old new : CoreView) (before after : P) (was out : Option (List ℕ)) (Is : List ℕ → Type 0) → core left ≡ new
-      → OnOk written (PrintsGuessed predicts old new before after was out Is)
-      → IfOk (result_and written (Ok left))
-      (λ end. HasGuessed predicts old.past (core end).past before after)
-  guessed_whole (Ok value) left core old new before after was out Is is one =
-      subst (λ (c : CoreView). HasGuessed predicts old.past c.past before after) (sym is) one.guessed
-  guessed_whole (Err error) left core old new before after was out Is is one = tt
-
--- What was counted was asked.
-pub asked_plain : {A E F : Type 0} (written : Result A E) (left : F) (core : F → CoreView) (idle : F → List ℕ)
-    (words : List ScriptWord) (first : CoreView) (was out : Option (List ℕ))
-    → IfOk (result_and written (Ok left)) (λ end. Prints was out (HaveCounted words first (core end) (idle end)))
-    → IfOk (result_and written (Ok left)) (λ end. Prints was out (HaveAsked words first (core end)))
-asked_plain (Ok value) left core idle words first was out one =
-    (one.0, have_asked words first (core left) (idle left) one.0 one.1, one.2)
-asked_plain (Err error) left core idle words first was out one = tt
-
--- What holds of what is left at the end.
-pub whole : {A E F : Type 0} (written : Result A E) (left : F) (Is : F → Type 0) → Is left
-    → IfOk (result_and written (Ok left)) Is
-whole (Ok value) left Is is = is
-whole (Err error) left Is is = tt
+      let ended : new ≡ record { core = left.core; idle = left.idle } = same_counted new left.core left.idle is are in
+      let all : HaveCounted words first left.core left.idle text = (
+        now,
+        subst (λ c. AllAct HasReplied (actions_of words) nobody now (uncounted first) c text) ended begun,
+      ) in
+      record {
+        setup = setup;
+        limit = limit;
+        told = told;
+        own = own;
+        counts = counts;
+        counted = counted;
+        shown = shown;
+        asked = (text, have_asked words first left.core left.idle text all, one.printed.2);
+        idle = (text, all, one.printed.2);
+        guessed =
+            subst (λ (c : CoreView). HasGuessed predicts first.past c.past before after) (sym is)
+            (subst (λ (c : Counted). HasGuessed predicts c.core.past new.core.past before after) start one.guessed);
+      }
+  run_whole (Err error) left words named first old new held now before after was out
+      none start is are setup limit told own counts counted shown one = tt
 
 -- ---- The words of a script that was read
 

@@ -1,15 +1,13 @@
 //! The asks of a script's words, one after another.
 
-ghost use Rattle.std.specs.Prelude.{◌≡◌, ◌↔◌, ◌+◌, ◌≤◌, ◌<◌, Some, All, OnOk, IfOk, IsTrue, length, sum};
+ghost use Rattle.std.specs.Prelude.{◌≡◌, ◌+◌, ◌≤◌, ◌<◌, Some, All, OnOk, IfOk};
 ghost use Rattle.std.specs.Io.KnownBytes.{append_known};
 ghost use Rattle.numbers.specs.Sizes.{most_actors};
 ghost use Rattle.arrayvec.specs.ArrayString.{array_string_len};
-ghost use Rattle.text_fields.specs.Printing.{Prints};
 ghost use Rattle.core_state.specs.Setup.{setup_of};
-ghost use Rattle.smt_core.specs.Counts.{AreCounts};
-ghost use Rattle.smt_core.specs.Shown.{Shown};
 ghost use Rattle.scripts.specs.Script.{IsInRange};
-ghost use Rattle.scripts.specs.Session.{PrintsGuessed, HasGuessed, HaveAsked, HaveCounted, HasReplied};
+ghost use Rattle.scripts.specs.Run.{HasRunScript};
+ghost use Rattle.scripts.specs.Session.{PrintsGuessed, HasReplied};
 ghost use Rattle.scripts.specs.Session.{IsUnit, Acts, AllAct, repeated, actions_of};
 
 mod asked_core;
@@ -52,21 +50,8 @@ pub fn run_script<P: Predict, W: Write>(
     out: &mut W,
 ) -> Result<Finished, Unwritten>
     requires in_range { All (λ word. IsInRange word.action) words.now }
-    ensures setup { IfOk result (λ finished. finished.core.setup ≡ core.setup) }
-    ensures limit { IfOk result (λ finished. finished.core.limit ≡ core.limit) }
-    ensures told { IfOk result (λ finished. IsTrue finished.told) }
-    ensures own { IfOk result
-        (λ finished. IsTrue finished.own ↔ (core.setup ≡ setup_of image.now config.now)) }
-    ensures counts { IfOk result (λ finished. AreCounts finished.core.past finished.counts) }
-    ensures counted { IfOk result (λ finished. sum finished.counts ≡ length finished.core.past) }
-    ensures shown { IfOk result (λ finished. Shown finished.core) }
-    ensures asked { IfOk result (λ finished. Prints (W.contents out.old) (W.contents out.new)
-        (HaveAsked words.now core finished.core)) }
-    ensures idle { IfOk result (λ finished. Prints (W.contents out.old) (W.contents out.new)
-        (HaveCounted words.now core finished.core finished.idle)) }
-    ensures guessed { IfOk result
-        (λ finished. HasGuessed P.predicts core.past finished.core.past
-        predict.old predict.new) }
+    ensures { IfOk result (HasRunScript P.predicts predict.old predict.new words.now
+        (setup_of image.now config.now) core (W.contents out.old) (W.contents out.new)) }
 {
     run_dealt::<Brand, P, W>(
         core,
@@ -93,21 +78,8 @@ fn run_dealt<L: Origin, P: Predict, W: Write>(
     requires parts { (blank.parts ≡ L.parts) × (L.parts ≡ most_actors) }
     requires origin { (core.setup ≡ L.setup) × (core.limit ≡ L.limit) }
     requires in_range { All (λ word. IsInRange word.action) words.now }
-    ensures setup { IfOk result (λ finished. finished.core.setup ≡ core.setup) }
-    ensures limit { IfOk result (λ finished. finished.core.limit ≡ core.limit) }
-    ensures told { IfOk result (λ finished. IsTrue finished.told) }
-    ensures own { IfOk result
-        (λ finished. IsTrue finished.own ↔ (core.setup ≡ setup_of image.now config.now)) }
-    ensures counts { IfOk result (λ finished. AreCounts finished.core.past finished.counts) }
-    ensures counted { IfOk result (λ finished. sum finished.counts ≡ length finished.core.past) }
-    ensures shown { IfOk result (λ finished. Shown finished.core) }
-    ensures asked { IfOk result (λ finished. Prints (W.contents out.old) (W.contents out.new)
-        (HaveAsked words.now core finished.core)) }
-    ensures idle { IfOk result (λ finished. Prints (W.contents out.old) (W.contents out.new)
-        (HaveCounted words.now core finished.core finished.idle)) }
-    ensures guessed { IfOk result
-        (λ finished. HasGuessed P.predicts core.past finished.core.past
-        predict.old predict.new) }
+    ensures { IfOk result (HasRunScript P.predicts predict.old predict.new words.now
+        (setup_of image.now config.now) core (W.contents out.old) (W.contents out.new)) }
 {
     let mut session = Session::<L> {
         core: AskedCore::new(core, blank),

@@ -1,3 +1,4 @@
+use Rattle.std.proofs.Common.{◌∙◌}
 use Rattle.scripts.proofs.Sessions.{of_words, of_counted}
 use Rattle.core_commands.proofs.step.step_image.Goals as goal
 
@@ -23,3 +24,21 @@ returns-in-Ok-clause-own g c = c.in-Ok.ensures.own.1 c.in_ok-core.ensures.setup
 
 pub returns-in-Ok-clause-script : goal.returns-in-Ok-clause-script
 returns-in-Ok-clause-script g c = (_, c.in_ok-words.ensures.script)
+
+pub returns-in-Ok-clause-setup : goal.returns-in-Ok-clause-setup
+returns-in-Ok-clause-setup g c = c.in-Ok.ensures.setup ∙ c.in_ok-core.ensures.setup
+
+pub returns-in-Ok-clause-limit : goal.returns-in-Ok-clause-limit
+returns-in-Ok-clause-limit g c = c.in-Ok.ensures.limit ∙ c.in_ok-core.ensures.limit
+
+pub returns-in-Ok-clause-told : goal.returns-in-Ok-clause-told
+returns-in-Ok-clause-told g c = c.in-Ok.ensures.told
+
+pub returns-in-Ok-clause-counts : goal.returns-in-Ok-clause-counts
+returns-in-Ok-clause-counts g c = c.in-Ok.ensures.counts
+
+pub returns-in-Ok-clause-counted : goal.returns-in-Ok-clause-counted
+returns-in-Ok-clause-counted g c = c.in-Ok.ensures.counted
+
+pub returns-in-Ok-clause-shown : goal.returns-in-Ok-clause-shown
+returns-in-Ok-clause-shown g c = c.in-Ok.ensures.shown

@@ -9,7 +9,7 @@ use Rattle.scripts.proofs.session.asked_core.AskedCore.ask.Goals as goal
 
 pub invariant_of-self : goal.invariant_of-self
 invariant_of-self g c =
-    let step = c.step.ensures in
+    let step = c.step.ensures.stepped in
     let inside : c.from.result < length c.self.inside.passes = omega (arith, c.self.ranges, c.from.ensures, c.requires) in
     let at =
     c.self.invariant c.from.result _
@@ -34,10 +34,10 @@ returns-clause-replied g c =
           (subst
           (λ (v : Counted). Replied (get_or c.self.inside.passes c.from.result c.index-self-from.result).actor c.args.ask
           v.core c.step.result.said c.step.new.self.core)
-          c.self.view_is c.step.ensures.answer));
+          c.self.view_is c.step.ensures.stepped.answer));
       counted =
           counted_there (λ p. p.idle) c.self.inside.passes c.from.result c.index-self-from.result c.step.new.pass
-          c.step.result.said inside c.step.ensures.idle
+          c.step.result.said inside c.step.ensures.stepped.idle
           ∙ ap (λ k. idle_after k c.step.result.said (map (λ p. p.idle) c.self.inside.passes)) c.from.ensures
           ∙ ap (λ s. idle_after c.args.actor s (map (λ p. p.idle) c.self.inside.passes)) (sym c.said.ensures.said)
           ∙ ap (λ (v : Counted). idle_after c.args.actor c.said.result v.idle) c.self.view_is;
@@ -45,7 +45,7 @@ returns-clause-replied g c =
 
 pub returns-clause-guessed : goal.returns-clause-guessed
 returns-clause-guessed g c =
-    let step = c.step.ensures in
+    let step = c.step.ensures.stepped in
     subst
     (λ (v : Counted). HasGuessed g.P.Predict.predicts v.core.past c.step.new.self.core.past c.args.predict.now
     c.step.new.predict)
