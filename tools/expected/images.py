@@ -85,6 +85,12 @@ PROGRAMS = {
     "stay": [0x0000006F],
     # addi x5,x5,1; bne x5,x0,0x80000000: a loop backwards; ebreak
     "count_up": [0x00128293, 0xFE029EE3, 0x00100073],
+    # lui x8,0x80001; addi x9,x8,64; then for ever: lw x5,0(x8); addi x5,x5,1; sw x5,0(x8); amoadd.w x6,x5,(x9);
+    # lr.w x7,(x9); sc.w x28,x5,(x9); lb x29,1(x8); sh x5,2(x8); lhu x30,2(x8); sb x30,5(x8)
+    "all_accesses_for_ever": [
+        0x80001437, 0x04040493, 0x00042283, 0x00128293, 0x00542023, 0x0054A32F, 0x1004A3AF, 0x1854AE2F, 0x00140E83,
+        0x00541123, 0x00245F03, 0x01E402A3, 0xFD9FF06F,
+    ],
     # lui x5,0x1; jalr x0,4(x5): to 00001004, outside of RAM
     "jump_low": [0x000012B7, 0x00428067],
     # lui x5,0x80000; jalr x6,6(x5): to an address that isn't a multiple of 4
