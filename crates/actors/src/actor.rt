@@ -4,7 +4,7 @@ ghost use Rattle.actors.specs.Turns.{IsTurn};
 
 use crate::desk::{Desk, Naming, Placed};
 use crate::gate::{Gate, Point};
-use crate::patience::Patience;
+use crate::patience::{Patience, turns_of_round};
 use crate::turn_outcome::TurnOutcome;
 use crate::turns::{decode_and_rename, execute, make};
 use core_lock::{Ask, BoardView, LockedCore, Origin, Pass, Reason};
@@ -42,7 +42,7 @@ pub(crate) fn act<N: Naming, G: Gate, P: Predict + Copy, R: Wait>(
     }
     let mut predict = predict;
     let mut hart = 0;
-    let mut patience = Patience::new();
+    let mut patience = Patience::new(turns_of_round(role, shared.harts));
     for _turn in 0..shared.turns {
         if !goes_on(
             rt,
