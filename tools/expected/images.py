@@ -83,6 +83,8 @@ PROGRAMS = {
     "fence": [0x0FF0000F],
     # jal x0,0: for ever at one place
     "stay": [0x0000006F],
+    # bne x10,x0,+8; jal x0,0; ebreak: hart 0 goes on for ever, and all others stop
+    "hart_0_goes_on": [0x00051463, 0x0000006F, 0x00100073],
     # addi x5,x5,1; bne x5,x0,0x80000000: a loop backwards; ebreak
     "count_up": [0x00128293, 0xFE029EE3, 0x00100073],
     # lui x8,0x80001; addi x9,x8,64; then for ever: lw x5,0(x8); addi x5,x5,1; sw x5,0(x8); amoadd.w x6,x5,(x9);
