@@ -18,6 +18,7 @@ ghost use Rattle.event_text.specs.Sinking.{HasPut};
 ghost use Rattle.commands.specs.Written.{IsWritten};
 
 use crate::explain::{perform_explain, point_to_explain};
+use crate::explain_beside::tell_beside;
 use crate::list::perform_list;
 use actors::Gate;
 use command_parts::{Context, Inputs, Refused, Unread, image_of, refuse, settings_of};
@@ -29,7 +30,9 @@ use elf_image::Image;
 use plain_commands::{
     perform_litmus, perform_outcomes, perform_plain, perform_rounds, perform_schedule, rounds_of,
 };
-use sim_inputs::{Command, Line, LitmusCommand, ProgramCommand, RunCommand, Settings};
+use sim_inputs::{
+    Command, ExplainCommand, Line, LitmusCommand, ProgramCommand, RunCommand, Settings,
+};
 use smt_core::Predict;
 use std::alloc::Global;
 use std::io::Write;
@@ -129,7 +132,13 @@ fn perform_line<
     let alloc = context.alloc;
     match &line.command {
         Command::OfProgram(command) => read_and_perform(context, command, inputs),
-        Command::Explain(_) => read_and_explain(inputs, &mut context.out, alloc),
+        Command::Explain(explain) => read_and_explain(
+            explain,
+            inputs,
+            &mut context.predict,
+            &mut context.out,
+            alloc,
+        ),
         Command::Litmus(litmus) => read_and_test(
             litmus,
             inputs,
@@ -142,10 +151,12 @@ fn perform_line<
     }
 }
 
-/// The exit status of a line that explains its files, with all flushed that it prints of them. They are
-/// taken before they are refused.
-fn read_and_explain<W: Write>(
+/// The exit status of a line that explains its files, with all flushed that it prints of them. Configuration and
+/// image are taken before they are refused. What is explained beside them is looked at where both are accepted.
+fn read_and_explain<P: Predict, W: Write>(
+    explain: &ExplainCommand<'_>,
     inputs: &Inputs<'_>,
+    predict: &mut P,
     out: &mut W,
     alloc: Global,
 ) -> Result<u8, Refused>
@@ -156,7 +167,16 @@ fn read_and_explain<W: Write>(
         (as_read inputs.now.program) (W.contents out.old) (W.contents out.new)) }
 {
     let text = inputs.config?;
-    perform_explain(text, inputs.program, out, alloc)
+    let status = perform_explain(text, inputs.program, out, alloc)?;
+    let Some(beside) = &explain.beside else {
+        return Ok(status);
+    };
+    let settings = settings_of(text, alloc)?;
+    let file = inputs.program?;
+    let image = image_of(file, settings.ram, alloc)?;
+    let words = inputs.second?;
+    tell_beside(beside, words, &settings, &image, predict, out, alloc)?;
+    Ok(status)
 }
 
 /// The exit status of a litmus test, with all flushed that is printed of it.

@@ -16,6 +16,7 @@ use crate::words::{refuse_words, take_words, texts};
 use actors::Gate;
 use command_parts::{Context, Inputs, Refused, Unread, refuse};
 use commands::{perform, perform_typed};
+use scripts::blank_comments;
 use sim_inputs::{
     Command, Files as NamedFiles, Line, ProgramCommand, StepCommand, WordsRefused,
     is_standard_input, read_words,
@@ -131,7 +132,10 @@ impl<S: Files + Input + Threads + Wait + Sync, G: Gate + Sync, P: Predict + Copy
             return self.read_and_prompt(line, &step, out, err);
         }
         let files = line.files();
-        let read = ReadInputs::of(self.system, &files, self.alloc);
+        let mut read = ReadInputs::of(self.system, &files, self.alloc);
+        if line.command.reads_words() {
+            read.blank_comments();
+        }
         let places = Places {
             file: files.written,
             folder: folder_of(line),
@@ -226,6 +230,13 @@ impl ReadInputs {
             config: read_named(system, files.config, alloc),
             program: read_named(system, files.program, alloc),
             second: read_named(system, files.second, alloc),
+        }
+    }
+
+    /// Blanks the comments of the second file, where it was read.
+    fn blank_comments(&mut self) {
+        if let Ok(bytes) = &mut self.second {
+            blank_comments(bytes.as_mut_slice());
         }
     }
 

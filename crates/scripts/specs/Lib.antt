@@ -3,3 +3,4 @@ pub mod Order
 pub mod Lines
 pub mod Unambiguous
 pub mod Session
+pub mod Comments

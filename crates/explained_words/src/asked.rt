@@ -1,0 +1,98 @@
+//! Which actors ask for what, and how often.
+
+use numbers::sizes::MOST_ACTORS;
+use scripts::{Action, ScriptWord};
+use smt_model::Role;
+use std::io;
+use std::io::Write;
+
+/// The letters of asks, in the order in which they are listed.
+const LETTERS: [&str; KINDS] = ["F", "D", "R", "I", "C", "U", "T"];
+
+const KINDS: usize = 7;
+
+/// How often each actor asks for each kind of action.
+#[derive(Drop)]
+pub(crate) struct Asked {
+    words: u64,
+    all: u64,
+    by_actor: [[u64; KINDS]; MOST_ACTORS],
+}
+
+impl Asked {
+    /// Nothing is asked for.
+    pub(crate) fn new() -> Asked {
+        Asked {
+            words: 0,
+            all: 0,
+            by_actor: [[0; KINDS]; MOST_ACTORS],
+        }
+    }
+
+    /// Counts a word, as often as it is made.
+    pub(crate) fn count(&mut self, word: ScriptWord) {
+        let times = u64::from(word.repeat);
+        self.words = self.words.saturating_add(1);
+        self.all = self.all.saturating_add(times);
+        let (actor, kind) = actor_and_kind(word.action);
+        if let Some(kinds) = self.by_actor.get_mut(usize::from(actor)) {
+            if let Some(count) = kinds.get_mut(kind) {
+                *count = count.saturating_add(times);
+            }
+        }
+    }
+
+    /// Writes how many words and asks there are, and how many of these have made a step; then a line for each actor of
+    /// the core, and for each other one that asks for something.
+    pub(crate) fn write<W: Write>(
+        &self,
+        steps: u64,
+        roles: &[Role],
+        out: &mut W,
+    ) -> io::Result<()> {
+        writeln!(
+            out,
+            "words {}\nasks {}\nsteps {steps}",
+            self.words, self.all
+        )?;
+        for (actor, kinds) in self.by_actor.iter().enumerate() {
+            match roles.get(actor) {
+                Some(role) => write!(out, "actor {actor} {}:", role.name())?,
+                None if kinds.iter().any(|count| *count > 0) => {
+                    write!(out, "actor {actor} not there:")?;
+                }
+                None => continue,
+            }
+            write_kinds(kinds, out)?;
+        }
+        Ok(())
+    }
+}
+
+/// Writes how often each kind is asked for, those that are, and the end of the line.
+fn write_kinds<W: Write>(kinds: &[u64; KINDS], out: &mut W) -> io::Result<()> {
+    let mut before = "";
+    for (letter, count) in LETTERS.iter().zip(kinds.iter()) {
+        if *count > 0 {
+            write!(out, "{before} {letter} {count}")?;
+            before = ",";
+        }
+    }
+    if before.is_empty() {
+        out.write_all(b" nothing")?;
+    }
+    out.write_all(b"\n")
+}
+
+/// The actor of an action, and the place of its letter.
+fn actor_and_kind(action: Action) -> (u8, usize) {
+    match action {
+        Action::Fetch { actor } => (actor, 0),
+        Action::Decode { actor, .. } => (actor, 1),
+        Action::Rename { actor, .. } => (actor, 2),
+        Action::Issue { actor } => (actor, 3),
+        Action::Complete { actor } => (actor, 4),
+        Action::Unit { actor } => (actor, 5),
+        Action::Retire { actor, .. } => (actor, 6),
+    }
+}

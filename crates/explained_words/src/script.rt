@@ -1,0 +1,141 @@
+//! What is said of a script.
+
+use crate::asked::Asked;
+use crate::listing::Listing;
+use crate::misspelled::write_misspelled;
+use crate::never::never_followed;
+use crate::placed::Words;
+use crate::trial::Trial;
+use elf_image::Image;
+use scripts::{ScriptRefused, ScriptWord, read_script};
+use smt_core::{Config, Core, Predict};
+use std::alloc::{AllocError, Global};
+use std::io;
+use std::io::{ErrorKind, Write};
+
+/// What is said of a script.
+#[derive(Drop)]
+pub struct ScriptExplained {
+    /// The first word, from 1, that says nothing; none where all say something.
+    pub refused: Option<usize>,
+    /// Lines for a person. The first says whether the script is accepted.
+    pub text: Vec<u8>,
+}
+
+/// Says of a script's text which actors of a core of this image and configuration ask for what, which words no such
+/// core follows, and which make no step where a core with room for `limit` events makes them in order; or which word
+/// is refused, and what may stand there. Fails only for want of memory.
+pub fn explain_script<P: Predict>(
+    text: &[u8],
+    image: &Image,
+    config: &Config,
+    limit: u32,
+    predict: &mut P,
+    alloc: Global,
+) -> Result<ScriptExplained, AllocError> {
+    match read_script(text, alloc) {
+        Ok(words) => {
+            let Ok(core) = Core::new(image, config.copied(), limit, alloc) else {
+                return Err(AllocError);
+            };
+            let text = accepted_text(text, words.as_slice(), core, config, predict, alloc)?;
+            Ok(ScriptExplained {
+                refused: None,
+                text,
+            })
+        }
+        Err(ScriptRefused::Word(number)) => {
+            let text = refused_text(text, number, config, alloc)?;
+            Ok(ScriptExplained {
+                refused: Some(number),
+                text,
+            })
+        }
+        Err(ScriptRefused::Memory) => Err(AllocError),
+    }
+}
+
+/// What is said where it is accepted.
+fn accepted_text<P: Predict>(
+    text: &[u8],
+    words: &[ScriptWord],
+    core: Core,
+    config: &Config,
+    predict: &mut P,
+    alloc: Global,
+) -> Result<Vec<u8>, AllocError> {
+    let mut out = Vec::new(alloc);
+    out.extend_from_slice(b"script accepted\n")?;
+    match write_words(
+        text,
+        words,
+        Trial::new(core),
+        config,
+        predict,
+        &mut out,
+        alloc,
+    ) {
+        Ok(()) => Ok(out),
+        Err(_) => Err(AllocError),
+    }
+}
+
+/// Writes what the words ask for, and which of them come to nothing.
+fn write_words<P: Predict, W: Write>(
+    text: &[u8],
+    words: &[ScriptWord],
+    trial: Trial,
+    config: &Config,
+    predict: &mut P,
+    out: &mut W,
+    alloc: Global,
+) -> io::Result<()> {
+    let mut trial = trial;
+    let mut placed = Words::of(text);
+    let mut asked = Asked::new();
+    let mut never = Listing::new(alloc);
+    let mut idle = Listing::new(alloc);
+    let mut steps = 0u64;
+    for word in words {
+        let place = placed.next_word();
+        asked.count(*word);
+        if let Some(reason) = never_followed(word.action, config) {
+            never.add(&place, &reason)?;
+            continue;
+        }
+        let made = trial.make(*word, predict);
+        steps = steps.saturating_add(u64::from(made));
+        if made == 0 {
+            if let Some(reason) = trial.reason_of(word.action) {
+                idle.add(&place, &reason)?;
+            }
+        }
+    }
+    asked.write(steps, config.roles.as_slice(), out)?;
+    never.write("words that no such core follows", out)?;
+    idle.write("words without a step", out)
+}
+
+/// What is said where this word, from 1, is refused.
+fn refused_text(
+    text: &[u8],
+    number: usize,
+    config: &Config,
+    alloc: Global,
+) -> Result<Vec<u8>, AllocError> {
+    let mut out = Vec::new(alloc);
+    let placed = Words::of(text).nth_word(number.saturating_sub(1));
+    let written = match writeln!(out, "script refused {number}") {
+        Ok(()) => write_misspelled(&placed, config, &mut out, alloc),
+        Err(error) => Err(error),
+    };
+    match written {
+        Ok(()) => Ok(out),
+        Err(_) => Err(AllocError),
+    }
+}
+
+/// Want of memory, as writing answers it.
+pub(crate) fn no_memory() -> io::Error {
+    io::Error::from(ErrorKind::OutOfMemory)
+}
