@@ -1,9 +1,11 @@
 //! Which word of a script was meant by one that says nothing.
 
+use crate::never::is_unit;
 use arrayvec::ArrayString;
+use explanations::no_memory;
 use smt_model::Config;
 use std::alloc::{AllocError, Global};
-use std::io::{ErrorKind, Write};
+use std::io::Write;
 use std::{io, str};
 use strsim::osa_distance;
 use text_fields::{push_ascii, push_small_number};
@@ -16,7 +18,8 @@ const MOST_BYTES: usize = 12;
 
 /// Writes the word that is the nearest to another one among those that this core may follow, if one is near: at
 /// most a third of the letters of the longer one, rounded up, are other, missing, exchanged or too many. Where the
-/// first letter is one of an ask, large or small, it is that of the other one.
+/// first letter is one of an ask, large or small, it is that of the other one. Of a word at whose repetition alone
+/// something is wrong, nothing is written.
 pub(crate) fn write_meant<W: Write>(
     word: &[u8],
     config: &Config,
@@ -27,9 +30,11 @@ pub(crate) fn write_meant<W: Write>(
         return Ok(());
     };
     match nearest(text, config, alloc) {
-        Ok(Some(meant)) => writeln!(out, "`{text}`: did you mean `{}`?", meant.as_str()),
-        Ok(None) => Ok(()),
-        Err(AllocError) => Err(io::Error::from(ErrorKind::OutOfMemory)),
+        Ok(Some(meant)) if meant.as_str() != text => {
+            writeln!(out, "`{text}`: did you mean `{}`?", meant.as_str())
+        }
+        Ok(_) => Ok(()),
+        Err(AllocError) => Err(no_memory()),
     }
 }
 
@@ -48,23 +53,38 @@ fn without_repetition(word: &[u8]) -> Option<&str> {
     str::from_utf8(text).ok()
 }
 
-/// The word of an actor and a hart of the core that is the nearest.
+/// The word of an actor and a hart of the core that is the nearest, if one is near: of equally near ones the one that
+/// begins most alike, and of these the first.
 fn nearest(text: &str, config: &Config, alloc: Global) -> Result<Option<Word>, AllocError> {
     let mut nearest = None;
     let mut least = usize::MAX;
+    let mut most = 0;
     for letter in letters_of(text) {
         for actor in 0..config.roles.len() as u8 {
-            for hart in 0..harts_for(*letter, config) {
+            for hart in 0..words_of(*letter, actor, config) {
                 let word = spelled(*letter, actor, hart);
                 let distance = osa_distance(alloc, text, word.as_str())?;
-                if distance < least && distance <= word.len().max(text.len()).div_ceil(3) {
+                let alike = alike_start(text.as_bytes(), word.as_bytes());
+                if distance <= word.len().max(text.len()).div_ceil(3)
+                    && (distance < least || distance == least && alike > most)
+                {
                     least = distance;
+                    most = alike;
                     nearest = Some(word);
                 }
             }
         }
     }
     Ok(nearest)
+}
+
+/// How many bytes two texts begin alike with.
+fn alike_start(one: &[u8], other: &[u8]) -> usize {
+    let both = one.len().min(other.len());
+    one.iter()
+        .zip(other.iter())
+        .position(|(a, b)| a != b)
+        .unwrap_or(both)
 }
 
 /// The letters that a word may begin with that is meant by this one.
@@ -82,12 +102,14 @@ fn letters_of(text: &str) -> &'static [u8] {
     }
 }
 
-/// How many words of a letter and an actor there are: one for each hart, or one.
-fn harts_for(letter: u8, config: &Config) -> u8 {
-    if is_for_a_hart(letter) {
-        config.harts
-    } else {
-        1
+/// How many words of a letter and an actor there are: one for each hart, or one, and of a unit's letter none for an
+/// actor that is no unit.
+fn words_of(letter: u8, actor: u8, config: &Config) -> u8 {
+    match letter {
+        b'F' => 1,
+        b'D' | b'R' | b'T' => config.harts,
+        _ if is_unit(actor, config) => 1,
+        _ => 0,
     }
 }
 

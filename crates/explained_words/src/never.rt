@@ -32,9 +32,16 @@ fn no_hart(actor: u8, hart: u8, config: &Config) -> Option<Reason> {
 }
 
 fn no_unit(actor: u8, config: &Config) -> Option<Reason> {
-    match config.roles.as_slice().get(usize::from(actor)) {
-        Some(Role::Alu | Role::Mul | Role::Mem) => None,
-        Some(_) => Some(Reason::NoUnit { actor }),
-        None => Some(Reason::NoActor { actor }),
+    match no_actor(actor, config) {
+        None if !is_unit(actor, config) => Some(Reason::NoUnit { actor }),
+        reason => reason,
     }
+}
+
+/// Whether an actor is a unit.
+pub(crate) fn is_unit(actor: u8, config: &Config) -> bool {
+    matches!(
+        config.roles.as_slice().get(usize::from(actor)),
+        Some(Role::Alu | Role::Mul | Role::Mem)
+    )
 }

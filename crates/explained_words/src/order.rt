@@ -1,18 +1,25 @@
 //! What is said of an order.
 
+ghost use Rattle.std.specs.Prelude.{◌≡◌, ◌≤◌, IfOk, codes};
+ghost use Rattle.scripts.specs.Order.{IsOrder};
+ghost use Rattle.explanations.specs.Explained.{Begins};
+ghost use Rattle.explained_words.specs.Explained.{IsOrderExplained, IsOrderFault, place_of, reason_of};
+ghost use Rattle.explained_words.specs.Explained.{order_head, refused_order};
+
 use crate::listing::Listing;
 use crate::misspelled::write_usual;
 use crate::placed::{Placed, Words};
-use crate::script::no_memory;
 use crate::shown::{write_placed, write_word};
+use arrayvec::ArrayString;
 use elf_image::Image;
+use explanations::{joined, no_memory};
 use plain_run::{OrderStopped, run_order};
 use sc_machine::{Plain, Stopped};
 use scripts::{OrderRefused, read_order};
 use std::alloc::{AllocError, Global};
 use std::io::Write;
 use std::{fmt, io};
-use text_fields::read_decimal;
+use text_fields::{push_decimal, push_small_number, read_decimal};
 
 /// What is said of an order.
 #[derive(Drop)]
@@ -33,11 +40,23 @@ pub enum OrderFault {
 }
 
 impl OrderFault {
-    /// The place of the word, from 0, and the number of the reason, as faults have them.
-    fn numbers(self) -> (usize, u8) {
+    /// The place of the word, from 0.
+    fn place(self) -> usize
+        ensures { result ≡ place_of self }
+    {
         match self {
-            OrderFault::Word(index) => (index, 4),
-            OrderFault::Step { index, why } => (index, why.number()),
+            OrderFault::Word(index) => index,
+            OrderFault::Step { index, .. } => index,
+        }
+    }
+
+    /// The number of the reason, 1 to 4.
+    fn number(self) -> u8
+        ensures { result ≡ reason_of self }
+    {
+        match self {
+            OrderFault::Word(_) => 4,
+            OrderFault::Step { why, .. } => why.number(),
         }
     }
 }
@@ -68,66 +87,107 @@ pub fn explain_order(
     image: &Image,
     harts: u8,
     alloc: Global,
-) -> Result<OrderExplained, AllocError> {
+) -> Result<OrderExplained, AllocError>
+    ensures { IfOk result (IsOrderExplained image.now harts text.now) }
+{
     match read_order(text, alloc) {
         Ok(order) => explain_harts(text, order.as_slice(), image, harts, alloc),
         Err(OrderRefused::Word(index)) => {
-            let fault = Some(OrderFault::Word(index));
-            let placed = Words::of(text).nth_word(index);
-            let mut out = Vec::new(alloc);
-            match write_refused(fault, &placed, &mut out) {
-                Ok(()) => Ok(OrderExplained {
-                    refused: fault,
-                    text: out,
-                }),
-                Err(_) => Err(AllocError),
-            }
+            let refused = Some(OrderFault::Word(index));
+            let said = misspelled_text(text, index, refused, alloc)?;
+            Ok(OrderExplained {
+                refused,
+                text: said,
+            })
         }
         Err(OrderRefused::Memory) => Err(AllocError),
     }
 }
 
-/// The same of an order whose words are all harts.
+/// The same of an order whose words are these harts.
 fn explain_harts(
     text: &[u8],
     order: &[u8],
     image: &Image,
     harts: u8,
     alloc: Global,
-) -> Result<OrderExplained, AllocError> {
+) -> Result<OrderExplained, AllocError>
+    requires { IsOrder text.now order.now }
+    ensures { IfOk result (IsOrderExplained image.now harts text.now) }
+{
     let refused = match run_order(image, harts, order, alloc) {
         Ok(_) => None,
         Err(OrderStopped::Step { index, why }) => Some(OrderFault::Step { index, why }),
-        Err(OrderStopped::Harts | OrderStopped::Memory) => return Err(AllocError),
+        Err(OrderStopped::Harts) => return Err(AllocError),
+        Err(OrderStopped::Memory) => return Err(AllocError),
     };
-    let mut out = Vec::new(alloc);
-    let written = match write_head(refused, &mut out) {
-        Ok(()) => write_harts(text, order, image, harts, &mut out, alloc),
-        Err(error) => Err(error),
-    };
-    match written {
-        Ok(()) => Ok(OrderExplained { refused, text: out }),
+    let said = harts_text(text, order, image, harts, refused, alloc)?;
+    Ok(OrderExplained {
+        refused,
+        text: said,
+    })
+}
+
+/// What is said of an order whose words are these harts.
+fn harts_text(
+    text: &[u8],
+    order: &[u8],
+    image: &Image,
+    harts: u8,
+    refused: Option<OrderFault>,
+    alloc: Global,
+) -> Result<Vec<u8>, AllocError>
+    ensures { IfOk result (λ said. Begins (order_head refused) said.items) }
+{
+    let mut rest = Vec::new(alloc);
+    match write_harts(text, order, image, harts, &mut rest, alloc) {
+        Ok(()) => with_head(refused, &rest, alloc),
         Err(_) => Err(AllocError),
     }
 }
 
-fn write_head<W: Write>(refused: Option<OrderFault>, out: &mut W) -> io::Result<()> {
-    match refused {
-        Some(fault) => {
-            let (index, number) = fault.numbers();
-            writeln!(out, "order refused {index} {number}")
-        }
-        None => writeln!(out, "order accepted"),
+/// What is said where the word at this place is no number.
+fn misspelled_text(
+    text: &[u8],
+    index: usize,
+    refused: Option<OrderFault>,
+    alloc: Global,
+) -> Result<Vec<u8>, AllocError>
+    ensures { IfOk result (λ said. Begins (order_head refused) said.items) }
+{
+    let mut rest = Vec::new(alloc);
+    let placed = Words::of(text).nth_word(index);
+    match write_no_hart(&placed, &mut rest) {
+        Ok(()) => with_head(refused, &rest, alloc),
+        Err(_) => Err(AllocError),
     }
 }
 
-/// Writes what is said of a word that names no hart.
-fn write_refused<W: Write>(
-    fault: Option<OrderFault>,
-    placed: &Placed<'_>,
-    out: &mut W,
-) -> io::Result<()> {
-    write_head(fault, out)?;
+/// The first line of an order with this fault or none, and what comes behind it.
+fn with_head(refused: Option<OrderFault>, rest: &[u8], alloc: Global) -> Result<Vec<u8>, AllocError>
+    ensures { IfOk result (λ said. Begins (order_head refused) said.items) }
+{
+    match refused {
+        Some(fault) => joined(refused_line(fault).as_bytes(), rest, alloc),
+        None => joined(b"order accepted\n", rest, alloc),
+    }
+}
+
+/// The first line where the order has this fault.
+fn refused_line(fault: OrderFault) -> ArrayString<40>
+    ensures { result.bytes ≡ refused_order fault }
+{
+    let mut line = ArrayString::new();
+    line.push_str("order refused ");
+    push_decimal(&mut line, fault.place());
+    line.push_str(" ");
+    push_small_number(&mut line, fault.number());
+    line.push_str("\n");
+    line
+}
+
+/// Writes where a word stands that names no hart, which was meant, and what may stand there.
+fn write_no_hart<W: Write>(placed: &Placed<'_>, out: &mut W) -> io::Result<()> {
     write_placed(placed, out)?;
     out.write_all(b"\n")?;
     if let Some(hart) = meant_hart(placed.word) {
@@ -138,12 +198,16 @@ fn write_refused<W: Write>(
     write_usual(placed.word, out)
 }
 
-/// The hart that is meant by a word of letters or zeros before a number.
+/// The hart that is meant by a word of letters, signs or zeros before a number.
 fn meant_hart(word: &[u8]) -> Option<u32> {
     let start = word
         .iter()
         .position(|byte| matches!(byte, b'1'..=b'9'))
         .unwrap_or(word.len().saturating_sub(1));
+    let before = word.get(..start)?;
+    if !before.iter().all(|byte| byte.is_ascii_graphic()) {
+        return None;
+    }
     read_decimal(word.get(start..)?, 255).ok()
 }
 

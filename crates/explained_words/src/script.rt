@@ -1,17 +1,25 @@
 //! What is said of a script.
 
+ghost use Rattle.std.specs.Prelude.{◌≡◌, IfOk, codes};
+ghost use Rattle.scripts.specs.Script.{IsScript, IsFirstMisspelled};
+ghost use Rattle.explanations.specs.Explained.{Begins};
+ghost use Rattle.explained_words.specs.Explained.{IsScriptExplained, refused_script};
+
 use crate::asked::Asked;
 use crate::listing::Listing;
 use crate::misspelled::write_misspelled;
 use crate::never::never_followed;
 use crate::placed::Words;
 use crate::trial::Trial;
+use arrayvec::ArrayString;
 use elf_image::Image;
+use explanations::joined;
 use scripts::{ScriptRefused, ScriptWord, read_script};
 use smt_core::{Config, Core, Predict};
 use std::alloc::{AllocError, Global};
 use std::io;
-use std::io::{ErrorKind, Write};
+use std::io::Write;
+use text_fields::push_decimal;
 
 /// What is said of a script.
 #[derive(Drop)]
@@ -32,23 +40,25 @@ pub fn explain_script<P: Predict>(
     limit: u32,
     predict: &mut P,
     alloc: Global,
-) -> Result<ScriptExplained, AllocError> {
+) -> Result<ScriptExplained, AllocError>
+    ensures { IfOk result (IsScriptExplained text.now) }
+{
     match read_script(text, alloc) {
         Ok(words) => {
             let Ok(core) = Core::new(image, config.copied(), limit, alloc) else {
                 return Err(AllocError);
             };
-            let text = accepted_text(text, words.as_slice(), core, config, predict, alloc)?;
+            let said = accepted_text(text, words.as_slice(), core, config, predict, alloc)?;
             Ok(ScriptExplained {
                 refused: None,
-                text,
+                text: said,
             })
         }
         Err(ScriptRefused::Word(number)) => {
-            let text = refused_text(text, number, config, alloc)?;
+            let said = refused_text(text, number, config, alloc)?;
             Ok(ScriptExplained {
                 refused: Some(number),
-                text,
+                text: said,
             })
         }
         Err(ScriptRefused::Memory) => Err(AllocError),
@@ -63,19 +73,13 @@ fn accepted_text<P: Predict>(
     config: &Config,
     predict: &mut P,
     alloc: Global,
-) -> Result<Vec<u8>, AllocError> {
-    let mut out = Vec::new(alloc);
-    out.extend_from_slice(b"script accepted\n")?;
-    match write_words(
-        text,
-        words,
-        Trial::new(core),
-        config,
-        predict,
-        &mut out,
-        alloc,
-    ) {
-        Ok(()) => Ok(out),
+) -> Result<Vec<u8>, AllocError>
+    ensures { IfOk result (λ said. Begins (codes "script accepted\n") said.items) }
+{
+    let mut rest = Vec::new(alloc);
+    let trial = Trial::new(core);
+    match write_words(text, words, trial, config, predict, &mut rest, alloc) {
+        Ok(()) => joined(b"script accepted\n", &rest, alloc),
         Err(_) => Err(AllocError),
     }
 }
@@ -122,20 +126,24 @@ fn refused_text(
     number: usize,
     config: &Config,
     alloc: Global,
-) -> Result<Vec<u8>, AllocError> {
-    let mut out = Vec::new(alloc);
+) -> Result<Vec<u8>, AllocError>
+    ensures { IfOk result (λ said. Begins (refused_script number) said.items) }
+{
+    let mut rest = Vec::new(alloc);
     let placed = Words::of(text).nth_word(number.saturating_sub(1));
-    let written = match writeln!(out, "script refused {number}") {
-        Ok(()) => write_misspelled(&placed, config, &mut out, alloc),
-        Err(error) => Err(error),
-    };
-    match written {
-        Ok(()) => Ok(out),
+    match write_misspelled(&placed, config, &mut rest, alloc) {
+        Ok(()) => joined(refused_line(number).as_bytes(), &rest, alloc),
         Err(_) => Err(AllocError),
     }
 }
 
-/// Want of memory, as writing answers it.
-pub(crate) fn no_memory() -> io::Error {
-    io::Error::from(ErrorKind::OutOfMemory)
+/// The first line where the word of this number is refused.
+fn refused_line(number: usize) -> ArrayString<40>
+    ensures { result.bytes ≡ refused_script number }
+{
+    let mut line = ArrayString::new();
+    line.push_str("script refused ");
+    push_decimal(&mut line, number);
+    line.push_str("\n");
+    line
 }

@@ -6,7 +6,7 @@ ghost use Rattle.sim_inputs.specs.CommandLine.{AreWordsRefusedFor};
 ghost use Rattle.command_parts.specs.Inputs.{as_read};
 ghost use Rattle.report_lines.specs.Statuses.{says_harts};
 ghost use Rattle.program_io.specs.Performed.{read_of, IsReadAs, HasPerformed, HavePerformed, HaveEnded};
-ghost use Rattle.program_io.specs.Performed.{typed_step};
+ghost use Rattle.program_io.specs.Performed.{typed_step, uncommented_for};
 ghost use Rattle.program_io.specs.Words.{words_refused, IsWordsStatus};
 
 use crate::files::read_file;
@@ -133,9 +133,7 @@ impl<S: Files + Input + Threads + Wait + Sync, G: Gate + Sync, P: Predict + Copy
         }
         let files = line.files();
         let mut read = ReadInputs::of(self.system, &files, self.alloc);
-        if line.command.reads_words() {
-            read.blank_comments();
-        }
+        read.blank_comments(&line.command);
         let places = Places {
             file: files.written,
             folder: folder_of(line),
@@ -233,8 +231,15 @@ impl ReadInputs {
         }
     }
 
-    /// Blanks the comments of the second file, where it was read.
-    fn blank_comments(&mut self) {
+    /// Blanks the comments of the second file, where it was read and has words.
+    fn blank_comments(&mut self, command: &Command<'_>)
+        ensures config { self.new.config ≡ self.old.config }
+        ensures program { self.new.program ≡ self.old.program }
+        ensures second { read_of self.new.second ≡ uncommented_for command.now (read_of self.old.second) }
+    {
+        if !command.reads_words() {
+            return;
+        }
         if let Ok(bytes) = &mut self.second {
             blank_comments(bytes.as_mut_slice());
         }

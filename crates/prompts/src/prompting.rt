@@ -15,7 +15,6 @@ use crate::simulation::Simulation;
 use crate::typed::next_line;
 use arrayvec::ArrayString;
 use numbers::sizes::MOST_ACTORS;
-use scripts::blank_comments;
 use smt_core::{Core, CoreRefused, Predict};
 use std::io::{BufRead, Write};
 use text_fields::{push_ascii, push_decimal};
@@ -150,7 +149,7 @@ fn answer_next<P: Predict + Copy, R: BufRead, W: Write>(
         (Prints (W.contents out.old) (W.contents out.new) (λ text. Unit {0})) }
 {
     show_sign(out)?;
-    let mut line = match next_line(reader, simulation.alloc) {
+    let line = match next_line(reader, simulation.alloc) {
         Ok(Some(line)) => line,
         Ok(None) => {
             put(b"\n", out)?;
@@ -161,7 +160,6 @@ fn answer_next<P: Predict + Copy, R: BufRead, W: Write>(
             return Ok(Some(Ended::Unread));
         }
     };
-    blank_comments(line.as_mut_slice());
     if let Some(Command::Quit) = read_command(line.as_slice()) {
         return Ok(Some(Ended::Quit));
     }
