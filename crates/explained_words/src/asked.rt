@@ -1,15 +1,11 @@
 //! Which actors ask for what, and how often.
 
+use crate::kind::{EVERY_KIND, KINDS, Kind};
 use numbers::sizes::MOST_ACTORS;
-use scripts::{Action, ScriptWord};
+use scripts::ScriptWord;
 use smt_model::Role;
 use std::io;
 use std::io::Write;
-
-/// The letters of asks, in the order in which they are listed.
-const LETTERS: [&str; KINDS] = ["F", "D", "R", "I", "C", "U", "T"];
-
-const KINDS: usize = 7;
 
 /// How often each actor asks for each kind of action.
 #[derive(Drop)]
@@ -34,11 +30,10 @@ impl Asked {
         let times = u64::from(word.repeat);
         self.words = self.words.saturating_add(1);
         self.all = self.all.saturating_add(times);
-        let (actor, kind) = actor_and_kind(word.action);
-        if let Some(kinds) = self.by_actor.get_mut(usize::from(actor)) {
-            if let Some(count) = kinds.get_mut(kind) {
-                *count = count.saturating_add(times);
-            }
+        let (actor, kind) = Kind::of(word.action);
+        if usize::from(actor) < MOST_ACTORS {
+            let count = &mut self.by_actor[usize::from(actor)][kind as usize];
+            *count = count.saturating_add(times);
         }
     }
 
@@ -72,9 +67,11 @@ impl Asked {
 /// Writes how often each kind is asked for, those that are, and the end of the line.
 fn write_kinds<W: Write>(kinds: &[u64; KINDS], out: &mut W) -> io::Result<()> {
     let mut before = "";
-    for (letter, count) in LETTERS.iter().zip(kinds.iter()) {
+    for (kind, count) in EVERY_KIND.iter().zip(kinds.iter()) {
         if *count > 0 {
-            write!(out, "{before} {letter} {count}")?;
+            out.write_all(before.as_bytes())?;
+            out.write_all(&[b' ', kind.letter()])?;
+            write!(out, " {count}")?;
             before = ",";
         }
     }
@@ -82,17 +79,4 @@ fn write_kinds<W: Write>(kinds: &[u64; KINDS], out: &mut W) -> io::Result<()> {
         out.write_all(b" nothing")?;
     }
     out.write_all(b"\n")
-}
-
-/// The actor of an action, and the place of its letter.
-fn actor_and_kind(action: Action) -> (u8, usize) {
-    match action {
-        Action::Fetch { actor } => (actor, 0),
-        Action::Decode { actor, .. } => (actor, 1),
-        Action::Rename { actor, .. } => (actor, 2),
-        Action::Issue { actor } => (actor, 3),
-        Action::Complete { actor } => (actor, 4),
-        Action::Unit { actor } => (actor, 5),
-        Action::Retire { actor, .. } => (actor, 6),
-    }
 }

@@ -2,12 +2,13 @@
 //! for a person. Or which word of it is refused, and what is meant by it.
 //!
 //! Read in this order: `placed` (the words of a text, with their places), `shown` (a word as it is shown),
-//! `listing` (words that come to nothing, the first of them); of scripts `asked` (who asks for what), `never` (what
-//! no core of a configuration follows), `trial` (a core that makes the asks), `misspelled` and `meant` (what is said
-//! of a refused word), `script` (all of it); and `order`.
+//! `listing` (words that come to nothing, the first of them); of scripts `kind` and `asked` (who asks for what),
+//! `never` (what no core of a configuration follows), `trial` (a core that makes the asks), `misspelled` and `meant`
+//! (what is said of a refused word), `script` (all of it); and `order`.
 #![tactic(auto)]
 
 mod asked;
+mod kind;
 mod listing;
 mod meant;
 mod misspelled;

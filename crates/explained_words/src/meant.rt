@@ -1,5 +1,6 @@
 //! Which word of a script was meant by one that says nothing.
 
+use crate::kind::{EVERY_KIND, Kind};
 use crate::never::is_unit;
 use arrayvec::ArrayString;
 use explanations::no_memory;
@@ -30,8 +31,8 @@ pub(crate) fn write_meant<W: Write>(
         return Ok(());
     };
     match nearest(text, config, alloc) {
-        Ok(Some(meant)) if meant.as_str() != text => {
-            writeln!(out, "`{text}`: did you mean `{}`?", meant.as_str())
+        Ok(Some(near)) if near.distance > 0 => {
+            writeln!(out, "`{text}`: did you mean `{}`?", near.word.as_str())
         }
         Ok(_) => Ok(()),
         Err(AllocError) => Err(no_memory()),
@@ -53,29 +54,75 @@ fn without_repetition(word: &[u8]) -> Option<&str> {
     str::from_utf8(text).ok()
 }
 
+/// A word, and how near it is to another one.
+#[derive(Drop)]
+struct Near {
+    word: Word,
+    /// How many letters are other, missing, too many or exchanged.
+    distance: usize,
+    /// How many the two begin with alike.
+    alike: usize,
+}
+
 /// The word of an actor and a hart of the core that is the nearest, if one is near: of equally near ones the one that
 /// begins most alike, and of these the first.
-fn nearest(text: &str, config: &Config, alloc: Global) -> Result<Option<Word>, AllocError> {
-    let mut nearest = None;
-    let mut least = usize::MAX;
-    let mut most = 0;
-    for letter in letters_of(text) {
+fn nearest(text: &str, config: &Config, alloc: Global) -> Result<Option<Near>, AllocError> {
+    let mut nearest: Option<Near> = None;
+    let first = kind_of(text);
+    for kind in EVERY_KIND {
+        if first.is_some_and(|first| first != kind) {
+            continue;
+        }
         for actor in 0..config.roles.len() as u8 {
-            for hart in 0..words_of(*letter, actor, config) {
-                let word = spelled(*letter, actor, hart);
-                let distance = osa_distance(alloc, text, word.as_str())?;
-                let alike = alike_start(text.as_bytes(), word.as_bytes());
-                if distance <= word.len().max(text.len()).div_ceil(3)
-                    && (distance < least || distance == least && alike > most)
-                {
-                    least = distance;
-                    most = alike;
-                    nearest = Some(word);
+            for hart in 0..words_of(kind, actor, config) {
+                if let Some(near) = near_word(text, kind, actor, hart, alloc)? {
+                    if is_nearer(&near, &nearest) {
+                        nearest = Some(near);
+                    }
                 }
             }
         }
     }
     Ok(nearest)
+}
+
+/// The kind by the letter, large or small, that a text begins with.
+fn kind_of(text: &str) -> Option<Kind> {
+    let first = *text.as_bytes().first()?;
+    EVERY_KIND
+        .iter()
+        .copied()
+        .find(|kind| kind.letter().eq_ignore_ascii_case(&first))
+}
+
+/// A word, if it is near.
+fn near_word(
+    text: &str,
+    kind: Kind,
+    actor: u8,
+    hart: u8,
+    alloc: Global,
+) -> Result<Option<Near>, AllocError> {
+    let word = spelled(kind, actor, hart);
+    let distance = osa_distance(alloc, text, word.as_str())?;
+    if distance > word.len().max(text.len()).div_ceil(3) {
+        return Ok(None);
+    }
+    let alike = alike_start(text.as_bytes(), word.as_bytes());
+    Ok(Some(Near {
+        word,
+        distance,
+        alike,
+    }))
+}
+
+/// Whether a word is nearer than the nearest so far.
+fn is_nearer(near: &Near, nearest: &Option<Near>) -> bool {
+    match nearest {
+        Some(other) if near.distance == other.distance => near.alike > other.alike,
+        Some(other) => near.distance < other.distance,
+        None => true,
+    }
 }
 
 /// How many bytes two texts begin alike with.
@@ -87,42 +134,24 @@ fn alike_start(one: &[u8], other: &[u8]) -> usize {
         .unwrap_or(both)
 }
 
-/// The letters that a word may begin with that is meant by this one.
-fn letters_of(text: &str) -> &'static [u8] {
-    let letters = b"FDRICUT";
-    let Some(first) = text.as_bytes().first() else {
-        return letters;
-    };
-    match letters
-        .iter()
-        .position(|letter| letter.eq_ignore_ascii_case(first))
-    {
-        Some(place) => &letters[place..=place],
-        None => letters,
+/// How many words of a kind and an actor there are: one for each hart, or one, and of a unit's kind none for an actor
+/// that is no unit.
+fn words_of(kind: Kind, actor: u8, config: &Config) -> u8 {
+    if kind.is_for_a_hart() {
+        return config.harts;
     }
-}
-
-/// How many words of a letter and an actor there are: one for each hart, or one, and of a unit's letter none for an
-/// actor that is no unit.
-fn words_of(letter: u8, actor: u8, config: &Config) -> u8 {
-    match letter {
-        b'F' => 1,
-        b'D' | b'R' | b'T' => config.harts,
-        _ if is_unit(actor, config) => 1,
-        _ => 0,
+    if kind.is_of_a_unit() && !is_unit(actor, config) {
+        return 0;
     }
-}
-
-fn is_for_a_hart(letter: u8) -> bool {
-    matches!(letter, b'D' | b'R' | b'T')
+    1
 }
 
 /// A word of a script.
-fn spelled(letter: u8, actor: u8, hart: u8) -> Word {
+fn spelled(kind: Kind, actor: u8, hart: u8) -> Word {
     let mut word = Word::new();
-    push_ascii(&mut word, letter);
+    push_ascii(&mut word, kind.letter());
     push_small_number(&mut word, actor);
-    if is_for_a_hart(letter) {
+    if kind.is_for_a_hart() {
         push_ascii(&mut word, b'.');
         push_small_number(&mut word, hart);
     }

@@ -33,7 +33,8 @@ fn cut(word: &[u8]) -> &[u8] {
     if word.len() <= MOST_SHOWN {
         return word;
     }
-    for end in [MOST_SHOWN, MOST_SHOWN - 1, MOST_SHOWN - 2] {
+    for back in 0..3 {
+        let end = MOST_SHOWN - back;
         if !is_continued(word[end]) {
             return &word[..end];
         }
