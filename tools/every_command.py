@@ -46,6 +46,8 @@ RUNS = {
     "list_input": "list -",
     "explain": "explain first/first.elf --config first/first.toml",
     "explain_refused": "explain first/first.script --config first/first.elf",
+    "explain_script": "explain first/first.elf --config first/first.toml --script first/first.script",
+    "explain_order": f"explain {PASSING} --order ORDER {TWO}",
     "outcomes": "outcomes locks/swap.elf --config locks/two.toml --watch 80001004:4 --exists h0=16",
     "outcomes_witness": f"outcomes {PASSING} {TWO} --outcome 2 --witness OUT",
     "outcomes_script": f"outcomes {PASSING} {TWO} --outcome 3 --script OUT",

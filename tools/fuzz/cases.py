@@ -94,6 +94,15 @@ def by_model(line):
     return "".join(f"{t}\n" for t in out), "".join(f"{t}\n" for t in err), status
 
 
+def by_explanation(line):
+    """What is said of words, where the configuration and the image are accepted; of others there is no model."""
+    out, err, status = program.run(line)
+    if not out:
+        raise TooLong
+    text = "".join(f"{t}\n" for t in out).encode("utf-8", "surrogateescape")
+    return text.decode("latin-1"), "".join(f"{t}\n" for t in err), status
+
+
 def by_judge(line):
     return captured(judge.main, line[1:])
 
@@ -150,7 +159,33 @@ def some_kind(r):
     return "code" if r.random() < 0.35 else None
 
 
+COMMENTS = (b" #", b"#", b"# ", b"\n#", b" # F0 #\n", b"\n# 0 1\n", b" #\xc3\xa9\n", b"#\n", b"\t# ")
+
+
+def with_comments(r, files):
+    """The files, where one of words now and then has comments, or what is almost one."""
+    for name in {"script", "order"} & files.keys():
+        while r.random() < 0.4:
+            at = r.randrange(len(files[name]) + 1)
+            at = files[name].find(b" ", at) if r.random() < 0.7 and b" " in files[name][at:] else at
+            files[name] = files[name][:at] + r.choice(COMMENTS) + files[name][at:]
+    return files
+
+
 def some_asks(r):
+    files, line = some_plain_asks(r)
+    return with_comments(r, files), line
+
+
+def some_words(r):
+    """A script or an order that is explained."""
+    while True:
+        files, line = some_asks(r)
+        for name in {"script", "order"} & files.keys():
+            return files, ["explain", "image.elf", f"--{name}", name, "--config", "config.toml"]
+
+
+def some_plain_asks(r):
     """A script, an order or a listing, as random_runs makes them; now and then rounds."""
     files, line = random_runs.inputs_of(r.getrandbits(64), 0, some_kind(r))
     if line[0] == "step" and r.random() < 0.2:
@@ -223,7 +258,7 @@ def some_schedule(r):
     made = image.load(files["image.elf"], settings["ram"])
     del files["script"]
     files["order"] = random_runs.some_order(r, made, settings["harts"]).encode()
-    return files, ["schedule", "image.elf", "order", "--config", "config.toml"]
+    return with_comments(r, files), ["schedule", "image.elf", "order", "--config", "config.toml"]
 
 
 def some_outcomes(r):
@@ -261,6 +296,7 @@ KINDS = {
     kind.name: kind
     for kind in (
         Kind("asks", some_asks, by_model),
+        Kind("words", some_words, by_explanation),
         Kind("check", some_check, by_judge),
         Kind("schedule", some_schedule, by_schedule),
         Kind("script", some_history, by_history_script),

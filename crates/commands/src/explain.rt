@@ -146,7 +146,7 @@ fn write_pointer<E: Write>(image: &str, config: Option<&str>, err: &mut E) -> io
 }
 
 /// Writes a text, and flushes it.
-fn put<W: Write>(text: &[u8], out: &mut W) -> Result<(), Refused>
+pub(crate) fn put<W: Write>(text: &[u8], out: &mut W) -> Result<(), Refused>
     ensures refused { IfErr result (λ reason. reason ≡ Output) }
     ensures printed { OnOk result (Appends (W.contents out.old) (W.contents out.new) text.now) }
 {

@@ -6,7 +6,7 @@ ghost use Rattle.sim_inputs.specs.CommandLine.{AreWordsRefusedFor};
 ghost use Rattle.command_parts.specs.Inputs.{as_read};
 ghost use Rattle.report_lines.specs.Statuses.{says_harts};
 ghost use Rattle.program_io.specs.Performed.{read_of, IsReadAs, HasPerformed, HavePerformed, HaveEnded};
-ghost use Rattle.program_io.specs.Performed.{typed_step};
+ghost use Rattle.program_io.specs.Performed.{typed_step, uncommented_for};
 ghost use Rattle.program_io.specs.Words.{words_refused, IsWordsStatus};
 
 use crate::files::read_file;
@@ -16,6 +16,7 @@ use crate::words::{refuse_words, take_words, texts};
 use actors::Gate;
 use command_parts::{Context, Inputs, Refused, Unread, refuse};
 use commands::{perform, perform_typed};
+use scripts::blank_comments;
 use sim_inputs::{
     Command, Files as NamedFiles, Line, ProgramCommand, StepCommand, WordsRefused,
     is_standard_input, read_words,
@@ -131,7 +132,8 @@ impl<S: Files + Input + Threads + Wait + Sync, G: Gate + Sync, P: Predict + Copy
             return self.read_and_prompt(line, &step, out, err);
         }
         let files = line.files();
-        let read = ReadInputs::of(self.system, &files, self.alloc);
+        let mut read = ReadInputs::of(self.system, &files, self.alloc);
+        read.blank_comments(&line.command);
         let places = Places {
             file: files.written,
             folder: folder_of(line),
@@ -226,6 +228,20 @@ impl ReadInputs {
             config: read_named(system, files.config, alloc),
             program: read_named(system, files.program, alloc),
             second: read_named(system, files.second, alloc),
+        }
+    }
+
+    /// Blanks the comments of the second file, where it was read and has words.
+    fn blank_comments(&mut self, command: &Command<'_>)
+        ensures config { self.new.config ≡ self.old.config }
+        ensures program { self.new.program ≡ self.old.program }
+        ensures second { read_of self.new.second ≡ uncommented_for command.now (read_of self.old.second) }
+    {
+        if !command.reads_words() {
+            return;
+        }
+        if let Ok(bytes) = &mut self.second {
+            blank_comments(bytes.as_mut_slice());
         }
     }
 

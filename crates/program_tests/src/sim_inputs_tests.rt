@@ -7,7 +7,7 @@ mod refused_words;
 
 use crate::rows::holds;
 use sim_inputs::{
-    ChartCommand, CheckCommand, Command, ExplainCommand, Line, ListCommand, LitmusCommand,
+    Beside, ChartCommand, CheckCommand, Command, ExplainCommand, Line, ListCommand, LitmusCommand,
     MigrateCommand, OutcomesCommand, PlainCommand, ProgramCommand, RunCommand, ScheduleCommand,
     ScriptCommand, StepCommand, read_words,
 };
@@ -445,7 +445,30 @@ static LINES: [(&str, Line<'_>); 38] = [
         "smtsim explain --config c a",
         Line {
             config: Some("c"),
-            command: Command::Explain(ExplainCommand { image: "a" }),
+            command: Command::Explain(ExplainCommand {
+                image: "a",
+                beside: None,
+            }),
+        },
+    ),
+    (
+        "smtsim explain a --script s",
+        Line {
+            config: None,
+            command: Command::Explain(ExplainCommand {
+                image: "a",
+                beside: Some(Beside::Script("s")),
+            }),
+        },
+    ),
+    (
+        "smtsim explain --order=- a",
+        Line {
+            config: None,
+            command: Command::Explain(ExplainCommand {
+                image: "a",
+                beside: Some(Beside::Order("-")),
+            }),
         },
     ),
     (
@@ -790,7 +813,10 @@ static NAMED: [(Line<'_>, Named<'_>); 14] = [
     (
         Line {
             config: None,
-            command: Command::Explain(ExplainCommand { image: "a" }),
+            command: Command::Explain(ExplainCommand {
+                image: "a",
+                beside: None,
+            }),
         },
         (None, Some("a"), None, None),
     ),

@@ -7,3 +7,4 @@ pub mod Lines
 pub mod Unambiguous
 pub mod Asking
 pub mod Sessions
+pub mod Commented

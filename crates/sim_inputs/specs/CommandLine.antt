@@ -28,6 +28,8 @@ use Rattle.sim_inputs.specs.{declared.line.WordsRefused.TheVariants.Refused}
 use Rattle.sim_inputs.specs.{declared.line.WordsRefused.TheVariants.Memory}
 use Rattle.sim_inputs.specs.declared.line.OutcomesCommand.{OutcomesCommand}
 use Rattle.sim_inputs.specs.declared.line.{LitmusCommand.LitmusCommand, MigrateCommand.MigrateCommand}
+use Rattle.sim_inputs.specs.declared.line.{Beside.Beside}
+use Rattle.sim_inputs.specs.declared.line.Beside.TheVariants as beside
 use Rattle.sim_inputs.specs.Rules.{smtsim}
 use Rattle.sim_inputs.specs.Files.{reads_input_once}
 
@@ -193,8 +195,17 @@ pub record IsChart (rows : List Row) (chart : ChartCommand) : Type 0 where
   pub kanata : IsFileOption rows (codes "kanata") chart.kanata
   pub together : can_be_drawn chart ≡ true
 
+-- What is explained beside an image: a script, an order, or nothing.
+abbrev pub IsBeside : List Row → Option Beside → Type 0
+IsBeside rows (Some (beside.Script script)) =
+    IsFile rows (codes "script") script × (first_of (codes "order") rows ≡ None)
+IsBeside rows (Some (beside.Order order)) =
+    IsFile rows (codes "order") order × (first_of (codes "script") rows ≡ None)
+IsBeside rows None = (first_of (codes "script") rows ≡ None) × (first_of (codes "order") rows ≡ None)
+
 pub record IsExplain (rows : List Row) (explain : ExplainCommand) : Type 0 where
   pub image : IsFile rows (codes "IMAGE") explain.image
+  pub beside : IsBeside rows explain.beside
 
 -- An order has one file, as it is or as its script; or it has none.
 abbrev pub has_one_file : OutcomesCommand → Bool

@@ -1,5 +1,5 @@
 -- The files that a line names. (This project's own choice.)
-use Rattle.std.specs.Prelude.{List, ℕ, ◌+◌, nat_le, Bool, Option, None, Some, is_some, option_map}
+use Rattle.std.specs.Prelude.{List, ℕ, ◌+◌, nat_le, Bool, true, false, Option, None, Some, is_some, option_map}
 use Rattle.std.specs.Prelude.{codes, if◌then◌else◌}
 use Rattle.std.specs.{Borrow.Bor, Str.bytes_eq}
 use Rattle.sim_inputs.specs.{declared.files.Files.Files}
@@ -8,6 +8,8 @@ use Rattle.sim_inputs.specs.{declared.line.ProgramCommand.ProgramCommand}
 use Rattle.sim_inputs.specs.{declared.line.ChartCommand.ChartCommand}
 use Rattle.sim_inputs.specs.{declared.line.OutcomesCommand.OutcomesCommand}
 use Rattle.sim_inputs.specs.{declared.line.LitmusCommand.LitmusCommand}
+use Rattle.sim_inputs.specs.{declared.line.ExplainCommand.ExplainCommand, declared.line.Beside.Beside}
+use Rattle.sim_inputs.specs.declared.line.Beside.TheVariants as beside
 use Rattle.sim_inputs.specs.declared.line.Command.TheVariants as commands
 use Rattle.sim_inputs.specs.declared.line.ProgramCommand.TheVariants as program
 
@@ -22,6 +24,14 @@ written_order outcomes = if is_some outcomes.witness then outcomes.witness else 
 -- The file that a test's image is written to, or the picture of why it can't end so.
 abbrev pub written_for_test : LitmusCommand → Option (Bor (List ℕ))
 written_for_test litmus = if is_some litmus.image then litmus.image else litmus.svg
+
+-- The file that is explained beside an image.
+abbrev pub beside_name : Beside → Bor (List ℕ)
+beside_name (beside.Script script) = script
+beside_name (beside.Order order) = order
+
+abbrev pub explained_beside : ExplainCommand → Option (Bor (List ℕ))
+explained_beside explain = option_map beside_name explain.beside
 
 -- The image of a program's command, and the file that it reads beside image and configuration: a script, a
 -- trace, or an order.
@@ -73,7 +83,7 @@ files_with config (commands.OfProgram command) = program_files config command
 files_with config (commands.Explain explain) = record {
   config = config;
   program = Some explain.image;
-  second = None;
+  second = explained_beside explain;
   written = None;
 }
 files_with config (commands.Litmus litmus) = record {
@@ -94,6 +104,22 @@ files_with config (commands.Migrate migrate) = record {
 -- chart, an order or its script, or what is made of a test.
 abbrev pub files_of : Line → Files
 files_of line = files_with line.config line.command
+
+-- The second file of a command has words, those of a script or of an order: its comments are blanked before
+-- it is read.
+abbrev pub reads_words : Command → Bool
+reads_words (commands.OfProgram (program.Step step)) = true
+reads_words (commands.OfProgram (program.Run run)) = false
+reads_words (commands.OfProgram (program.Check check)) = false
+reads_words (commands.OfProgram (program.Plain plain)) = true
+reads_words (commands.OfProgram (program.Schedule schedule)) = true
+reads_words (commands.OfProgram (program.Script script)) = false
+reads_words (commands.OfProgram (program.List list)) = false
+reads_words (commands.OfProgram (program.Chart chart)) = false
+reads_words (commands.OfProgram (program.Outcomes outcomes)) = false
+reads_words (commands.Explain explain) = is_some explain.beside
+reads_words (commands.Litmus litmus) = false
+reads_words (commands.Migrate migrate) = false
 
 -- This names standard input in place of a file.
 abbrev pub is_standard_input : List ℕ → Bool

@@ -122,6 +122,12 @@ witness_rule = file_option_rule (codes "witness")
 abbrev pub written_script_rule : Rule
 written_script_rule = file_option_rule (codes "script")
 
+abbrev pub explained_script_rule : Rule
+explained_script_rule = file_option_rule (codes "script")
+
+abbrev pub explained_order_rule : Rule
+explained_order_rule = file_option_rule (codes "order")
+
 abbrev pub test_rule : Rule
 test_rule = file_rule (codes "TEST")
 
@@ -176,9 +182,10 @@ abbrev pub chart_command : App
 chart_command = subcommand (codes "chart") (image_rule ∷ trace_rule ∷ config_rule ∷ from_rule ∷ to_rule
     ∷ hart_rule ∷ width_rule ∷ svg_rule ∷ kanata_rule ∷ [])
 
--- `explain IMAGE`, with `--config FILE`.
+-- `explain IMAGE`, with `--config FILE`, `--script FILE` and `--order FILE`.
 abbrev pub explain_command : App
-explain_command = subcommand (codes "explain") (image_rule ∷ config_rule ∷ [])
+explain_command = subcommand (codes "explain") (image_rule ∷ config_rule ∷ explained_script_rule
+    ∷ explained_order_rule ∷ [])
 
 -- `outcomes IMAGE`, with `--config FILE`, `--states N`, `--watch LIST`, `--exists CONDITION`,
 -- `--outcome N`, `--stuck`, `--witness FILE` and `--script FILE`.

@@ -270,6 +270,18 @@ const WRITTEN_OUT: Argument = Argument {
     help: "The file for the trace of version 3",
 };
 
+const EXPLAINED_SCRIPT: Argument = Argument {
+    kind: Kind::Option,
+    name: "script",
+    help: "A script to explain beside them",
+};
+
+const EXPLAINED_ORDER: Argument = Argument {
+    kind: Kind::Option,
+    name: "order",
+    help: "An order to explain beside them",
+};
+
 /// The subcommands that have an image, in the order in which help lists them.
 static OF_IMAGES: [Subcommand; 10] = [
     Subcommand {
@@ -344,7 +356,7 @@ static OF_IMAGES: [Subcommand; 10] = [
     Subcommand {
         name: "explain",
         about: "Tell what image and configuration hold, or why they are refused",
-        arguments: &[IMAGE, CONFIG],
+        arguments: &[IMAGE, CONFIG, EXPLAINED_SCRIPT, EXPLAINED_ORDER],
         form: "",
     },
     Subcommand {

@@ -27,7 +27,7 @@ pub use explained::{
 };
 pub use files::{Files, is_standard_input};
 pub use line::{
-    ChartCommand, CheckCommand, Command, ExplainCommand, Line, ListCommand, LitmusCommand,
+    Beside, ChartCommand, CheckCommand, Command, ExplainCommand, Line, ListCommand, LitmusCommand,
     MigrateCommand, OutcomesCommand, PlainCommand, ProgramCommand, RunCommand, ScheduleCommand,
     ScriptCommand, StepCommand, WordsRefused,
 };

@@ -158,6 +158,17 @@ pub struct ChartCommand<'a> {
 #[derive(Clone, Copy, Drop)]
 pub struct ExplainCommand<'a> {
     pub image: &'a str,
+    /// What is explained beside them.
+    pub beside: Option<Beside<'a>>,
+}
+
+/// A file that is explained beside an image and a configuration.
+#[derive(Clone, Copy, Drop)]
+pub enum Beside<'a> {
+    /// `--script FILE`: a script that is made of the core.
+    Script(&'a str),
+    /// `--order FILE`: an order that the plain machine runs in.
+    Order(&'a str),
 }
 
 /// `outcomes IMAGE`: every end that the program has on the plain machine is listed.

@@ -3,7 +3,7 @@ ghost use Rattle.clap.specs.Words.{first_of, found_of, rows_of, subcommand_rows_
 ghost use Rattle.sim_inputs.specs.CommandLine.{is_flag_set, Finds, IsCommandOf, Names, Asks};
 ghost use Rattle.sim_inputs.specs.CommandLine.{IsProgramCommandOf};
 ghost use Rattle.sim_inputs.specs.CommandLine.{IsStep, IsRun, IsCheck, IsPlain, IsSchedule, IsScript};
-ghost use Rattle.sim_inputs.specs.CommandLine.{IsList, IsChart, IsExplain, can_be_drawn, can_be_run};
+ghost use Rattle.sim_inputs.specs.CommandLine.{IsList, IsChart, IsExplain, IsBeside, can_be_drawn, can_be_run};
 ghost use Rattle.sim_inputs.specs.CommandLine.{is_reported, can_be_plain, number_or, number_in};
 ghost use Rattle.sim_inputs.specs.CommandLine.{has_named_folder};
 ghost use Rattle.sim_inputs.specs.CommandLine.{IsOutcomes, can_be_searched, are_orders_together};
@@ -14,7 +14,7 @@ use crate::clap_errors::refusal;
 use crate::description::describe;
 use crate::files::reads_input_once;
 use crate::line::{
-    ChartCommand, CheckCommand, Command, ExplainCommand, Line, ListCommand, LitmusCommand,
+    Beside, ChartCommand, CheckCommand, Command, ExplainCommand, Line, ListCommand, LitmusCommand,
     MigrateCommand, OutcomesCommand, PlainCommand, ProgramCommand, RunCommand, ScheduleCommand,
     ScriptCommand, StepCommand, WordsRefused,
 };
@@ -238,7 +238,20 @@ fn explain_in<'a>(found: &ArgMatches<'a>) -> Option<ExplainCommand<'a>>
 {
     Some(ExplainCommand {
         image: value_of(found, "IMAGE")?,
+        beside: beside_in(found)?,
     })
+}
+
+/// What is explained beside an image, if anything is; none where it would be two files.
+fn beside_in<'a>(found: &ArgMatches<'a>) -> Option<Option<Beside<'a>>>
+    ensures { Finds (IsBeside (rows_of (found_of found.now))) result }
+{
+    match (value_of(found, "script"), value_of(found, "order")) {
+        (None, None) => Some(None),
+        (Some(script), None) => Some(Some(Beside::Script(script))),
+        (None, Some(order)) => Some(Some(Beside::Order(order))),
+        (Some(_), Some(_)) => None,
+    }
 }
 
 fn chart_in<'a>(found: &ArgMatches<'a>) -> Option<ChartCommand<'a>>

@@ -66,6 +66,10 @@ smtsim check - t --config -
 smtsim explain
 smtsim explain a b
 smtsim explain --why a
+smtsim explain a --script s --order o
+smtsim explain a --script s --script s
+smtsim explain a --order -  --config -
+smtsim explain a --script
 smtsim outcomes
 smtsim outcomes a b
 smtsim outcomes --states 0 a
