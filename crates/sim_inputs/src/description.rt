@@ -30,6 +30,8 @@ pub(crate) enum Kind {
     List,
     /// `--name CONDITION`, which may be there.
     Condition,
+    /// `--name WHEN`, which may be there.
+    When,
 }
 
 /// An argument of a subcommand, as help describes it.
@@ -270,6 +272,13 @@ const WRITTEN_OUT: Argument = Argument {
     help: "The file for the trace of version 3",
 };
 
+/// The option of all subcommands, which help lists last.
+const HINTS: Argument = Argument {
+    kind: Kind::When,
+    name: "hints",
+    help: "Hints behind a fault: auto, always, never or json",
+};
+
 /// The subcommands that have an image, in the order in which help lists them.
 static OF_IMAGES: [Subcommand; 10] = [
     Subcommand {
@@ -420,7 +429,7 @@ fn subcommand_of<'a>(row: &'static Subcommand, alloc: Global) -> Result<Command<
     for argument in row.arguments {
         command = command.arg(argument_of(argument, alloc))?;
     }
-    Ok(command)
+    command.arg(argument_of(&HINTS, alloc))
 }
 
 /// The argument of a row.
@@ -437,5 +446,6 @@ fn argument_of<'a>(row: &'static Argument, alloc: Global) -> Arg<'a>
         Kind::Number => argument.long(row.name).value_name("N"),
         Kind::List => argument.long(row.name).value_name("LIST"),
         Kind::Condition => argument.long(row.name).value_name("CONDITION"),
+        Kind::When => argument.long(row.name).value_name("WHEN"),
     }
 }
