@@ -21,7 +21,11 @@ pub enum FileFault {
 #[derive(Clone, Copy, PartialEq, Eq, Drop)]
 pub(crate) enum Doing {
     Reading,
+    /// Reading standard input.
+    ReadingInput,
     Writing,
+    /// Writing to standard output.
+    Printing,
 }
 
 /// Adds why a file can't be read or written.
@@ -50,10 +54,13 @@ pub(crate) fn add_cause(
 /// What is said of the failures that come of files; none of any other.
 fn known_cause(kind: ErrorKind, doing: Doing) -> Option<&'static str> {
     let cause = match (kind, doing) {
-        (ErrorKind::NotFound, Doing::Reading) => "not there",
         (ErrorKind::NotFound, Doing::Writing) => "its folder isn't there",
+        (ErrorKind::NotFound, _) => "not there",
         (ErrorKind::PermissionDenied, Doing::Reading) => "may not be read",
-        (ErrorKind::PermissionDenied, Doing::Writing) => "may not be written",
+        (ErrorKind::PermissionDenied, _) => "may not be written",
+        // A folder stands in the place of a stream that is closed, and takes no bytes.
+        (ErrorKind::IsADirectory, Doing::ReadingInput) => "closed, or a folder",
+        (ErrorKind::Uncategorized, Doing::Printing) => "closed",
         (ErrorKind::IsADirectory, _) => "a folder",
         (ErrorKind::NotADirectory, _) => "what its path leads through is no folder",
         (ErrorKind::FilesystemLoop, _) => "symbolic links that lead in a circle",

@@ -105,19 +105,28 @@ pub(crate) fn add_unread(
     alloc: Global,
 ) -> Result<(), AllocError> {
     let (inputs, files) = (&fault.inputs, &fault.files);
-    let why = if is_refused(inputs.config, Unread::File) {
+    let named = fault.line.files();
+    let (name, why) = if is_refused(inputs.config, Unread::File) {
         add_config(fault, hint, alloc)?;
-        files.config
+        (named.config, files.config)
     } else if is_refused(inputs.program, Unread::File) {
         add_program(fault, hint, alloc)?;
-        files.program
+        (named.program, files.program)
     } else {
         add_second(fault, hint, alloc)?;
-        files.second
+        (named.second, files.second)
     };
     match why {
-        Some(why) => add_cause(why, Doing::Reading, hint, alloc),
+        Some(why) => add_cause(why, reading(name), hint, alloc),
         None => Ok(()),
+    }
+}
+
+/// How a file of this name is read.
+fn reading(name: Option<&str>) -> Doing {
+    match name {
+        Some(name) if is_standard_input(name) => Doing::ReadingInput,
+        _ => Doing::Reading,
     }
 }
 
@@ -157,7 +166,7 @@ pub(crate) fn add_unwritten(
     let Some(why) = fault.files.written else {
         hint.add(Part::File, b"standard output")?;
         return match fault.files.output {
-            Some(why) => add_cause(why, Doing::Writing, hint, alloc),
+            Some(why) => add_cause(why, Doing::Printing, hint, alloc),
             None => Ok(()),
         };
     };

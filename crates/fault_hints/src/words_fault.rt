@@ -52,7 +52,7 @@ pub fn add_words_fault(
         WordsFault::Output(why) => {
             hint.add(Part::File, b"standard output")?;
             match why {
-                Some(kind) => add_cause(FileFault::System(kind), Doing::Writing, hint, alloc),
+                Some(kind) => add_cause(FileFault::System(kind), Doing::Printing, hint, alloc),
                 None => Ok(()),
             }
         }

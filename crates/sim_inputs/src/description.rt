@@ -3,7 +3,7 @@ ghost use Rattle.std.specs.List.{fold};
 ghost use Rattle.clap.specs.Words.{App, app_of};
 ghost use Rattle.sim_inputs.specs.CommandLine.{IsArgument, IsCommand};
 ghost use Rattle.sim_inputs.specs.Rules.{smtsim};
-ghost use Rattle.sim_inputs.specs.Table.{rule_in, subcommand_in, with_row};
+ghost use Rattle.sim_inputs.specs.Table.{own_arguments_in, rule_in, subcommand_in, with_row};
 
 use crate::forms::{
     CHART_FORM, CONFIGURATION_FORM, LITMUS_FORM, MIGRATE_FORM, ORDER_FORM, OUTCOMES_FORM,
@@ -419,9 +419,17 @@ fn add_subcommands<'a>(
     Ok(command)
 }
 
-/// The subcommand of a row.
+/// The subcommand of a row, with the option of all of them.
 fn subcommand_of<'a>(row: &'static Subcommand, alloc: Global) -> Result<Command<'a>, AllocError>
     ensures { IfOk result (IsCommand (subcommand_in row.now)) }
+{
+    let command = own_arguments_of(row, alloc)?;
+    command.arg(argument_of(&HINTS, alloc))
+}
+
+/// The subcommand of a row, with its own arguments.
+fn own_arguments_of<'a>(row: &'static Subcommand, alloc: Global) -> Result<Command<'a>, AllocError>
+    ensures { IfOk result (IsCommand (own_arguments_in row.now)) }
 {
     let mut command = Command::new(alloc, row.name)
         .about(row.about)
@@ -429,7 +437,7 @@ fn subcommand_of<'a>(row: &'static Subcommand, alloc: Global) -> Result<Command<
     for argument in row.arguments {
         command = command.arg(argument_of(argument, alloc))?;
     }
-    command.arg(argument_of(&HINTS, alloc))
+    Ok(command)
 }
 
 /// The argument of a row.

