@@ -1,6 +1,7 @@
 //! All that the program does with a line once its files are read.
 
-ghost use Rattle.std.specs.Prelude.{◌≡◌, ◌⊎◌, IsTrue, IfOk, IfErr, OnOk, Ok, Err, Some, is_some, true, false};
+ghost use Rattle.std.specs.Prelude.{◌≡◌, ◌⊎◌, IsTrue, IfOk, IfErr, OnOk, Ok, Err, is_some, true, false};
+ghost use Rattle.std.specs.Prelude.{Some, IsSomeAnd};
 ghost use Rattle.command_parts.specs.declared.refused.Refused.TheVariants.{Output};
 ghost use Rattle.report_lines.specs.Statuses.{says_harts};
 ghost use Rattle.command_parts.specs.declared.refused.Refused.{Refused as AnyRefused};
@@ -17,7 +18,7 @@ ghost use Rattle.commands.specs.Perform.{IsMigrateLineRefusal, MigrationComesTo}
 ghost use Rattle.event_text.specs.Sinking.{HasPut};
 ghost use Rattle.commands.specs.Written.{IsWritten};
 
-use crate::explain::{perform_explain, point_to_explain};
+use crate::explain::perform_explain;
 use crate::explain_beside::tell_beside;
 use crate::list::perform_list;
 use actors::Gate;
@@ -44,8 +45,8 @@ use stress_runs::EndFiles;
 /// stand, 0 for a listing, a schedule, a script, a chart, a litmus test and a migration, 2 for a refused
 /// input, 4 for a refused trace, 5 where memory, a thread or a file failed. A refusal is one line on `err`.
 /// The configuration is looked at first, then the image, then the script, the order or the trace; a file
-/// that couldn't be read is refused where it is looked at. Where `err` is a terminal, a second line says
-/// which command explains a refused configuration or image. All that is printed is flushed.
+/// that couldn't be read is refused where it is looked at. All that is printed is flushed. The context keeps
+/// why the line was refused, if it was.
 ///
 /// The trace of a core goes into `files`, a sink that hasn't failed, where the line names a file for it:
 /// behind the last ask, and before the tables and the report, and its file is finished. Where the sink fails,
@@ -61,6 +62,8 @@ pub fn perform<
 >(context: &mut Context<'_, R, G, P, S, W>, line: &Line<'_>, inputs: &Inputs<'_>, err: &mut E) -> u8
     requires works { S.has_failed context.old.files ≡ false }
     requires finished { S.is_finished context.old.files ≡ true }
+    ensures kept { says_harts result ≡ false
+        → IsSomeAnd context.new.refused (λ reason. exit_status_of reason ≡ result) }
     ensures known { IsTrue (says_harts result) ⊎ (result ≡ 2) ⊎ (result ≡ 4) ⊎ (result ≡ 5) }
     ensures unset { IfErr inputs.now.config (λ why. result ≡ 5) }
     ensures refused { says_harts result ≡ false → (reason : AnyRefused)
@@ -81,25 +84,21 @@ pub fn perform<
 {
     match perform_line(context, line, inputs) {
         Ok(status) => status,
-        Err(refused) => refuse_line(refused, line, context.on_terminal, err),
+        Err(refused) => refuse_line(refused, context, err),
     }
 }
 
-/// Says why a line is refused, and on a terminal which command says more of it. Answers the exit
-/// status.
-pub(crate) fn refuse_line<E: Write>(
+/// Says why a line is refused, and keeps it for a hint. Answers the exit status.
+pub(crate) fn refuse_line<R, G, P, S, W, E: Write>(
     refused: Refused,
-    line: &Line<'_>,
-    on_terminal: bool,
+    context: &mut Context<'_, R, G, P, S, W>,
     err: &mut E,
 ) -> u8
-    ensures { result ≡ exit_status_of refused }
+    ensures status { result ≡ exit_status_of refused }
+    ensures kept { context.new ≡ record context.old { refused = Some refused } }
 {
-    let status = refuse(refused, err);
-    if on_terminal {
-        point_to_explain(refused, line, err);
-    }
-    status
+    context.refused = Some(refused);
+    refuse(refused, err)
 }
 
 /// The exit status of a line whose inputs are accepted, with all flushed that it prints.

@@ -9,13 +9,16 @@ ghost use Rattle.program_io.specs.Performed.{read_of, IsReadAs, HasPerformed, Ha
 ghost use Rattle.program_io.specs.Performed.{typed_step, uncommented_for};
 ghost use Rattle.program_io.specs.Words.{words_refused, IsWordsStatus};
 
-use crate::files::read_file;
+use crate::files::{ReadRefused, read_file};
+use crate::hinting::Hinting;
+use crate::noting::Noting;
 use crate::output_files::{OutputFiles, Places};
 use crate::read_files::ReadFiles;
-use crate::words::{refuse_words, take_words, texts};
+use crate::words::{fault_of, refuse_words, take_words, texts};
 use actors::Gate;
 use command_parts::{Context, Inputs, Refused, Unread, refuse};
 use commands::{perform, perform_typed};
+use fault_hints::{FileFault, FileFaults, LineFault, WordsFault};
 use scripts::blank_comments;
 use sim_inputs::{
     Command, Files as NamedFiles, Line, ProgramCommand, StepCommand, WordsRefused,
@@ -25,7 +28,7 @@ use smt_core::Predict;
 use std::alloc::{AllocError, Global};
 use std::env::Args;
 use std::io;
-use std::io::Write;
+use std::io::{ErrorKind, Write};
 use std::rt::Files;
 use std::sync::Wait;
 use std::thread::Threads;
@@ -49,8 +52,8 @@ pub struct Program<'a, S, G, P> {
 /// command line, 5 for want of memory and where `out` fails; else that of the command that is
 /// performed. Words that are no text are a wrong command line. A trace is written to the file that the
 /// words name. The file named by a dash is standard input; a script is typed there, and asked as it comes,
-/// where that is a terminal. Where `err` is a terminal, a refused configuration or image is told of on two
-/// lines.
+/// where that is a terminal. Behind the line of a fault a hint stands, where `--hints` asks for one, and where
+/// it says nothing of them if `err` is a terminal.
 pub fn perform_words<
     S: Files + Input + Threads + Wait + Sync,
     G: Gate + Sync,
@@ -92,11 +95,48 @@ impl<S: Files + Input + Threads + Wait + Sync, G: Gate + Sync, P: Predict + Copy
     {
         let words = match take_words(words, self.alloc) {
             Ok(words) => words,
-            Err(refused) => return refuse_words(refused, out, err),
+            Err(refused) => {
+                let fault = fault_of(&refused, false);
+                return self.refuse_and_hint(refused, fault, &[], out, err);
+            }
         };
         match self.answer_texts(words.as_slice(), out, err) {
             Ok(status) => status,
-            Err(refused) => refuse_words(refused, out, err),
+            Err(refused) => {
+                let fault = fault_of(&refused, true);
+                self.refuse_and_hint(refused, fault, words.as_slice(), out, err)
+            }
+        }
+    }
+
+    /// Prints help, or says why words are refused, with the hint behind it that they ask for.
+    fn refuse_and_hint<W: Write, E: Write>(
+        &self,
+        refused: WordsRefused,
+        fault: WordsFault,
+        words: &[String],
+        out: &mut W,
+        err: &mut E,
+    ) -> u8
+        ensures known { IsTrue (says_harts result) ⊎ (result ≡ 2) ⊎ (result ≡ 4) ⊎ (result ≡ 5) }
+        ensures status { IsWordsStatus refused result }
+    {
+        let mut out = Noting::new(out);
+        let status = refuse_words(refused, &mut out, err);
+        let fault = match fault {
+            WordsFault::Output(_) => WordsFault::Output(out.failure()),
+            other => other,
+        };
+        if status != 0 {
+            self.hinting().tell_words(fault, words, err);
+        }
+        status
+    }
+
+    fn hinting(&self) -> Hinting {
+        Hinting {
+            on_terminal: self.on_terminal,
+            alloc: self.alloc,
         }
     }
 
@@ -144,13 +184,36 @@ impl<S: Files + Input + Threads + Wait + Sync, G: Gate + Sync, P: Predict + Copy
             gate: self.gate,
             predict: self.predict,
             files: OutputFiles::new(self.system, places),
-            out,
-            on_terminal: self.on_terminal,
+            out: Noting::new(out),
+            refused: None,
             alloc: self.alloc,
         };
-        let status = perform(&mut context, line, &read.lent(), err);
+        let inputs = read.lent();
+        let status = perform(&mut context, line, &inputs, err);
         context.files.discard();
+        if let Some(refused) = context.refused {
+            let files = read.faults_with(context.files.fault(), context.out.failure());
+            self.hint_of_line(refused, line, inputs, files, err);
+        }
         status
+    }
+
+    /// Writes the hint of a fault of a line, where one is wanted.
+    fn hint_of_line<E: Write>(
+        &self,
+        refused: Refused,
+        line: &Line<'_>,
+        inputs: Inputs<'_>,
+        files: FileFaults,
+        err: &mut E,
+    ) {
+        let fault = LineFault {
+            refused,
+            line: *line,
+            inputs,
+            files,
+        };
+        self.hinting().tell_line(&fault, err);
     }
 
     /// Reads the files that a line of `step` names but its script, which is typed, and performs it.
@@ -178,13 +241,18 @@ impl<S: Files + Input + Threads + Wait + Sync, G: Gate + Sync, P: Predict + Copy
             gate: self.gate,
             predict: self.predict,
             files: OutputFiles::new(self.system, places),
-            out,
-            on_terminal: self.on_terminal,
+            out: Noting::new(out),
+            refused: None,
             alloc: self.alloc,
         };
         let mut reader = self.system.reader();
-        let status = perform_typed(&mut context, line, step, &read.lent(), &mut reader, err);
+        let inputs = read.lent();
+        let status = perform_typed(&mut context, step, &inputs, &mut reader, err);
         context.files.discard();
+        if let Some(refused) = context.refused {
+            let files = read.faults_with(context.files.fault(), context.out.failure());
+            self.hint_of_line(refused, line, inputs, files, err);
+        }
         status
     }
 }
@@ -212,9 +280,9 @@ fn folder_of<'a>(line: &Line<'a>) -> Option<&'a str> {
 /// What the files hold that a line names, or why they couldn't be read.
 #[derive(Drop)]
 struct ReadInputs {
-    config: Result<Vec<u8>, Unread>,
-    program: Result<Vec<u8>, Unread>,
-    second: Result<Vec<u8>, Unread>,
+    config: Result<Vec<u8>, ReadRefused>,
+    program: Result<Vec<u8>, ReadRefused>,
+    second: Result<Vec<u8>, ReadRefused>,
 }
 
 impl ReadInputs {
@@ -245,6 +313,20 @@ impl ReadInputs {
         }
     }
 
+    /// Why files can't be read, and these that are written.
+    fn faults_with(&self, written: Option<FileFault>, output: Option<ErrorKind>) -> FileFaults {
+        FileFaults {
+            config: fault_in(&self.config),
+            program: fault_in(&self.program),
+            second: fault_in(&self.second),
+            written,
+            output: match output {
+                Some(kind) => Some(FileFault::System(kind)),
+                None => None,
+            },
+        }
+    }
+
     /// The bytes that were read, lent.
     fn lent(&self) -> Inputs<'_>
         ensures config { as_read result.config ≡ read_of self.now.config }
@@ -264,7 +346,7 @@ fn read_named<S: Files + Input>(
     system: &S,
     name: Option<&str>,
     alloc: Global,
-) -> Result<Vec<u8>, Unread>
+) -> Result<Vec<u8>, ReadRefused>
     ensures few { IfOk result (λ bytes. vec_len bytes ≤ 2 ^ 30) }
     ensures unnamed { IsReadAs name.entry (read_of result) }
 {
@@ -275,11 +357,20 @@ fn read_named<S: Files + Input>(
 }
 
 /// The bytes of a file, lent, or why there are none.
-fn lent(file: &Result<Vec<u8>, Unread>) -> Result<&[u8], Unread>
+fn lent(file: &Result<Vec<u8>, ReadRefused>) -> Result<&[u8], Unread>
     ensures { as_read result ≡ read_of file.now }
 {
     match file {
         Ok(bytes) => Ok(bytes.as_slice()),
-        Err(why) => Err(*why),
+        Err(why) => Err(why.unread()),
+    }
+}
+
+/// Why a file can't be read, if it can't be, and not for want of memory.
+fn fault_in(file: &Result<Vec<u8>, ReadRefused>) -> Option<FileFault> {
+    match file {
+        Ok(_) | Err(ReadRefused::Memory) => None,
+        Err(ReadRefused::TooLong) => Some(FileFault::TooLong),
+        Err(ReadRefused::Failed(kind)) => Some(FileFault::System(*kind)),
     }
 }

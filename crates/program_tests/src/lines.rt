@@ -1,7 +1,7 @@
 //! Lines of the program, as their words are read. None names a configuration.
 
 use sim_inputs::{
-    Beside, ChartCommand, CheckCommand, Command, ExplainCommand, Line, ListCommand, LitmusCommand,
+    Beside, ChartCommand, CheckCommand, Command, ExplainCommand, HintsWanted, Line, ListCommand, LitmusCommand,
     MigrateCommand, OutcomesCommand, PlainCommand, ProgramCommand, RunCommand, ScheduleCommand,
     ScriptCommand, StepCommand,
 };
@@ -10,6 +10,7 @@ macro_rules! line {
     ($command:expr) => {
         Line {
             config: None,
+            hints: HintsWanted::Auto,
             command: $command,
         }
     };

@@ -31,7 +31,8 @@ use Rattle.sim_inputs.specs.declared.line.{LitmusCommand.LitmusCommand, MigrateC
 use Rattle.sim_inputs.specs.declared.line.{Beside.Beside}
 use Rattle.sim_inputs.specs.declared.line.Beside.TheVariants as beside
 use Rattle.sim_inputs.specs.Rules.{smtsim}
-use Rattle.sim_inputs.specs.Files.{reads_input_once}
+use Rattle.sim_inputs.specs.Files.{is_standard_input, reads_input_once, writes_no_dash}
+use Rattle.sim_inputs.specs.HintsWanted.{hints_in}
 
 -- The last event that a history may have; the last hart that a core may have; how often a program is
 -- run at the most; the most instructions of a turn and of all rounds, and the last seed; and how many
@@ -120,13 +121,14 @@ pub record IsStep (rows : List Row) (step : StepCommand) : Type 0 where
   pub show : IsFlag rows (codes "show") step.show
   pub why : IsFlag rows (codes "why") step.why
 
--- A run has an option of its report. Many runs have none, and a folder of theirs has a name; there is one at
--- least, and one alone has no folder.
+-- A run has an option of its report. Many runs have none, and a folder of theirs has a name, which is no dash; there
+-- is one at least, and one alone has no folder.
 abbrev pub is_reported : RunCommand → Bool
 is_reported run = is_some run.trace || run.counts || run.json || run.records || run.why
 
 abbrev pub has_named_folder : RunCommand → Bool
-has_named_folder run = option_map_or (λ folder. not (length folder.now == 0)) run.keep true
+has_named_folder run =
+    option_map_or (λ folder. not (length folder.now == 0) && not (is_standard_input folder.now)) run.keep true
 
 abbrev pub can_be_run : RunCommand → Bool
 can_be_run run = let once = not (is_some run.keep) in
@@ -275,11 +277,14 @@ IsCommandOf name rows (commands.Litmus litmus) = (name ≡ codes "litmus") × Is
 IsCommandOf name rows (commands.Migrate migrate) = (name ≡ codes "migrate") × IsMigrate rows migrate
 
 -- A subcommand of this name, with what was found for it, is the line: its command, and the
--- configuration, which every command may have. One of its files at most is standard input.
+-- configuration and the word of `--hints`, which every command may have. One of its files at most is standard input,
+-- and none that is written is named by a dash.
 pub record IsLineOf (name : Text) (rows : List Row) (line : Line) : Type 0 where
   pub config : IsFileOption rows (codes "config") line.config
   pub command : IsCommandOf name rows line.command
+  pub hints : hints_in (first_of (codes "hints") rows) ≡ Some line.hints
   pub once : reads_input_once line ≡ true
+  pub undashed : writes_no_dash line ≡ true
 
 -- A subcommand was found, and it is the line.
 abbrev pub Names : Option (Text × List Row) → Line → Type 0

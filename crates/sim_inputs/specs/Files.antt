@@ -1,7 +1,7 @@
 -- The files that a line names. (This project's own choice.)
-use Rattle.std.specs.Prelude.{List, ℕ, ◌+◌, nat_le, Bool, true, false, Option, None, Some, is_some, option_map}
+use Rattle.std.specs.Prelude.{List, ℕ, ◌+◌, nat_le, Bool, true, false, Option, None, Some, is_some, option_map, not}
 use Rattle.std.specs.Prelude.{codes, if◌then◌else◌}
-use Rattle.std.specs.{Borrow.Bor, Str.bytes_eq}
+use Rattle.std.specs.{Borrow.Bor, Option.option_map_or, Str.bytes_eq}
 use Rattle.sim_inputs.specs.{declared.files.Files.Files}
 use Rattle.sim_inputs.specs.{declared.line.Line.Line, declared.line.Command.Command}
 use Rattle.sim_inputs.specs.{declared.line.ProgramCommand.ProgramCommand}
@@ -137,3 +137,7 @@ input_count_of file = input_count (option_map (λ name. name.now) file)
 abbrev pub reads_input_once : Line → Bool
 reads_input_once line = let files = files_of line in
     nat_le (input_count_of files.config + input_count_of files.program + input_count_of files.second) 1
+
+-- No dash stands in place of the file that is written.
+abbrev pub writes_no_dash : Line → Bool
+writes_no_dash line = option_map_or (λ name. not (is_standard_input name.now)) (files_of line).written true

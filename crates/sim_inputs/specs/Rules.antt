@@ -137,9 +137,13 @@ written_image_rule = file_option_rule (codes "image")
 abbrev pub written_out_rule : Rule
 written_out_rule = file_rule (codes "OUT")
 
--- A subcommand of this name, with its arguments in order.
+-- The option of all subcommands.
+abbrev pub hints_rule : Rule
+hints_rule = text_option_rule (codes "hints")
+
+-- A subcommand of this name, with its arguments in order, and `--hints WHEN` behind them.
 abbrev pub subcommand : Text → List Rule → App
-subcommand name rules = fold with_rule (new_app name) rules
+subcommand name rules = with_rule (fold with_rule (new_app name) rules) hints_rule
 
 -- `step IMAGE SCRIPT`, with `--config FILE`, `--counts`, `--json`, `--looks`, `--records`, `--show`,
 -- `--why` and `--trace FILE`.

@@ -3,7 +3,7 @@ ghost use Rattle.std.specs.List.{fold};
 ghost use Rattle.clap.specs.Words.{App, app_of};
 ghost use Rattle.sim_inputs.specs.CommandLine.{IsArgument, IsCommand};
 ghost use Rattle.sim_inputs.specs.Rules.{smtsim};
-ghost use Rattle.sim_inputs.specs.Table.{rule_in, subcommand_in, with_row};
+ghost use Rattle.sim_inputs.specs.Table.{own_arguments_in, rule_in, subcommand_in, with_row};
 
 use crate::forms::{
     CHART_FORM, CONFIGURATION_FORM, LITMUS_FORM, MIGRATE_FORM, ORDER_FORM, OUTCOMES_FORM,
@@ -30,6 +30,8 @@ pub(crate) enum Kind {
     List,
     /// `--name CONDITION`, which may be there.
     Condition,
+    /// `--name WHEN`, which may be there.
+    When,
 }
 
 /// An argument of a subcommand, as help describes it.
@@ -282,6 +284,13 @@ const EXPLAINED_ORDER: Argument = Argument {
     help: "An order to explain beside them",
 };
 
+/// The option of all subcommands, which help lists last.
+const HINTS: Argument = Argument {
+    kind: Kind::When,
+    name: "hints",
+    help: "Hints behind a fault: auto, always, never or json",
+};
+
 /// The subcommands that have an image, in the order in which help lists them.
 static OF_IMAGES: [Subcommand; 10] = [
     Subcommand {
@@ -422,9 +431,17 @@ fn add_subcommands<'a>(
     Ok(command)
 }
 
-/// The subcommand of a row.
+/// The subcommand of a row, with the option of all of them.
 fn subcommand_of<'a>(row: &'static Subcommand, alloc: Global) -> Result<Command<'a>, AllocError>
     ensures { IfOk result (IsCommand (subcommand_in row.now)) }
+{
+    let command = own_arguments_of(row, alloc)?;
+    command.arg(argument_of(&HINTS, alloc))
+}
+
+/// The subcommand of a row, with its own arguments.
+fn own_arguments_of<'a>(row: &'static Subcommand, alloc: Global) -> Result<Command<'a>, AllocError>
+    ensures { IfOk result (IsCommand (own_arguments_in row.now)) }
 {
     let mut command = Command::new(alloc, row.name)
         .about(row.about)
@@ -449,5 +466,6 @@ fn argument_of<'a>(row: &'static Argument, alloc: Global) -> Arg<'a>
         Kind::Number => argument.long(row.name).value_name("N"),
         Kind::List => argument.long(row.name).value_name("LIST"),
         Kind::Condition => argument.long(row.name).value_name("CONDITION"),
+        Kind::When => argument.long(row.name).value_name("WHEN"),
     }
 }

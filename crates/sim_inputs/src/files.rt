@@ -2,7 +2,7 @@ ghost use Rattle.std.specs.Prelude.{◌≡◌, ◌≤◌, option_map};
 ghost use Rattle.sim_inputs.specs.Files.{files_of, program_files};
 ghost use Rattle.sim_inputs.specs.Files.{written_chart, written_order, written_for_test};
 ghost use Rattle.sim_inputs.specs.Files.{explained_beside, reads_words};
-ghost use Rattle.sim_inputs.specs.Files.{is_standard_input, input_count, reads_input_once};
+ghost use Rattle.sim_inputs.specs.Files.{is_standard_input, input_count, reads_input_once, writes_no_dash};
 
 use crate::line::{
     Beside, ChartCommand, Command, ExplainCommand, Line, LitmusCommand, OutcomesCommand,
@@ -145,6 +145,16 @@ pub(crate) fn reads_input_once(line: &Line<'_>) -> bool
 {
     let files = line.files();
     input_count(files.config) + input_count(files.program) + input_count(files.second) <= 1
+}
+
+/// Whether no dash stands in place of the file that the line writes.
+pub(crate) fn writes_no_dash(line: &Line<'_>) -> bool
+    ensures { result ≡ writes_no_dash line.now }
+{
+    match line.files().written {
+        Some(name) => !is_standard_input(name),
+        None => true,
+    }
 }
 
 /// How often standard input stands in place of this file: once or never.

@@ -1,10 +1,13 @@
+use crate::hints_wanted::HintsWanted;
 use thiserror::Error;
 
-/// What the program is asked to do: a command, beside the option that every command has.
+/// What the program is asked to do: a command, beside the options that every command has.
 #[derive(Clone, Copy, Drop)]
 pub struct Line<'a> {
     /// `--config FILE`: the file of the configuration.
     pub config: Option<&'a str>,
+    /// `--hints WHEN`: when a hint is told behind a fault.
+    pub hints: HintsWanted,
     pub command: Command<'a>,
 }
 

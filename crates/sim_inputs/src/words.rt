@@ -1,4 +1,4 @@
-ghost use Rattle.std.specs.Prelude.{◌≡◌, map, option_map, IfOk, IfErr};
+ghost use Rattle.std.specs.Prelude.{◌≡◌, map, option_map, codes, IfOk, IfErr};
 ghost use Rattle.clap.specs.Words.{first_of, found_of, rows_of, subcommand_rows_of};
 ghost use Rattle.sim_inputs.specs.CommandLine.{is_flag_set, Finds, IsCommandOf, Names, Asks};
 ghost use Rattle.sim_inputs.specs.CommandLine.{IsProgramCommandOf};
@@ -9,10 +9,12 @@ ghost use Rattle.sim_inputs.specs.CommandLine.{has_named_folder};
 ghost use Rattle.sim_inputs.specs.CommandLine.{IsOutcomes, can_be_searched, are_orders_together};
 ghost use Rattle.sim_inputs.specs.CommandLine.{has_one_file, IsLitmus, can_be_tested, IsMigrate};
 ghost use Rattle.sim_inputs.specs.CommandLine.{AreWordsRefusedFor};
+ghost use Rattle.sim_inputs.specs.HintsWanted.{hints_in};
 
 use crate::clap_errors::refusal;
 use crate::description::describe;
-use crate::files::reads_input_once;
+use crate::files::{is_standard_input, reads_input_once, writes_no_dash};
+use crate::hints_wanted::HintsWanted;
 use crate::line::{
     Beside, ChartCommand, CheckCommand, Command, ExplainCommand, Line, ListCommand, LitmusCommand,
     MigrateCommand, OutcomesCommand, PlainCommand, ProgramCommand, RunCommand, ScheduleCommand,
@@ -63,8 +65,16 @@ fn line_in<'a>(matches: &ArgMatches<'a>) -> Option<Line<'a>>
     let (name, found) = matches.subcommand()?;
     let command = command_named(name, found)?;
     let config = value_of(found, "config");
-    let line = Line { config, command };
+    let hints = hints_in(found)?;
+    let line = Line {
+        config,
+        hints,
+        command,
+    };
     if !reads_input_once(&line) {
+        return None;
+    }
+    if !writes_no_dash(&line) {
         return None;
     }
     Some(line)
@@ -149,12 +159,12 @@ fn can_be_run(run: &RunCommand<'_>) -> bool
     }
 }
 
-/// Whether the folder for the files of ends has a name, where there is one.
+/// Whether the folder for the files of ends has a name, where there is one, and that is no dash.
 fn has_named_folder(run: &RunCommand<'_>) -> bool
     ensures { result ≡ has_named_folder run.now }
 {
     match run.keep {
-        Some(folder) => !folder.is_empty(),
+        Some(folder) => !folder.is_empty() && !is_standard_input(folder),
         None => true,
     }
 }
@@ -379,6 +389,16 @@ fn number(found: &ArgMatches<'_>, name: &str, greatest: u32) -> Option<Option<u3
     match value_of(found, name) {
         Some(text) => Some(Some(read_decimal(text.as_bytes(), greatest).ok()?)),
         None => Some(None),
+    }
+}
+
+/// When hints are wanted, by what was found; none where something else was found.
+fn hints_in(found: &ArgMatches<'_>) -> Option<HintsWanted>
+    ensures { result ≡ hints_in (first_of (codes "hints") (rows_of (found_of found.now))) }
+{
+    match value_of(found, "hints") {
+        Some(text) => HintsWanted::named(text),
+        None => Some(HintsWanted::Auto),
     }
 }
 

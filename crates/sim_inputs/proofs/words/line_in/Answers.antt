@@ -5,4 +5,10 @@ use Rattle.sim_inputs.proofs.words.line_in.Goals as goal
 pub returns : goal.returns
 returns c =
     found_in c.args.matches.now c.in_ok-name.name.now _ _ (sym c.in_ok-name.ensures.name) (sym c.in_ok-name.ensures.rows)
-    record { config = sym c.value_of-config.ensures; command = c.in_ok-command.ensures; once = cc }
+    record {
+      config = sym c.value_of-config.ensures;
+      command = c.in_ok-command.ensures;
+      hints = cc;
+      once = cc;
+      undashed = cc;
+    }

@@ -3,7 +3,7 @@ use Rattle.std.specs.List.{fold}
 use Rattle.clap.specs.Words.{new_app}
 use Rattle.sim_inputs.specs.CommandLine.{IsCommand}
 use Rattle.sim_inputs.specs.Table.{with_argument}
-use Rattle.sim_inputs.proofs.description.subcommand_of.Given as goal
+use Rattle.sim_inputs.proofs.description.own_arguments_of.Given as goal
 
 -- the arguments so far are added
 abbrev pub invariant-loop-argument : goal.invariant-loop-argument

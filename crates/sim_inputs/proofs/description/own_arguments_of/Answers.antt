@@ -2,7 +2,7 @@ use Rattle.std.proofs.Common.{arith}
 use Rattle.std.proofs.lemmas.List.{take_all}
 use Rattle.clap.specs.Words.{new_app}
 use Rattle.sim_inputs.proofs.Described.{arguments_step}
-use Rattle.sim_inputs.proofs.description.subcommand_of.Goals as goal
+use Rattle.sim_inputs.proofs.description.own_arguments_of.Goals as goal
 
 pub loop-argument-preserved : goal.loop-argument-preserved
 loop-argument-preserved c =

@@ -1,0 +1,161 @@
+//! The parts of a hint, put together.
+
+ghost use Rattle.std.specs.Prelude.{◌≡◌, ◌≤◌, ◌∷◌, ◌++◌, [], IfOk, OnOk, true};
+ghost use Rattle.hints.specs.Lines.{are_shown, IsOpenLine, IsHintLine, IsBegun, IsHintText};
+
+use crate::part::Part;
+use crate::shown::shown_text;
+use std::alloc::{AllocError, Global};
+
+/// The most parts of a hint.
+const MOST_PARTS: u8 = 6;
+
+/// How a hint is written.
+#[derive(Clone, Copy, Debug, PartialEq, Eq, Drop)]
+pub enum Form {
+    /// A line for each part.
+    Lines,
+    /// One line: a JSON object.
+    Json,
+}
+
+/// A hint while it is put together: six parts at most, each of them a line or an object.
+#[derive(Drop)]
+pub struct Hint {
+    form: Form,
+    text: Vec<u8>,
+    count: u8,
+    alloc: Global,
+    ghost few: { count ≤ 6 },
+    ghost begun: { IsBegun form count text.items },
+}
+
+impl Hint {
+    /// A hint without parts, of a fault with this text and exit status.
+    pub fn new(form: Form, fault: &str, status: u8, alloc: Global) -> Result<Self, AllocError>
+        ensures { IfOk result (λ hint. hint.form ≡ form) }
+    {
+        let text = match form {
+            Form::Lines => Vec::new(alloc),
+            Form::Json => json_head(fault, status, alloc)?,
+        };
+        Ok(Hint {
+            form,
+            text,
+            count: 0,
+            alloc,
+        })
+    }
+
+    /// Adds a part, where there are fewer than six.
+    pub fn add(&mut self, part: Part, said: &[u8]) -> Result<(), AllocError>
+        ensures { self.new.form ≡ self.old.form }
+    {
+        if self.count >= MOST_PARTS {
+            return Ok(());
+        }
+        let shown = shown_text(said, self.alloc)?;
+        match self.form {
+            Form::Lines => {
+                let line = line_of(part, &shown, self.alloc)?;
+                self.text.extend_from_slice(&line)?;
+            }
+            Form::Json => {
+                let object = object_of(part, &shown, self.count > 0, self.alloc)?;
+                self.text.extend_from_slice(&object)?;
+            }
+        }
+        self.count += 1;
+        Ok(())
+    }
+
+    /// Whether there is room for another part beside so many.
+    pub fn has_room_beside(&self, parts: u8) -> bool {
+        u16::from(self.count) + u16::from(parts) < u16::from(MOST_PARTS)
+    }
+
+    /// The text of the hint, which may have no part.
+    pub fn finish(self) -> Result<Vec<u8>, AllocError>
+        ensures { IfOk result (λ text. IsHintText self.form text.items) }
+    {
+        let Hint {
+            form,
+            text,
+            count: _,
+            alloc: _,
+        } = self;
+        let mut text = text;
+        if form == Form::Json {
+            text.extend_from_slice(b"]}\n")?;
+        }
+        Ok(text)
+    }
+}
+
+/// A part as a line.
+fn line_of(part: Part, shown: &[u8], alloc: Global) -> Result<Vec<u8>, AllocError>
+    requires { are_shown shown.now ≡ true }
+    ensures { IfOk result (λ line. IsHintLine line.items) }
+{
+    let mut line = Vec::new(alloc);
+    line.extend_from_slice(b" ")?;
+    line.extend_from_slice(part.name().as_bytes())?;
+    line.extend_from_slice(b": ")?;
+    line.extend_from_slice(shown)?;
+    line.extend_from_slice(b"\n")?;
+    Ok(line)
+}
+
+/// The beginning of the object of a fault.
+fn json_head(fault: &str, status: u8, alloc: Global) -> Result<Vec<u8>, AllocError>
+    ensures { IfOk result (λ head. IsOpenLine head.items) }
+{
+    let fault = shown_text(fault.as_bytes(), alloc)?;
+    let fault = json_of(&fault, alloc)?;
+    let status = status.to_string(alloc)?;
+    let status = shown_text(status.as_bytes(), alloc)?;
+    let mut head = Vec::new(alloc);
+    head.extend_from_slice(b" {\"fault\":\"")?;
+    head.extend_from_slice(&fault)?;
+    head.extend_from_slice(b"\",\"status\":")?;
+    head.extend_from_slice(&status)?;
+    head.extend_from_slice(b",\"hint\":[")?;
+    Ok(head)
+}
+
+/// The object of a part, behind others or as the first.
+fn object_of(
+    part: Part,
+    shown: &[u8],
+    is_behind: bool,
+    alloc: Global,
+) -> Result<Vec<u8>, AllocError>
+    requires { are_shown shown.now ≡ true }
+    ensures { IfOk result (λ object. are_shown object.items ≡ true) }
+{
+    let shown = json_of(shown, alloc)?;
+    let comma: &[u8] = if is_behind { b"," } else { b"" };
+    let mut object = Vec::new(alloc);
+    object.extend_from_slice(comma)?;
+    object.extend_from_slice(b"{\"part\":\"")?;
+    object.extend_from_slice(part.name().as_bytes())?;
+    object.extend_from_slice(b"\",\"text\":\"")?;
+    object.extend_from_slice(&shown)?;
+    object.extend_from_slice(b"\"}")?;
+    Ok(object)
+}
+
+/// A text that is shown, as the inside of a string of JSON.
+fn json_of(shown: &[u8], alloc: Global) -> Result<Vec<u8>, AllocError>
+    requires { are_shown shown.now ≡ true }
+    ensures { IfOk result (λ inside. are_shown inside.items ≡ true) }
+{
+    let mut inside = Vec::new(alloc);
+    for byte in shown {
+        if *byte == b'"' || *byte == b'\\' {
+            inside.push(b'\\')?;
+        }
+        inside.push(*byte)?;
+    }
+    Ok(inside)
+}
