@@ -13,6 +13,7 @@ ghost use Rattle.core_commands.specs.Check.{IsTraceRefusal, IsHistoryRefusal, se
 
 use crate::account::report_core;
 use crate::wanted::Wanted;
+use crate::why::{Told, follow_or_tell, read_or_tell};
 use arrayvec::ArrayVec;
 use command_parts::Refused;
 use elf_image::Image;
@@ -45,9 +46,47 @@ pub fn perform_check<W: Write>(
     ensures ended { IfOk result (CheckComesTo settings.now image.now trace.now wanted
         (W.contents out.old) (W.contents out.new)) }
 {
+    if wanted.ends.is_some() {
+        return check_or_tell(image, settings, trace, wanted, out, alloc);
+    }
     let trace = read_events(trace, alloc)?;
     let checked = follow_all(image, settings, &trace, alloc)?;
     report_core(checked.core(), &[], wanted, out, alloc)
+}
+
+/// The same; and where the trace is refused, what says why is written before the refusal is answered. It is answered
+/// all the same where `out` takes no more of that.
+fn check_or_tell<W: Write>(
+    image: &Image,
+    settings: &Settings,
+    trace: &[u8],
+    wanted: Wanted,
+    out: &mut W,
+    alloc: Global,
+) -> Result<u8, Refused>
+    ensures refused { IfErr result (IsCheckRefusal settings.now image.now trace.now) }
+    ensures ended { IfOk result (CheckComesTo settings.now image.now trace.now wanted
+        (W.contents out.old) (W.contents out.new)) }
+{
+    let trace = match read_or_tell(trace, alloc) {
+        Ok(trace) => trace,
+        Err(told) => return Err(put_why(&told, out)),
+    };
+    match follow_or_tell(image, settings, &trace, alloc) {
+        Ok(checked) => report_core(checked.core(), &[], wanted, out, alloc),
+        Err(told) => Err(put_why(&told, out)),
+    }
+}
+
+/// Writes why there is a refusal, and answers that.
+pub(crate) fn put_why<W: Write>(told: &Told, out: &mut W) -> Refused
+    ensures { result ≡ told.now.refused }
+{
+    // Where no more is taken, the refusal says enough.
+    if out.write_all(told.why.as_slice()).is_ok() {
+        let _ = out.flush();
+    }
+    told.refused
 }
 
 /// The trace that a text is.

@@ -16,6 +16,7 @@ mod script;
 mod step;
 mod stress;
 mod wanted;
+mod why;
 
 pub use chart::perform_chart;
 pub use check::perform_check;
