@@ -7,14 +7,15 @@ accepted. Written from docs/FORMATS.md ("The refusal, explained"); what stands w
 comes of judge_history.py and judge_rules.py alone, by filters and folds over the events before the refused one.
 """
 
+import re
 import sys
 
 import judge
 from judge_history import COMPLETED, IN_DECODE, IN_RENAME, ISSUED, RENAMED, RETIRED, SQUASHED, HALTED
 from judge_history import UNITS, is_last
-from judge_inputs import Complete, Decode, Drop, Effect, Fetch, Issue, Refetch, Refused, Rename, Retire
+from judge_inputs import Complete, Decode, Drop, Fetch, Issue, Refetch, Refused, Rename, Retire
 from judge_rules import Rules
-from judge_words import op_of_word
+from judge_why_lines import why_line
 
 LATCH, FLIGHT, ACCESSES = 8, 64, 16
 
@@ -486,3 +487,44 @@ def why(image, settings, events, heads):
     history = Why(settings, image, events)
     broken = history.first_refused()
     return "" if broken is None else "".join(line + "\n" for line in history.lines(*broken, heads))
+
+
+def why_of_text(image, given, text):
+    """The bytes that say why a trace's text is refused, and the refusal; of one that is accepted neither."""
+    try:
+        told = judge.trace_of(text)
+    except Refused as refused:
+        place, rule = re.fullmatch(r"trace line (\d+) refused (\d)", refused.said).groups()
+        return why_line(text, int(place), int(rule)), refused
+    settings = told.settings(given)
+    try:
+        judge.judged(image, settings, told.events)
+    except Refused as refused:
+        heads = 1 if told.core is None else 2
+        return (why(image, settings, told.events, heads).encode() if refused.status == 4 else b""), refused
+    return b"", None
+
+
+def why_of(image, trace, config):
+    """The same of the files of these names."""
+    given = judge.Settings() if config is None else judge.settings_of(judge.contents(config))
+    found = judge.image_of(judge.contents(image), given.ram)
+    return why_of_text(found, given, judge.contents(trace))
+
+
+def main(words):
+    try:
+        (image, trace), config, _ = judge.line_of(words, ())
+        told, refused = why_of(image, trace, config)
+    except Refused as early:
+        told, refused = b"", early
+    sys.stdout.buffer.write(told)
+    sys.stdout.flush()
+    if refused is None:
+        return 0
+    print(f"smtsim: {refused.said}", file=sys.stderr)
+    return refused.status
+
+
+if __name__ == "__main__":
+    sys.exit(main(sys.argv[1:]))

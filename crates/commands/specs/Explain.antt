@@ -1,4 +1,4 @@
--- The command `explain`: why a configuration or an image is refused, or what is in it. (This
+-- The command `explain`: why a configuration, an image or a trace is refused, or what is in it. (This
 -- project's own choice.)
 use Rattle.std.specs.Prelude.{◌≡◌, ℕ, List, ◌++◌, Option, Ok, Err, codes}
 use Rattle.elf_image.specs.{declared.refusal.LoadRefused.LoadRefused, Refusal.reason_number}
@@ -10,16 +10,32 @@ use Rattle.command_parts.specs.declared.refused.Unread.TheVariants as unread
 use Rattle.command_parts.specs.Refused.{IsFirstFailed}
 use Rattle.command_parts.specs.Inputs.{Read, OfFile, OfSettings, IsNoConfiguration}
 
--- When each refusal comes: as for every other command, the configuration's before the image's. Of
--- memory and of the output nothing is said.
-abbrev pub IsExplainRefusal : List ℕ → Read → Refused → Type 0
-IsExplainRefusal config image (Image number) = OfSettings (Ok config)
+-- A trace is to be explained, and its file couldn't be read.
+abbrev pub IsUnreadTrace : Option Read → Type 0
+IsUnreadTrace (Some (Err unread.File)) = Unit {0}
+IsUnreadTrace trace = ⊥
+
+-- Both are accepted, a trace is to be explained, and `check` refuses it for this reason.
+abbrev pub OfTrace : Option Read → (List ℕ → Type 0) → Type 0
+OfTrace None P = ⊥
+OfTrace (Some trace) P = OfFile trace P
+
+abbrev pub IsTraceJudged : List ℕ → Read → Option Read → Refused → Type 0
+IsTraceJudged config image trace reason = OfProgram (Ok config) image
+    (λ settings program. OfTrace trace (λ text. IsJudgementRefusal settings program text reason))
+
+-- When each refusal comes: as for every other command, the configuration's before the image's, and the image's
+-- before the trace's. Of memory and of the output nothing is said.
+abbrev pub IsExplainRefusal : List ℕ → Read → Option Read → Refused → Type 0
+IsExplainRefusal config image trace (Image number) = OfSettings (Ok config)
     (λ settings. OfFile image (λ file. IsFirstFailed file settings.ram number))
-IsExplainRefusal config image Config = IsNoConfiguration config
-IsExplainRefusal config image Memory = Unit {0}
-IsExplainRefusal config image File = OfSettings (Ok config) (λ settings. image ≡ Err unread.File)
-IsExplainRefusal config image Output = Unit {0}
-IsExplainRefusal config image _ = ⊥
+IsExplainRefusal config image trace Config =
+    IsNoConfiguration config ⊎ IsTraceJudged config image trace Config
+IsExplainRefusal config image trace Memory = Unit {0}
+IsExplainRefusal config image trace File = OfSettings (Ok config) (λ settings. image ≡ Err unread.File)
+    ⊎ OfProgram (Ok config) image (λ settings program. IsUnreadTrace trace)
+IsExplainRefusal config image trace Output = Unit {0}
+IsExplainRefusal config image trace reason = IsTraceJudged config image trace reason
 
 -- No more than memory or the output is refused.
 abbrev pub IsWritingRefusal : Refused → Type 0

@@ -12,7 +12,8 @@ ghost use Rattle.command_parts.specs.Inputs.{as_read, OfProgram, IsNoConfigurati
 ghost use Rattle.commands.specs.Explain.{IsExplainRefusal, IsExplanationOf, ExplainComesTo};
 ghost use Rattle.commands.specs.Explain.{IsWritingRefusal, PrintsSome};
 
-use command_parts::{Refused, Unread};
+use command_parts::{Refused, Unread, image_of};
+use core_commands::perform_judgement;
 use elf_image::{LoadRefused, RamSize};
 use explanations::{explain_config, explain_image};
 use shown_text::write_file_name;
@@ -33,6 +34,7 @@ const WITHOUT_CONFIG: &[u8] = b"the image without a configuration:\n";
 pub fn perform_explain<W: Write>(
     config: &[u8],
     image: Result<&[u8], Unread>,
+    trace: Option<Result<&[u8], Unread>>,
     out: &mut W,
     alloc: Global,
 ) -> Result<u8, Refused>
@@ -47,10 +49,25 @@ pub fn perform_explain<W: Write>(
         return Err(Refused::Config);
     };
     let file = image?;
-    match tell_image(file, settings.ram, out, alloc)? {
-        None => Ok(0),
-        Some(check) => Err(Refused::Image(check.number())),
+    if let Some(check) = tell_image(file, settings.ram, out, alloc)? {
+        return Err(Refused::Image(check.number()));
     }
+    match trace {
+        Some(trace) => tell_trace(file, &settings, trace?, out, alloc),
+        None => Ok(0),
+    }
+}
+
+/// Says what there is to say of a trace, of the program of an image's file.
+fn tell_trace<W: Write>(
+    file: &[u8],
+    settings: &Settings,
+    trace: &[u8],
+    out: &mut W,
+    alloc: Global,
+) -> Result<u8, Refused> {
+    let image = image_of(file, settings.ram, alloc)?;
+    perform_judgement(&image, settings, trace, out, alloc)
 }
 
 /// Says what there is to say of a configuration, and answers the settings that it makes, if any.

@@ -29,7 +29,9 @@ use elf_image::Image;
 use plain_commands::{
     perform_litmus, perform_outcomes, perform_plain, perform_rounds, perform_schedule, rounds_of,
 };
-use sim_inputs::{Command, Line, LitmusCommand, ProgramCommand, RunCommand, Settings};
+use sim_inputs::{
+    Command, ExplainCommand, Line, LitmusCommand, ProgramCommand, RunCommand, Settings,
+};
 use smt_core::Predict;
 use std::alloc::Global;
 use std::io::Write;
@@ -129,7 +131,7 @@ fn perform_line<
     let alloc = context.alloc;
     match &line.command {
         Command::OfProgram(command) => read_and_perform(context, command, inputs),
-        Command::Explain(_) => read_and_explain(inputs, &mut context.out, alloc),
+        Command::Explain(explain) => read_and_explain(explain, inputs, &mut context.out, alloc),
         Command::Litmus(litmus) => read_and_test(
             litmus,
             inputs,
@@ -145,6 +147,7 @@ fn perform_line<
 /// The exit status of a line that explains its files, with all flushed that it prints of them. They are
 /// taken before they are refused.
 fn read_and_explain<W: Write>(
+    explain: &ExplainCommand<'_>,
     inputs: &Inputs<'_>,
     out: &mut W,
     alloc: Global,
@@ -156,7 +159,11 @@ fn read_and_explain<W: Write>(
         (as_read inputs.now.program) (W.contents out.old) (W.contents out.new)) }
 {
     let text = inputs.config?;
-    perform_explain(text, inputs.program, out, alloc)
+    let trace = match explain.trace {
+        Some(_) => Some(inputs.second),
+        None => None,
+    };
+    perform_explain(text, inputs.program, trace, out, alloc)
 }
 
 /// The exit status of a litmus test, with all flushed that is printed of it.

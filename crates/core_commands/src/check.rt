@@ -13,7 +13,7 @@ ghost use Rattle.core_commands.specs.Check.{IsTraceRefusal, IsHistoryRefusal, se
 
 use crate::account::report_core;
 use crate::wanted::Wanted;
-use crate::why::{Told, follow_or_tell, read_or_tell};
+use crate::why::write_why;
 use arrayvec::ArrayVec;
 use command_parts::Refused;
 use elf_image::Image;
@@ -31,8 +31,9 @@ use std::io::Write;
 /// stand.
 ///
 /// Refused are, in this order, the first line of the trace that breaks a rule, sizes of no core or
-/// too many events, and the first event that isn't allowed; then nothing is printed. `Output` is
-/// answered where `out` failed.
+/// too many events, and the first event that isn't allowed; then nothing is printed but why the trace is
+/// refused, where it is wanted why harts stand where they do. `Output` is answered where `out` failed, and
+/// never in place of another refusal.
 #[inline(never)]
 pub fn perform_check<W: Write>(
     image: &Image,
@@ -46,17 +47,19 @@ pub fn perform_check<W: Write>(
     ensures ended { IfOk result (CheckComesTo settings.now image.now trace.now wanted
         (W.contents out.old) (W.contents out.new)) }
 {
-    if wanted.ends.is_some() {
-        return check_or_tell(image, settings, trace, wanted, out, alloc);
+    match check_trace(image, settings, trace, wanted, out, alloc) {
+        Ok(status) => Ok(status),
+        Err(refused) => {
+            if wanted.ends.is_some() {
+                write_why(image, settings, trace, refused, out, alloc);
+            }
+            Err(refused)
+        }
     }
-    let trace = read_events(trace, alloc)?;
-    let checked = follow_all(image, settings, &trace, alloc)?;
-    report_core(checked.core(), &[], wanted, out, alloc)
 }
 
-/// The same; and where the trace is refused, what says why is written before the refusal is answered. It is answered
-/// all the same where `out` takes no more of that.
-fn check_or_tell<W: Write>(
+/// The same, without a word of why a trace is refused.
+fn check_trace<W: Write>(
     image: &Image,
     settings: &Settings,
     trace: &[u8],
@@ -68,25 +71,9 @@ fn check_or_tell<W: Write>(
     ensures ended { IfOk result (CheckComesTo settings.now image.now trace.now wanted
         (W.contents out.old) (W.contents out.new)) }
 {
-    let trace = match read_or_tell(trace, alloc) {
-        Ok(trace) => trace,
-        Err(told) => return Err(put_why(&told, out)),
-    };
-    match follow_or_tell(image, settings, &trace, alloc) {
-        Ok(checked) => report_core(checked.core(), &[], wanted, out, alloc),
-        Err(told) => Err(put_why(&told, out)),
-    }
-}
-
-/// Writes why there is a refusal, and answers that.
-pub(crate) fn put_why<W: Write>(told: &Told, out: &mut W) -> Refused
-    ensures { result ≡ told.now.refused }
-{
-    // Where no more is taken, the refusal says enough.
-    if out.write_all(told.why.as_slice()).is_ok() {
-        let _ = out.flush();
-    }
-    told.refused
+    let trace = read_events(trace, alloc)?;
+    let checked = follow_all(image, settings, &trace, alloc)?;
+    report_core(checked.core(), &[], wanted, out, alloc)
 }
 
 /// The trace that a text is.

@@ -9,6 +9,7 @@
 mod account;
 mod chart;
 mod check;
+mod judgement;
 mod migrate;
 mod prompt;
 mod run;
@@ -20,6 +21,7 @@ mod why;
 
 pub use chart::perform_chart;
 pub use check::perform_check;
+pub use judgement::perform_judgement;
 pub use migrate::perform_migrate;
 pub use prompt::perform_prompt;
 pub use run::{perform_run, run_bytes};

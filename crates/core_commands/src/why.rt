@@ -1,82 +1,102 @@
 //! Why a trace is refused: the text that says so, beside the refusal.
 
-ghost use Rattle.std.specs.Prelude.{◌≡◌, IfOk, IfErr, length, reverse, true};
-ghost use Rattle.smt_core.specs.Shown.{Shown};
-ghost use Rattle.smt_model.specs.Setup.{is_accepted};
-ghost use Rattle.core_commands.specs.Check.{IsTraceOf, IsTraceRefusal, IsHistoryRefusal, setup_by};
+ghost use Rattle.std.specs.Prelude.{◌≡◌, ◌++◌};
+ghost use Rattle.refused_traces.specs.Why.{IsLineWhy};
+ghost use Rattle.history_check.specs.Checking.{IsStoppedAt};
+ghost use Rattle.core_commands.specs.Told.{IsEventTold, IsTold, WhereTold, IsEventOfTextTold};
 
 use crate::check::{config_by, read_events};
 use command_parts::Refused;
 use elf_image::Image;
 use event_text::Trace;
-use history_check::{Checked, Stopped, Unfollowed, follow_until};
+use history_check::{Stopped, Unfollowed, follow_until};
 use refused_traces::{Place, explain_event, explain_line};
 use sim_inputs::Settings;
 use std::alloc::Global;
+use std::io::Write;
 
-/// A refusal, and the lines that say why; none where nothing more is said of it, or there isn't memory for them.
-#[derive(Drop)]
-pub(crate) struct Told {
-    pub(crate) refused: Refused,
-    pub(crate) why: Vec<u8>,
-}
-
-impl Told {
-    /// A refusal of which nothing more is said.
-    pub(crate) fn plain(refused: Refused, alloc: Global) -> Told {
-        Told {
-            refused,
-            why: Vec::new(alloc),
-        }
-    }
-}
-
-/// The trace that a text is, or why it is none.
-pub(crate) fn read_or_tell(text: &[u8], alloc: Global) -> Result<Trace, Told> {
-    match read_events(text, alloc) {
-        Ok(trace) => Ok(trace),
-        Err(refused) => Err(told_line(text, refused, alloc)),
-    }
-}
-
-/// Why the text is no trace.
-fn told_line(text: &[u8], refused: Refused, alloc: Global) -> Told {
-    let Refused::Trace { line, rule } = refused else {
-        return Told::plain(refused, alloc);
-    };
-    match explain_line(text, line, rule, alloc) {
-        Ok(why) => Told { refused, why },
-        Err(_) => Told::plain(refused, alloc),
-    }
-}
-
-/// The core that a trace is of, which has followed its events, or why it refuses one of them.
-pub(crate) fn follow_or_tell(
+/// Writes why a trace's text is refused so. What `out` doesn't take is left out: the refusal is told all the same.
+pub(crate) fn write_why<W: Write>(
     image: &Image,
     settings: &Settings,
-    trace: &Trace,
+    trace: &[u8],
+    refused: Refused,
+    out: &mut W,
     alloc: Global,
-) -> Result<Checked, Told> {
-    let config = config_by(settings, trace.head());
-    match follow_until(image, config, trace.events(), alloc) {
-        Ok(checked) => Ok(checked),
-        Err(Unfollowed::BadConfig) => Err(Told::plain(Refused::Config, alloc)),
-        Err(Unfollowed::Memory) => Err(Told::plain(Refused::Memory, alloc)),
-        Err(Unfollowed::Event(stopped)) => Err(told_event(stopped, trace, alloc)),
+) {
+    let why = why_refused(image, settings, trace, refused, alloc);
+    if out.write_all(why.as_slice()).is_ok() {
+        let _ = out.flush();
     }
 }
 
-/// Why a core refuses an event of a trace.
-fn told_event(stopped: Stopped, trace: &Trace, alloc: Global) -> Told {
-    let Stopped { core, index, rule } = stopped;
-    let refused = Refused::Event { index, rule };
+/// The lines that say why a trace's text is refused so. There are none where nothing more is said of the refusal, or
+/// there isn't memory for them.
+pub(crate) fn why_refused(
+    image: &Image,
+    settings: &Settings,
+    trace: &[u8],
+    refused: Refused,
+    alloc: Global,
+) -> Vec<u8>
+    ensures { IsTold settings.now image.now trace.now refused result.items }
+{
+    match refused {
+        Refused::Trace { line, rule } => why_line(trace, line, rule, alloc),
+        Refused::Event { index, rule } => why_event(image, settings, trace, index, rule, alloc),
+        _ => Vec::new(alloc),
+    }
+}
+
+fn why_line(trace: &[u8], line: usize, rule: u8, alloc: Global) -> Vec<u8>
+    ensures { WhereTold (IsLineWhy line rule) result.items }
+{
+    match explain_line(trace, line, rule, alloc) {
+        Ok(why) => why,
+        Err(_) => Vec::new(alloc),
+    }
+}
+
+/// Why the event at a place breaks a rule: the core is led to it once more.
+fn why_event(
+    image: &Image,
+    settings: &Settings,
+    trace: &[u8],
+    index: u32,
+    rule: u8,
+    alloc: Global,
+) -> Vec<u8>
+    ensures { WhereTold (IsEventOfTextTold settings.now image.now trace.now index rule) result.items }
+{
+    let Ok(trace) = read_events(trace, alloc) else {
+        return Vec::new(alloc);
+    };
+    let config = config_by(settings, trace.head());
+    match follow_until(image, config, trace.events(), alloc) {
+        Err(Unfollowed::Event(stopped)) => told_event(stopped, &trace, index, rule, alloc),
+        _ => Vec::new(alloc),
+    }
+}
+
+/// Why a core that has followed the events before the one at a place refuses that by this rule.
+fn told_event(stopped: Stopped, trace: &Trace, index: u32, rule: u8, alloc: Global) -> Vec<u8>
+    requires { IsStoppedAt stopped.core.setup trace.now.events stopped }
+    ensures { WhereTold (IsEventTold stopped.core.setup trace.now index rule) result.items }
+{
+    let Stopped {
+        core,
+        index: place,
+        rule: broken,
+    } = stopped;
+    if place != index || broken != rule {
+        return Vec::new(alloc);
+    }
     let events = trace.events();
     let event = events[index as usize];
-    let before = &events[..index as usize];
     let line = index as usize + trace.head().line_count() + 1;
     let place = Place { index, line, rule };
-    match explain_event(core, before, &event, place, alloc) {
-        Ok(why) => Told { refused, why },
-        Err(_) => Told::plain(refused, alloc),
+    match explain_event(core, &events[..index as usize], &event, place, alloc) {
+        Ok(why) => why,
+        Err(_) => Vec::new(alloc),
     }
 }

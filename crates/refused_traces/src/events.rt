@@ -1,22 +1,20 @@
 //! Why an event is refused.
 
-ghost use Rattle.std.specs.Prelude.{◌≡◌, ◌++◌, ◌≤◌, ◌<◌, IfOk, length, reverse};
-ghost use Rattle.numbers.specs.Sizes.{most_events};
-ghost use Rattle.refused_traces.specs.Why.{IsWhy, event_head};
+ghost use Rattle.std.specs.Prelude.{◌≡◌, IfOk, reverse};
+ghost use Rattle.refused_traces.specs.Why.{IsWhy};
 
 use crate::fetches::{write_choice, write_pc, write_word};
 use crate::fronts::{write_decode, write_oldest, write_rename};
 use crate::issues::{write_actor, write_issue, write_job};
+use crate::parts::{event_head, joined, last_line};
 use crate::past::Past;
 use crate::places::Holder;
 use crate::results::{write_effect, write_fresh, write_outcome, write_stale};
 use crate::rules::event_rule;
 use crate::standing::write_standing;
 use crate::wanted::make_wanted;
-use charts::rows_of;
-use event_text::print_event;
+use charts::{Row, rows_of};
 use events::Event;
-use reasons::Reason;
 use shared_memory::Memory;
 use smt_core::Core;
 use std::alloc::{AllocError, Global};
@@ -41,53 +39,68 @@ pub fn explain_event(
     event: &Event,
     place: Place,
     alloc: Global,
-) -> Result<Vec<u8>, AllocError> {
-    let rows = rows_of(before, alloc)?;
-    let mut core = core;
+) -> Result<Vec<u8>, AllocError>
+    requires { core.past ≡ reverse before.now }
+    ensures { IfOk result (IsWhy core event.now place) }
+{
+    let rows = rows_before(&core, before, alloc)?;
     let config = core.config().copied();
     let past = Past {
         events: before,
         rows: rows.as_slice(),
         config: &config,
     };
-    let wanted = make_wanted(&mut core, event, past.hart(event.seq()));
-    let mut text = Vec::new(alloc);
+    let mut core = core;
+    let (wanted, reason) = make_wanted(&mut core, event, past.hart(event.seq()));
+    let facts = facts_of(&past, event, place.rule, wanted, &core, alloc)?;
+    let last = last_line(wanted, reason, alloc)?;
+    let head = event_head(event, place);
+    joined(
+        head.as_str().as_bytes(),
+        facts.as_slice(),
+        last.as_slice(),
+        alloc,
+    )
+}
+
+/// The rows of the instructions that a core's events have fetched.
+fn rows_before(core: &Core, before: &[Event], alloc: Global) -> Result<Vec<Row>, AllocError>
+    requires { core.now.past ≡ reverse before.now }
+{
+    // They are a legal history, and not too many: those are clauses of this call.
+    let _events = core.history().len();
+    rows_of(before, alloc)
+}
+
+/// What is told between the first two lines and the last: the words of the rule, what the trace says, and who has
+/// something else.
+fn facts_of(
+    past: &Past<'_>,
+    event: &Event,
+    rule: u8,
+    wanted: Option<Event>,
+    core: &Core,
+    alloc: Global,
+) -> Result<Vec<u8>, AllocError> {
+    let mut facts = Vec::new(alloc);
     let memory = &core.parts().0.memory;
-    match write_lines(&past, event, place, wanted, memory, &mut text) {
-        Ok(()) => Ok(text),
+    match write_rule(past, event, rule, wanted, memory, &mut facts) {
+        Ok(()) => Ok(facts),
         Err(_) => Err(AllocError),
     }
 }
 
-fn write_lines<W: Write>(
+fn write_rule<W: Write>(
     past: &Past<'_>,
     event: &Event,
-    place: Place,
-    wanted: Result<Event, Option<Reason>>,
+    rule: u8,
+    wanted: Option<Event>,
     memory: &Memory,
     out: &mut W,
 ) -> io::Result<()> {
-    let Place { index, line, rule } = place;
-    write!(out, "event {index}, line {line}: ")?;
-    out.write_all(print_event(event).as_str().as_bytes())?;
-    write!(out, "\nrule {rule}: ")?;
     out.write_all(event_rule(event.kind(), rule).as_bytes())?;
     out.write_all(b"\n")?;
-    write_facts(past, event, rule, wanted.ok(), memory, out)?;
-    write_wanted(wanted, out)
-}
-
-/// Writes the event that would be accepted, or why there is none of its kind.
-fn write_wanted<W: Write>(wanted: Result<Event, Option<Reason>>, out: &mut W) -> io::Result<()> {
-    match wanted {
-        Ok(event) => {
-            out.write_all(b"wanted: ")?;
-            out.write_all(print_event(&event).as_str().as_bytes())?;
-        }
-        Err(Some(reason)) => write!(out, "wanted: none, {reason}")?,
-        Err(None) => out.write_all(b"wanted: none")?,
-    }
-    out.write_all(b"\n")
+    write_facts(past, event, rule, wanted, memory, out)
 }
 
 /// Writes what the trace says, and who has something else.

@@ -8,7 +8,7 @@
 //! `standing` (where an instruction stands), `places` (what is in which place), `sources` (whose number an operand is),
 //! `memory` (who has written, and who has reserved); `wanted` (the event that would be accepted); then what each
 //! kind of event is told of it: `fetches`, `fronts`, `issues`, `results` (what a completion or a retirement has),
-//! `events`; and at last `lines` (a line that can't be read) with `forms` (what its fields may be).
+//! `parts` (the text, put together), `events`; and at last `lines` (a line that can't be read) with `forms` (what its fields may be).
 #![tactic(auto)]
 
 mod events;
@@ -18,6 +18,7 @@ mod fronts;
 mod issues;
 mod lines;
 mod memory;
+mod parts;
 mod past;
 mod places;
 mod results;

@@ -1,6 +1,10 @@
 //! Why a line of a trace can't be read.
 
+ghost use Rattle.std.specs.Prelude.{IfOk};
+ghost use Rattle.refused_traces.specs.Why.{IsLineWhy};
+
 use crate::forms::{Field, config_field, event_field};
+use crate::parts::{joined, line_head, rule_head};
 use crate::rules::line_rule;
 use event_text::{FIRST_RANGES, Ranges, SECOND_RANGES, THIRD_RANGES};
 use events::EventKind;
@@ -23,19 +27,53 @@ pub fn explain_line(
     line: usize,
     rule: u8,
     alloc: Global,
-) -> Result<Vec<u8>, AllocError> {
-    let mut text = Vec::new(alloc);
-    match write_lines(trace, line, rule, &mut text) {
-        Ok(()) => Ok(text),
+) -> Result<Vec<u8>, AllocError>
+    ensures { IfOk result (IsLineWhy line rule) }
+{
+    let text = line_of(trace, line);
+    let shown = shown_line(text, alloc)?;
+    let may = fault_of(trace, text, line, rule, alloc)?;
+    let head = line_head(line);
+    let behind = rule_head(rule);
+    let rest = joined(behind.as_str().as_bytes(), may.as_slice(), &[], alloc)?;
+    joined(
+        head.as_str().as_bytes(),
+        shown.as_slice(),
+        rest.as_slice(),
+        alloc,
+    )
+}
+
+fn shown_line(text: &[u8], alloc: Global) -> Result<Vec<u8>, AllocError> {
+    let mut shown = Vec::new(alloc);
+    match write_cut(text, &mut shown) {
+        Ok(()) => Ok(shown),
         Err(_) => Err(AllocError),
     }
 }
 
-fn write_lines<W: Write>(trace: &[u8], line: usize, rule: u8, out: &mut W) -> io::Result<()> {
-    let text = line_of(trace, line);
-    write!(out, "line {line}: ")?;
-    write_cut(text, out)?;
-    write!(out, "\nrule {rule}: ")?;
+/// The words of the rule, and of the field that is refused what may stand there.
+fn fault_of(
+    trace: &[u8],
+    text: &[u8],
+    line: usize,
+    rule: u8,
+    alloc: Global,
+) -> Result<Vec<u8>, AllocError> {
+    let mut may = Vec::new(alloc);
+    match write_fault_of(trace, text, line, rule, &mut may) {
+        Ok(()) => Ok(may),
+        Err(_) => Err(AllocError),
+    }
+}
+
+fn write_fault_of<W: Write>(
+    trace: &[u8],
+    text: &[u8],
+    line: usize,
+    rule: u8,
+    out: &mut W,
+) -> io::Result<()> {
     out.write_all(line_rule(rule).as_bytes())?;
     out.write_all(b"\n")?;
     match ranges_of(trace) {
@@ -82,6 +120,14 @@ fn write_cut<W: Write>(text: &[u8], out: &mut W) -> io::Result<()> {
     write!(out, " .. ({bytes} bytes)")
 }
 
+/// Writes a field of a line as it is shown.
+fn write_field<W: Write>(text: &[u8], out: &mut W) -> io::Result<()> {
+    if text.is_empty() {
+        return out.write_all(b"nothing");
+    }
+    write_cut(text, out)
+}
+
 fn write_version<W: Write>(text: &[u8], out: &mut W) -> io::Result<()> {
     let may = "smt-trace 1, smt-trace 2 or smt-trace 3";
     write_there("version", text, may, out)
@@ -91,13 +137,13 @@ fn write_version<W: Write>(text: &[u8], out: &mut W) -> io::Result<()> {
 fn write_there<W: Write>(name: &str, text: &[u8], may: &str, out: &mut W) -> io::Result<()> {
     write_has(name, text, out)?;
     out.write_all(may.as_bytes())?;
-    out.write_all(b" may stand there\n")
+    out.write_all(b"\n")
 }
 
 fn write_has<W: Write>(name: &str, text: &[u8], out: &mut W) -> io::Result<()> {
     write!(out, "{name}: the line has ")?;
-    write_cut(text, out)?;
-    out.write_all(b", ")
+    write_field(text, out)?;
+    out.write_all(b"; there may stand ")
 }
 
 /// Writes why the line of a core is refused.
@@ -110,7 +156,7 @@ fn write_config_fault<W: Write>(text: &[u8], rule: u8, out: &mut W) -> io::Resul
             let most = MOST_ACTORS.saturating_add(3);
             write!(
                 out,
-                "fields: the line has {count} behind config, 4 to {most} may stand there: "
+                "fields: the line has {count} behind config; there may stand 4 to {most}: "
             )?;
             writeln!(out, "harts extra queue, and 1 to {MOST_ACTORS} roles")
         }
@@ -165,7 +211,7 @@ fn write_count<W: Write>(
     write!(out, "fields: the line has {count} behind ")?;
     out.write_all(letter)?;
     let wanted = kind.fields_after();
-    write!(out, ", {wanted} may stand there:")?;
+    write!(out, "; there may stand {wanted}:")?;
     for place in 0..wanted {
         let Field { name, .. } = event_field(kind, place, ranges);
         write!(out, " {name}")?;
@@ -201,7 +247,7 @@ fn write_first_fault<W: Write>(
 fn write_fault<W: Write>(field: Field, text: &[u8], out: &mut W) -> io::Result<()> {
     write_has(field.name, text, out)?;
     field.form.write(out)?;
-    out.write_all(b" may stand there\n")
+    out.write_all(b"\n")
 }
 
 /// The address and the data in the fields of a retirement.
@@ -229,8 +275,8 @@ fn is_dash(text: &[u8]) -> bool {
 fn write_half_write<W: Write>(fields: &[u8], out: &mut W) -> io::Result<()> {
     let (address, data) = write_of(fields);
     out.write_all(b"address and data: the line has ")?;
-    write_cut(address, out)?;
+    write_field(address, out)?;
     out.write_all(b" and ")?;
-    write_cut(data, out)?;
-    out.write_all(b", both or none may stand there\n")
+    write_field(data, out)?;
+    out.write_all(b"; there may stand both or none\n")
 }

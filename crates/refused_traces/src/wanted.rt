@@ -1,7 +1,8 @@
 //! The event that would be accepted in place of the one that is refused.
 
-ghost use Rattle.std.specs.Prelude.{◌≡◌, None, IfOk, IfSome};
-ghost use Rattle.smt_model.specs.Rules.{refused};
+ghost use Rattle.std.specs.Prelude.{◌≡◌, IfSome};
+ghost use Rattle.smt_model.specs.Rules.{is_allowed};
+ghost use Rattle.smt_core.specs.declared.answer.Answer.TheVariants.{Done};
 
 use events::Event;
 use exec_units::{Job, work};
@@ -48,20 +49,17 @@ impl Predict for Said {
 
 /// Makes the step that a trace could have made in place of an event that its core refuses: of the event's kind, by its
 /// actor where the core has it, and of the hart of its instruction, where that is fetched (`hart`). Else it is by the
-/// least actor that can, and of the least hart. Answers the event of the step, or why it can't be made.
+/// least actor that can, and of the least hart. Answers the event of the step; and why it can't be made.
 pub(crate) fn make_wanted(
     core: &mut Core,
     event: &Event,
     hart: Option<u8>,
-) -> Result<Event, Option<Reason>>
-    ensures { IfOk result (λ e. refused core.old.setup core.old.past e ≡ None) }
+) -> (Option<Event>, Option<Reason>)
+    ensures { IfSome result.0 (is_allowed core.old.setup core.old.past) }
 {
     let ask = ask_in_place_of(core, event, hart);
     let reason = reason_of(core, ask);
-    match make(core, ask) {
-        Some(event) => Ok(event),
-        None => Err(reason),
-    }
+    (make(core, ask), reason)
 }
 
 /// The step that an event is of.
@@ -159,7 +157,7 @@ fn reason_of(core: &Core, ask: Ask) -> Option<Reason> {
 
 /// Makes a step, where it can be made. Answers its event.
 fn make(core: &mut Core, ask: Ask) -> Option<Event>
-    ensures { IfSome result (λ e. refused core.old.setup core.old.past e ≡ None) }
+    ensures { IfSome result (is_allowed core.old.setup core.old.past) }
 {
     let Ask { step, actor, hart } = ask;
     match step {
@@ -173,7 +171,7 @@ fn make(core: &mut Core, ask: Ask) -> Option<Event>
 }
 
 fn event_of(answer: Answer) -> Option<Event>
-    ensures { IfSome result (λ e. answer ≡ Answer.Done e) }
+    ensures { IfSome result (λ e. answer ≡ Done e) }
 {
     match answer {
         Answer::Done(event) => Some(event),
@@ -182,7 +180,7 @@ fn event_of(answer: Answer) -> Option<Event>
 }
 
 fn issue(core: &mut Core, actor: u8) -> Option<Event>
-    ensures { IfSome result (λ e. refused core.old.setup core.old.past e ≡ None) }
+    ensures { IfSome result (is_allowed core.old.setup core.old.past) }
 {
     match core.issue(actor) {
         IssueAnswer::Job(job, event) => {
@@ -195,7 +193,7 @@ fn issue(core: &mut Core, actor: u8) -> Option<Event>
 
 /// Works the job that an actor has, and hands it back.
 fn complete(core: &mut Core, actor: u8) -> Option<Event>
-    ensures { IfSome result (λ e. refused core.old.setup core.old.past e ≡ None) }
+    ensures { IfSome result (is_allowed core.old.setup core.old.past) }
 {
     let open = core
         .parts()

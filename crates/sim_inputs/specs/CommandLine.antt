@@ -195,6 +195,7 @@ pub record IsChart (rows : List Row) (chart : ChartCommand) : Type 0 where
 
 pub record IsExplain (rows : List Row) (explain : ExplainCommand) : Type 0 where
   pub image : IsFile rows (codes "IMAGE") explain.image
+  pub trace : IsFileOption rows (codes "trace") explain.trace
 
 -- An order has one file, as it is or as its script; or it has none.
 abbrev pub has_one_file : OutcomesCommand → Bool

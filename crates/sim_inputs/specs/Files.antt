@@ -73,7 +73,7 @@ files_with config (commands.OfProgram command) = program_files config command
 files_with config (commands.Explain explain) = record {
   config = config;
   program = Some explain.image;
-  second = None;
+  second = explain.trace;
   written = None;
 }
 files_with config (commands.Litmus litmus) = record {

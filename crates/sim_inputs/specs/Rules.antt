@@ -176,9 +176,9 @@ abbrev pub chart_command : App
 chart_command = subcommand (codes "chart") (image_rule ∷ trace_rule ∷ config_rule ∷ from_rule ∷ to_rule
     ∷ hart_rule ∷ width_rule ∷ svg_rule ∷ kanata_rule ∷ [])
 
--- `explain IMAGE`, with `--config FILE`.
+-- `explain IMAGE`, with `--config FILE` and `--trace FILE`, which names a trace that is read.
 abbrev pub explain_command : App
-explain_command = subcommand (codes "explain") (image_rule ∷ config_rule ∷ [])
+explain_command = subcommand (codes "explain") (image_rule ∷ config_rule ∷ written_trace_rule ∷ [])
 
 -- `outcomes IMAGE`, with `--config FILE`, `--states N`, `--watch LIST`, `--exists CONDITION`,
 -- `--outcome N`, `--stuck`, `--witness FILE` and `--script FILE`.

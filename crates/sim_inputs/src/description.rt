@@ -126,6 +126,12 @@ const WHY_ENDS: Argument = Argument {
     help: "Tell why each hart that hasn't ended stands where it does",
 };
 
+const WHY_REFUSED: Argument = Argument {
+    kind: Kind::Flag,
+    name: "why",
+    help: "Tell why the trace is refused, or where each hart stands",
+};
+
 const TIMES: Argument = Argument {
     kind: Kind::Number,
     name: "times",
@@ -160,6 +166,12 @@ const WRITTEN_TRACE: Argument = Argument {
     kind: Kind::Option,
     name: "trace",
     help: "The file that the history is written to",
+};
+
+const EXPLAINED_TRACE: Argument = Argument {
+    kind: Kind::Option,
+    name: "trace",
+    help: "A trace: tell why it is refused",
 };
 
 const FROM: Argument = Argument {
@@ -308,7 +320,7 @@ static OF_IMAGES: [Subcommand; 10] = [
     Subcommand {
         name: "check",
         about: "Check that a trace is a history of the core, and print its report",
-        arguments: &[IMAGE, TRACE, CONFIG, COUNTS, JSON, RECORDS, WHY_ENDS],
+        arguments: &[IMAGE, TRACE, CONFIG, COUNTS, JSON, RECORDS, WHY_REFUSED],
         form: TRACE_FORM,
     },
     Subcommand {
@@ -344,7 +356,7 @@ static OF_IMAGES: [Subcommand; 10] = [
     Subcommand {
         name: "explain",
         about: "Tell what image and configuration hold, or why they are refused",
-        arguments: &[IMAGE, CONFIG],
+        arguments: &[IMAGE, CONFIG, EXPLAINED_TRACE],
         form: "",
     },
     Subcommand {

@@ -87,7 +87,7 @@ impl<'a> Line<'a> {
     {
         let (program, second, written) = match self.command {
             Command::OfProgram(command) => return command.files_with(self.config),
-            Command::Explain(explain) => (Some(explain.image), None, None),
+            Command::Explain(explain) => (Some(explain.image), explain.trace, None),
             Command::Litmus(litmus) => (Some(litmus.test), None, litmus.written()),
             Command::Migrate(migrate) => (None, Some(migrate.trace), Some(migrate.out)),
         };

@@ -158,6 +158,8 @@ pub struct ChartCommand<'a> {
 #[derive(Clone, Copy, Drop)]
 pub struct ExplainCommand<'a> {
     pub image: &'a str,
+    /// `--trace FILE`: a trace that is read, and of which is told why it is refused.
+    pub trace: Option<&'a str>,
 }
 
 /// `outcomes IMAGE`: every end that the program has on the plain machine is listed.

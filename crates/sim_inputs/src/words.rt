@@ -238,6 +238,7 @@ fn explain_in<'a>(found: &ArgMatches<'a>) -> Option<ExplainCommand<'a>>
 {
     Some(ExplainCommand {
         image: value_of(found, "IMAGE")?,
+        trace: value_of(found, "trace"),
     })
 }
 
