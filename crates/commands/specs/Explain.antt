@@ -9,6 +9,8 @@ use Rattle.scripts.specs.Script.{IsScript, IsFirstMisspelled}
 use Rattle.sim_inputs.specs.{declared.settings.Settings.Settings, declared.line.Beside.Beside}
 use Rattle.sim_inputs.specs.declared.line.Beside.TheVariants as beside
 use Rattle.explanations.specs.Explained.{Begins, refused_line}
+use Rattle.core_commands.specs.Check.{AreHistory, IsCheckRefusal, OfEvents}
+use Rattle.core_commands.specs.Judgement.{trace_head}
 use Rattle.explained_words.specs.Explained.{IsOrderFault, IsFollowed, script_head, order_head}
 use Rattle.explained_words.specs.declared.order.OrderFault.TheVariants as fault
 use Rattle.command_parts.specs.{declared.refused.Refused.Refused}
@@ -60,8 +62,8 @@ pub record ExplainComesTo (old new : Option (List ℕ)) (exit_status : ℕ) : Ty
 -- ---- Beside them
 
 -- When each refusal comes of a text beside an image that is accepted: of a script its first word that says
--- nothing, of an order its first word that the plain machine doesn't follow. Of memory and of the output nothing
--- is said.
+-- nothing, of an order its first word that the plain machine doesn't follow, of a trace as by `check`. Of memory and
+-- of the output nothing is said.
 abbrev pub IsScriptFault : List ℕ → Refused → Type 0
 IsScriptFault script (Script number) = IsFirstMisspelled script number
 IsScriptFault script Memory = Unit {0}
@@ -80,16 +82,20 @@ IsFaultOfOrder settings image order _ = ⊥
 abbrev pub IsBesideFault : Beside → Settings → ProgramImage → List ℕ → Refused → Type 0
 IsBesideFault (beside.Script name) settings image text reason = IsScriptFault text reason
 IsBesideFault (beside.Order name) settings image text reason = IsFaultOfOrder settings image text reason
+IsBesideFault (beside.Trace name) settings image text reason = IsCheckRefusal settings image text reason
 
--- The text is accepted: all words of a script say something; the plain machine follows an order.
+-- The text is accepted: all words of a script say something; the plain machine follows an order; the events of a
+-- trace are a history of the core that it is of.
 abbrev pub IsTextAccepted : Beside → Settings → ProgramImage → List ℕ → Type 0
 IsTextAccepted (beside.Script name) settings image text = (words : List ScriptWord) × IsScript text words
 IsTextAccepted (beside.Order name) settings image text = IsFollowed image settings.config.harts text
+IsTextAccepted (beside.Trace name) settings image text = OfEvents settings image text AreHistory
 
 -- The line that says so.
 abbrev pub accepted_line : Beside → List ℕ
 accepted_line (beside.Script name) = script_head None
 accepted_line (beside.Order name) = order_head None
+accepted_line (beside.Trace name) = trace_head
 
 -- Of a text that is accepted: it was told behind all else that was printed.
 pub record TellsBeside (told : Beside) (settings : Settings) (image : ProgramImage) (text : List ℕ)

@@ -1,4 +1,4 @@
-//! What the command `explain` says of a script or an order, beside an image and a configuration that are accepted.
+//! What the command `explain` says of a script, an order or a trace, beside an image and a configuration that are accepted.
 
 ghost use Rattle.std.specs.Prelude.{◌≡◌, IfErr, OnOk};
 ghost use Rattle.sim_inputs.specs.declared.line.Beside.TheVariants as beside;
@@ -6,6 +6,7 @@ ghost use Rattle.commands.specs.Explain.{IsScriptFault, IsFaultOfOrder, IsBeside
 
 use crate::explain::put;
 use command_parts::Refused;
+use core_commands::perform_judgement;
 use elf_image::Image;
 use explained_words::{OrderFault, explain_order, explain_script};
 use sim_inputs::{Beside, Settings};
@@ -13,10 +14,10 @@ use smt_core::Predict;
 use std::alloc::Global;
 use std::io::Write;
 
-/// Says of a script or an order what it asks for, and which of its words come to nothing. Refused are, behind what is
-/// said of it, the first word of a script that says nothing, as by `step`, and the first word of an order that the
-/// plain machine doesn't follow, as by `plain`. All that is printed is flushed. `Output` is answered where `out`
-/// failed.
+/// Says of a script or an order what it asks for, and which of its words come to nothing; of a trace, that it is
+/// accepted, or why it is refused. Refused are, behind what is said of it, the first word of a script that says
+/// nothing, as by `step`, the first word of an order that the plain machine doesn't follow, as by `plain`, and a trace
+/// as by `check`. All that is printed is flushed. `Output` is answered where `out` failed.
 pub(crate) fn tell_beside<P: Predict, W: Write>(
     beside: Beside<'_>,
     text: &[u8],
@@ -33,6 +34,10 @@ pub(crate) fn tell_beside<P: Predict, W: Write>(
     match beside {
         Beside::Script(_) => tell_script(text, settings, image, predict, out, alloc),
         Beside::Order(_) => tell_order(text, settings, image, out, alloc),
+        Beside::Trace(_) => match perform_judgement(image, settings, text, out, alloc) {
+            Ok(()) => Ok(()),
+            Err(refused) => Err(refused),
+        },
     }
 }
 

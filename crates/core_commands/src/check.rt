@@ -12,6 +12,7 @@ ghost use Rattle.core_commands.specs.Check.{IsTraceRefusal, IsHistoryRefusal, se
 
 use crate::account::report_core;
 use crate::wanted::Wanted;
+use crate::why::write_why;
 use command_parts::Refused;
 use elf_image::Image;
 use event_text::{Trace, TraceHead, TraceRefused, read_trace};
@@ -27,10 +28,35 @@ use std::io::Write;
 /// stand.
 ///
 /// Refused are, in this order, the first line of the trace that breaks a rule, sizes of no core or
-/// too many events, and the first event that isn't allowed; then nothing is printed. `Output` is
-/// answered where `out` failed.
+/// too many events, and the first event that isn't allowed; then nothing is printed but why the trace is
+/// refused, where it is wanted why harts stand where they do. `Output` is answered where `out` failed, and
+/// never in place of another refusal.
 #[inline(never)]
 pub fn perform_check<W: Write>(
+    image: &Image,
+    settings: &Settings,
+    trace: &[u8],
+    wanted: Wanted,
+    out: &mut W,
+    alloc: Global,
+) -> Result<u8, Refused>
+    ensures refused { IfErr result (IsCheckRefusal settings.now image.now trace.now) }
+    ensures ended { IfOk result (CheckComesTo settings.now image.now trace.now wanted
+        (W.contents out.old) (W.contents out.new)) }
+{
+    match check_trace(image, settings, trace, wanted, out, alloc) {
+        Ok(status) => Ok(status),
+        Err(refused) => {
+            if wanted.ends.is_some() {
+                write_why(image, settings, trace, refused, out, alloc);
+            }
+            Err(refused)
+        }
+    }
+}
+
+/// The same, without a word of why a trace is refused.
+fn check_trace<W: Write>(
     image: &Image,
     settings: &Settings,
     trace: &[u8],

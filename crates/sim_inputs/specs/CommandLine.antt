@@ -197,13 +197,16 @@ pub record IsChart (rows : List Row) (chart : ChartCommand) : Type 0 where
   pub kanata : IsFileOption rows (codes "kanata") chart.kanata
   pub together : can_be_drawn chart ≡ true
 
--- What is explained beside an image: a script, an order, or nothing.
+-- What is explained beside an image: a script, an order, a trace, or nothing.
 abbrev pub IsBeside : List Row → Option Beside → Type 0
 IsBeside rows (Some (beside.Script script)) =
-    IsFile rows (codes "script") script × (first_of (codes "order") rows ≡ None)
+    IsFile rows (codes "script") script × (first_of (codes "order") rows ≡ None) × (first_of (codes "trace") rows ≡ None)
 IsBeside rows (Some (beside.Order order)) =
-    IsFile rows (codes "order") order × (first_of (codes "script") rows ≡ None)
+    IsFile rows (codes "order") order × (first_of (codes "script") rows ≡ None) × (first_of (codes "trace") rows ≡ None)
+IsBeside rows (Some (beside.Trace trace)) =
+    IsFile rows (codes "trace") trace × (first_of (codes "script") rows ≡ None) × (first_of (codes "order") rows ≡ None)
 IsBeside rows None = (first_of (codes "script") rows ≡ None) × (first_of (codes "order") rows ≡ None)
+    × (first_of (codes "trace") rows ≡ None)
 
 pub record IsExplain (rows : List Row) (explain : ExplainCommand) : Type 0 where
   pub image : IsFile rows (codes "IMAGE") explain.image

@@ -29,6 +29,7 @@ written_for_test litmus = if is_some litmus.image then litmus.image else litmus.
 abbrev pub beside_name : Beside → Bor (List ℕ)
 beside_name (beside.Script script) = script
 beside_name (beside.Order order) = order
+beside_name (beside.Trace trace) = trace
 
 abbrev pub explained_beside : ExplainCommand → Option (Bor (List ℕ))
 explained_beside explain = option_map beside_name explain.beside
@@ -107,6 +108,11 @@ files_of line = files_with line.config line.command
 
 -- The second file of a command has words, those of a script or of an order: its comments are blanked before
 -- it is read.
+abbrev is_of_words : Beside → Bool
+is_of_words (beside.Script script) = true
+is_of_words (beside.Order order) = true
+is_of_words (beside.Trace trace) = false
+
 abbrev pub reads_words : Command → Bool
 reads_words (commands.OfProgram (program.Step step)) = true
 reads_words (commands.OfProgram (program.Run run)) = false
@@ -117,7 +123,7 @@ reads_words (commands.OfProgram (program.Script script)) = false
 reads_words (commands.OfProgram (program.List list)) = false
 reads_words (commands.OfProgram (program.Chart chart)) = false
 reads_words (commands.OfProgram (program.Outcomes outcomes)) = false
-reads_words (commands.Explain explain) = is_some explain.beside
+reads_words (commands.Explain explain) = option_map_or is_of_words explain.beside false
 reads_words (commands.Litmus litmus) = false
 reads_words (commands.Migrate migrate) = false
 

@@ -186,10 +186,10 @@ abbrev pub chart_command : App
 chart_command = subcommand (codes "chart") (image_rule ∷ trace_rule ∷ config_rule ∷ from_rule ∷ to_rule
     ∷ hart_rule ∷ width_rule ∷ svg_rule ∷ kanata_rule ∷ [])
 
--- `explain IMAGE`, with `--config FILE`, `--script FILE` and `--order FILE`.
+-- `explain IMAGE`, with `--config FILE`, `--script FILE`, `--order FILE` and `--trace FILE`, each of which is read.
 abbrev pub explain_command : App
 explain_command = subcommand (codes "explain") (image_rule ∷ config_rule ∷ explained_script_rule
-    ∷ explained_order_rule ∷ [])
+    ∷ explained_order_rule ∷ written_trace_rule ∷ [])
 
 -- `outcomes IMAGE`, with `--config FILE`, `--states N`, `--watch LIST`, `--exists CONDITION`,
 -- `--outcome N`, `--stuck`, `--witness FILE` and `--script FILE`.

@@ -128,6 +128,12 @@ const WHY_ENDS: Argument = Argument {
     help: "Tell why each hart that hasn't ended stands where it does",
 };
 
+const WHY_REFUSED: Argument = Argument {
+    kind: Kind::Flag,
+    name: "why",
+    help: "Tell why the trace is refused, or where each hart stands",
+};
+
 const TIMES: Argument = Argument {
     kind: Kind::Number,
     name: "times",
@@ -162,6 +168,12 @@ const WRITTEN_TRACE: Argument = Argument {
     kind: Kind::Option,
     name: "trace",
     help: "The file that the history is written to",
+};
+
+const EXPLAINED_TRACE: Argument = Argument {
+    kind: Kind::Option,
+    name: "trace",
+    help: "A trace: tell why it is refused",
 };
 
 const FROM: Argument = Argument {
@@ -329,7 +341,7 @@ static OF_IMAGES: [Subcommand; 10] = [
     Subcommand {
         name: "check",
         about: "Check that a trace is a history of the core, and print its report",
-        arguments: &[IMAGE, TRACE, CONFIG, COUNTS, JSON, RECORDS, WHY_ENDS],
+        arguments: &[IMAGE, TRACE, CONFIG, COUNTS, JSON, RECORDS, WHY_REFUSED],
         form: TRACE_FORM,
     },
     Subcommand {
@@ -365,7 +377,13 @@ static OF_IMAGES: [Subcommand; 10] = [
     Subcommand {
         name: "explain",
         about: "Tell what image and configuration hold, or why they are refused",
-        arguments: &[IMAGE, CONFIG, EXPLAINED_SCRIPT, EXPLAINED_ORDER],
+        arguments: &[
+            IMAGE,
+            CONFIG,
+            EXPLAINED_SCRIPT,
+            EXPLAINED_ORDER,
+            EXPLAINED_TRACE,
+        ],
         form: "",
     },
     Subcommand {

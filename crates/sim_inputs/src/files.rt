@@ -67,6 +67,7 @@ impl<'a> ExplainCommand<'a> {
         match self.beside {
             Some(Beside::Script(script)) => Some(script),
             Some(Beside::Order(order)) => Some(order),
+            Some(Beside::Trace(trace)) => Some(trace),
             None => None,
         }
     }
@@ -106,7 +107,10 @@ impl<'a> Command<'a> {
             Command::OfProgram(ProgramCommand::Step(_)) => true,
             Command::OfProgram(ProgramCommand::Plain(_)) => true,
             Command::OfProgram(ProgramCommand::Schedule(_)) => true,
-            Command::Explain(explain) => explain.beside.is_some(),
+            Command::Explain(explain) => matches!(
+                explain.beside,
+                Some(Beside::Script(_) | Beside::Order(_))
+            ),
             _ => false,
         }
     }

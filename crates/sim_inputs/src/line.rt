@@ -172,6 +172,8 @@ pub enum Beside<'a> {
     Script(&'a str),
     /// `--order FILE`: an order that the plain machine runs in.
     Order(&'a str),
+    /// `--trace FILE`: a trace that is judged, and of which is told why it is refused.
+    Trace(&'a str),
 }
 
 /// `outcomes IMAGE`: every end that the program has on the plain machine is listed.

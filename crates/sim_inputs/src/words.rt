@@ -256,11 +256,13 @@ fn explain_in<'a>(found: &ArgMatches<'a>) -> Option<ExplainCommand<'a>>
 fn beside_in<'a>(found: &ArgMatches<'a>) -> Option<Option<Beside<'a>>>
     ensures { Finds (IsBeside (rows_of (found_of found.now))) result }
 {
-    match (value_of(found, "script"), value_of(found, "order")) {
-        (None, None) => Some(None),
-        (Some(script), None) => Some(Some(Beside::Script(script))),
-        (None, Some(order)) => Some(Some(Beside::Order(order))),
-        (Some(_), Some(_)) => None,
+    let trace = value_of(found, "trace");
+    match (value_of(found, "script"), value_of(found, "order"), trace) {
+        (None, None, None) => Some(None),
+        (Some(script), None, None) => Some(Some(Beside::Script(script))),
+        (None, Some(order), None) => Some(Some(Beside::Order(order))),
+        (None, None, Some(trace)) => Some(Some(Beside::Trace(trace))),
+        _ => None,
     }
 }
 

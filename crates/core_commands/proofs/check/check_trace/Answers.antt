@@ -2,7 +2,7 @@ use Rattle.std.proofs.Common.{◌∙◌, subst, sym}
 use Rattle.std.proofs.lemmas.Result.{IfErr-weaker, IfOk-weaker}
 use Rattle.core_commands.specs.Account.{IsReported}
 use Rattle.core_commands.proofs.OfCheck.{report_refusal, comes_to}
-use Rattle.core_commands.proofs.check.perform_check.Goals as goal
+use Rattle.core_commands.proofs.check.check_trace.Goals as goal
 
 pub returns-clause-refused : goal.returns-clause-refused
 returns-clause-refused g c =
