@@ -145,7 +145,7 @@ gnu)
 llvm) library_words="--start-lib $work/library/*.o --end-lib $libraries" ;; # what stands between is as in an archive
 esac
 
-# Every word but the last is a source. Of each function of C the compiler says how much stack it takes itself.
+# Every word but the last is a source.
 if [ $lines = yes ]; then compile="$compile -g"; fi
 objects=
 count=0
@@ -155,7 +155,7 @@ while [ $# -gt 1 ]; do
     case $1 in
     *.c)
         # Each word of CFLAGS is one flag.
-        $compile $c_flags -fstack-usage ${CFLAGS:-} -c -o "$work/$count.o" "$1"
+        $compile $c_flags ${CFLAGS:-} -c -o "$work/$count.o" "$1"
         needs_start=yes
         ;;
     *.s | *.S) $compile -c -o "$work/$count.o" "$1" ;;
@@ -168,13 +168,6 @@ image=$1
 if [ $needs_start = yes ]; then
     $compile -c -o "$work/start.o" "$start"
     objects="$work/start.o $objects"
-    for usage in "$work"/*.su; do
-        if [ -e "$usage" ]; then cat "$usage"; fi
-    done | awk -F '\t' -v stack="$stack" -v harts="$harts" '
-        $2 > stack {
-            fewer = harts > 8 && $2 <= 4096 ? "--harts 8 or fewer, or " : ""
-            printf "image.sh: %s takes %d bytes of stack, and a hart has %d: say %s--stack N\n", $1, $2, stack, fewer
-        }' >&2
 fi
 
 # The linker's script, with code that may be written or not; and a second one that keeps what `-g` has made.
@@ -191,5 +184,23 @@ if [ $lines = yes ]; then
     $link --orphan-handling=place -o "$work/with_lines" $objects $library_words
     $disassemble -d -l "$work/with_lines" | awk -v folder="$PWD" -f "$here/lines.awk" >"${image%.elf}.lines"
 fi
+
+# What calls take of a stack is read from the code, where there is what disassembles it.
+stacks=
+if [ $needs_start = yes ]; then
+    stacks="$harts stacks of $stack bytes, "
+    if command -v $disassemble >/dev/null; then
+        # The bytes, with a + where they may be more, and the functions of the deepest way.
+        set -- $($disassemble -d "$image" | awk -f "$here/stack.awk")
+        bytes=${1%+}
+        taken=$bytes$([ "$1" = "$bytes" ] || echo ' or more')
+        stacks="$harts stacks of $stack bytes with $taken taken, "
+        shift
+        if [ "$bytes" -gt "$stack" ]; then
+            fewer=$([ "$harts" -le 8 ] || [ "$bytes" -gt 4096 ] || echo '--harts 8 or fewer, or ')
+            echo "image.sh: calls of $* take $taken bytes of a stack of $stack: say $fewer--stack N" >&2
+        fi
+    fi
+fi
 said=$($compiler --version | head -n 1)
-echo "image.sh: $image by $said: $harts stacks of $stack bytes, $ram bytes of memory" >&2
+echo "image.sh: $image by $said: $stacks$ram bytes of memory" >&2
