@@ -70,8 +70,8 @@ case ${TOOLS:=llvm} in
 gnu)
     if [ -z "$gnu" ]; then refuse "there is no riscv64-unknown-elf-gcc: install gcc-riscv64-unknown-elf"; fi
     compiler=$gnu-gcc
-    # For GNU's assembler FENCE.I is of an extension of its own.
-    compile="$compiler -march=rv32ima_zifencei -mabi=ilp32"
+    # For GNU's assembler FENCE.I is of an extension of its own; and the compiler for Linux makes all for any address.
+    compile="$compiler -march=rv32ima_zifencei -mabi=ilp32 -fno-pie"
     # No loop becomes a call of memcpy or memset: within these it would call itself.
     no_calls="-fno-builtin -fno-tree-loop-distribute-patterns"
     link="$gnu-ld -m elf32lriscv --no-relax"
@@ -112,6 +112,9 @@ if command -v $bare >/dev/null; then
     done
 fi
 if [ $library = yes ]; then
+    if [ -z "${PICOLIBC:-}${libraries}" ]; then
+        refuse "--libc wants the functions of riscv64-unknown-elf-gcc too: install gcc-riscv64-unknown-elf"
+    fi
     picolibc=${PICOLIBC:-/usr/lib/picolibc/riscv64-unknown-elf}
     folder=$($bare -march=rv32im -mabi=ilp32 -print-multi-directory 2>/dev/null || echo rv32im/ilp32)
     archive=$picolibc/lib/$folder/libc.a

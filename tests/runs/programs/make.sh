@@ -22,6 +22,7 @@ for TOOLS in gnu llvm; do
     done
     for program in lock right both; do make $program $examples/locks/c/$program.c; done
     make library --libc $examples/c/library.c
+    for program in sort primes search; do make $program $examples/c/$program.c; done
     make patch --writable $examples/selfmodifying/patch.c
     # From the root, so that the lines have the names that a page has.
     (
