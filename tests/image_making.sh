@@ -50,7 +50,7 @@ for TOOLS in gnu llvm; do
         "$(said small.c small.elf)"
     is "$TOOLS: few harts" 'image.sh: small.elf by ..: 4 stacks of 4096 bytes with 0 taken, 65536 bytes of memory' \
         "$(said --harts 4 small.c small.elf)"
-    is "$TOOLS: harts by the environment" 'image.sh: small.elf by ..: 9 stacks of 2048 bytes with 0 taken, 131072 bytes of memory' \
+    is "$TOOLS: harts by the environment" 'image.sh: small.elf by ..: 9 stacks of 2048 bytes with 0 taken, 131072 bytes of memory, and so ram = 131072 in the configuration' \
         "$(HARTS=9 RAM=131072 said small.c small.elf)"
     is "$TOOLS: a stack too small" 'image.sh: calls of run_hart inner take .. bytes of a stack of 2048: say --harts 8 or fewer, or --stack N' \
         "$(said deep.c deep.elf | sed -n 's/take 3[01][0-9][0-9] bytes/take .. bytes/p')"
@@ -86,6 +86,8 @@ is 'a source for a number' "image.sh: --harts wants a number from 1 to 16, and h
 is 'seventeen harts' "image.sh: --harts wants a number from 1 to 16, and has '17'" \
     "$(said --harts 17 small.c small.elf)"
 is 'half a page' "image.sh: --ram wants a multiple of 4096, and has '6144'" "$(said --ram 6144 small.c small.elf)"
+is 'a number with a zero before it' \
+    "image.sh: --stack wants a number from 16 to 65536, and has '0800'" "$(said --stack 0800 small.c small.elf)"
 is 'a stack of 100' "image.sh: --stack wants a multiple of 16, and has '100'" "$(said --stack 100 small.c small.elf)"
 is 'an unknown option' 'image.sh: there is no option --fast: --libc, --writable, -g, --harts N, --stack N, --ram N' \
     "$(said --fast small.c small.elf)"

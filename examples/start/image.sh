@@ -22,7 +22,7 @@ refuse() {
 # A number in decimal digits, from the least to the greatest that it may be.
 number() {
     case $2 in
-    '' | *[!0-9]* | ?????????*) refuse "$1 wants a number from $3 to $4, and has '$2'" ;;
+    '' | *[!0-9]* | 0?* | ?????????*) refuse "$1 wants a number from $3 to $4, and has '$2'" ;;
     esac
     if [ "$2" -lt "$3" ] || [ "$2" -gt "$4" ]; then refuse "$1 wants a number from $3 to $4, and has '$2'"; fi
 }
@@ -206,4 +206,5 @@ if [ $needs_start = yes ]; then
     fi
 fi
 said=$($compiler --version | head -n 1)
-echo "image.sh: $image by $said: $stacks$ram bytes of memory" >&2
+too=$([ "$ram" -eq 65536 ] || echo ", and so ram = $ram in the configuration")
+echo "image.sh: $image by $said: $stacks$ram bytes of memory$too" >&2
