@@ -22,7 +22,7 @@ refuse() {
 # A number in decimal digits, from the least to the greatest that it may be.
 number() {
     case $2 in
-    '' | *[!0-9]* | ?????????*) refuse "$1 wants a number from $3 to $4, and has '$2'" ;;
+    '' | *[!0-9]* | 0?* | ?????????*) refuse "$1 wants a number from $3 to $4, and has '$2'" ;;
     esac
     if [ "$2" -lt "$3" ] || [ "$2" -gt "$4" ]; then refuse "$1 wants a number from $3 to $4, and has '$2'"; fi
 }
@@ -70,8 +70,8 @@ case ${TOOLS:=llvm} in
 gnu)
     if [ -z "$gnu" ]; then refuse "there is no riscv64-unknown-elf-gcc: install gcc-riscv64-unknown-elf"; fi
     compiler=$gnu-gcc
-    # For GNU's assembler FENCE.I is of an extension of its own.
-    compile="$compiler -march=rv32ima_zifencei -mabi=ilp32"
+    # For GNU's assembler FENCE.I is of an extension of its own; and the compiler for Linux makes all for any address.
+    compile="$compiler -march=rv32ima_zifencei -mabi=ilp32 -fno-pie"
     # No loop becomes a call of memcpy or memset: within these it would call itself.
     no_calls="-fno-builtin -fno-tree-loop-distribute-patterns"
     link="$gnu-ld -m elf32lriscv --no-relax"
@@ -112,6 +112,9 @@ if command -v $bare >/dev/null; then
     done
 fi
 if [ $library = yes ]; then
+    if [ -z "${PICOLIBC:-}${libraries}" ]; then
+        refuse "--libc wants the functions of riscv64-unknown-elf-gcc too: install gcc-riscv64-unknown-elf"
+    fi
     picolibc=${PICOLIBC:-/usr/lib/picolibc/riscv64-unknown-elf}
     folder=$($bare -march=rv32im -mabi=ilp32 -print-multi-directory 2>/dev/null || echo rv32im/ilp32)
     archive=$picolibc/lib/$folder/libc.a
@@ -145,7 +148,7 @@ gnu)
 llvm) library_words="--start-lib $work/library/*.o --end-lib $libraries" ;; # what stands between is as in an archive
 esac
 
-# Every word but the last is a source. Of each function of C the compiler says how much stack it takes itself.
+# Every word but the last is a source.
 if [ $lines = yes ]; then compile="$compile -g"; fi
 objects=
 count=0
@@ -155,7 +158,7 @@ while [ $# -gt 1 ]; do
     case $1 in
     *.c)
         # Each word of CFLAGS is one flag.
-        $compile $c_flags -fstack-usage ${CFLAGS:-} -c -o "$work/$count.o" "$1"
+        $compile $c_flags ${CFLAGS:-} -c -o "$work/$count.o" "$1"
         needs_start=yes
         ;;
     *.s | *.S) $compile -c -o "$work/$count.o" "$1" ;;
@@ -168,13 +171,6 @@ image=$1
 if [ $needs_start = yes ]; then
     $compile -c -o "$work/start.o" "$start"
     objects="$work/start.o $objects"
-    for usage in "$work"/*.su; do
-        if [ -e "$usage" ]; then cat "$usage"; fi
-    done | awk -F '\t' -v stack="$stack" -v harts="$harts" '
-        $2 > stack {
-            fewer = harts > 8 && $2 <= 4096 ? "--harts 8 or fewer, or " : ""
-            printf "image.sh: %s takes %d bytes of stack, and a hart has %d: say %s--stack N\n", $1, $2, stack, fewer
-        }' >&2
 fi
 
 # The linker's script, with code that may be written or not; and a second one that keeps what `-g` has made.
@@ -191,5 +187,24 @@ if [ $lines = yes ]; then
     $link --orphan-handling=place -o "$work/with_lines" $objects $library_words
     $disassemble -d -l "$work/with_lines" | awk -v folder="$PWD" -f "$here/lines.awk" >"${image%.elf}.lines"
 fi
+
+# What calls take of a stack is read from the code, where there is what disassembles it.
+stacks=
+if [ $needs_start = yes ]; then
+    stacks="$harts stacks of $stack bytes, "
+    if command -v $disassemble >/dev/null; then
+        # The bytes, with a + where they may be more, and the functions of the deepest way.
+        set -- $($disassemble -d "$image" | awk -f "$here/stack.awk")
+        bytes=${1%+}
+        taken=$bytes$([ "$1" = "$bytes" ] || echo ' or more')
+        stacks="$harts stacks of $stack bytes with $taken taken, "
+        shift
+        if [ "$bytes" -gt "$stack" ]; then
+            fewer=$([ "$harts" -le 8 ] || [ "$bytes" -gt 4096 ] || echo '--harts 8 or fewer, or ')
+            echo "image.sh: calls of $* take $taken bytes of a stack of $stack: say $fewer--stack N" >&2
+        fi
+    fi
+fi
 said=$($compiler --version | head -n 1)
-echo "image.sh: $image by $said: $harts stacks of $stack bytes, $ram bytes of memory" >&2
+too=$([ "$ram" -eq 65536 ] || echo ", and so ram = $ram in the configuration")
+echo "image.sh: $image by $said: $stacks$ram bytes of memory$too" >&2
