@@ -135,7 +135,7 @@ def of_asks(asks, places, made, settings):
             yield f"actor {actor} {roles[actor]}: " + (", ".join(kinds) or "nothing")
         elif kinds:
             yield f"actor {actor} not there: " + ", ".join(kinds)
-    yield from listed("words that no such core follows", never)
+    yield from listed("words that this core never follows", never)
     yield from listed("words without a step", idle)
 
 

@@ -116,7 +116,7 @@ fn write_words<P: Predict, W: Write>(
         }
     }
     asked.write(steps, config.roles.as_slice(), out)?;
-    never.write("words that no such core follows", out)?;
+    never.write("words that this core never follows", out)?;
     idle.write("words without a step", out)
 }
 

@@ -7,4 +7,3 @@ pub mod Lines
 pub mod Unambiguous
 pub mod Asking
 pub mod Sessions
-pub mod Commented

@@ -14,5 +14,5 @@ uncommented_from commented starts (byte ∷ others) =
     (if is_commented commented starts byte then 32 else byte)
     ∷ uncommented_from (is_commented commented starts byte) (is_separator byte) others
 
-unfoldable pub uncommented : List ℕ → List ℕ
+abbrev pub uncommented : List ℕ → List ℕ
 uncommented text = uncommented_from false true text

@@ -61,7 +61,7 @@ actor 3 alu: nothing
 actor 4 mul: nothing
 actor 5 mem: nothing
 actor 9 not there: F 1
-words that no such core follows 1
+words that this core never follows 1
 line 2, column 1: `F9`: no such actor
 words without a step 2
 line 2, column 4: `D1.1`: nothing fetched of hart 1
