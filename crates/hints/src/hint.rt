@@ -1,7 +1,8 @@
 //! The parts of a hint, put together.
 
-ghost use Rattle.std.specs.Prelude.{◌≡◌, ◌≤◌, ◌∷◌, ◌++◌, [], IfOk, OnOk, true};
-ghost use Rattle.hints.specs.Lines.{are_shown, IsOpenLine, IsHintLine, IsBegun, IsHintText};
+ghost use Rattle.std.specs.Prelude.{◌≡◌, ◌≤◌, ◌+◌, ◌∷◌, ◌++◌, codes, IfOk, true, false};
+ghost use Rattle.hints.specs.Parts.{name_of};
+ghost use Rattle.hints.specs.Lines.{are_shown, are_lines, lines_in, is_open_line, is_begun, IsHintText};
 
 use crate::part::Part;
 use crate::shown::shown_text;
@@ -27,7 +28,7 @@ pub struct Hint {
     count: u8,
     alloc: Global,
     ghost few: { count ≤ 6 },
-    ghost begun: { IsBegun form count text.items },
+    ghost begun: { is_begun form count text.items ≡ true },
 }
 
 impl Hint {
@@ -54,19 +55,23 @@ impl Hint {
         if self.count >= MOST_PARTS {
             return Ok(());
         }
-        let shown = shown_text(said, self.alloc)?;
-        match self.form {
-            Form::Lines => {
-                let line = line_of(part, &shown, self.alloc)?;
-                self.text.extend_from_slice(&line)?;
-            }
-            Form::Json => {
-                let object = object_of(part, &shown, self.count > 0, self.alloc)?;
-                self.text.extend_from_slice(&object)?;
-            }
-        }
+        let piece = self.piece_of(part, said)?;
+        self.text.extend_from_slice(&piece)?;
         self.count += 1;
         Ok(())
+    }
+
+    /// What a part adds to the text.
+    #[tactic(auto, using(crate::proofs::Together::line_more, crate::proofs::Together::object_more))]
+    fn piece_of(&self, part: Part, said: &[u8]) -> Result<Vec<u8>, AllocError>
+        ensures { IfOk result (λ piece.
+            is_begun self.now.form (self.now.count + 1) (self.now.text.items ++ piece.items) ≡ true) }
+    {
+        let shown = shown_text(said, self.alloc)?;
+        match self.form {
+            Form::Lines => line_of(part, &shown, self.alloc),
+            Form::Json => object_of(part, &shown, self.count > 0, self.alloc),
+        }
     }
 
     /// Whether there is room for another part beside so many.
@@ -84,31 +89,53 @@ impl Hint {
             count: _,
             alloc: _,
         } = self;
-        let mut text = text;
-        if form == Form::Json {
-            text.extend_from_slice(b"]}\n")?;
+        match form {
+            Form::Lines => Ok(text),
+            Form::Json => ended(text),
         }
-        Ok(text)
     }
 }
 
+/// The line of an object, with its end.
+#[tactic(auto, using(crate::proofs::Together::ended_line, crate::proofs::Together::ended_once))]
+fn ended(text: Vec<u8>) -> Result<Vec<u8>, AllocError>
+    requires { is_open_line text.items ≡ true }
+    ensures line { IfOk result (λ ended. are_lines false ended.items ≡ true) }
+    ensures one { IfOk result (λ ended. lines_in ended.items ≡ 1) }
+{
+    let mut text = text;
+    text.extend_from_slice(b"]}\n")?;
+    Ok(text)
+}
+
 /// A part as a line.
+#[tactic(auto, using(crate::proofs::Together::part_line, crate::proofs::Together::part_once))]
 fn line_of(part: Part, shown: &[u8], alloc: Global) -> Result<Vec<u8>, AllocError>
     requires { are_shown shown.now ≡ true }
-    ensures { IfOk result (λ line. IsHintLine line.items) }
+    ensures line { IfOk result (λ line. are_lines false line.items ≡ true) }
+    ensures one { IfOk result (λ line. lines_in line.items ≡ 1) }
 {
-    let mut line = Vec::new(alloc);
-    line.extend_from_slice(b" ")?;
-    line.extend_from_slice(part.name().as_bytes())?;
-    line.extend_from_slice(b": ")?;
+    let mut line = named(part, alloc)?;
     line.extend_from_slice(shown)?;
     line.extend_from_slice(b"\n")?;
     Ok(line)
 }
 
+/// The beginning of a part's line.
+fn named(part: Part, alloc: Global) -> Result<Vec<u8>, AllocError>
+    ensures { IfOk result (λ line. line.items ≡ 32 ∷ (name_of part ++ codes ": ")) }
+{
+    let mut line = Vec::new(alloc);
+    line.extend_from_slice(b" ")?;
+    line.extend_from_slice(part.name().as_bytes())?;
+    line.extend_from_slice(b": ")?;
+    Ok(line)
+}
+
 /// The beginning of the object of a fault.
+#[tactic(auto, using(crate::proofs::Together::open_more))]
 fn json_head(fault: &str, status: u8, alloc: Global) -> Result<Vec<u8>, AllocError>
-    ensures { IfOk result (λ head. IsOpenLine head.items) }
+    ensures { IfOk result (λ head. is_open_line head.items ≡ true) }
 {
     let fault = shown_text(fault.as_bytes(), alloc)?;
     let fault = json_of(&fault, alloc)?;

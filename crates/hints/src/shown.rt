@@ -1,6 +1,7 @@
 //! A text as it stands in a hint.
 
 ghost use Rattle.std.specs.Prelude.{◌≡◌, IfOk, true};
+ghost use Rattle.shown_text.specs.Shown.{shown};
 ghost use Rattle.hints.specs.Lines.{are_shown};
 
 use arrayvec::ArrayString;
@@ -11,9 +12,6 @@ use text_fields::push_hex;
 
 /// The most bytes of a text that are shown.
 pub(crate) const MOST_SHOWN: usize = 200;
-
-/// What stands behind a text that was cut.
-const CUT: &[u8] = b"...";
 
 /// The text as it is shown: of a longer one the first 200 bytes, or a few less where these end within a
 /// character, and `...`; each control character as `\x` and two hexadecimal digits, and where the text isn't
@@ -30,17 +28,26 @@ pub(crate) fn shown_text(text: &[u8], alloc: Global) -> Result<Vec<u8>, AllocErr
 }
 
 /// A text without control characters, and what tells that it was cut, where it was.
+#[tactic(auto, using(crate::proofs::AllShown::shown_is_shown, crate::proofs::AllShown::cut_shown))]
 fn escaped(text: &[u8], is_cut: bool, alloc: Global) -> Result<Vec<u8>, AllocError>
     ensures { IfOk result (λ shown. are_shown shown.items ≡ true) }
 {
-    let mut shown = Vec::new(alloc);
-    let Ok(()) = write_shown(text, &mut shown) else {
-        return Err(AllocError);
-    };
+    let mut shown = escaped_whole(text, alloc)?;
     if is_cut {
-        shown.extend_from_slice(CUT)?;
+        shown.extend_from_slice(b"...")?;
     }
     Ok(shown)
+}
+
+/// A text without control characters.
+fn escaped_whole(text: &[u8], alloc: Global) -> Result<Vec<u8>, AllocError>
+    ensures { IfOk result (λ escaped. escaped.items ≡ shown text.now) }
+{
+    let mut escaped = Vec::new(alloc);
+    match write_shown(text, &mut escaped) {
+        Ok(()) => Ok(escaped),
+        Err(_) => Err(AllocError),
+    }
 }
 
 /// As much of a text as is shown, and whether there is more of it.

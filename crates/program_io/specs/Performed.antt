@@ -11,15 +11,16 @@ use Rattle.sim_inputs.specs.declared.line.StepCommand.{StepCommand}
 use Rattle.sim_inputs.specs.Files.{files_of, is_standard_input, reads_words}
 use Rattle.scripts.specs.Comments.{uncommented}
 use Rattle.report_lines.specs.Statuses.{says_harts}
-use Rattle.command_parts.specs.{declared.refused.Refused.Refused, declared.refused.Unread.Unread}
+use Rattle.command_parts.specs.{declared.refused.Refused.Refused}
 use Rattle.command_parts.specs.{Inputs.Read, Refused.exit_status_of}
 use Rattle.commands.specs.{Perform.IsRefusal}
+use Rattle.program_io.specs.{declared.files.ReadRefused.ReadRefused, Files.unread_for}
 use Rattle.program_io.specs.Words.{IsWordsStatus}
 
 -- A file as it was read, of the vector that holds its bytes.
-abbrev pub read_of : {A : Type 0} → Result (Vec ℕ A) Unread → Read
+abbrev pub read_of : {A : Type 0} → Result (Vec ℕ A) ReadRefused → Read
 read_of (Ok bytes) = Ok bytes.items
-read_of (Err why) = Err why
+read_of (Err why) = Err (unread_for why)
 
 -- A file that isn't named is read as an empty one.
 abbrev pub IsReadAs : Option (Bor (List ℕ)) → Read → Type 0
