@@ -1,14 +1,14 @@
 -- What `explain` comes to on a trace. (This project's own choice.)
-use Rattle.std.specs.Prelude.{◌≡◌, ℕ, List}
+use Rattle.std.specs.Prelude.{◌≡◌, ℕ, true, List}
 use Rattle.elf_image.specs.Image.{ProgramImage}
 use Rattle.sim_inputs.specs.{declared.settings.Settings.Settings}
 use Rattle.command_parts.specs.{declared.refused.Refused.Refused}
-use Rattle.command_parts.specs.declared.refused.Refused.TheVariants.{Output}
-use Rattle.core_commands.specs.Check.{AreHistory, IsCheckRefusal, OfEvents}
+use Rattle.core_commands.specs.Check.{AreHistory, OfEvents}
+use Rattle.core_commands.specs.Told.{IsCheckRefusalWith}
 
--- It is refused as the command `check` refuses it.
+-- It is refused as the command `check` refuses it with `--why`.
 abbrev pub IsJudgementRefusal : Settings → ProgramImage → List ℕ → Refused → Type 0
-IsJudgementRefusal settings image trace reason = IsCheckRefusal settings image trace reason
+IsJudgementRefusal settings image trace reason = IsCheckRefusalWith true settings image trace reason
 
 -- The trace is accepted: a history of the core that it is of.
 pub record JudgementComesTo (settings : Settings) (image : ProgramImage) (trace : List ℕ) (exit_status : ℕ) : Type 0
