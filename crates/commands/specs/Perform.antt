@@ -16,6 +16,7 @@ use Rattle.commands.specs.Commands.{IsCommandRefusal, CommandComesTo, AreUnfit, 
 use Rattle.commands.specs.Commands.{program_writes_file}
 use Rattle.commands.specs.Explain.{IsExplainRefusal, ExplainComesTo}
 use Rattle.sim_inputs.specs.Files.{written_for_test}
+use Rattle.sim_inputs.specs.declared.line.ExplainCommand.{ExplainCommand}
 use Rattle.sim_inputs.specs.declared.line.LitmusCommand.{LitmusCommand}
 use Rattle.sim_inputs.specs.declared.line.ProgramCommand.{ProgramCommand}
 use Rattle.sim_inputs.specs.declared.line.Command.TheVariants as commands
@@ -44,14 +45,17 @@ ProgramComesTo command config image second Traced old new status = OfProgram con
     (λ settings program. AreAccepted settings
     × CommandComesTo command settings program second Traced old new status)
 
--- When each refusal comes of what explains a configuration and an image, and what it comes to: both are
+-- When each refusal comes of what explains a configuration, an image and a trace, and what it comes to: they are
 -- accepted, and it has said so.
-abbrev pub IsExplainLineRefusal : Read → Read → Refused → Type 0
-IsExplainLineRefusal config image reason = BehindFile config (λ text. IsExplainRefusal text image) reason
+abbrev pub IsExplainLineRefusal : ExplainCommand → Read → Read → Read → Refused → Type 0
+IsExplainLineRefusal explain config image trace reason =
+    BehindFile config (λ text. IsExplainRefusal (is_some explain.trace) text image trace) reason
 
-abbrev pub ExplainLineComesTo : Read → Read → Option (List ℕ) → Option (List ℕ) → ℕ → Type 0
-ExplainLineComesTo config image old new status =
-    OfProgram config image (λ settings program. AreAccepted settings × ExplainComesTo old new status)
+abbrev pub ExplainLineComesTo : ExplainCommand → Read → Read → Read → Option (List ℕ) → Option (List ℕ) → ℕ
+    → Type 0
+ExplainLineComesTo explain config image trace old new status = OfProgram config image
+    (λ settings program. AreAccepted settings
+    × ExplainComesTo (is_some explain.trace) settings program trace old new status)
 
 -- When each refusal comes of a litmus test: the configuration is looked at first, then the test. A file
 -- that can't be read is refused where it is looked at.
@@ -94,7 +98,8 @@ MigrateLineComesTo config trace Traced old new status =
 abbrev pub IsRefusal : Command → Read → Read → Read → Refused → Type 0
 IsRefusal (commands.OfProgram command) config image second reason =
     IsProgramRefusal command config image second reason
-IsRefusal (commands.Explain explain) config image second reason = IsExplainLineRefusal config image reason
+IsRefusal (commands.Explain explain) config image second reason =
+    IsExplainLineRefusal explain config image second reason
 IsRefusal (commands.Litmus litmus) config test second reason = IsLitmusLineRefusal litmus config test reason
 IsRefusal (commands.Migrate migrate) config none trace reason = IsMigrateLineRefusal config trace reason
 
@@ -103,7 +108,7 @@ abbrev pub LineComesTo : Command → Read → Read → Read → (ToWrite → Typ
 LineComesTo (commands.OfProgram command) config image second Traced old new status =
     ProgramComesTo command config image second Traced old new status
 LineComesTo (commands.Explain explain) config image second Traced old new status =
-    ExplainLineComesTo config image old new status
+    ExplainLineComesTo explain config image second old new status
 LineComesTo (commands.Litmus litmus) config test second Traced old new status =
     LitmusLineComesTo litmus config test old new status
 LineComesTo (commands.Migrate migrate) config none trace Traced old new status =

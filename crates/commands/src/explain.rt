@@ -1,6 +1,6 @@
-//! The command `explain`: why a configuration or an image is refused, or what is in it.
+//! The command `explain`: why a configuration, an image or a trace is refused, or what is in it.
 
-ghost use Rattle.std.specs.Prelude.{◌≡◌, Ok, Err, IfOk, IfErr, OnOk, IfSome, IfNone};
+ghost use Rattle.std.specs.Prelude.{◌≡◌, codes, Ok, Err, IfOk, IfErr, OnOk, IfSome, IfNone};
 ghost use Rattle.std.specs.Io.KnownBytes.{Appends};
 ghost use Rattle.text_fields.specs.Printing.{Prints};
 ghost use Rattle.elf_image.specs.Loaded.{IsImageOf};
@@ -10,11 +10,11 @@ ghost use Rattle.explanations.specs.Explained.{IsRefusedBy, IsAccepted};
 ghost use Rattle.command_parts.specs.declared.refused.Refused.TheVariants.{Output};
 ghost use Rattle.command_parts.specs.Inputs.{as_read, OfProgram, IsNoConfiguration};
 ghost use Rattle.commands.specs.Explain.{IsExplainRefusal, IsExplanationOf, ExplainComesTo};
-ghost use Rattle.commands.specs.Explain.{IsWritingRefusal, PrintsSome};
+ghost use Rattle.commands.specs.Explain.{IsTraceAccepted, IsTraceTold, IsWritingRefusal, PrintsSome};
 
-use command_parts::{Refused, Unread, image_of};
+use command_parts::{Refused, Unread};
 use core_commands::perform_judgement;
-use elf_image::{LoadRefused, RamSize};
+use elf_image::{LoadRefused, RamSize, load};
 use explanations::{explain_config, explain_image};
 use shown_text::write_file_name;
 use sim_inputs::{Command, Line, Settings};
@@ -26,7 +26,7 @@ use std::io::Write;
 const WITHOUT_CONFIG: &[u8] = b"the image without a configuration:\n";
 
 /// Says of a configuration's text and of an image's file why each is refused, or what is in it, and
-/// answers the exit status, 0 where both are accepted; else the refusal of the first that isn't, as
+/// answers the exit status, 0 where both are accepted, and, where `asks` says so, the trace; else the refusal of the first that isn't, as
 /// every other command has it. A file that couldn't be read is refused in its place. Where the
 /// configuration is refused, the image is looked at with the memory that it has without one. All that
 /// is printed is flushed. `Output` is answered where `out` failed.
@@ -34,15 +34,18 @@ const WITHOUT_CONFIG: &[u8] = b"the image without a configuration:\n";
 pub fn perform_explain<W: Write>(
     config: &[u8],
     image: Result<&[u8], Unread>,
-    trace: Option<Result<&[u8], Unread>>,
+    asks: bool,
+    trace: Result<&[u8], Unread>,
     out: &mut W,
     alloc: Global,
 ) -> Result<u8, Refused>
-    ensures refused { IfErr result (IsExplainRefusal config.now (as_read image.entry)) }
+    ensures refused { IfErr result
+        (IsExplainRefusal asks config.now (as_read image.entry) (as_read trace.entry)) }
     ensures explained { IfErr result
-        (λ reason. IsExplanationOf reason (W.contents out.old) (W.contents out.new)) }
+        (λ reason. IsExplanationOf asks reason (W.contents out.old) (W.contents out.new)) }
     ensures ended { IfOk result (λ status. OfProgram (Ok config.now) (as_read image.entry)
-        (λ settings program. ExplainComesTo (W.contents out.old) (W.contents out.new) status)) }
+        (λ settings program. ExplainComesTo asks settings program (as_read trace.entry)
+        (W.contents out.old) (W.contents out.new) status)) }
 {
     let Some(settings) = tell_config(config, out, alloc)? else {
         tell_without_config(image, out, alloc)?;
@@ -52,22 +55,31 @@ pub fn perform_explain<W: Write>(
     if let Some(check) = tell_image(file, settings.ram, out, alloc)? {
         return Err(Refused::Image(check.number()));
     }
-    match trace {
-        Some(trace) => tell_trace(file, &settings, trace?, out, alloc),
-        None => Ok(0),
+    if !asks {
+        return Ok(0);
     }
+    let text = trace?;
+    tell_trace(file, &settings, text, out, alloc)
 }
 
-/// Says what there is to say of a trace, of the program of an image's file.
+/// Says what there is to say of a trace, of the program of an image's file, which is accepted.
 fn tell_trace<W: Write>(
     file: &[u8],
     settings: &Settings,
     trace: &[u8],
     out: &mut W,
     alloc: Global,
-) -> Result<u8, Refused> {
-    let image = image_of(file, settings.ram, alloc)?;
-    perform_judgement(&image, settings, trace, out, alloc)
+) -> Result<u8, Refused>
+    ensures refused { IfErr result (IsTraceTold file.now settings.now trace.now) }
+    ensures ended { IfOk result (IsTraceAccepted file.now settings.now trace.now) }
+    ensures printed { IfOk result
+        (λ status. Appends (W.contents out.old) (W.contents out.new) (codes "trace accepted\n")) }
+{
+    match load(alloc, file, settings.ram) {
+        Ok(image) => perform_judgement(&image, settings, trace, out, alloc),
+        // It was accepted before: what lacks now is memory.
+        Err(_) => Err(Refused::Memory),
+    }
 }
 
 /// Says what there is to say of a configuration, and answers the settings that it makes, if any.

@@ -153,17 +153,15 @@ fn read_and_explain<W: Write>(
     alloc: Global,
 ) -> Result<u8, Refused>
     ensures unset { IfErr inputs.now.config (λ why. result ≡ Err (refusal_of why)) }
-    ensures refused { IfErr result (IsExplainLineRefusal (as_read inputs.now.config)
-        (as_read inputs.now.program)) }
-    ensures ended { IfOk result (ExplainLineComesTo (as_read inputs.now.config)
-        (as_read inputs.now.program) (W.contents out.old) (W.contents out.new)) }
+    ensures refused { IfErr result (IsExplainLineRefusal explain.now (as_read inputs.now.config)
+        (as_read inputs.now.program) (as_read inputs.now.second)) }
+    ensures ended { IfOk result (ExplainLineComesTo explain.now (as_read inputs.now.config)
+        (as_read inputs.now.program) (as_read inputs.now.second) (W.contents out.old)
+        (W.contents out.new)) }
 {
     let text = inputs.config?;
-    let trace = match explain.trace {
-        Some(_) => Some(inputs.second),
-        None => None,
-    };
-    perform_explain(text, inputs.program, trace, out, alloc)
+    let asks = explain.trace.is_some();
+    perform_explain(text, inputs.program, asks, inputs.second, out, alloc)
 }
 
 /// The exit status of a litmus test, with all flushed that is printed of it.

@@ -1,6 +1,7 @@
 //! What `explain` says of a trace: that it is accepted, or why it is refused.
 
-ghost use Rattle.std.specs.Prelude.{◌≡◌, ◌⊎◌, IfErr, IfOk};
+ghost use Rattle.std.specs.Prelude.{◌≡◌, ◌⊎◌, IfErr, IfOk, OnOk, codes};
+ghost use Rattle.std.specs.Io.KnownBytes.{Appends};
 ghost use Rattle.command_parts.specs.declared.refused.Refused.TheVariants.{Output};
 ghost use Rattle.core_commands.specs.Judgement.{IsJudgementRefusal, JudgementComesTo};
 
@@ -24,6 +25,8 @@ pub fn perform_judgement<W: Write>(
 ) -> Result<u8, Refused>
     ensures refused { IfErr result (IsJudgementRefusal settings.now image.now trace.now) }
     ensures ended { IfOk result (JudgementComesTo settings.now image.now trace.now) }
+    ensures printed { IfOk result (λ status. Appends (W.contents out.old) (W.contents out.new)
+        (codes "trace accepted\n")) }
 {
     match judge(image, settings, trace, alloc) {
         Ok(_) => tell_accepted(out),
@@ -34,6 +37,8 @@ pub fn perform_judgement<W: Write>(
 fn tell_accepted<W: Write>(out: &mut W) -> Result<u8, Refused>
     ensures refused { IfErr result (λ reason. reason ≡ Output) }
     ensures zero { IfOk result (λ status. status ≡ 0) }
+    ensures printed { IfOk result (λ status. Appends (W.contents out.old) (W.contents out.new)
+        (codes "trace accepted\n")) }
 {
     match write_accepted(out) {
         Ok(()) => Ok(0),
@@ -41,7 +46,10 @@ fn tell_accepted<W: Write>(out: &mut W) -> Result<u8, Refused>
     }
 }
 
-fn write_accepted<W: Write>(out: &mut W) -> io::Result<()> {
+fn write_accepted<W: Write>(out: &mut W) -> io::Result<()>
+    ensures { OnOk result (Appends (W.contents out.old) (W.contents out.new)
+        (codes "trace accepted\n")) }
+{
     out.write_all(b"trace accepted\n")?;
     out.flush()
 }
