@@ -1,5 +1,5 @@
 -- The command `explain`: what is printed in parts, and which refusal of a line it is.
-use Rattle.std.specs.Prelude.{◌≡◌, ◌⊎◌, ℕ, ◌++◌, true, false, Bool, List, [], Option, Some, None, Result, Ok, Err}
+use Rattle.std.specs.Prelude.{◌≡◌, ◌⊎◌, ℕ, ◌++◌, true, false, Bool, List, [], Option, Some, None, is_some, Result, Ok, Err}
 use Rattle.std.specs.Prelude.{codes}
 use Rattle.std.proofs.Common.{refl, sym, ap, ◌∙◌, append_assoc, subst, IfSome, IfNone, IfOk}
 use Rattle.std.proofs.lemmas.List.{append-nil}
@@ -21,7 +21,11 @@ use Rattle.command_parts.specs.declared.refused.Unread.TheVariants as unread
 use Rattle.command_parts.specs.Refused.{refusal_of, IsFirstFailed, AreAccepted}
 use Rattle.command_parts.specs.Inputs.{Read, OfProgram}
 use Rattle.commands.specs.Explain.{IsExplainRefusal, IsExplanationOf, IsWritingRefusal, ExplainComesTo}
-use Rattle.commands.specs.Explain.{Tells, PrintsSome}
+use Rattle.commands.specs.Explain.{Tells, PrintsSome, IsTraceAccepted, IsTraceTold, IsTraceRefused}
+use Rattle.core_commands.specs.Judgement.{IsJudgementRefusal}
+use Rattle.elf_image.specs.{Image.ProgramImage, Loaded.IsImageOf}
+use Rattle.sim_inputs.specs.declared.line.ExplainCommand.{ExplainCommand}
+use Rattle.std.proofs.lemmas.Bool.{true≢false}
 use Rattle.commands.specs.{Perform.ExplainLineComesTo}
 use Rattle.commands.proofs.OfLine.{accepted_of}
 
@@ -105,47 +109,59 @@ image_accepted found file ram is has = subst (λ (f : Option LoadRefused). IfNon
 -- ---- Refusals
 
 -- Memory and the output are refused, whatever the files are.
-pub writing_refusal : (config : List ℕ) (image : Read) (old new : Option (List ℕ)) (reason : Refused)
-    → IsWritingRefusal reason → IsExplainRefusal config image reason × IsExplanationOf reason old new
-writing_refusal config image old new (Image number) is = absurd is
-writing_refusal config image old new Config is = absurd is
-writing_refusal config image old new (Script number) is = absurd is
-writing_refusal config image old new (Order index) is = absurd is
-writing_refusal config image old new (Step index why) is = absurd is
-writing_refusal config image old new (Trace line rule) is = absurd is
-writing_refusal config image old new Version is = absurd is
-writing_refusal config image old new (Event index rule) is = absurd is
-writing_refusal config image old new (Prediction index) is = absurd is
-writing_refusal config image old new (Register index) is = absurd is
-writing_refusal config image old new (NoUnit kind) is = absurd is
-writing_refusal config image old new (Limit least) is = absurd is
-writing_refusal config image old new (NoHart hart) is = absurd is
-writing_refusal config image old new (Picture last) is = absurd is
-writing_refusal config image old new (Watch why) is = absurd is
-writing_refusal config image old new (Litmus place fault) is = absurd is
-writing_refusal config image old new NothingToDraw is = absurd is
-writing_refusal config image old new (Condition why) is = absurd is
-writing_refusal config image old new ManyWatched is = absurd is
-writing_refusal config image old new (NoWord address) is = absurd is
-writing_refusal config image old new (NoOutcome number) is = absurd is
-writing_refusal config image old new NotStuck is = absurd is
-writing_refusal config image old new Memory is = (tt, tt)
-writing_refusal config image old new Thread is = absurd is
-writing_refusal config image old new File is = absurd is
-writing_refusal config image old new Output is = (tt, tt)
+pub writing_refusal : (asks : Bool) (config : List ℕ) (image trace : Read) (old new : Option (List ℕ))
+    (reason : Refused) → IsWritingRefusal reason
+    → IsExplainRefusal asks config image trace reason × IsExplanationOf asks reason old new
+writing_refusal asks config image trace old new (Image number) is = absurd is
+writing_refusal asks config image trace old new Config is = absurd is
+writing_refusal asks config image trace old new (Script number) is = absurd is
+writing_refusal asks config image trace old new (Order index) is = absurd is
+writing_refusal asks config image trace old new (Step index why) is = absurd is
+writing_refusal asks config image trace old new (Trace line rule) is = absurd is
+writing_refusal asks config image trace old new Version is = absurd is
+writing_refusal asks config image trace old new (Event index rule) is = absurd is
+writing_refusal asks config image trace old new (Prediction index) is = absurd is
+writing_refusal asks config image trace old new (Register index) is = absurd is
+writing_refusal asks config image trace old new (NoUnit kind) is = absurd is
+writing_refusal asks config image trace old new (Limit least) is = absurd is
+writing_refusal asks config image trace old new (NoHart hart) is = absurd is
+writing_refusal asks config image trace old new (Picture last) is = absurd is
+writing_refusal asks config image trace old new (Watch why) is = absurd is
+writing_refusal asks config image trace old new (Litmus place fault) is = absurd is
+writing_refusal asks config image trace old new NothingToDraw is = absurd is
+writing_refusal asks config image trace old new (Condition why) is = absurd is
+writing_refusal asks config image trace old new ManyWatched is = absurd is
+writing_refusal asks config image trace old new (NoWord address) is = absurd is
+writing_refusal asks config image trace old new (NoOutcome number) is = absurd is
+writing_refusal asks config image trace old new NotStuck is = absurd is
+writing_refusal asks config image trace old new Memory is = (tt, tt)
+writing_refusal asks config image trace old new Thread is = absurd is
+writing_refusal asks config image trace old new File is = absurd is
+writing_refusal asks config image trace old new Output is = (tt, tt)
 
 -- An image's file that couldn't be read, behind a configuration.
-pub unread_refusal : (config : List ℕ) (settings : Settings) (image : Read) (why : Unread)
+pub unread_refusal : (asks : Bool) (config : List ℕ) (settings : Settings) (image trace : Read) (why : Unread)
     (old new : Option (List ℕ)) → IsConfiguration config settings → image ≡ Err why
-    → IsExplainRefusal config image (refusal_of why) × IsExplanationOf (refusal_of why) old new
-unread_refusal config settings image unread.File old new is same = ((settings, is, same), tt)
-unread_refusal config settings image unread.Memory old new is same = (tt, tt)
+    → IsExplainRefusal asks config image trace (refusal_of why) × IsExplanationOf asks (refusal_of why) old new
+unread_refusal asks config settings image trace unread.File old new is same = (inl (settings, is, same), tt)
+unread_refusal asks config settings image trace unread.Memory old new is same = (tt, tt)
+
+-- A trace's file that couldn't be read, behind an image that is accepted.
+pub unread_trace : (asks : Bool) (config : List ℕ) (settings : Settings) (file : List ℕ) (trace : Read) (why : Unread)
+    (old new : Option (List ℕ)) → asks ≡ true → IsConfiguration config settings → IsAccepted file settings.ram
+    → trace ≡ Err why
+    → IsExplainRefusal asks config (Ok file) trace (refusal_of why) × IsExplanationOf asks (refusal_of why) old new
+unread_trace asks config settings file trace unread.File old new asked is accepted same = (
+  inr (asked, (settings, is, (accepted.passes, accepted.image, accepted.is_image, same))),
+  tt,
+)
+unread_trace asks config settings file trace unread.Memory old new asked is accepted same = (tt, tt)
 
 -- The check that an image fails first, behind a configuration.
-pub image_refusal : (config : List ℕ) (settings : Settings) (file : List ℕ) (number : ℕ) (check : LoadRefused)
-    → IsConfiguration config settings → IsRefusedBy file settings.ram check → number ≡ reason_number check
-    → IsExplainRefusal config (Ok file) (Image number)
-image_refusal config settings file number check is refused same = (
+pub image_refusal : (asks : Bool) (config : List ℕ) (settings : Settings) (file : List ℕ) (trace : Read) (number : ℕ)
+    (check : LoadRefused) → IsConfiguration config settings → IsRefusedBy file settings.ram check
+    → number ≡ reason_number check → IsExplainRefusal asks config (Ok file) trace (Image number)
+image_refusal asks config settings file trace number check is refused same = (
   settings,
   is,
   record {
@@ -156,28 +172,77 @@ image_refusal config settings file number check is refused same = (
   },
 )
 
--- Both are accepted.
-pub both_accepted : (config : List ℕ) (settings : Settings) (file : List ℕ) (old new : Option (List ℕ)) (status : ℕ)
-    → IsConfiguration config settings → IsAccepted file settings.ram → ExplainComesTo old new status
-    → OfProgram (Ok config) (Ok file) (λ settings program. ExplainComesTo old new status)
-both_accepted config settings file old new status is accepted told =
-    (settings, is, (accepted.passes, accepted.image, accepted.is_image, told))
+-- Both are accepted, and no trace is to be explained.
+pub both_accepted : (config : List ℕ) (settings : Settings) (file : List ℕ) (asks : Bool) (trace : Read)
+    (old new : Option (List ℕ)) (status : ℕ) → IsConfiguration config settings → IsAccepted file settings.ram
+    → asks ≡ false → Prints old new (Tells (codes "config accepted\n") (codes "image accepted\n")) → status ≡ 0
+    → OfProgram (Ok config) (Ok file)
+    (λ settings program. ExplainComesTo asks settings program trace old new status)
+both_accepted config settings file asks trace old new status is accepted unasked printed zero = (
+  settings,
+  is,
+  (
+    accepted.passes,
+    accepted.image,
+    accepted.is_image,
+    record {
+      printed = printed;
+      history = λ asked. absurd (true≢false (sym asked ∙ unasked));
+      zero = zero;
+    },
+  ),
+)
+
+-- All three are accepted.
+pub all_accepted : (config : List ℕ) (settings : Settings) (file : List ℕ) (asks : Bool) (text : List ℕ)
+    (old new : Option (List ℕ)) (status : ℕ) → IsConfiguration config settings → IsAccepted file settings.ram
+    → IsTraceAccepted file settings text status
+    → Prints old new (Tells (codes "config accepted\n") (codes "image accepted\n"))
+    → OfProgram (Ok config) (Ok file)
+    (λ settings program. ExplainComesTo asks settings program (Ok text) old new status)
+all_accepted config settings file asks text old new status is accepted told printed = (
+  settings,
+  is,
+  (
+    accepted.passes,
+    told.1,
+    told.2,
+    record {
+      printed = printed;
+      history = λ asked. told.3;
+      zero = told.0;
+    },
+  ),
+)
+
+-- What `check` says of a trace behind an image that is accepted.
+trace_refusal : (config : List ℕ) (settings : Settings) (file text : List ℕ) (program : ProgramImage)
+    (reason : Refused) → IsConfiguration config settings → IsAccepted file settings.ram
+    → IsImageOf file settings.ram program → IsJudgementRefusal settings program text reason
+    → IsTraceRefused true config (Ok file) (Ok text) reason
+trace_refusal config settings file text program reason is accepted is_image judged =
+    (refl, (settings, is, (accepted.passes, program, is_image, judged)))
 
 -- ---- Of a line
 
 -- Both are accepted, and so the settings are a core's.
-line_comes_to : (config : List ℕ) (image : Read) (old new : Option (List ℕ)) (status : ℕ)
-    → OfProgram (Ok config) image (λ settings program. ExplainComesTo old new status)
-    → ExplainLineComesTo (Ok config) image old new status
-line_comes_to config (Ok file) old new status told = (
+line_comes_to : (explain : ExplainCommand) (config : List ℕ) (image trace : Read) (old new : Option (List ℕ))
+    (status : ℕ)
+    → OfProgram (Ok config) image
+    (λ settings program. ExplainComesTo (is_some explain.trace) settings program trace old new status)
+    → ExplainLineComesTo explain (Ok config) image trace old new status
+line_comes_to explain config (Ok file) trace old new status told = (
   told.0,
   told.1,
   (told.2.0, told.2.1, told.2.2, (accepted_of config told.0 told.1, told.2.3)),
 )
-line_comes_to config (Err why) old new status told = absurd told.2
+line_comes_to explain config (Err why) trace old new status told = absurd told.2
 
-pub line_ended : (answer : Result ℕ Refused) (config : List ℕ) (image : Read) (old new : Option (List ℕ))
-    → IfOk answer (λ status. OfProgram (Ok config) image (λ settings program. ExplainComesTo old new status))
-    → IfOk answer (ExplainLineComesTo (Ok config) image old new)
-line_ended (Ok status) config image old new told = line_comes_to config image old new status told
-line_ended (Err why) config image old new told = tt
+pub line_ended : (answer : Result ℕ Refused) (explain : ExplainCommand) (config : List ℕ) (image trace : Read)
+    (old new : Option (List ℕ))
+    → IfOk answer (λ status. OfProgram (Ok config) image
+    (λ settings program. ExplainComesTo (is_some explain.trace) settings program trace old new status))
+    → IfOk answer (ExplainLineComesTo explain (Ok config) image trace old new)
+line_ended (Ok status) explain config image trace old new told =
+    line_comes_to explain config image trace old new status told
+line_ended (Err why) explain config image trace old new told = tt

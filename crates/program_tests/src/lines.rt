@@ -141,7 +141,10 @@ pub fn chart_line(svg: Option<&'static str>, kanata: Option<&'static str>) -> Li
 pub const LIST: Line<'static> = program_line!(ProgramCommand::List(ListCommand { image: "image" }));
 
 /// What is said of a configuration and of an image.
-pub const EXPLAIN: Line<'static> = line!(Command::Explain(ExplainCommand { image: "image" }));
+pub const EXPLAIN: Line<'static> = line!(Command::Explain(ExplainCommand {
+    image: "image",
+    trace: None,
+}));
 
 /// The outcomes of an image, of so many states at the most.
 pub fn outcomes_line(states: u32) -> Line<'static> {

@@ -445,7 +445,10 @@ static LINES: [(&str, Line<'_>); 38] = [
         "smtsim explain --config c a",
         Line {
             config: Some("c"),
-            command: Command::Explain(ExplainCommand { image: "a" }),
+            command: Command::Explain(ExplainCommand {
+                image: "a",
+                trace: None,
+            }),
         },
     ),
     (
@@ -790,7 +793,10 @@ static NAMED: [(Line<'_>, Named<'_>); 14] = [
     (
         Line {
             config: None,
-            command: Command::Explain(ExplainCommand { image: "a" }),
+            command: Command::Explain(ExplainCommand {
+                image: "a",
+                trace: None,
+            }),
         },
         (None, Some("a"), None, None),
     ),
