@@ -37,6 +37,7 @@ RUNS = {
     "plain_rounds": f"plain {PASSING} --rounds 1 {TWO} --records",
     "schedule": f"schedule {PASSING} ORDER {TWO}",
     "check": f"check {OVERTAKEN} TRACE --config overtaken/two.toml --records",
+    "check_why": "check first/first.elf TRACE --config overtaken/two.toml --why",
     "script": f"script {OVERTAKEN} TRACE --config overtaken/two.toml",
     "migrate": "migrate traces/overtaken_version_1.trace OUT --config overtaken/two.toml",
     "chart": f"chart {OVERTAKEN} TRACE --config overtaken/two.toml",
@@ -45,6 +46,7 @@ RUNS = {
     "list": "list first/first.elf",
     "list_input": "list -",
     "explain": "explain first/first.elf --config first/first.toml",
+    "explain_trace": "explain first/first.elf --config first/first.toml --trace TRACE",
     "explain_refused": "explain first/first.script --config first/first.elf",
     "outcomes": "outcomes locks/swap.elf --config locks/two.toml --watch 80001004:4 --exists h0=16",
     "outcomes_witness": f"outcomes {PASSING} {TWO} --outcome 2 --witness OUT",
@@ -58,6 +60,8 @@ RUNS = {
     "help": "--help",
 }
 INPUTS = {"step_input": "first/first.script", "list_input": "first/first.elf"}
+# Those that tell more beside a refusal, where there is memory for it.
+TELLING = ("check_why", "explain_trace")
 WITH_THREADS = ("run", "run_trace", "run_times")
 
 
@@ -126,6 +130,7 @@ class Kind:
         places = {"OUT": self.out, "TRACE": os.path.join(folder, "trace"), "ORDER": os.path.join(folder, "order")}
         self.words = [places.get(word, word) for word in RUNS[name].split()]
         self.has_threads = name in WITH_THREADS
+        self.tells = name in TELLING
         self.input = INPUTS.get(name)
 
     def run(self, closed=(), **settings):

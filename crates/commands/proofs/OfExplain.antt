@@ -215,13 +215,94 @@ all_accepted config settings file asks text old new status is accepted told prin
   ),
 )
 
--- What `check` says of a trace behind an image that is accepted.
-trace_refusal : (config : List ℕ) (settings : Settings) (file text : List ℕ) (program : ProgramImage)
-    (reason : Refused) → IsConfiguration config settings → IsAccepted file settings.ram
-    → IsImageOf file settings.ram program → IsJudgementRefusal settings program text reason
-    → IsTraceRefused true config (Ok file) (Ok text) reason
-trace_refusal config settings file text program reason is accepted is_image judged =
-    (refl, (settings, is, (accepted.passes, program, is_image, judged)))
+image_memory : (number : ℕ) → Image number ≡ Memory → ⊥
+image_memory number same = cc
+
+image_output : (number : ℕ) → Image number ≡ Output → ⊥
+image_output number same = cc
+
+file_memory : File ≡ Memory → ⊥
+file_memory same = cc
+
+file_output : File ≡ Output → ⊥
+file_output same = cc
+
+-- What `check` says of a trace behind an image that is accepted, where memory doesn't lack.
+told_of : (config : List ℕ) (settings : Settings) (file text : List ℕ) (asks : Bool) (reason : Refused)
+    → asks ≡ true → IsConfiguration config settings → IsAccepted file settings.ram → (reason ≡ Memory → ⊥)
+    → IsTraceTold file settings text reason → IsTraceRefused asks config (Ok file) (Ok text) reason
+told_of config settings file text asks reason asked is accepted there told = elim told [
+  | inl memory ↦ absurd (there memory)
+  | inr refused ↦ (asked, (settings, is, (accepted.passes, refused.0, refused.1, refused.2)))
+]
+
+no_image : (config : List ℕ) (settings : Settings) (file text : List ℕ) (number : ℕ)
+    → IsTraceTold file settings text (Image number) → ⊥
+no_image config settings file text number told = elim told [
+  | inl memory ↦ image_memory number memory
+  | inr refused ↦ elim refused.2 [ inl out ↦ image_output number out.1 | inr no ↦ no ]
+]
+
+no_file : (config : List ℕ) (settings : Settings) (file text : List ℕ) → IsTraceTold file settings text File → ⊥
+no_file config settings file text told = elim told [
+  | inl memory ↦ file_memory memory
+  | inr refused ↦ elim refused.2 [ inl out ↦ file_output out.1 | inr no ↦ no ]
+]
+
+pub trace_told : (config : List ℕ) (settings : Settings) (file text : List ℕ) (asks : Bool)
+    (old new : Option (List ℕ)) (reason : Refused) → asks ≡ true → IsConfiguration config settings
+    → IsAccepted file settings.ram → IsTraceTold file settings text reason
+    → IsExplainRefusal asks config (Ok file) (Ok text) reason × IsExplanationOf asks reason old new
+trace_told config settings file text asks old new (Image number) asked is accepted told =
+    absurd (no_image config settings file text number told)
+trace_told config settings file text asks old new Config asked is accepted told =
+    (inr (told_of config settings file text asks Config asked is accepted (λ memory. cc) told), inr asked)
+trace_told config settings file text asks old new Memory asked is accepted told = (tt, tt)
+trace_told config settings file text asks old new Output asked is accepted told = (tt, tt)
+trace_told config settings file text asks old new File asked is accepted told =
+    absurd (no_file config settings file text told)
+trace_told config settings file text asks old new (Script number) asked is accepted told =
+    (told_of config settings file text asks (Script number) asked is accepted (λ memory. cc) told, tt)
+trace_told config settings file text asks old new (Order index) asked is accepted told =
+    (told_of config settings file text asks (Order index) asked is accepted (λ memory. cc) told, tt)
+trace_told config settings file text asks old new (Step index why) asked is accepted told =
+    (told_of config settings file text asks (Step index why) asked is accepted (λ memory. cc) told, tt)
+trace_told config settings file text asks old new (Trace line rule) asked is accepted told =
+    (told_of config settings file text asks (Trace line rule) asked is accepted (λ memory. cc) told, tt)
+trace_told config settings file text asks old new Version asked is accepted told =
+    (told_of config settings file text asks Version asked is accepted (λ memory. cc) told, tt)
+trace_told config settings file text asks old new (Event index rule) asked is accepted told =
+    (told_of config settings file text asks (Event index rule) asked is accepted (λ memory. cc) told, tt)
+trace_told config settings file text asks old new (Prediction index) asked is accepted told =
+    (told_of config settings file text asks (Prediction index) asked is accepted (λ memory. cc) told, tt)
+trace_told config settings file text asks old new (Register index) asked is accepted told =
+    (told_of config settings file text asks (Register index) asked is accepted (λ memory. cc) told, tt)
+trace_told config settings file text asks old new (NoUnit kind) asked is accepted told =
+    (told_of config settings file text asks (NoUnit kind) asked is accepted (λ memory. cc) told, tt)
+trace_told config settings file text asks old new (Limit least) asked is accepted told =
+    (told_of config settings file text asks (Limit least) asked is accepted (λ memory. cc) told, tt)
+trace_told config settings file text asks old new (NoHart hart) asked is accepted told =
+    (told_of config settings file text asks (NoHart hart) asked is accepted (λ memory. cc) told, tt)
+trace_told config settings file text asks old new (Picture last) asked is accepted told =
+    (told_of config settings file text asks (Picture last) asked is accepted (λ memory. cc) told, tt)
+trace_told config settings file text asks old new (Watch why) asked is accepted told =
+    (told_of config settings file text asks (Watch why) asked is accepted (λ memory. cc) told, tt)
+trace_told config settings file text asks old new (Litmus place fault) asked is accepted told =
+    (told_of config settings file text asks (Litmus place fault) asked is accepted (λ memory. cc) told, tt)
+trace_told config settings file text asks old new NothingToDraw asked is accepted told =
+    (told_of config settings file text asks NothingToDraw asked is accepted (λ memory. cc) told, tt)
+trace_told config settings file text asks old new (Condition why) asked is accepted told =
+    (told_of config settings file text asks (Condition why) asked is accepted (λ memory. cc) told, tt)
+trace_told config settings file text asks old new ManyWatched asked is accepted told =
+    (told_of config settings file text asks ManyWatched asked is accepted (λ memory. cc) told, tt)
+trace_told config settings file text asks old new (NoWord address) asked is accepted told =
+    (told_of config settings file text asks (NoWord address) asked is accepted (λ memory. cc) told, tt)
+trace_told config settings file text asks old new (NoOutcome number) asked is accepted told =
+    (told_of config settings file text asks (NoOutcome number) asked is accepted (λ memory. cc) told, tt)
+trace_told config settings file text asks old new NotStuck asked is accepted told =
+    (told_of config settings file text asks NotStuck asked is accepted (λ memory. cc) told, tt)
+trace_told config settings file text asks old new Thread asked is accepted told =
+    (told_of config settings file text asks Thread asked is accepted (λ memory. cc) told, tt)
 
 -- ---- Of a line
 
