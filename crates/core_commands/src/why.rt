@@ -112,11 +112,10 @@ fn told_event(stopped: Stopped, trace: &Trace, index: u32, rule: u8, alloc: Glob
     if place != index || broken != rule {
         return Vec::new(alloc);
     }
-    let events = trace.events();
-    let event = events[index as usize];
+    let event = trace.events()[index as usize];
     let line = index as usize + trace.head().line_count() + 1;
     let place = Place { index, line, rule };
-    match explain_event(core, &events[..index as usize], &event, place, alloc) {
+    match explain_event(core, &event, place, alloc) {
         Ok(why) => why,
         Err(_) => Vec::new(alloc),
     }

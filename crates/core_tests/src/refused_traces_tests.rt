@@ -1,7 +1,5 @@
 //! Why a trace is refused: an event of the first program, and a line, each with a text made by hand.
 
-ghost use Rattle.std.specs.Prelude.{◌≡◌, [], IfSome};
-
 use crate::asking::config;
 use crate::first_program::first_image;
 use event_text::{THIRD_RANGES, read_event_within};
@@ -11,9 +9,7 @@ use std::alloc::Global;
 use std::process::Abort;
 
 /// A core of one hart before its first step, with room for an event.
-fn new_core(alloc: Global) -> Option<Core>
-    ensures { IfSome result (λ core. core.past ≡ []) }
-{
+fn new_core(alloc: Global) -> Option<Core> {
     let image = first_image(alloc)?;
     Core::new(&image, config(1, 64, 16, 1), 1, alloc).ok()
 }
@@ -27,7 +23,7 @@ fn told(line: &str, rule: u8, alloc: Global) -> Option<Vec<u8>> {
         line: 3,
         rule,
     };
-    explain_event(core, &[], &event, place, alloc).ok()
+    explain_event(core, &event, place, alloc).ok()
 }
 
 const OTHER_WORD: &[u8] = b"event 0, line 3: F 0 0 0 80000000 00500514 80000004\n\
