@@ -37,6 +37,7 @@ RUNS = {
     "plain_rounds": f"plain {PASSING} --rounds 1 {TWO} --records",
     "schedule": f"schedule {PASSING} ORDER {TWO}",
     "check": f"check {OVERTAKEN} TRACE --config overtaken/two.toml --records",
+    "check_why": "check first/first.elf TRACE --config overtaken/two.toml --why",
     "script": f"script {OVERTAKEN} TRACE --config overtaken/two.toml",
     "migrate": "migrate traces/overtaken_version_1.trace OUT --config overtaken/two.toml",
     "chart": f"chart {OVERTAKEN} TRACE --config overtaken/two.toml",
@@ -45,6 +46,7 @@ RUNS = {
     "list": "list first/first.elf",
     "list_input": "list -",
     "explain": "explain first/first.elf --config first/first.toml",
+    "explain_trace": "explain first/first.elf --config first/first.toml --trace TRACE",
     "explain_refused": "explain first/first.script --config first/first.elf",
     "explain_script": "explain first/first.elf --config first/first.toml --script first/first.script",
     "explain_order": f"explain {PASSING} --order ORDER {TWO}",
@@ -64,6 +66,8 @@ RUNS = {
     "help": "--help",
 }
 INPUTS = {"step_input": "first/first.script", "list_input": "first/first.elf"}
+# Those that tell more beside a refusal, where there is memory for it.
+TELLING = ("check_why", "explain_trace")
 WITH_THREADS = ("run", "run_trace", "run_times")
 
 
@@ -132,6 +136,7 @@ class Kind:
         places = {"OUT": self.out, "TRACE": os.path.join(folder, "trace"), "ORDER": os.path.join(folder, "order")}
         self.words = [places.get(word, word) for word in RUNS[name].split()]
         self.has_threads = name in WITH_THREADS
+        self.tells = name in TELLING
         self.input = INPUTS.get(name)
         self.hints = self.words[-1] if "--hints" in self.words else None
 

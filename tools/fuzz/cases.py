@@ -15,6 +15,7 @@ import image
 import inputs
 import judge
 import judge_inputs
+import judge_why
 import litmus
 import litmus_tests
 import migrate
@@ -105,6 +106,17 @@ def by_explanation(line):
 
 def by_judge(line):
     return captured(judge.main, line[1:])
+
+
+def by_why(line):
+    """What is told of a trace that is refused; of another one the model doesn't know what `--why` says."""
+    try:
+        told, refused = judge_why.why_of(line[1], line[2], line[4])
+    except judge_inputs.Refused as early:
+        told, refused = b"", early
+    if refused is None:
+        raise TooLong
+    return told.decode("latin-1"), f"smtsim: {refused.said}\n", refused.status
 
 
 def by_schedule(line):
@@ -235,6 +247,11 @@ def some_check(r):
     return some_trace(r), ["check", "image.elf", "trace", "--config", "config.toml", "--records"][: r.choice((5, 6))]
 
 
+def some_why(r):
+    """A trace, mostly one that is refused."""
+    return some_trace(r), ["check", "image.elf", "trace", "--config", "config.toml", "--why"]
+
+
 def some_history(r):
     return some_trace(r), ["script", "image.elf", "trace", "--config", "config.toml"]
 
@@ -298,6 +315,7 @@ KINDS = {
         Kind("asks", some_asks, by_model),
         Kind("words", some_words, by_explanation),
         Kind("check", some_check, by_judge),
+        Kind("why", some_why, by_why),
         Kind("schedule", some_schedule, by_schedule),
         Kind("script", some_history, by_history_script),
         Kind("chart", some_chart, by_chart),

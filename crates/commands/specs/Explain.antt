@@ -9,8 +9,7 @@ use Rattle.scripts.specs.Script.{IsScript, IsFirstMisspelled}
 use Rattle.sim_inputs.specs.{declared.settings.Settings.Settings, declared.line.Beside.Beside}
 use Rattle.sim_inputs.specs.declared.line.Beside.TheVariants as beside
 use Rattle.explanations.specs.Explained.{Begins, refused_line}
-use Rattle.core_commands.specs.Check.{AreHistory, IsCheckRefusal, OfEvents}
-use Rattle.core_commands.specs.Judgement.{trace_head}
+use Rattle.core_commands.specs.{Check.AreHistory, Check.OfEvents, Judgement.IsJudgementRefusal}
 use Rattle.explained_words.specs.Explained.{IsOrderFault, IsFollowed, script_head, order_head}
 use Rattle.explained_words.specs.declared.order.OrderFault.TheVariants as fault
 use Rattle.command_parts.specs.{declared.refused.Refused.Refused}
@@ -82,7 +81,7 @@ IsFaultOfOrder settings image order _ = ⊥
 abbrev pub IsBesideFault : Beside → Settings → ProgramImage → List ℕ → Refused → Type 0
 IsBesideFault (beside.Script name) settings image text reason = IsScriptFault text reason
 IsBesideFault (beside.Order name) settings image text reason = IsFaultOfOrder settings image text reason
-IsBesideFault (beside.Trace name) settings image text reason = IsCheckRefusal settings image text reason
+IsBesideFault (beside.Trace name) settings image text reason = IsJudgementRefusal settings image text reason
 
 -- The text is accepted: all words of a script say something; the plain machine follows an order; the events of a
 -- trace are a history of the core that it is of.
@@ -95,7 +94,7 @@ IsTextAccepted (beside.Trace name) settings image text = OfEvents settings image
 abbrev pub accepted_line : Beside → List ℕ
 accepted_line (beside.Script name) = script_head None
 accepted_line (beside.Order name) = order_head None
-accepted_line (beside.Trace name) = trace_head
+accepted_line (beside.Trace name) = codes "trace accepted\n"
 
 -- Of a text that is accepted: it was told behind all else that was printed.
 pub record TellsBeside (told : Beside) (settings : Settings) (image : ProgramImage) (text : List ℕ)

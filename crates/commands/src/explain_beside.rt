@@ -35,7 +35,7 @@ pub(crate) fn tell_beside<P: Predict, W: Write>(
         Beside::Script(_) => tell_script(text, settings, image, predict, out, alloc),
         Beside::Order(_) => tell_order(text, settings, image, out, alloc),
         Beside::Trace(_) => match perform_judgement(image, settings, text, out, alloc) {
-            Ok(()) => Ok(()),
+            Ok(_) => Ok(()),
             Err(refused) => Err(refused),
         },
     }

@@ -1,9 +1,12 @@
 //! Why a trace is refused: the text that says so, beside the refusal.
 
-ghost use Rattle.std.specs.Prelude.{◌≡◌, ◌++◌};
+ghost use Rattle.std.specs.Prelude.{◌≡◌, ◌⊎◌, OnOk, true};
+ghost use Rattle.std.specs.Io.KnownBytes.{Appends};
+ghost use Rattle.command_parts.specs.declared.refused.Refused.TheVariants.{Output};
 ghost use Rattle.refused_traces.specs.Why.{IsLineWhy};
 ghost use Rattle.history_check.specs.Checking.{IsStoppedAt};
-ghost use Rattle.core_commands.specs.Told.{IsEventTold, IsTold, WhereTold, IsEventOfTextTold};
+ghost use Rattle.core_commands.specs.Told.{IsEventTold, IsTold, IsToldOn, WhereTold};
+ghost use Rattle.core_commands.specs.Told.{IsEventOfTextTold};
 
 use crate::check::{config_by, read_events};
 use command_parts::Refused;
@@ -13,21 +16,39 @@ use history_check::{Stopped, Unfollowed, follow_until};
 use refused_traces::{Place, explain_event, explain_line};
 use sim_inputs::Settings;
 use std::alloc::Global;
+use std::io;
 use std::io::Write;
 
-/// Writes why a trace's text is refused so. What `out` doesn't take is left out: the refusal is told all the same.
-pub(crate) fn write_why<W: Write>(
+/// Writes why a trace's text is refused so, where that is wanted, and answers the refusal: this one, or that of `out`,
+/// where it takes no more.
+pub(crate) fn refuse_trace<W: Write>(
     image: &Image,
     settings: &Settings,
     trace: &[u8],
     refused: Refused,
+    wanted: bool,
     out: &mut W,
     alloc: Global,
-) {
-    let why = why_refused(image, settings, trace, refused, alloc);
-    if out.write_all(why.as_slice()).is_ok() {
-        let _ = out.flush();
+) -> Refused
+    ensures same { (result ≡ refused) ⊎ ((wanted ≡ true) × (result ≡ Output)) }
+    ensures told { IsToldOn wanted settings.now image.now trace.now (W.contents out.old)
+        (W.contents out.new) result }
+{
+    if !wanted {
+        return refused;
     }
+    let why = why_refused(image, settings, trace, refused, alloc);
+    match write_all(why.as_slice(), out) {
+        Ok(()) => refused,
+        Err(_) => Refused::Output,
+    }
+}
+
+fn write_all<W: Write>(text: &[u8], out: &mut W) -> io::Result<()>
+    ensures { OnOk result (Appends (W.contents out.old) (W.contents out.new) text.now) }
+{
+    out.write_all(text)?;
+    out.flush()
 }
 
 /// The lines that say why a trace's text is refused so. There are none where nothing more is said of the refusal, or
@@ -91,11 +112,10 @@ fn told_event(stopped: Stopped, trace: &Trace, index: u32, rule: u8, alloc: Glob
     if place != index || broken != rule {
         return Vec::new(alloc);
     }
-    let events = trace.events();
-    let event = events[index as usize];
+    let event = trace.events()[index as usize];
     let line = index as usize + trace.head().line_count() + 1;
     let place = Place { index, line, rule };
-    match explain_event(core, &events[..index as usize], &event, place, alloc) {
+    match explain_event(core, &event, place, alloc) {
         Ok(why) => why,
         Err(_) => Vec::new(alloc),
     }

@@ -5,7 +5,7 @@ use Rattle.events.specs.{declared.event.Event.Event}
 use Rattle.event_text.specs.{Line.line_of}
 use Rattle.smt_model.specs.{Rules.is_allowed}
 use Rattle.core_state.specs.View.{CoreView}
-use Rattle.refused_traces.specs.declared.events.Place.{Place}
+use Rattle.refused_traces.specs.declared.explaining.Place.{Place}
 
 -- The line of an event, and up to the words of the rule that it breaks.
 abbrev pub event_head : Place → Event → List ℕ

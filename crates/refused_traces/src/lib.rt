@@ -8,10 +8,11 @@
 //! `standing` (where an instruction stands), `places` (what is in which place), `sources` (whose number an operand is),
 //! `memory` (who has written, and who has reserved); `wanted` (the event that would be accepted); then what each
 //! kind of event is told of it: `fetches`, `fronts`, `issues`, `results` (what a completion or a retirement has),
-//! `parts` (the text, put together), `events`; and at last `lines` (a line that can't be read) with `forms` (what its fields may be).
+//! `parts` (the text, put together), `explaining`; and at last `lines` (a line that can't be read) with `forms` (what its
+//! fields may be).
 #![tactic(auto)]
 
-mod events;
+mod explaining;
 mod fetches;
 mod forms;
 mod fronts;
@@ -27,5 +28,5 @@ mod sources;
 mod standing;
 mod wanted;
 
-pub use crate::events::{Place, explain_event};
+pub use explaining::{Place, explain_event};
 pub use lines::explain_line;

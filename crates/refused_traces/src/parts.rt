@@ -4,7 +4,7 @@ ghost use Rattle.std.specs.Prelude.{◌≡◌, ◌++◌, ◌∷◌, [], IfOk, If
 ghost use Rattle.event_text.specs.Line.{line_of};
 ghost use Rattle.refused_traces.specs.Why.{IsNoneWanted, event_head, line_head, rule_head, wanted_line};
 
-use crate::events::Place;
+use crate::explaining::Place;
 use arrayvec::ArrayString;
 use event_text::push_event;
 use events::Event;

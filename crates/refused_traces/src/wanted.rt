@@ -2,7 +2,6 @@
 
 ghost use Rattle.std.specs.Prelude.{◌≡◌, IfSome};
 ghost use Rattle.smt_model.specs.Rules.{is_allowed};
-ghost use Rattle.smt_core.specs.declared.answer.Answer.TheVariants.{Done};
 
 use events::Event;
 use exec_units::{Job, work};
@@ -161,19 +160,47 @@ fn make(core: &mut Core, ask: Ask) -> Option<Event>
 {
     let Ask { step, actor, hart } = ask;
     match step {
-        Step::Fetch(predicted) => event_of(core.fetch(actor, &mut Said { predicted })),
-        Step::Decode => event_of(core.decode(actor, hart)),
-        Step::Rename => event_of(core.rename(actor, hart)),
+        Step::Fetch(predicted) => fetch(core, actor, predicted),
+        Step::Decode => decode(core, actor, hart),
+        Step::Rename => rename(core, actor, hart),
         Step::Issue => issue(core, actor),
         Step::Complete => complete(core, actor),
-        Step::Retire => event_of(core.retire(actor, hart)),
+        Step::Retire => retire(core, actor, hart),
     }
 }
 
-fn event_of(answer: Answer) -> Option<Event>
-    ensures { IfSome result (λ e. answer ≡ Done e) }
+fn fetch(core: &mut Core, actor: u8, predicted: u32) -> Option<Event>
+    ensures { IfSome result (is_allowed core.old.setup core.old.past) }
 {
-    match answer {
+    match core.fetch(actor, &mut Said { predicted }) {
+        Answer::Done(event) => Some(event),
+        Answer::Idle | Answer::Full => None,
+    }
+}
+
+fn decode(core: &mut Core, actor: u8, hart: u8) -> Option<Event>
+    ensures { IfSome result (is_allowed core.old.setup core.old.past) }
+{
+    match core.decode(actor, hart) {
+        Answer::Done(event) => Some(event),
+        Answer::Idle | Answer::Full => None,
+    }
+}
+
+fn rename(core: &mut Core, actor: u8, hart: u8) -> Option<Event>
+    ensures { IfSome result (is_allowed core.old.setup core.old.past) }
+{
+    match core.rename(actor, hart) {
+        Answer::Done(event) => Some(event),
+        Answer::Idle | Answer::Full => None,
+    }
+}
+
+/// Retires the oldest instruction of a hart, or fetches it again.
+fn retire(core: &mut Core, actor: u8, hart: u8) -> Option<Event>
+    ensures { IfSome result (is_allowed core.old.setup core.old.past) }
+{
+    match core.retire(actor, hart) {
         Answer::Done(event) => Some(event),
         Answer::Idle | Answer::Full => None,
     }

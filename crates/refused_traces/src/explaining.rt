@@ -1,6 +1,6 @@
 //! Why an event is refused.
 
-ghost use Rattle.std.specs.Prelude.{◌≡◌, IfOk, reverse};
+ghost use Rattle.std.specs.Prelude.{◌≡◌, IfOk};
 ghost use Rattle.refused_traces.specs.Why.{IsWhy};
 
 use crate::fetches::{write_choice, write_pc, write_word};
@@ -14,7 +14,7 @@ use crate::rules::event_rule;
 use crate::standing::write_standing;
 use crate::wanted::make_wanted;
 use charts::{Row, rows_of};
-use events::Event;
+use events::{Event, History};
 use shared_memory::Memory;
 use smt_core::Core;
 use std::alloc::{AllocError, Global};
@@ -29,24 +29,22 @@ pub struct Place {
     pub rule: u8,
 }
 
-/// The lines that say why an event is refused by a core that has followed `before`, the events before it: the event,
-/// the rule, what the trace says and who has something else, and the event that would be accepted there.
+/// The lines that say why an event is refused by a core that has followed those before it: the event, the rule, what the
+/// trace says and who has something else, and the event that would be accepted there.
 ///
 /// Fails only for want of memory.
 pub fn explain_event(
     core: Core,
-    before: &[Event],
     event: &Event,
     place: Place,
     alloc: Global,
 ) -> Result<Vec<u8>, AllocError>
-    requires { core.past ≡ reverse before.now }
     ensures { IfOk result (IsWhy core event.now place) }
 {
-    let rows = rows_before(&core, before, alloc)?;
+    let (events, rows) = rows_before(&core, alloc)?;
     let config = core.config().copied();
     let past = Past {
-        events: before,
+        events: events.as_slice(),
         rows: rows.as_slice(),
         config: &config,
     };
@@ -63,13 +61,22 @@ pub fn explain_event(
     )
 }
 
-/// The rows of the instructions that a core's events have fetched.
-fn rows_before(core: &Core, before: &[Event], alloc: Global) -> Result<Vec<Row>, AllocError>
-    requires { core.now.past ≡ reverse before.now }
+/// The events of a core, and the rows of the instructions that they have fetched.
+fn rows_before(core: &Core, alloc: Global) -> Result<(Vec<Event>, Vec<Row>), AllocError> {
+    let events = listed(core.history(), alloc)?;
+    let rows = rows_of(events.as_slice(), alloc)?;
+    Ok((events, rows))
+}
+
+/// The events of a history, one after another.
+fn listed(history: &History, alloc: Global) -> Result<Vec<Event>, AllocError>
+    ensures { IfOk result (λ events. events.items ≡ history.now.items) }
 {
-    // They are a legal history, and not too many: those are clauses of this call.
-    let _events = core.history().len();
-    rows_of(before, alloc)
+    let mut events = Vec::new(alloc);
+    for event in history.iter() {
+        events.push(event)?;
+    }
+    Ok(events)
 }
 
 /// What is told between the first two lines and the last: the words of the rule, what the trace says, and who has
