@@ -21,7 +21,10 @@ pub(crate) fn add_unit(
 ) -> Result<(), AllocError> {
     let name = unit_name(&kind);
     add_config(fault, hint, alloc)?;
-    hint.add(Part::Cause, b"an instruction of the order is for such a unit")?;
+    hint.add(
+        Part::Cause,
+        b"an instruction of the order is for such a unit",
+    )?;
     let expected = format!(in alloc; "{name} among the actors of the configuration")?;
     hint.add(Part::Expected, expected.as_bytes())
 }
@@ -34,7 +37,10 @@ pub(crate) fn add_limit(
     alloc: Global,
 ) -> Result<(), AllocError> {
     add_config(fault, hint, alloc)?;
-    hint.add(Part::Cause, b"the history of the order has more events than the limit")?;
+    hint.add(
+        Part::Cause,
+        b"the history of the order has more events than the limit",
+    )?;
     let expected = format!(in alloc; "limit = {least} in the configuration, or more")?;
     hint.add(Part::Expected, expected.as_bytes())
 }
@@ -61,7 +67,10 @@ pub(crate) fn add_hart(
 
 /// Adds that a picture would have too many instructions.
 pub(crate) fn add_picture(last: u32, hint: &mut Hint, alloc: Global) -> Result<(), AllocError> {
-    hint.add(Part::Cause, b"more than 4000 instructions are no picture any more")?;
+    hint.add(
+        Part::Cause,
+        b"more than 4000 instructions are no picture any more",
+    )?;
     let expected = format!(in alloc; "--to {last} or less, or another --from")?;
     hint.add(Part::Expected, expected.as_bytes())
 }
@@ -139,7 +148,10 @@ pub(crate) fn add_absent_outcome(
     let word = format!(in alloc; "--outcome {number}")?;
     hint.add(Part::Word, word.as_bytes())?;
     hint.add(Part::Cause, b"there are fewer outcomes")?;
-    hint.add(Part::Expected, b"the number of a line that is printed without --outcome")
+    hint.add(
+        Part::Expected,
+        b"the number of a line that is printed without --outcome",
+    )
 }
 
 /// Adds where a litmus test is refused.

@@ -40,7 +40,10 @@ fn add_unfit_config(
     if let Command::OfProgram(ProgramCommand::Run(_)) = fault.line.command {
         add_config(fault, hint, alloc)?;
         hint.add(Part::Cause, b"a run needs an actor of each role")?;
-        hint.add(Part::Expected, b"fetch, front, retire, alu, mul and mem among the actors")?;
+        hint.add(
+            Part::Expected,
+            b"fetch, front, retire, alu, mul and mem among the actors",
+        )?;
         return add_explain(fault, hint, alloc);
     }
     crate::named_files::add_second(fault, hint, alloc)?;

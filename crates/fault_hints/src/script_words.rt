@@ -27,8 +27,7 @@ pub(crate) fn add_script_word(
     };
     found.add(hint, alloc)?;
     let (actor, hart) = (MOST_ACTORS - 1, MOST_HARTS - 1);
-    let expected = format!(
-        in alloc;
+    let expected = format!(in alloc;
         "F0, I3, C3, U3 by an actor 0 to {actor}, or D1.0, R1.0, T2.0 for a hart 0 to {hart} too; *n behind"
     )?;
     hint.add(Part::Expected, expected.as_bytes())?;

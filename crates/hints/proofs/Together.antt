@@ -125,7 +125,7 @@ pub begun_text : (form : Form) (text : List ℕ) (count : ℕ) → form ≡ Line
     → IsHintText form text
 begun_text Lines text count is few begun =
     let parts : (are_lines false text ≡ true) × ((lines_in text == count) ≡ true) = (grind arith, grind arith) in
-    record { lines = parts.0; few = (let same = parts.1 in grind (arith, nat_tests)); }
+    record { lines = parts.0; few = (let same = parts.1 in grind (arith, nat_tests)) }
 begun_text Json text count is few begun = absurd (cc)
 
 -- a part more: a line, or an object

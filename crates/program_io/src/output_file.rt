@@ -99,11 +99,7 @@ impl<'a, S: Files> OutputFile<'a, S> {
 }
 
 /// Gives the file beside this one its name. Where that isn't done, the file beside is removed.
-fn rename_beside<S: Files>(
-    files: &S,
-    name: &OutputName<'_>,
-    number: u32,
-) -> Result<(), FileFault> {
+fn rename_beside<S: Files>(files: &S, name: &OutputName<'_>, number: u32) -> Result<(), FileFault> {
     let Some(path) = name.path() else {
         return Err(FileFault::LongName);
     };

@@ -68,8 +68,14 @@ const ASKED: [(&[&str], HintsWanted); 8] = [
     (&["smtsim"], HintsWanted::Auto),
     (&["smtsim", "--hints", "json"], HintsWanted::Json),
     (&["smtsim", "--hints=never", "a"], HintsWanted::Never),
-    (&["smtsim", "--hints=never", "--hints", "always"], HintsWanted::Always),
-    (&["smtsim", "--hints", "always", "--hints", "odd"], HintsWanted::Always),
+    (
+        &["smtsim", "--hints=never", "--hints", "always"],
+        HintsWanted::Always,
+    ),
+    (
+        &["smtsim", "--hints", "always", "--hints", "odd"],
+        HintsWanted::Always,
+    ),
     (&["smtsim", "--", "--hints", "always"], HintsWanted::Auto),
     (&["smtsim", "--hints"], HintsWanted::Auto),
     (&["smtsim", "--hints", "--hints=json"], HintsWanted::Json),
@@ -79,17 +85,33 @@ const ASKED: [(&[&str], HintsWanted); 8] = [
 fn the_last_word_of_hints_counts(rt: HostRuntime) {
     for (place, (words, wanted)) in ASKED.iter().enumerate() {
         let is = hints_asked(words) == *wanted;
-        holds(&rt, words.last().copied().unwrap_or("none"), is && place < ASKED.len());
+        holds(
+            &rt,
+            words.last().copied().unwrap_or("none"),
+            is && place < ASKED.len(),
+        );
     }
 }
 
 #[test]
 fn hints_are_for_a_terminal_where_nothing_is_asked(rt: HostRuntime) {
-    holds(&rt, "auto", HintsWanted::Auto.form(true) == Some(Form::Lines));
+    holds(
+        &rt,
+        "auto",
+        HintsWanted::Auto.form(true) == Some(Form::Lines),
+    );
     holds(&rt, "elsewhere", HintsWanted::Auto.form(false).is_none());
-    holds(&rt, "always", HintsWanted::Always.form(false) == Some(Form::Lines));
+    holds(
+        &rt,
+        "always",
+        HintsWanted::Always.form(false) == Some(Form::Lines),
+    );
     holds(&rt, "never", HintsWanted::Never.form(true).is_none());
-    holds(&rt, "json", HintsWanted::Json.form(false) == Some(Form::Json));
+    holds(
+        &rt,
+        "json",
+        HintsWanted::Json.form(false) == Some(Form::Json),
+    );
 }
 
 /// Words that are a wrong command line, and what is said of them.

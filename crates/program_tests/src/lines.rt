@@ -1,9 +1,9 @@
 //! Lines of the program, as their words are read. None names a configuration.
 
 use sim_inputs::{
-    Beside, ChartCommand, CheckCommand, Command, ExplainCommand, HintsWanted, Line, ListCommand, LitmusCommand,
-    MigrateCommand, OutcomesCommand, PlainCommand, ProgramCommand, RunCommand, ScheduleCommand,
-    ScriptCommand, StepCommand,
+    Beside, ChartCommand, CheckCommand, Command, ExplainCommand, HintsWanted, Line, ListCommand,
+    LitmusCommand, MigrateCommand, OutcomesCommand, PlainCommand, ProgramCommand, RunCommand,
+    ScheduleCommand, ScriptCommand, StepCommand,
 };
 
 macro_rules! line {

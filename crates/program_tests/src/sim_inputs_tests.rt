@@ -7,9 +7,9 @@ mod refused_words;
 
 use crate::rows::holds;
 use sim_inputs::{
-    Beside, ChartCommand, CheckCommand, Command, ExplainCommand, HintsWanted, Line, ListCommand, LitmusCommand,
-    MigrateCommand, OutcomesCommand, PlainCommand, ProgramCommand, RunCommand, ScheduleCommand,
-    ScriptCommand, StepCommand, read_words,
+    Beside, ChartCommand, CheckCommand, Command, ExplainCommand, HintsWanted, Line, ListCommand,
+    LitmusCommand, MigrateCommand, OutcomesCommand, PlainCommand, ProgramCommand, RunCommand,
+    ScheduleCommand, ScriptCommand, StepCommand, read_words,
 };
 use std::alloc::{AllocError, Global};
 

@@ -1,7 +1,7 @@
 //! When hints are told behind a fault: what `--hints` says.
 
-ghost use Rattle.std.specs.Prelude.{◌≡◌};
-ghost use Rattle.sim_inputs.specs.HintsWanted.{hints_named, form_of};
+ghost use Rattle.std.specs.Prelude.{◌≡◌, option_map};
+ghost use Rattle.sim_inputs.specs.HintsWanted.{hints_in, hints_named, form_of};
 
 use hints::Form;
 
@@ -29,6 +29,16 @@ impl HintsWanted {
             "never" => Some(HintsWanted::Never),
             "json" => Some(HintsWanted::Json),
             _ => None,
+        }
+    }
+
+    /// What it says with this word, or without one; none where it is none of its words.
+    pub(crate) fn of(word: Option<&str>) -> Option<Self>
+        ensures { result ≡ hints_in (option_map (λ word. word.now) word) }
+    {
+        match word {
+            Some(word) => HintsWanted::named(word),
+            None => Some(HintsWanted::Auto),
         }
     }
 

@@ -98,11 +98,7 @@ fn add_hints_word(
 }
 
 /// Adds the first option whose number doesn't fit. Answers whether there is one.
-fn add_number(
-    found: &ArgMatches<'_>,
-    hint: &mut Hint,
-    alloc: Global,
-) -> Result<bool, AllocError> {
+fn add_number(found: &ArgMatches<'_>, hint: &mut Hint, alloc: Global) -> Result<bool, AllocError> {
     for option in &NUMBERS {
         let Some(text) = found.get_str(option.name) else {
             continue;
@@ -121,11 +117,7 @@ fn add_number(
 }
 
 /// Adds the events of a chart where the last is before the first. Answers whether it is so.
-fn add_turned(
-    found: &ArgMatches<'_>,
-    hint: &mut Hint,
-    alloc: Global,
-) -> Result<bool, AllocError> {
+fn add_turned(found: &ArgMatches<'_>, hint: &mut Hint, alloc: Global) -> Result<bool, AllocError> {
     let (Some(from), Some(to)) = (found.get_str("from"), found.get_str("to")) else {
         return Ok(false);
     };
@@ -144,20 +136,21 @@ fn add_dash(found: &ArgMatches<'_>, hint: &mut Hint, alloc: Global) -> Result<()
     for name in WRITTEN {
         if found.get_str(name) == Some("-") {
             add_word(name, "-", hint, alloc)?;
-            return hint.add(Part::Expected, b"a file that is written; ./- for one of that name");
+            return hint.add(
+                Part::Expected,
+                b"a file that is written; ./- for one of that name",
+            );
         }
     }
     hint.add(Part::Word, b"-")?;
-    hint.add(Part::Expected, b"- in place of one file that is read at most")
+    hint.add(
+        Part::Expected,
+        b"- in place of one file that is read at most",
+    )
 }
 
 /// Adds an option, or an argument by its name in the usage, with its word.
-fn add_word(
-    name: &str,
-    word: &str,
-    hint: &mut Hint,
-    alloc: Global,
-) -> Result<(), AllocError> {
+fn add_word(name: &str, word: &str, hint: &mut Hint, alloc: Global) -> Result<(), AllocError> {
     let mut words = String::new(alloc);
     if name != "OUT" {
         words.push_str("--")?;

@@ -80,7 +80,10 @@ fn refused_of_outcomes(found: &ArgMatches<'_>) -> Option<RefusedOptions> {
     let (witness, script) = (has(found, "witness"), has(found, "script"));
     let words = match (has(found, "outcome"), has(found, "stuck")) {
         (true, true) => return refused("--outcome --stuck", ONE_OF_THEM),
-        (false, false) if witness => return refused("--witness", "--outcome N or --stuck beside it"),
+        (false, false) if witness => return refused(
+            "--witness",
+            "--outcome N or --stuck beside it",
+        ),
         (false, false) if script => return refused("--script", "--outcome N or --stuck beside it"),
         (false, false) => return None,
         (true, false) => "--outcome",

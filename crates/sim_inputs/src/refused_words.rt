@@ -13,11 +13,7 @@ const MOST_SHOWN: usize = 100;
 
 /// Adds to a hint why these words, the program's name first, are a wrong command line. Fails only for want of
 /// memory.
-pub fn add_refused_words(
-    words: &[&str],
-    hint: &mut Hint,
-    alloc: Global,
-) -> Result<(), AllocError> {
+pub fn add_refused_words(words: &[&str], hint: &mut Hint, alloc: Global) -> Result<(), AllocError> {
     let shown = shown_words(words, alloc)?;
     let mut texts = Vec::new(alloc);
     for word in &shown {

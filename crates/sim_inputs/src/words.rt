@@ -1,4 +1,4 @@
-ghost use Rattle.std.specs.Prelude.{◌≡◌, map, option_map, codes, IfOk, IfErr};
+ghost use Rattle.std.specs.Prelude.{◌≡◌, map, option_map, IfOk, IfErr};
 ghost use Rattle.clap.specs.Words.{first_of, found_of, rows_of, subcommand_rows_of};
 ghost use Rattle.sim_inputs.specs.CommandLine.{is_flag_set, Finds, IsCommandOf, Names, Asks};
 ghost use Rattle.sim_inputs.specs.CommandLine.{IsProgramCommandOf};
@@ -9,7 +9,6 @@ ghost use Rattle.sim_inputs.specs.CommandLine.{has_named_folder};
 ghost use Rattle.sim_inputs.specs.CommandLine.{IsOutcomes, can_be_searched, are_orders_together};
 ghost use Rattle.sim_inputs.specs.CommandLine.{has_one_file, IsLitmus, can_be_tested, IsMigrate};
 ghost use Rattle.sim_inputs.specs.CommandLine.{AreWordsRefusedFor};
-ghost use Rattle.sim_inputs.specs.HintsWanted.{hints_in};
 
 use crate::clap_errors::refusal;
 use crate::description::describe;
@@ -65,7 +64,7 @@ fn line_in<'a>(matches: &ArgMatches<'a>) -> Option<Line<'a>>
     let (name, found) = matches.subcommand()?;
     let command = command_named(name, found)?;
     let config = value_of(found, "config");
-    let hints = hints_in(found)?;
+    let hints = HintsWanted::of(value_of(found, "hints"))?;
     let line = Line {
         config,
         hints,
@@ -391,16 +390,6 @@ fn number(found: &ArgMatches<'_>, name: &str, greatest: u32) -> Option<Option<u3
     match value_of(found, name) {
         Some(text) => Some(Some(read_decimal(text.as_bytes(), greatest).ok()?)),
         None => Some(None),
-    }
-}
-
-/// When hints are wanted, by what was found; none where something else was found.
-fn hints_in(found: &ArgMatches<'_>) -> Option<HintsWanted>
-    ensures { result ≡ hints_in (first_of (codes "hints") (rows_of (found_of found.now))) }
-{
-    match value_of(found, "hints") {
-        Some(text) => HintsWanted::named(text),
-        None => Some(HintsWanted::Auto),
     }
 }
 
