@@ -39,7 +39,7 @@ pub fn explain_event(
     place: Place,
     alloc: Global,
 ) -> Result<Vec<u8>, AllocError>
-    ensures { IfOk result (IsWhy core event.now place) }
+    ensures { IfOk result (λ text. IsWhy core event.now place text.items) }
 {
     let (events, rows) = rows_before(&core, alloc)?;
     let config = core.config().copied();

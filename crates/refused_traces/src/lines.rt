@@ -28,7 +28,7 @@ pub fn explain_line(
     rule: u8,
     alloc: Global,
 ) -> Result<Vec<u8>, AllocError>
-    ensures { IfOk result (IsLineWhy line rule) }
+    ensures { IfOk result (λ text. IsLineWhy line rule text.items) }
 {
     let text = line_of(trace, line);
     let shown = shown_line(text, alloc)?;
