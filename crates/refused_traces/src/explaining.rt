@@ -6,7 +6,7 @@ ghost use Rattle.refused_traces.specs.Why.{IsWhy};
 use crate::fetches::{write_choice, write_pc, write_word};
 use crate::fronts::{write_decode, write_oldest, write_rename};
 use crate::issues::{write_actor, write_issue, write_job};
-use crate::parts::{event_head, joined, last_line};
+use crate::parts::{last_line, text_of_event};
 use crate::past::Past;
 use crate::places::Holder;
 use crate::results::{write_effect, write_fresh, write_outcome, write_stale};
@@ -39,7 +39,7 @@ pub fn explain_event(
     place: Place,
     alloc: Global,
 ) -> Result<Vec<u8>, AllocError>
-    ensures { IfOk result (IsWhy core event.now place) }
+    ensures { IfOk result (λ text. IsWhy core event.now place text.items) }
 {
     let (events, rows) = rows_before(&core, alloc)?;
     let config = core.config().copied();
@@ -52,13 +52,7 @@ pub fn explain_event(
     let (wanted, reason) = make_wanted(&mut core, event, past.hart(event.seq()));
     let facts = facts_of(&past, event, place.rule, wanted, &core, alloc)?;
     let last = last_line(wanted, reason, alloc)?;
-    let head = event_head(event, place);
-    joined(
-        head.as_str().as_bytes(),
-        facts.as_slice(),
-        last.as_slice(),
-        alloc,
-    )
+    text_of_event(event, place, facts.as_slice(), last.as_slice(), alloc)
 }
 
 /// The events of a core, and the rows of the instructions that they have fetched.

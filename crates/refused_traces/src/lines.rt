@@ -4,7 +4,7 @@ ghost use Rattle.std.specs.Prelude.{IfOk};
 ghost use Rattle.refused_traces.specs.Why.{IsLineWhy};
 
 use crate::forms::{Field, config_field, event_field};
-use crate::parts::{joined, line_head, rule_head};
+use crate::parts::text_of_line;
 use crate::rules::line_rule;
 use event_text::{FIRST_RANGES, Ranges, SECOND_RANGES, THIRD_RANGES};
 use events::EventKind;
@@ -28,20 +28,12 @@ pub fn explain_line(
     rule: u8,
     alloc: Global,
 ) -> Result<Vec<u8>, AllocError>
-    ensures { IfOk result (IsLineWhy line rule) }
+    ensures { IfOk result (λ text. IsLineWhy line rule text.items) }
 {
     let text = line_of(trace, line);
     let shown = shown_line(text, alloc)?;
     let may = fault_of(trace, text, line, rule, alloc)?;
-    let head = line_head(line);
-    let behind = rule_head(rule);
-    let rest = joined(behind.as_str().as_bytes(), may.as_slice(), &[], alloc)?;
-    joined(
-        head.as_str().as_bytes(),
-        shown.as_slice(),
-        rest.as_slice(),
-        alloc,
-    )
+    text_of_line(line, rule, shown.as_slice(), may.as_slice(), alloc)
 }
 
 fn shown_line(text: &[u8], alloc: Global) -> Result<Vec<u8>, AllocError> {

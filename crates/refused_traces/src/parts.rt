@@ -1,7 +1,6 @@
 //! The parts of what is told, put together.
 
 ghost use Rattle.std.specs.Prelude.{◌≡◌, ◌++◌, ◌∷◌, [], IfOk, IfSome, IfNone};
-ghost use Rattle.event_text.specs.Line.{line_of};
 ghost use Rattle.refused_traces.specs.Why.{IsNoneWanted, event_head, line_head, rule_head, wanted_line};
 
 use crate::explaining::Place;
@@ -14,7 +13,7 @@ use std::io::Write;
 use text_fields::{push_ascii, push_decimal, push_number, push_small_number};
 
 /// The line of an event that is refused, and up to the words of its rule.
-pub(crate) fn event_head(event: &Event, place: Place) -> ArrayString<128>
+fn event_head(event: &Event, place: Place) -> ArrayString<128>
     ensures { result.bytes ≡ event_head place event.now }
 {
     let mut head = ArrayString::new();
@@ -31,7 +30,7 @@ pub(crate) fn event_head(event: &Event, place: Place) -> ArrayString<128>
 }
 
 /// The begin of what is told of a line.
-pub(crate) fn line_head(line: usize) -> ArrayString<32>
+fn line_head(line: usize) -> ArrayString<32>
     ensures { result.bytes ≡ line_head line }
 {
     let mut head = ArrayString::new();
@@ -42,7 +41,7 @@ pub(crate) fn line_head(line: usize) -> ArrayString<32>
 }
 
 /// The end of its first line, and up to the words of its rule.
-pub(crate) fn rule_head(rule: u8) -> ArrayString<16>
+fn rule_head(rule: u8) -> ArrayString<16>
     ensures { result.bytes ≡ rule_head rule }
 {
     let mut head = ArrayString::new();
@@ -108,13 +107,48 @@ fn written_reason(reason: Option<Reason>, alloc: Global) -> Result<Vec<u8>, Allo
     }
 }
 
-/// Three texts, one behind the other.
-pub(crate) fn joined(
-    head: &[u8],
-    middle: &[u8],
+/// What is told of an event: its head, what is told between, and the last line.
+pub(crate) fn text_of_event(
+    event: &Event,
+    place: Place,
+    facts: &[u8],
     last: &[u8],
     alloc: Global,
 ) -> Result<Vec<u8>, AllocError>
+    ensures { IfOk result (λ text. text.items ≡ event_head place event.now ++ (facts.now ++ last.now)) }
+{
+    let head = event_head(event, place);
+    joined(head.as_str().as_bytes(), facts, last, alloc)
+}
+
+/// What is told of a line: the line as it is shown, and what is told of its rule.
+pub(crate) fn text_of_line(
+    line: usize,
+    rule: u8,
+    shown: &[u8],
+    may: &[u8],
+    alloc: Global,
+) -> Result<Vec<u8>, AllocError>
+    ensures { IfOk result
+        (λ text. text.items ≡ line_head line ++ (shown.now ++ (rule_head rule ++ may.now))) }
+{
+    let behind = rule_text(rule, may, alloc)?;
+    let head = line_head(line);
+    joined(head.as_str().as_bytes(), shown, behind.as_slice(), alloc)
+}
+
+fn rule_text(rule: u8, may: &[u8], alloc: Global) -> Result<Vec<u8>, AllocError>
+    ensures { IfOk result (λ text. text.items ≡ rule_head rule ++ may.now) }
+{
+    let head = rule_head(rule);
+    let mut text = Vec::new(alloc);
+    text.extend_from_slice(head.as_str().as_bytes())?;
+    text.extend_from_slice(may)?;
+    Ok(text)
+}
+
+/// Three texts, one behind the other.
+fn joined(head: &[u8], middle: &[u8], last: &[u8], alloc: Global) -> Result<Vec<u8>, AllocError>
     ensures { IfOk result (λ text. text.items ≡ head.now ++ (middle.now ++ last.now)) }
 {
     let mut text = Vec::new(alloc);
