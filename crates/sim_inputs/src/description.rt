@@ -173,7 +173,7 @@ const WRITTEN_TRACE: Argument = Argument {
 const EXPLAINED_TRACE: Argument = Argument {
     kind: Kind::Option,
     name: "trace",
-    help: "A trace: tell why it is refused",
+    help: "A trace to judge beside them",
 };
 
 const FROM: Argument = Argument {
