@@ -9,6 +9,7 @@ import struct
 import core
 import inputs
 import limits
+import symbols
 from image import BASE
 from plain import Plain
 
@@ -47,6 +48,23 @@ def of_image(made, file):
         yield f"segment {number} at {at:08x} to {at + size - 1:08x}, {in_file} bytes in the file, {size} in memory,{letters}"
     yield f"entry {made.entry:08x}"
     yield f"free behind the last segment {BASE + made.ram - max(at + len(data) for at, data, _ in made.segments)}"
+    yield from of_names(file, made.entry)
+
+
+def of_names(file, entry):
+    try:
+        found = symbols.names(file)
+    except symbols.Damaged:
+        yield "names none: the table of symbols is damaged"
+        return
+    if found is None:
+        return
+    functions, objects, labels = (sum(one[3] == kind for one in found) for kind in (symbols.FUNCTION, symbols.OBJECT, symbols.LABEL))
+    yield f"names of functions {functions}, of objects {objects}, labels {labels}"
+    at = symbols.name_at(found, entry)
+    if at:
+        name = "".join(f"\\x{byte:02x}" if byte < 32 or byte == 127 else chr(byte) for byte in at[0])
+        yield f"the entry is `{name}{f'+{at[1]}' if at[1] else ''}`"
 
 
 # ---- Words
