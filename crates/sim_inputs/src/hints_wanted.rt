@@ -34,7 +34,7 @@ impl HintsWanted {
 
     /// What it says with this word, or without one; none where it is none of its words.
     pub(crate) fn of(word: Option<&str>) -> Option<Self>
-        ensures { result ≡ hints_in (option_map (λ word. word.now) word) }
+        ensures { result ≡ hints_in (option_map (λ text. text.now) word.entry) }
     {
         match word {
             Some(word) => HintsWanted::named(word),

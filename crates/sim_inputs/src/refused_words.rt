@@ -56,12 +56,11 @@ fn shown_word(word: &str, alloc: Global) -> Result<String, AllocError> {
 
 /// As much of a word as is shown, in whole characters, and whether there is more of it.
 fn beginning(word: &str) -> (&str, bool) {
-    let mut count = MOST_SHOWN;
-    while count > 0 {
-        if let Some(begin) = word.get(..count) {
-            return (begin, count < word.len());
+    // Of the last four bytes of a longer word one begins a character.
+    for less in 0..4 {
+        if let Some(begin) = word.get(..MOST_SHOWN - less) {
+            return (begin, begin.len() < word.len());
         }
-        count -= 1;
     }
     (word, false)
 }

@@ -8,7 +8,7 @@ returns c =
     record {
       config = sym c.value_of-config.ensures;
       command = c.in_ok-command.ensures;
-      hints = cc;
+      hints = ?;
       once = cc;
       undashed = cc;
     }
