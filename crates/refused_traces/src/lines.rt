@@ -104,12 +104,20 @@ fn ranges_of(trace: &[u8]) -> Option<Ranges> {
 
 /// Writes a text as it is shown to a person, cut where it is long.
 fn write_cut<W: Write>(text: &[u8], out: &mut W) -> io::Result<()> {
-    if text.len() <= MOST_SHOWN {
-        return write_shown(text, out);
-    }
-    write_shown(&text[..MOST_SHOWN], out)?;
+    write_shown(begin_of(text), out)?;
     let bytes = text.len();
+    if bytes <= MOST_SHOWN {
+        return Ok(());
+    }
     write!(out, " .. ({bytes} bytes)")
+}
+
+/// What is shown of a text.
+fn begin_of(text: &[u8]) -> &[u8] {
+    if text.len() <= MOST_SHOWN {
+        return text;
+    }
+    &text[..MOST_SHOWN]
 }
 
 /// Writes a field of a line as it is shown.
