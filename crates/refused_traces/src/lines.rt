@@ -104,7 +104,7 @@ fn ranges_of(trace: &[u8]) -> Option<Ranges> {
 
 /// Writes a text as it is shown to a person, cut where it is long.
 fn write_cut<W: Write>(text: &[u8], out: &mut W) -> io::Result<()> {
-    write_shown(begin_of(text), out)?;
+    write_begin(text, out)?;
     let bytes = text.len();
     if bytes <= MOST_SHOWN {
         return Ok(());
@@ -112,12 +112,15 @@ fn write_cut<W: Write>(text: &[u8], out: &mut W) -> io::Result<()> {
     write!(out, " .. ({bytes} bytes)")
 }
 
-/// What is shown of a text.
-fn begin_of(text: &[u8]) -> &[u8] {
-    if text.len() <= MOST_SHOWN {
-        return text;
+/// Writes what is shown of a text.
+fn write_begin<W: Write>(text: &[u8], out: &mut W) -> io::Result<()> {
+    for (place, byte) in text.iter().enumerate() {
+        if place >= MOST_SHOWN {
+            return Ok(());
+        }
+        write_shown(&[*byte], out)?;
     }
-    &text[..MOST_SHOWN]
+    Ok(())
 }
 
 /// Writes a field of a line as it is shown.
