@@ -104,12 +104,23 @@ fn ranges_of(trace: &[u8]) -> Option<Ranges> {
 
 /// Writes a text as it is shown to a person, cut where it is long.
 fn write_cut<W: Write>(text: &[u8], out: &mut W) -> io::Result<()> {
-    if text.len() <= MOST_SHOWN {
-        return write_shown(text, out);
-    }
-    write_shown(&text[..MOST_SHOWN], out)?;
+    write_begin(text, out)?;
     let bytes = text.len();
+    if bytes <= MOST_SHOWN {
+        return Ok(());
+    }
     write!(out, " .. ({bytes} bytes)")
+}
+
+/// Writes what is shown of a text.
+fn write_begin<W: Write>(text: &[u8], out: &mut W) -> io::Result<()> {
+    for (place, byte) in text.iter().enumerate() {
+        if place >= MOST_SHOWN {
+            return Ok(());
+        }
+        write_shown(&[*byte], out)?;
+    }
+    Ok(())
 }
 
 /// Writes a field of a line as it is shown.

@@ -13,7 +13,7 @@ use std::io::Write;
 #[derive(Clone, Copy, Drop)]
 pub(crate) struct Doer {
     pub(crate) seq: Seq,
-    pub(crate) place: u32,
+    pub(crate) place: usize,
 }
 
 /// The last retirement that wrote one of these bytes.
@@ -22,10 +22,7 @@ pub(crate) fn writer_of(past: &Past<'_>, addr: u32, size: u8) -> Option<Doer> {
     for (place, event) in past.events.iter().enumerate() {
         if let Event::Retire { seq, effect, .. } = *event {
             if overlaps(effect.write, addr, size) {
-                found = Some(Doer {
-                    seq,
-                    place: place as u32,
-                });
+                found = Some(Doer { seq, place });
             }
         }
     }
@@ -73,7 +70,10 @@ pub(crate) fn forwarding_store(past: &Past<'_>, load: Seq, addr: u32, size: u8) 
     for seq in 0..load {
         if let Some(row) = past.row(seq) {
             if let Some(place) = stored_at(past, &row, hart, addr, size) {
-                found = Some(Doer { seq, place });
+                found = Some(Doer {
+                    seq,
+                    place: place as usize,
+                });
             }
         }
     }
@@ -123,10 +123,7 @@ fn reservation_of(past: &Past<'_>, hart: u8) -> Reservation {
     for (place, event) in past.events.iter().enumerate() {
         if let Event::Retire { seq, effect, .. } = *event {
             if let Next::Pc(_) = effect.next {
-                let by = Doer {
-                    seq,
-                    place: place as u32,
-                };
+                let by = Doer { seq, place };
                 reservation = reserved_behind(past, hart, reservation, by, effect.write);
             }
         }

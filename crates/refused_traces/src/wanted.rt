@@ -89,7 +89,7 @@ fn ask_in_place_of(core: &Core, event: &Event, hart: Option<u8>) -> Ask {
 
 /// The actor that is asked in place of an event's.
 fn asker(core: &Core, event: &Event, hart: u8) -> u8 {
-    let actors = core.config().roles.len() as u8;
+    let actors = u8::try_from(core.config().roles.len()).unwrap_or(0);
     if event.actor() < actors {
         return event.actor();
     }
