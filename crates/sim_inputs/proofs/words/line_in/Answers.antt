@@ -1,4 +1,5 @@
-use Rattle.std.proofs.Common.{sym}
+use Rattle.std.proofs.Common.{ap, sym, ◌∙◌}
+use Rattle.sim_inputs.specs.HintsWanted.{hints_in}
 use Rattle.sim_inputs.proofs.Subcommand.{found_in}
 use Rattle.sim_inputs.proofs.words.line_in.Goals as goal
 
@@ -8,7 +9,7 @@ returns c =
     record {
       config = sym c.value_of-config.ensures;
       command = c.in_ok-command.ensures;
-      hints = ?;
+      hints = ap hints_in (sym c.value_of.ensures) ∙ (sym c.of.ensures ∙ c.in_ok-hints.was);
       once = cc;
       undashed = cc;
     }
