@@ -66,16 +66,18 @@ impl Asked {
 
 /// Writes how often each kind is asked for, those that are, and the end of the line.
 fn write_kinds<W: Write>(kinds: &[u64; KINDS], out: &mut W) -> io::Result<()> {
-    let mut before = "";
+    let mut listed = false;
     for (kind, count) in EVERY_KIND.iter().zip(kinds.iter()) {
         if *count > 0 {
-            out.write_all(before.as_bytes())?;
+            if listed {
+                out.write_all(b",")?;
+            }
             out.write_all(&[b' ', kind.letter()])?;
             write!(out, " {count}")?;
-            before = ",";
+            listed = true;
         }
     }
-    if before.is_empty() {
+    if !listed {
         out.write_all(b" nothing")?;
     }
     out.write_all(b"\n")

@@ -28,10 +28,9 @@ impl<'a> Words<'a> {
 
     /// The next word, which is empty behind the last.
     pub(crate) fn next_word(&mut self) -> Placed<'a> {
-        let start = length_of(self.rest, is_separator);
-        self.pass(start);
+        self.pass(separators_before(self.rest));
         let (line, column) = (self.line, self.column);
-        let word = self.pass(length_of(self.rest, is_inside));
+        let word = self.pass(length_of_word(self.rest));
         Placed { word, line, column }
     }
 
@@ -60,21 +59,23 @@ impl<'a> Words<'a> {
     }
 }
 
-/// How many bytes at the start of a text are all of a kind.
-fn length_of<F: Fn(u8) -> bool>(text: &[u8], is_of_kind: F) -> usize {
+/// How many separators a text begins with.
+fn separators_before(text: &[u8]) -> usize {
     text.iter()
-        .position(|byte| !is_of_kind(*byte))
+        .position(|byte| !is_separator(*byte))
+        .unwrap_or(text.len())
+}
+
+/// How many bytes of a word it begins with.
+fn length_of_word(text: &[u8]) -> usize {
+    text.iter()
+        .position(|byte| is_separator(*byte))
         .unwrap_or(text.len())
 }
 
 /// Whether a byte separates words.
 fn is_separator(byte: u8) -> bool {
     byte == b' ' || byte == b'\n'
-}
-
-/// Whether it is one of a word.
-fn is_inside(byte: u8) -> bool {
-    !is_separator(byte)
 }
 
 /// Whether a byte of UTF-8 is a further one of its character.

@@ -36,8 +36,8 @@ fn cut(word: &[u8]) -> &[u8] {
     for back in 0..3 {
         let end = MOST_SHOWN - back;
         if !is_continued(word[end]) {
-            return &word[..end];
+            return word.get(..end).unwrap_or(word);
         }
     }
-    &word[..MOST_SHOWN - 3]
+    word.get(..MOST_SHOWN - 3).unwrap_or(word)
 }
