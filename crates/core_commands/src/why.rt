@@ -5,6 +5,7 @@ ghost use Rattle.std.specs.Io.KnownBytes.{Appends};
 ghost use Rattle.command_parts.specs.declared.refused.Refused.TheVariants.{Output};
 ghost use Rattle.refused_traces.specs.Why.{IsLineWhy};
 ghost use Rattle.history_check.specs.Checking.{IsStoppedAt};
+ghost use Rattle.smt_model.specs.Setup.{Setup};
 ghost use Rattle.core_commands.specs.Told.{IsEventTold, IsTold, IsToldOn, WhereTold};
 ghost use Rattle.core_commands.specs.Told.{IsEventOfTextTold};
 
@@ -101,8 +102,8 @@ fn why_event(
 
 /// Why a core that has followed the events before the one at a place refuses that by this rule.
 fn told_event(stopped: Stopped, trace: &Trace, index: u32, rule: u8, alloc: Global) -> Vec<u8>
-    requires { IsStoppedAt stopped.core.setup trace.now.events stopped }
-    ensures { WhereTold (IsEventTold stopped.core.setup trace.now index rule) result.items }
+    ensures { (setup : Setup) → IsStoppedAt setup trace.now.events stopped
+        → WhereTold (IsEventTold setup trace.now index rule) result.items }
 {
     let Stopped {
         core,

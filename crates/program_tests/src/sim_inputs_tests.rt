@@ -23,7 +23,7 @@ fn words_of(text: &str, alloc: Global) -> Result<Vec<&str>, AllocError> {
 }
 
 /// Words, and what they ask for.
-static LINES: [(&str, Line<'_>); 38] = [
+static LINES: [(&str, Line<'_>); 41] = [
     (
         "smtsim chart a t",
         Line {
@@ -500,6 +500,17 @@ static LINES: [(&str, Line<'_>); 38] = [
             command: Command::Explain(ExplainCommand {
                 image: "a",
                 beside: Some(Beside::Order("-")),
+            }),
+        },
+    ),
+    (
+        "smtsim explain a --trace t",
+        Line {
+            config: None,
+            hints: HintsWanted::Auto,
+            command: Command::Explain(ExplainCommand {
+                image: "a",
+                beside: Some(Beside::Trace("t")),
             }),
         },
     ),
