@@ -6,7 +6,7 @@ cd "$(dirname "$0")"
 for program in primes gcd random; do
     riscv64-unknown-elf-gcc -march=rv32im -mabi=ilp32 -std=c11 -Wall -Wextra -Werror -O2 \
         -ffreestanding -nostdlib -nostartfiles \
-        -Wl,-m,elf32lriscv -Wl,-z,max-page-size=4 -Wl,--build-id=none -Wl,--strip-all -Wl,-T,../list/link.ld \
+        -Wl,-m,elf32lriscv -Wl,-z,max-page-size=4 -Wl,--build-id=none -Wl,--discard-locals -Wl,-T,../list/link.ld \
         -o "$program.elf" "$program.c"
     chmod 644 "$program.elf"
     if riscv64-unknown-elf-objdump -d -M no-aliases,numeric "$program.elf" |

@@ -9,7 +9,7 @@ riscv64-unknown-elf-as -march=rv32im -mabi=ilp32 -o "$work/start.o" ../start/sta
 for program in sort primes search; do
     riscv64-unknown-elf-gcc -march=rv32im -mabi=ilp32 -std=c11 -I ../start -Wall -Wextra -Werror -O2 -ffreestanding \
         -fno-tree-loop-distribute-patterns -c -o "$work/$program.o" "$program.c"
-    riscv64-unknown-elf-ld -m elf32lriscv -z max-page-size=4 --build-id=none --strip-all -T ../start/program.ld \
+    riscv64-unknown-elf-ld -m elf32lriscv -z max-page-size=4 --build-id=none --discard-locals -T ../start/program.ld \
         -o "$program.elf" "$work/start.o" "$work/$program.o"
     chmod 644 "$program.elf"
 done

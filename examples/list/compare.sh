@@ -6,9 +6,12 @@ set -eu
 root=$(cd "$(dirname "$0")/../.." && pwd)
 ours=$(mktemp)
 theirs=$(mktemp)
-trap 'rm -f "$ours" "$theirs"' EXIT
+bare=$(mktemp)
+trap 'rm -f "$ours" "$theirs" "$bare"' EXIT
 "$root/smtsim" list "$1" >"$ours"
-riscv64-unknown-elf-objdump -d -M no-aliases,numeric "$1" | awk -F '\t' '
+# Without its symbols: with them a jump's target is a name.
+riscv64-unknown-elf-objcopy --strip-all "$1" "$bare"
+riscv64-unknown-elf-objdump -d -M no-aliases,numeric "$bare" | awk -F '\t' '
     function number(text,    i, n) {
         n = 0
         for (i = 3; i <= length(text); i++)

@@ -14,7 +14,7 @@ for test in message_passing store_buffering load_buffering coherent_reads indepe
     *) harts=2 config=two.toml ;;
     esac
     riscv64-unknown-elf-as -march=rv32im -mabi=ilp32 -o "$work/$test.o" "$test.s"
-    riscv64-unknown-elf-ld -m elf32lriscv -z max-page-size=4 -T ../list/link.ld --strip-all -o "$test.elf" "$work/$test.o"
+    riscv64-unknown-elf-ld -m elf32lriscv -z max-page-size=4 -T ../list/link.ld --discard-locals -o "$test.elf" "$work/$test.o"
     chmod 644 "$test.elf"
     python3 "$tools/outcomes.py" "$test.elf" "$harts" >"$work/outcomes"
     sed "s/^/$test: /; s/; .*//" "$work/outcomes" >>outcomes.out

@@ -6,7 +6,7 @@ work=$(mktemp -d)
 trap 'rm -rf "$work"' EXIT
 for program in near far stub; do
     riscv64-unknown-elf-as -march=rv32im -mabi=ilp32 -o "$work/$program.o" "$program.s"
-    riscv64-unknown-elf-ld -m elf32lriscv -z max-page-size=4 --no-relax --no-warn-rwx-segments -T link.ld --strip-all \
+    riscv64-unknown-elf-ld -m elf32lriscv -z max-page-size=4 --no-relax --no-warn-rwx-segments -T link.ld --discard-locals \
         -o "$program.elf" "$work/$program.o"
     chmod 644 "$program.elf"
 done

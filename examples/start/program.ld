@@ -1,13 +1,13 @@
 /* Two loadable segments: the code from the start of RAM, to be read and executed, and behind it the data. The stacks are at the
-   end of RAM, with room for those of most_harts; more harts want more of it, and a larger ram_size. Change ram_size together with the
-   key `ram` of the configuration. A section that stands nowhere here is an error:
-   the linker would else put it where it likes, into the code too. */
+   end of RAM, with room for those of most_harts: of as many harts as there may be, where nothing else is said. Change ram_size together
+   with the key `ram` of the configuration. A program that writes its own code has FLAGS(7) for it, as `image.sh --writable` writes here.
+   A section that stands nowhere here is an error: the linker would else put it where it likes, into the code too. */
 OUTPUT_ARCH(riscv)
 ENTRY(_start)
 
 PROVIDE(ram_size = 65536);
-PROVIDE(stack_size = 4096);
-PROVIDE(most_harts = 8);
+PROVIDE(most_harts = 16);
+PROVIDE(stack_size = most_harts > 8 ? 2048 : 4096);
 ram_end = 0x80000000 + ram_size;
 
 PHDRS
@@ -39,4 +39,4 @@ SECTIONS
     /DISCARD/ : { *(.riscv.attributes) *(.comment) *(.note*) *(.eh_frame*) *(.llvm_addrsig) *(.debug*) *(.rela.*) }
 }
 
-ASSERT(data_end <= ram_end - most_harts * stack_size, "the data reach into the stacks: take a larger ram_size, or fewer most_harts")
+ASSERT(data_end <= ram_end - most_harts * stack_size, "the data reach into the stacks: fewer stacks (image.sh --harts), smaller ones (--stack) or more memory (--ram)")

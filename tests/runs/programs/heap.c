@@ -4,7 +4,7 @@
 #include <stdlib.h>
 
 extern char data_end[];
-/* Where the stacks of 8 harts begin, 4096 bytes each at the end of 65536. */
+/* Where the stacks of 16 harts begin, 2048 bytes each at the end of 65536. */
 static const uintptr_t stacks = 0x80008000;
 
 enum { SIZE = 500, MOST = 200 };

@@ -1,0 +1,3 @@
+#include "narrow.h"
+
+ALL_OF(1, uint8_t)

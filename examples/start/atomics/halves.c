@@ -1,0 +1,3 @@
+#include "narrow.h"
+
+ALL_OF(2, uint16_t)
