@@ -8,10 +8,11 @@ ghost use Rattle.explanations.specs.Explained.{Begins, IsImageExplained, IsRefus
 use crate::file_fault::{write_file_fault, write_too_short};
 use crate::headers::read_loadable;
 use crate::lines::{joined, no_memory};
+use crate::names::write_names;
 use crate::segment_fault::write_segment_fault;
 use crate::segments::write_image;
 use arrayvec::ArrayString;
-use elf_image::{Image, LoadRefused, RamSize, load};
+use elf_image::{Image, LoadRefused, ProgramHeader, RamSize, load};
 use std::alloc::{AllocError, Global};
 use std::io;
 use std::io::Write;
@@ -58,10 +59,22 @@ fn accepted_text(file: &[u8], image: &Image, alloc: Global) -> Result<Vec<u8>, A
 {
     let headers = read_loadable(file, alloc)?;
     let mut rest = Vec::new(alloc);
-    match write_image(image, &headers, &mut rest) {
+    match write_all(file, image, &headers, &mut rest, alloc) {
         Ok(()) => joined(b"image accepted\n", &rest, alloc),
         Err(_) => Err(AllocError),
     }
+}
+
+/// Writes what is in an image, and which names its file has.
+fn write_all<W: Write>(
+    file: &[u8],
+    image: &Image,
+    headers: &[ProgramHeader],
+    out: &mut W,
+    alloc: Global,
+) -> io::Result<()> {
+    write_image(image, headers, out)?;
+    write_names(file, image.entry(), out, alloc)
 }
 
 /// What is said of a file that fails this check first.

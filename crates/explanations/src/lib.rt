@@ -3,7 +3,8 @@
 //!
 //! Read in this order: `lines`, `place` (where something stands in a text), `near` (which name was
 //! meant), `config` and `config_fault` (what is said of a configuration); `headers` (the segments that
-//! a file names), `segments`, `image`, `file_fault` and `segment_fault` (what is said of an image).
+//! a file names), `segments`, `names` (of its program), `image`, `file_fault` and `segment_fault` (what
+//! is said of an image).
 #![tactic(auto)]
 
 mod config;
@@ -12,6 +13,7 @@ mod file_fault;
 mod headers;
 mod image;
 mod lines;
+mod names;
 mod near;
 mod place;
 mod segment_fault;

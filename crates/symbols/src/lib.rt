@@ -1,0 +1,16 @@
+//! The names of a program: the functions, objects and labels of an image's table of symbols, where it has one.
+//!
+//! Whatever is damaged in a table, the image stays what it is: `read` says so, and there are no names.
+//!
+//! Read in this order: `sections` (where the table lies), `symbol` (one of its entries), `reading` (all of them),
+//! `naming` (the name of an address).
+#![tactic(auto)]
+
+mod naming;
+mod reading;
+mod sections;
+mod symbol;
+
+pub use naming::{Place, name_at};
+pub use reading::{Symbols, Unread, read};
+pub use symbol::Symbol;
