@@ -56,6 +56,8 @@ mod shared_memory_tests;
 #[cfg(test)]
 mod sizes_tests;
 #[cfg(test)]
+mod symbols_tests;
+#[cfg(test)]
 mod text_fields_tests;
 #[cfg(test)]
 mod writer_tests;
