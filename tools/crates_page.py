@@ -13,8 +13,8 @@ from crate_list import ROOT
 PAGE = os.path.join(ROOT, "crates", "README.md")
 HEAD = """# The crates
 
-Made by `tools/crates_page.py` from crates.txt and the first sentence of each crate's root file. Crates stand above those
-that use them; docs/ARCHITECTURE.md has the layers.
+Made by `tools/crates_page.py` from crates.txt and the first sentence of each crate's root file. Crates stand above
+those that use them; docs/ARCHITECTURE.md has the layers.
 """
 
 
