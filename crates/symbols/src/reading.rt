@@ -40,21 +40,30 @@ impl Symbols<'_> {
     pub fn functions(&self) -> usize
         ensures { result ≡ count_by (λ s. kind_of s == 2) self.now.symbols.items }
     {
-        self.symbols.iter().filter(|symbol| symbol.info % 16 == 2).count()
+        self.symbols
+            .iter()
+            .filter(|symbol| symbol.info % 16 == 2)
+            .count()
     }
 
     /// How many objects have a name.
     pub fn objects(&self) -> usize
         ensures { result ≡ count_by (λ s. kind_of s == 1) self.now.symbols.items }
     {
-        self.symbols.iter().filter(|symbol| symbol.info % 16 == 1).count()
+        self.symbols
+            .iter()
+            .filter(|symbol| symbol.info % 16 == 1)
+            .count()
     }
 
     /// How many labels there are beside them.
     pub fn labels(&self) -> usize
         ensures { result ≡ count_by (λ s. kind_of s == 0) self.now.symbols.items }
     {
-        self.symbols.iter().filter(|symbol| symbol.info % 16 == 0).count()
+        self.symbols
+            .iter()
+            .filter(|symbol| symbol.info % 16 == 0)
+            .count()
     }
 }
 
