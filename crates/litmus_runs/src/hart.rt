@@ -140,4 +140,3 @@ fn is_straight(instr: Instr) -> bool
             | Instr::Ebreak
     )
 }
-

@@ -78,4 +78,3 @@ pub(crate) fn keep(accesses: &mut Vec<Access>, made: Option<Access>) -> Result<b
     accesses.push(access)?;
     Ok(true)
 }
-

@@ -54,4 +54,3 @@ pub(crate) fn write_register(registers: &mut [u32; 32], register: Reg, number: O
         registers[index] = number;
     }
 }
-

@@ -22,7 +22,12 @@ pub(crate) fn holds_word(reserved: Option<u32>, address: u32) -> bool
 }
 
 /// The reservation of a hart behind its own instruction with this effect.
-pub(crate) fn reservation_after(op: Op, address: u32, effect: Effect, reserved: Option<u32>) -> Option<u32>
+pub(crate) fn reservation_after(
+    op: Op,
+    address: u32,
+    effect: Effect,
+    reserved: Option<u32>,
+) -> Option<u32>
     ensures { result ≡ reservation_after op address effect true reserved }
 {
     if effect.next.is_last() {
@@ -57,4 +62,3 @@ fn after_write(write: Option<Written>, reserved: Option<u32>) -> Option<u32>
     }
     Some(word)
 }
-
