@@ -10,6 +10,8 @@ returns-in-Err-clause-refused g c =
 
 pub returns-in-Ok-clause-told : goal.returns-in-Ok-clause-told
 returns-in-Ok-clause-told g c =
-    rw (c.in_ok-bytes.was, c.in_ok-text.was)
-    (_, c.in_ok-settings.ensures.settings,
-    (c.in_ok-image.ensures.passed, _, c.in_ok-image.ensures.image, c.in-Ok.ensures.told))
+    rw (c.in_ok-bytes.was, c.in_ok-text.was) (
+      _,
+      c.in_ok-settings.ensures.settings,
+      (c.in_ok-image.ensures.passed, _, c.in_ok-image.ensures.image, c.in-Ok.ensures.told),
+    )
