@@ -1,9 +1,9 @@
 -- The code's table of subcommands: what each row describes.
 use Rattle.std.specs.{List.fold}
 use Rattle.clap.specs.Words.{App, Rule, Text, new_app, with_rule, with_subcommand}
-use Rattle.sim_inputs.specs.{declared.description.Argument.Argument, declared.description.Kind.Kind}
+use Rattle.sim_inputs.specs.{declared.arguments.Argument.Argument, declared.arguments.Kind.Kind}
 use Rattle.sim_inputs.specs.{declared.description.Subcommand.Subcommand}
-use Rattle.sim_inputs.specs.declared.description.Kind.TheVariants as kind
+use Rattle.sim_inputs.specs.declared.arguments.Kind.TheVariants as kind
 use Rattle.sim_inputs.specs.Rules.{file_rule, optional_file_rule, file_option_rule, flag_rule}
 use Rattle.sim_inputs.specs.Rules.{hints_rule, number_option_rule, text_option_rule}
 

@@ -2,19 +2,23 @@
 //! configuration, read by `toml`. No other crate sees `clap` or `toml`.
 //!
 //! Read in this order: `line` (what the words may ask for), `hints_wanted` (when hints are told), `files` (the
-//! files that they name), `words` (how they are read), `clap_errors` (what is made of an error of `clap`),
-//! `refused_words`, `refused_options` and `refused_together` (why words are refused, for a person), `description`
-//! (the command line as it is described to `clap`), `forms` (what stands behind it of files), `limits` (what stands in its
-//! texts for the limits of a core); then `settings`, `configuration` (how they are read), `roles` and `ranges`
+//! files that they name), `words` (how they are read), `found_commands` (what was found for each command), `found_values`
+//! (what for one option), `clap_errors` (what is made of an error of `clap`), `refused_words`, `refused_options` and
+//! `refused_together` (why words are refused, for a person), `description` (the command line as it is described to
+//! `clap`), `arguments` (its arguments and options), `forms` (what stands behind it of files), `limits` (what stands in
+//! its texts for the limits of a core); then `settings`, `configuration` (how they are read), `roles` and `ranges`
 //! (its parts), `explained` (which fault a refused configuration has).
 #![tactic(auto)]
 
+mod arguments;
 mod clap_errors;
 mod configuration;
 mod description;
 mod explained;
 mod files;
 mod forms;
+mod found_commands;
+mod found_values;
 mod hints_wanted;
 mod limits;
 mod line;
