@@ -119,7 +119,7 @@ const REFUSED: [(&[&str], &str); 3] = [
     (
         &["smtsim", "list", "a", "--svg"],
         " error: unexpected argument '--svg' found\n \
-        tip: to pass '--svg' as a value, use '-- --svg'\n usage: smtsim list [OPTIONS] <IMAGE>\n \
+        tip: to pass '--svg' as a value, use '-- --svg'\n usage: smtsim list <IMAGE>\n \
         more: try '--help'.\n",
     ),
     (

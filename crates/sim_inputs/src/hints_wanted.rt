@@ -72,10 +72,9 @@ pub fn hints_asked(words: &[&str]) -> HintsWanted {
 
 /// What is asked for with one word more, which may stand right behind `--hints`.
 fn asked_with(asked: HintsWanted, is_behind: bool, word: &str) -> HintsWanted {
-    let value = if is_behind {
-        Some(word)
-    } else {
-        word.strip_prefix("--hints=")
+    let value = match word.strip_prefix("--hints=") {
+        None if is_behind => Some(word),
+        value => value,
     };
     match value {
         Some(value) => HintsWanted::named(value).unwrap_or(asked),
