@@ -56,12 +56,10 @@ fn first_word(text: &[u8]) -> &[u8] {
 
 /// The line of a text with this number, from 1, without its newline.
 pub(crate) fn line_at(text: &[u8], number: usize) -> Option<&[u8]> {
-    let mut line = 1_usize;
     let mut rest = text;
-    while line < number {
+    for _ in 1..number {
         let end = rest.iter().position(|byte| *byte == b'\n')?;
         rest = rest.get(end.checked_add(1)?..)?;
-        line += 1;
     }
     match rest.iter().position(|byte| *byte == b'\n') {
         Some(end) => Some(&rest[..end]),
