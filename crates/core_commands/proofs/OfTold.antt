@@ -12,6 +12,7 @@ use Rattle.smt_core.specs.Shown.{Shown}
 use Rattle.history_check.specs.Checking.{IsFirstBroken, IsStoppedAt, past_at}
 use Rattle.history_check.specs.declared.checking.Stopped.{Stopped}
 use Rattle.refused_traces.specs.Why.{IsWhy}
+use Rattle.refused_traces.specs.declared.explaining.Place.{Place}
 use Rattle.text_fields.specs.Printing.{Prints}
 use Rattle.sim_inputs.specs.declared.settings.Settings.{Settings}
 use Rattle.command_parts.specs.declared.refused.Refused.{Refused}
@@ -34,7 +35,7 @@ event_told setup trace stopped e d index rule why at same_index same_rule there 
     subst
     (λ n. stopped.core ≡ record { setup = setup; limit = length trace.events; past = past_at trace.events n })
     same_index at.core in
-    let place = record { index = index; line = index + head_count trace.head + 1; rule = rule } in
+    let place : Place = record { index = index; line = index + head_count trace.head + 1; rule = rule } in
     record {
       broken = first;
       told =

@@ -113,10 +113,12 @@ fn told_event(stopped: Stopped, trace: &Trace, index: u32, rule: u8, alloc: Glob
     if place != index || broken != rule {
         return Vec::new(alloc);
     }
-    let event = trace.events()[index as usize];
+    let Some(event) = trace.events().get(index as usize) else {
+        return Vec::new(alloc);
+    };
     let line = index as usize + trace.head().line_count() + 1;
     let place = Place { index, line, rule };
-    match explain_event(core, &event, place, alloc) {
+    match explain_event(core, event, place, alloc) {
         Ok(why) => why,
         Err(_) => Vec::new(alloc),
     }
