@@ -27,8 +27,8 @@ pub(crate) fn tell_beside<P: Predict, W: Write>(
     out: &mut W,
     alloc: Global,
 ) -> Result<(), Refused>
-    ensures refused { IfErr result (IsBesideFault beside settings.now image.now text.now) }
-    ensures told { OnOk result (TellsBeside beside settings.now image.now text.now
+    ensures refused { IfErr result (IsBesideFault beside.entry settings.now image.now text.now) }
+    ensures told { OnOk result (TellsBeside beside.entry settings.now image.now text.now
         (W.contents out.old) (W.contents out.new)) }
 {
     match beside {

@@ -189,10 +189,10 @@ fn read_and_tell<P: Predict, W: Write>(
     out: &mut W,
     alloc: Global,
 ) -> Result<(), Refused>
-    ensures refused { IfErr result (IsExplainLineRefusal (Some beside) (Ok config.now)
+    ensures refused { IfErr result (IsExplainLineRefusal (Some beside.entry) (Ok config.now)
         (as_read inputs.now.program) (as_read inputs.now.second)) }
     ensures told { OnOk result (OfProgram (Ok config.now) (as_read inputs.now.program)
-        (λ settings program. HasToldBeside (Some beside) settings program (as_read inputs.now.second)
+        (λ settings program. HasToldBeside (Some beside.entry) settings program (as_read inputs.now.second)
         (W.contents out.old) (W.contents out.new))) }
 {
     let settings = settings_of(config, alloc)?;

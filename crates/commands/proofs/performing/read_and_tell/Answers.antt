@@ -2,12 +2,6 @@
 use Rattle.commands.proofs.OfExplain.{beside_refusal}
 use Rattle.commands.proofs.performing.read_and_tell.Goals as goal
 
-pub returns-in-Err-clause-refused : goal.returns-in-Err-clause-refused
-returns-in-Err-clause-refused g c =
-    rw (c.in_ok-bytes.was, c.in_ok-text.was)
-    (beside_refusal c.args.beside c.args.config.now _ _ _ _ c.in-Err.refused c.in_ok-settings.ensures.settings
-    c.in_ok-image.ensures.passed c.in_ok-image.ensures.image c.in-Err.ensures.refused)
-
 pub returns-in-Ok-clause-told : goal.returns-in-Ok-clause-told
 returns-in-Ok-clause-told g c =
     rw (c.in_ok-bytes.was, c.in_ok-text.was) (
