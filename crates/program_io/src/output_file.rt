@@ -27,7 +27,7 @@ pub(crate) struct OutputFile<'a, S: Files> {
     /// The number of the file beside it; none where it is written itself.
     beside: Option<u32>,
     /// Takes its bytes.
-    writer: Noting<S::File>,
+    sink: Over<Noting<S::File>>,
 }
 
 impl<'a, S: Files> OutputFile<'a, S> {
@@ -49,24 +49,41 @@ impl<'a, S: Files> OutputFile<'a, S> {
             Some((number, file)) => (Some(number), file),
             None => (None, create(files, path)?),
         };
-        let writer = Noting::new(file);
+        let sink = Over::new(Noting::new(file));
         Ok(OutputFile {
             files,
             name,
             beside,
-            writer,
+            sink,
         })
     }
 
-    /// Puts a beginning of these bytes into the file, and answers how many, or why it takes none.
-    pub(crate) fn put(&mut self, bytes: &[u8]) -> Result<usize, FileFault>
-        ensures { IfOk result (λ count. (count ≤ length bytes.now) × (bytes.now ≢ [] → count ≢ 0)) }
+    /// Puts a beginning of these bytes into the file, and answers how many; or gives it up, and answers why it takes
+    /// none.
+    pub(crate) fn put(mut self, bytes: &[u8]) -> Result<(usize, Self), FileFault>
+        ensures { IfOk result (λ put. (put.0 ≤ length bytes.now) × (bytes.now ≢ [] → put.0 ≢ 0)) }
     {
-        let mut sink = Over::new(&mut self.writer);
-        if let Ok(count) = sink.put(bytes) {
-            return Ok(count);
+        match self.sink.put(bytes) {
+            Ok(count) => Ok((count, self)),
+            Err(_) => Err(self.give_up()),
         }
-        Err(FileFault::System(self.writer.failure().unwrap_or(ErrorKind::WriteZero)))
+    }
+
+    /// Removes what was put, and answers why the file takes no more.
+    fn give_up(self) -> FileFault {
+        let OutputFile {
+            files,
+            name,
+            beside,
+            sink,
+        } = self;
+        if let Some(number) = beside {
+            let _ = remove_beside(files, &name, number);
+        }
+        match sink.into_inner().failure() {
+            Some(kind) => FileFault::System(kind),
+            None => FileFault::System(ErrorKind::WriteZero),
+        }
     }
 
     /// Gives the file its name, behind the last put, or answers why that can't be done; then what was there
@@ -76,7 +93,7 @@ impl<'a, S: Files> OutputFile<'a, S> {
             files,
             name,
             beside,
-            writer: _,
+            sink: _,
         } = self;
         match beside {
             Some(number) => rename_beside(files, &name, number),
@@ -90,7 +107,7 @@ impl<'a, S: Files> OutputFile<'a, S> {
             files,
             name,
             beside,
-            writer: _,
+            sink: _,
         } = self;
         if let Some(number) = beside {
             let _ = remove_beside(files, &name, number);

@@ -108,14 +108,15 @@ impl<'a, S: Files> Sink for OutputFiles<'a, S> {
     ghost puts = { λ sink bytes answer after. Unit {0} };
 
     fn put(&mut self, bytes: &[u8]) -> Result<usize, Broken> {
-        let mut file = match self.opened() {
+        let file = match self.opened() {
             Ok(file) => file,
             Err(fault) => return Err(self.fail(fault)),
         };
-        let answer = file.put(bytes);
-        self.current = Some(file);
-        match answer {
-            Ok(count) => Ok(count),
+        match file.put(bytes) {
+            Ok((count, file)) => {
+                self.current = Some(file);
+                Ok(count)
+            }
             Err(fault) => Err(self.fail(fault)),
         }
     }

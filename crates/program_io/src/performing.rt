@@ -1,34 +1,37 @@
-ghost use Rattle.std.specs.Prelude.{◌≡◌, ◌⊎◌, ◌≤◌, ◌^◌, IsTrue, IfOk, IfErr};
-ghost use Rattle.std.specs.Prelude.{map, string_bytes, vec_len};
-ghost use Rattle.std.specs.IoError.{error_kind};
+//! All that the program does with its words.
+
+ghost use Rattle.std.specs.Prelude.{◌≡◌, ◌⊎◌, [], IsTrue, IfErr, IfOk, Ok, Some, false, is_some, not, true};
+ghost use Rattle.std.specs.Prelude.{map, string_bytes};
 ghost use Rattle.std.specs.Vec.Iter.{into_iter_items};
 ghost use Rattle.sim_inputs.specs.CommandLine.{AreWordsRefusedFor};
+ghost use Rattle.sim_inputs.specs.declared.line.Command.TheVariants.{OfProgram};
+ghost use Rattle.sim_inputs.specs.declared.line.ProgramCommand.TheVariants.{Step};
 ghost use Rattle.command_parts.specs.Inputs.{as_read};
+ghost use Rattle.command_parts.specs.Refused.{exit_status_of};
+ghost use Rattle.command_parts.specs.declared.refused.Refused.{Refused as AnyRefused};
+ghost use Rattle.commands.specs.Perform.{IsRefusal};
 ghost use Rattle.report_lines.specs.Statuses.{says_harts};
-ghost use Rattle.program_io.specs.Performed.{read_of, IsReadAs, HasPerformed, HavePerformed, HaveEnded};
-ghost use Rattle.program_io.specs.Performed.{typed_step, uncommented_for};
+ghost use Rattle.program_io.specs.Performed.{HasPerformed, HavePerformed, HaveEnded, read_of, typed_step};
 ghost use Rattle.program_io.specs.Words.{words_refused, IsWordsStatus};
 
-use crate::files::{ReadRefused, read_file};
 use crate::hinting::Hinting;
 use crate::noting::Noting;
 use crate::output_files::{OutputFiles, Places};
 use crate::read_files::ReadFiles;
+use crate::read_inputs::ReadInputs;
 use crate::words::{fault_of, refuse_words, take_words, texts};
 use actors::Gate;
-use command_parts::{Context, Inputs, Refused, Unread, refuse};
+use command_parts::{Context, Inputs, Refused, refuse};
 use commands::{perform, perform_typed};
 use fault_hints::{FileFault, FileFaults, LineFault, WordsFault};
-use scripts::blank_comments;
 use sim_inputs::{
-    Command, Files as NamedFiles, Line, ProgramCommand, StepCommand, WordsRefused,
-    is_standard_input, read_words,
+    Command, Line, ProgramCommand, StepCommand, WordsRefused, is_standard_input, read_words,
 };
 use smt_core::Predict;
 use std::alloc::{AllocError, Global};
 use std::env::Args;
 use std::io;
-use std::io::{ErrorKind, Write};
+use std::io::Write;
 use std::rt::Files;
 use std::sync::Wait;
 use std::thread::Threads;
@@ -158,13 +161,18 @@ impl<S: Files + Input + Threads + Wait + Sync, G: Gate + Sync, P: Predict + Copy
             Err(AllocError) => return Err(WordsRefused::Memory),
         };
         match read_words(texts.as_slice(), self.alloc) {
-            Ok(line) => Ok(self.read_and_perform(&line, out, err)),
+            Ok(line) => Ok(self.read_and_perform(&line, &mut Noting::new(out), err)),
             Err(refused) => Err(refused),
         }
     }
 
     /// Reads the files that a line names, and performs its command.
-    fn read_and_perform<W: Write, E: Write>(&self, line: &Line<'_>, out: &mut W, err: &mut E) -> u8
+    fn read_and_perform<W: Write, E: Write>(
+        &self,
+        line: &Line<'_>,
+        out: &mut Noting<W>,
+        err: &mut E,
+    ) -> u8
         ensures known { IsTrue (says_harts result) ⊎ (result ≡ 2) ⊎ (result ≡ 4) ⊎ (result ≡ 5) }
         ensures performed { HasPerformed self.now.at_terminal line.now result }
     {
@@ -184,12 +192,30 @@ impl<S: Files + Input + Threads + Wait + Sync, G: Gate + Sync, P: Predict + Copy
             gate: self.gate,
             predict: self.predict,
             files: OutputFiles::new(self.system, places),
-            out: Noting::new(out),
+            out,
             refused: None,
             alloc: self.alloc,
         };
+        self.perform_and_hint(line, &read, &mut context, err)
+    }
+
+    /// Performs the command of a line whose files are read, with the hint of its fault behind it.
+    fn perform_and_hint<W: Write, E: Write>(
+        &self,
+        line: &Line<'_>,
+        read: &ReadInputs,
+        context: &mut Context<'_, S, G, P, OutputFiles<'_, S>, &mut Noting<W>>,
+        err: &mut E,
+    ) -> u8
+        requires works { is_some context.old.files.fault ≡ false }
+        requires finished { not (is_some context.old.files.current) ≡ true }
+        ensures known { IsTrue (says_harts result) ⊎ (result ≡ 2) ⊎ (result ≡ 4) ⊎ (result ≡ 5) }
+        ensures refused { says_harts result ≡ false → (reason : AnyRefused)
+            × (exit_status_of reason ≡ result) × IsRefusal line.now.command (read_of read.now.config)
+            (read_of read.now.program) (read_of read.now.second) reason }
+    {
         let inputs = read.lent();
-        let status = perform(&mut context, line, &inputs, err);
+        let status = perform(context, line, &inputs, err);
         context.files.discard();
         if let Some(refused) = context.refused {
             let files = read.faults_with(context.files.fault(), context.out.failure());
@@ -221,7 +247,7 @@ impl<S: Files + Input + Threads + Wait + Sync, G: Gate + Sync, P: Predict + Copy
         &self,
         line: &Line<'_>,
         step: &StepCommand<'_>,
-        out: &mut W,
+        out: &mut Noting<W>,
         err: &mut E,
     ) -> u8
         requires { typed_step self.now.at_terminal line.now.command ≡ Some step.now }
@@ -241,13 +267,32 @@ impl<S: Files + Input + Threads + Wait + Sync, G: Gate + Sync, P: Predict + Copy
             gate: self.gate,
             predict: self.predict,
             files: OutputFiles::new(self.system, places),
-            out: Noting::new(out),
+            out,
             refused: None,
             alloc: self.alloc,
         };
+        self.prompt_and_hint(line, step, &read, &mut context, err)
+    }
+
+    /// Performs `step` with a script that is typed, whose other files are read, with the hint of its fault behind it.
+    fn prompt_and_hint<W: Write, E: Write>(
+        &self,
+        line: &Line<'_>,
+        step: &StepCommand<'_>,
+        read: &ReadInputs,
+        context: &mut Context<'_, S, G, P, OutputFiles<'_, S>, &mut Noting<W>>,
+        err: &mut E,
+    ) -> u8
+        requires works { is_some context.old.files.fault ≡ false }
+        requires finished { not (is_some context.old.files.current) ≡ true }
+        ensures known { IsTrue (says_harts result) ⊎ (result ≡ 2) ⊎ (result ≡ 4) ⊎ (result ≡ 5) }
+        ensures refused { says_harts result ≡ false → (reason : AnyRefused)
+            × (exit_status_of reason ≡ result) × IsRefusal (OfProgram (Step step.now))
+            (read_of read.now.config) (read_of read.now.program) (Ok []) reason }
+    {
         let mut reader = self.system.reader();
         let inputs = read.lent();
-        let status = perform_typed(&mut context, step, &inputs, &mut reader, err);
+        let status = perform_typed(context, step, &inputs, &mut reader, err);
         context.files.discard();
         if let Some(refused) = context.refused {
             let files = read.faults_with(context.files.fault(), context.out.failure());
@@ -274,103 +319,5 @@ fn folder_of<'a>(line: &Line<'a>) -> Option<&'a str> {
     match line.command {
         Command::OfProgram(ProgramCommand::Run(run)) => run.keep,
         _ => None,
-    }
-}
-
-/// What the files hold that a line names, or why they couldn't be read.
-#[derive(Drop)]
-struct ReadInputs {
-    config: Result<Vec<u8>, ReadRefused>,
-    program: Result<Vec<u8>, ReadRefused>,
-    second: Result<Vec<u8>, ReadRefused>,
-}
-
-impl ReadInputs {
-    /// Reads the files, in their order.
-    fn of<S: Files + Input>(system: &S, files: &NamedFiles<'_>, alloc: Global) -> ReadInputs
-        ensures config { IsReadAs files.now.config (read_of result.config) }
-        ensures program { IsReadAs files.now.program (read_of result.program) }
-        ensures second { IsReadAs files.now.second (read_of result.second) }
-    {
-        ReadInputs {
-            config: read_named(system, files.config, alloc),
-            program: read_named(system, files.program, alloc),
-            second: read_named(system, files.second, alloc),
-        }
-    }
-
-    /// Blanks the comments of the second file, where it was read and has words.
-    fn blank_comments(&mut self, command: &Command<'_>)
-        ensures config { self.new.config ≡ self.old.config }
-        ensures program { self.new.program ≡ self.old.program }
-        ensures second { read_of self.new.second ≡ uncommented_for command.now (read_of self.old.second) }
-    {
-        if !command.reads_words() {
-            return;
-        }
-        if let Ok(bytes) = &mut self.second {
-            blank_comments(bytes.as_mut_slice());
-        }
-    }
-
-    /// Why files can't be read, and these that are written.
-    fn faults_with(&self, written: Option<FileFault>, output: Option<ErrorKind>) -> FileFaults {
-        FileFaults {
-            config: fault_in(&self.config),
-            program: fault_in(&self.program),
-            second: fault_in(&self.second),
-            written,
-            output: match output {
-                Some(kind) => Some(FileFault::System(kind)),
-                None => None,
-            },
-        }
-    }
-
-    /// The bytes that were read, lent.
-    fn lent(&self) -> Inputs<'_>
-        ensures config { as_read result.config ≡ read_of self.now.config }
-        ensures program { as_read result.program ≡ read_of self.now.program }
-        ensures second { as_read result.second ≡ read_of self.now.second }
-    {
-        Inputs {
-            config: lent(&self.config),
-            program: lent(&self.program),
-            second: lent(&self.second),
-        }
-    }
-}
-
-/// The bytes of a file that the line names; none where it names none.
-fn read_named<S: Files + Input>(
-    system: &S,
-    name: Option<&str>,
-    alloc: Global,
-) -> Result<Vec<u8>, ReadRefused>
-    ensures few { IfOk result (λ bytes. vec_len bytes ≤ 2 ^ 30) }
-    ensures unnamed { IsReadAs name.entry (read_of result) }
-{
-    match name {
-        Some(name) => read_file(system, name, alloc),
-        None => Ok(Vec::new(alloc)),
-    }
-}
-
-/// The bytes of a file, lent, or why there are none.
-fn lent(file: &Result<Vec<u8>, ReadRefused>) -> Result<&[u8], Unread>
-    ensures { as_read result ≡ read_of file.now }
-{
-    match file {
-        Ok(bytes) => Ok(bytes.as_slice()),
-        Err(why) => Err(why.unread()),
-    }
-}
-
-/// Why a file can't be read, if it can't be, and not for want of memory.
-fn fault_in(file: &Result<Vec<u8>, ReadRefused>) -> Option<FileFault> {
-    match file {
-        Ok(_) | Err(ReadRefused::Memory) => None,
-        Err(ReadRefused::TooLong) => Some(FileFault::TooLong),
-        Err(ReadRefused::Failed(kind)) => Some(FileFault::System(*kind)),
     }
 }
