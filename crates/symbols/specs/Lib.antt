@@ -1,3 +1,4 @@
 pub mod Sections
 pub mod Symbols
 pub mod Naming
+pub mod Tables

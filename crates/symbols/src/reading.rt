@@ -11,6 +11,7 @@ ghost use Rattle.symbols.specs.Sections.{
   section_count,
   section_link,
 };
+ghost use Rattle.symbols.specs.Tables.{no_names, table_of};
 ghost use Rattle.symbols.specs.Symbols.{kind_of, names_among, symbols_in};
 
 use crate::sections::{NAMES, Section, count_sections, section_at, symbol_section};
@@ -35,7 +36,17 @@ pub struct Symbols<'a> {
     pub(crate) symbols: Vec<Symbol>,
 }
 
-impl Symbols<'_> {
+impl<'a> Symbols<'a> {
+    /// No names.
+    pub fn none(alloc: Global) -> Symbols<'a>
+        ensures { table_of result ≡ no_names }
+    {
+        Symbols {
+            names: &[],
+            symbols: Vec::new(alloc),
+        }
+    }
+
     /// How many functions have a name.
     pub fn functions(&self) -> usize
         ensures { result ≡ count_by (λ s. kind_of s == 2) self.now.symbols.items }
