@@ -44,7 +44,7 @@ IsCommandRefusal (commands.Script script) settings image names second reason =
     BehindFile second (IsScriptingRefusal settings image) reason
 IsCommandRefusal (commands.List list) settings image names second reason = IsListRefusal reason
 IsCommandRefusal (commands.Outcomes outcomes) settings image names second reason =
-    IsOutcomesRefusal settings image outcomes reason
+    IsOutcomesRefusal settings image names outcomes reason
 IsCommandRefusal (commands.Chart chart) settings image names second reason =
     BehindFile second (λ trace. IsChartRefusal settings image trace chart) reason
 
@@ -78,7 +78,7 @@ CommandComesTo (commands.Script script) settings image names second Traced old n
 CommandComesTo (commands.List list) settings image names second Traced old new status =
     ListComesTo image old new status
 CommandComesTo (commands.Outcomes outcomes) settings image names second Traced old new status =
-    OutcomesComeTo settings image outcomes old new status
+    OutcomesComeTo settings image names outcomes old new status
 CommandComesTo (commands.Chart chart) settings image names second Traced old new status =
     OfFile second (λ trace. ChartComesTo settings image trace chart status)
 

@@ -364,7 +364,9 @@ fn perform_command<
             perform_script(image, settings, text, &mut context.out, alloc)
         }
         ProgramCommand::List(_) => perform_list(image, &mut context.out),
-        ProgramCommand::Outcomes(outcomes) => perform_outcomes(context, image, settings, outcomes),
+        ProgramCommand::Outcomes(outcomes) => {
+            perform_outcomes(context, image, settings, names, outcomes)
+        }
         ProgramCommand::Chart(chart) => {
             let text = second?;
             perform_chart(context, image, settings, text, chart)
