@@ -12,7 +12,7 @@ use outcome_queries::QueryRefused;
 use rv_instr::{UnitKind, unit_name};
 use sim_inputs::{Command, ProgramCommand, read_config};
 use std::alloc::{AllocError, Global};
-use watched_outcomes::WatchedBytes;
+use watched_outcomes::{WatchedBytes, Width};
 
 /// Adds the unit that a schedule needs.
 pub(crate) fn add_unit(
@@ -143,7 +143,10 @@ pub(crate) fn add_absent_word(
     let last = RAM_START
         .wrapping_add(settings.ram.bytes())
         .wrapping_sub(u32::from(size));
-    let expected = format!(in alloc; "a multiple of {size} from {RAM_START:08x} to {last:08x}")?;
+    let expected = match bytes.width {
+        Width::Byte => format!(in alloc; "an address from {RAM_START:08x} to {last:08x}")?,
+        _ => format!(in alloc; "a multiple of {size} from {RAM_START:08x} to {last:08x}")?,
+    };
     hint.add(Part::Expected, expected.as_bytes())
 }
 

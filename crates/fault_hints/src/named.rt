@@ -58,19 +58,38 @@ fn add_meant(
     hint: &mut Hint,
     alloc: Global,
 ) -> Result<(), AllocError> {
-    match nearest(symbols, name.name, alloc)? {
-        Some(meant) => hint.add(Part::Meant, meant),
-        None => Ok(()),
-    }
+    let Some(symbol) = nearest(symbols, name.name, alloc)? else {
+        return Ok(());
+    };
+    let text = spelled(symbols, &symbol, name.file.is_some(), alloc)?;
+    hint.add(Part::Meant, text.as_slice())
 }
 
-/// The name that is the nearest to another one, if one is near: at most a third of its letters, rounded up, are
+/// The name of a symbol, with its file before it where that is wanted and known.
+fn spelled(
+    symbols: &Symbols<'_>,
+    symbol: &Symbol,
+    with_file: bool,
+    alloc: Global,
+) -> Result<Vec<u8>, AllocError> {
+    let mut text = Vec::new(alloc);
+    if with_file {
+        if let Some(file) = file_of(symbols, symbol) {
+            text.extend_from_slice(file)?;
+            text.push(b':')?;
+        }
+    }
+    text.extend_from_slice(symbols.name_of(symbol))?;
+    Ok(text)
+}
+
+/// The symbol whose name is the nearest to another one, if one is near: at most a third of its letters, rounded up, are
 /// missing, exchanged or too many.
-fn nearest<'a>(
-    symbols: &Symbols<'a>,
+fn nearest(
+    symbols: &Symbols<'_>,
     asked: &[u8],
     alloc: Global,
-) -> Result<Option<&'a [u8]>, AllocError> {
+) -> Result<Option<Symbol>, AllocError> {
     let mut nearest = None;
     let mut least = usize::MAX;
     let Some(asked) = comparable(asked) else {
@@ -82,7 +101,7 @@ fn nearest<'a>(
             let distance = osa_distance(alloc, asked, text)?;
             if distance < least && distance <= name.len().div_ceil(3) {
                 least = distance;
-                nearest = Some(name);
+                nearest = Some(*symbol);
             }
         }
     }
@@ -117,12 +136,7 @@ fn add_address(
     hint: &mut Hint,
     alloc: Global,
 ) -> Result<(), AllocError> {
-    let mut text = Vec::new(alloc);
-    if let Some(file) = file_of(symbols, symbol) {
-        text.extend_from_slice(file)?;
-        text.push(b':')?;
-    }
-    text.extend_from_slice(symbols.name_of(symbol))?;
+    let mut text = spelled(symbols, symbol, true, alloc)?;
     let address = symbol.address;
     let place = format!(in alloc; " at {address:08x}")?;
     text.extend_from_slice(place.as_bytes())?;
