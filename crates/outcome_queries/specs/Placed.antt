@@ -1,9 +1,8 @@
 -- How a place in memory is written by a name. (This project's own choice, after a debugger's expressions.)
 use Rattle.std.specs.Prelude.{◌≡◌, ◌⊎◌, ℕ, ◌==◌, ◌≤◌, nat_le, ◌&&◌, ◌||◌, not, Bool, true, false, List, [], ◌∷◌, ◌++◌}
-use Rattle.std.specs.Prelude.{codes, Option, Some, None, is_some}
+use Rattle.std.specs.Prelude.{Option, Some, None, is_ok}
 use Rattle.std.specs.{List.list_all, Fmt.decimal, Borrow.Bor}
-use Rattle.text_fields.specs.{Splitting.Lacks, Values.SpellsValue, Fields.decimal_field, Fields.hex_field}
-use Rattle.std.specs.Result.{is_ok}
+use Rattle.text_fields.specs.{Splitting.Lacks, Values.SpellsValue, Reading.decimal_field, Reading.hex_field}
 use Rattle.symbols.specs.declared.meanings.Name.{Name}
 use Rattle.watched_outcomes.specs.{declared.watch.Width.Width, Watching.bytes_of}
 use Rattle.outcome_queries.specs.declared.placed.{Placed.Placed, Behind.Behind}
