@@ -1,9 +1,10 @@
 -- The files of a line, as they were read. (This project's own choice.)
-use Rattle.std.specs.Prelude.{◌≡◌, ℕ, List, Result, Ok, Err}
+use Rattle.std.specs.Prelude.{◌≡◌, ℕ, Bool, true, false, List, Result, Ok, Err}
 use Rattle.std.specs.Borrow.{Bor}
 use Rattle.elf_image.specs.{Loaded.IsImageOf}
 use Rattle.elf_image.specs.Image.{ProgramImage}
 use Rattle.sim_inputs.specs.{declared.settings.Settings.Settings, Configuration.IsConfiguration}
+use Rattle.symbols.specs.Tables.{Table, AreNamesOf, no_names}
 use Rattle.command_parts.specs.{declared.refused.Refused.Refused, declared.refused.Unread.Unread}
 use Rattle.command_parts.specs.declared.refused.Refused.TheVariants.{Config, Memory}
 use Rattle.command_parts.specs.Refused.{refusal_of, PassesAll}
@@ -46,3 +47,13 @@ abbrev pub OfProgram : Read → Read → (Settings → ProgramImage → Type 0) 
 OfProgram config image P = OfSettings config (λ settings. OfFile image (λ file.
     PassesAll file settings.ram × (program : ProgramImage)
     × IsImageOf file settings.ram program × P settings program))
+
+-- The names of an image's program where they are wanted; else none.
+abbrev pub AreNamesFor : Bool → List ℕ → Table → Type 0
+AreNamesFor true file names = AreNamesOf file names
+AreNamesFor false file names = names ≡ no_names
+
+-- So was the image, and these are the names that are wanted of it; and this holds of all three.
+abbrev pub OfNamedProgram : Bool → Read → Read → (Settings → ProgramImage → Table → Type 0) → Type 0
+OfNamedProgram wanted config image P = OfProgram config image (λ settings program. OfFile image (λ file.
+    (names : Table) × AreNamesFor wanted file names × P settings program names))

@@ -1,15 +1,18 @@
 //! The files of a line, as they were read, and what is made of the first two of them.
 
-ghost use Rattle.std.specs.Prelude.{IfOk, IfErr, OnOk};
+ghost use Rattle.std.specs.Prelude.{◌≡◌, IfOk, IfErr, OnOk};
 ghost use Rattle.elf_image.specs.Loaded.{IsImageOf};
 ghost use Rattle.sim_inputs.specs.Configuration.{IsConfiguration};
 ghost use Rattle.command_parts.specs.Refused.{PassesAll, IsImageRefusal};
+ghost use Rattle.symbols.specs.Tables.{AreNamesOf, table_of};
+ghost use Rattle.command_parts.specs.declared.refused.Refused.TheVariants.{Memory};
 ghost use Rattle.command_parts.specs.Inputs.{IsConfigRefusal};
 
 use crate::refused::{Refused, Unread};
 use elf_image::{Image, LoadRefused, RamSize, load};
 use sim_inputs::{ConfigRefused, Settings, read_config};
 use std::alloc::Global;
+use symbols::Symbols;
 
 /// The files that a line names, as they were read.
 #[derive(Clone, Copy, Drop)]
@@ -44,5 +47,17 @@ pub fn image_of(file: &[u8], ram: RamSize, alloc: Global) -> Result<Image, Refus
         Ok(image) => Ok(image),
         Err(LoadRefused::OutOfMemory) => Err(Refused::Memory),
         Err(refused) => Err(Refused::Image(refused.number())),
+    }
+}
+
+/// The names of the program in an image's file. Where its table of symbols is absent or damaged there are none.
+pub fn names_in(file: &[u8], alloc: Global) -> Result<Symbols<'_>, Refused>
+    ensures names { IfOk result (λ names. AreNamesOf file.now (table_of names)) }
+    ensures refused { IfErr result (λ why. why ≡ Memory) }
+{
+    match symbols::read(file, alloc) {
+        Ok(names) => Ok(names),
+        Err(symbols::Unread::Absent | symbols::Unread::Damaged) => Ok(Symbols::none(alloc)),
+        Err(symbols::Unread::Memory) => Err(Refused::Memory),
     }
 }

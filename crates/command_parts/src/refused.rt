@@ -10,6 +10,7 @@ use rv_instr::{UnitKind, unit_name};
 use sc_machine::Stopped;
 use std::io::Write;
 use thiserror::Error;
+use watched_outcomes::WatchedBytes;
 
 /// Why a simulation was not made, or not reported whole.
 #[derive(Clone, Copy, Debug, PartialEq, Eq, Drop, Error)]
@@ -68,9 +69,9 @@ pub enum Refused {
     /// More registers and words are named than can be watched.
     #[error("more than 64 watched")]
     ManyWatched,
-    /// No word of memory is at this address, which was to be watched.
-    #[error("no word at {0:08x}")]
-    NoWord(u32),
+    /// No such bytes of memory are at this address, which were to be watched.
+    #[error("no {0}")]
+    NoWord(WatchedBytes),
     /// There is no outcome with this number, whose order was to be written.
     #[error("no outcome {0}")]
     NoOutcome(u32),

@@ -20,8 +20,9 @@ use Rattle.command_parts.specs.declared.refused.Refused.TheVariants.{NoOutcome, 
 use Rattle.command_parts.specs.declared.refused.Unread.{Unread}
 use Rattle.command_parts.specs.declared.refused.Unread.TheVariants as unread
 use Rattle.command_parts.specs.Refused.{exit_status_of, refusal_of, AreAccepted, PassesAll}
-use Rattle.command_parts.specs.Inputs.{Read}
-use Rattle.commands.specs.Commands.{IsCommandRefusal, CommandComesTo}
+use Rattle.symbols.specs.Tables.{Table}
+use Rattle.command_parts.specs.Inputs.{Read, AreNamesFor}
+use Rattle.commands.specs.Commands.{IsCommandRefusal, CommandComesTo, wants_names}
 use Rattle.commands.specs.Perform.{IsProgramRefusal, ProgramComesTo, LineComesTo, LitmusLineComesTo}
 use Rattle.commands.specs.Perform.{ExplainLineComesTo, MigrateLineComesTo}
 use Rattle.sim_inputs.specs.declared.line.Command.TheVariants as commands
@@ -39,46 +40,46 @@ accepted_of text settings is = λ image. is.sets.in_range.accepted
 
 -- A configuration and an image that make these settings and this program image.
 module _ (command : ProgramCommand) (text : List ℕ) (settings : Settings) (file : List ℕ) (program : ProgramImage)
-    (second : Read) (configured : IsConfiguration text settings) (passes : PassesAll file settings.ram)
-    (loaded : IsImageOf file settings.ram program) where
-  pub command_refusal : (reason : Refused) → IsCommandRefusal command settings program second reason
+    (names : Table) (second : Read) (configured : IsConfiguration text settings) (passes : PassesAll file settings.ram)
+    (loaded : IsImageOf file settings.ram program) (named : AreNamesFor (wants_names command) file names) where
+  pub command_refusal : (reason : Refused) → IsCommandRefusal command settings program names second reason
       → IsProgramRefusal command (Ok text) (Ok file) second reason
-  command_refusal (Image number) is = absurd ((sound command settings program second).no_image number is)
+  command_refusal (Image number) is = absurd ((sound command settings program names second).no_image number is)
   command_refusal Config is =
-      let unfit = (sound command settings program second).unfit (accepted_of text settings configured) is in
+      let unfit = (sound command settings program names second).unfit (accepted_of text settings configured) is in
       inr (settings, configured, (passes, program, loaded, unfit))
-  command_refusal (Script number) is = (settings, configured, (passes, program, loaded, is))
-  command_refusal (Order index) is = (settings, configured, (passes, program, loaded, is))
-  command_refusal (Step index why) is = (settings, configured, (passes, program, loaded, is))
-  command_refusal (Trace line rule) is = (settings, configured, (passes, program, loaded, is))
-  command_refusal Version is = (settings, configured, (passes, program, loaded, is))
-  command_refusal (Event index rule) is = (settings, configured, (passes, program, loaded, is))
-  command_refusal (Prediction index) is = (settings, configured, (passes, program, loaded, is))
-  command_refusal (Register index) is = (settings, configured, (passes, program, loaded, is))
-  command_refusal (NoUnit kind) is = (settings, configured, (passes, program, loaded, is))
-  command_refusal (Limit least) is = (settings, configured, (passes, program, loaded, is))
-  command_refusal (NoHart hart) is = (settings, configured, (passes, program, loaded, is))
-  command_refusal (Picture last) is = (settings, configured, (passes, program, loaded, is))
-  command_refusal (Watch why) is = (settings, configured, (passes, program, loaded, is))
-  command_refusal (Condition why) is = (settings, configured, (passes, program, loaded, is))
-  command_refusal ManyWatched is = (settings, configured, (passes, program, loaded, is))
-  command_refusal (NoWord address) is = (settings, configured, (passes, program, loaded, is))
-  command_refusal (NoOutcome number) is = (settings, configured, (passes, program, loaded, is))
-  command_refusal NotStuck is = (settings, configured, (passes, program, loaded, is))
-  command_refusal (Litmus place fault) is = (settings, configured, (passes, program, loaded, is))
-  command_refusal NothingToDraw is = (settings, configured, (passes, program, loaded, is))
+  command_refusal (Script number) is = (settings, configured, (passes, program, loaded, (names, named, is)))
+  command_refusal (Order index) is = (settings, configured, (passes, program, loaded, (names, named, is)))
+  command_refusal (Step index why) is = (settings, configured, (passes, program, loaded, (names, named, is)))
+  command_refusal (Trace line rule) is = (settings, configured, (passes, program, loaded, (names, named, is)))
+  command_refusal Version is = (settings, configured, (passes, program, loaded, (names, named, is)))
+  command_refusal (Event index rule) is = (settings, configured, (passes, program, loaded, (names, named, is)))
+  command_refusal (Prediction index) is = (settings, configured, (passes, program, loaded, (names, named, is)))
+  command_refusal (Register index) is = (settings, configured, (passes, program, loaded, (names, named, is)))
+  command_refusal (NoUnit kind) is = (settings, configured, (passes, program, loaded, (names, named, is)))
+  command_refusal (Limit least) is = (settings, configured, (passes, program, loaded, (names, named, is)))
+  command_refusal (NoHart hart) is = (settings, configured, (passes, program, loaded, (names, named, is)))
+  command_refusal (Picture last) is = (settings, configured, (passes, program, loaded, (names, named, is)))
+  command_refusal (Watch why) is = (settings, configured, (passes, program, loaded, (names, named, is)))
+  command_refusal (Condition why) is = (settings, configured, (passes, program, loaded, (names, named, is)))
+  command_refusal ManyWatched is = (settings, configured, (passes, program, loaded, (names, named, is)))
+  command_refusal (NoWord address) is = (settings, configured, (passes, program, loaded, (names, named, is)))
+  command_refusal (NoOutcome number) is = (settings, configured, (passes, program, loaded, (names, named, is)))
+  command_refusal NotStuck is = (settings, configured, (passes, program, loaded, (names, named, is)))
+  command_refusal (Litmus place fault) is = (settings, configured, (passes, program, loaded, (names, named, is)))
+  command_refusal NothingToDraw is = (settings, configured, (passes, program, loaded, (names, named, is)))
   command_refusal Memory is = tt
-  command_refusal Thread is = (settings, configured, (passes, program, loaded, is))
-  command_refusal File is = inr (inr (settings, configured, (passes, program, loaded, is)))
-  command_refusal Output is = (settings, configured, (passes, program, loaded, is))
+  command_refusal Thread is = (settings, configured, (passes, program, loaded, (names, named, is)))
+  command_refusal File is = inr (inr (settings, configured, (passes, program, loaded, (names, named, is))))
+  command_refusal Output is = (settings, configured, (passes, program, loaded, (names, named, is)))
 
   -- Behind what the command comes to, only the output may still be refused; and once that is flushed, the
   -- line has come to it.
   module _ (Traced : ToWrite → Type 0) (old mid : Option (List ℕ)) (status : ℕ)
-      (ended : CommandComesTo command settings program second Traced old mid status) where
+      (ended : CommandComesTo command settings program names second Traced old mid status) where
     pub output_refusal : IsProgramRefusal command (Ok text) (Ok file) second Output
     output_refusal =
-        command_refusal Output ((sound command settings program second).output Traced old mid status ended)
+        command_refusal Output ((sound command settings program names second).output Traced old mid status ended)
 
     pub comes_to : (new : Option (List ℕ)) → Keeps mid new
         → ProgramComesTo command (Ok text) (Ok file) second Traced old new status
@@ -90,8 +91,12 @@ module _ (command : ProgramCommand) (text : List ℕ) (settings : Settings) (fil
         program,
         loaded,
         (
-          accepted_of text settings configured,
-          (sound command settings program second).flushed Traced old mid new status flushed ended,
+          names,
+          named,
+          (
+            accepted_of text settings configured,
+            (sound command settings program names second).flushed Traced old mid new status flushed ended,
+          ),
         ),
       ),
     )
@@ -102,7 +107,7 @@ program_says : (command : ProgramCommand) (config image second : Read) (Traced :
     (old new : Option (List ℕ)) (status : ℕ) → ProgramComesTo command config image second Traced old new status
     → IsTrue (says_harts status)
 program_says command (Ok text) (Ok file) second Traced old new status is =
-    (sound command is.0 is.2.1 second).says Traced old new status is.2.3.1
+    (sound command is.0 is.2.1 is.2.3.0 second).says Traced old new status is.2.3.2.1
 program_says command (Ok text) (Err why) second Traced old new status is = absurd is.2
 program_says command (Err why) image second Traced old new status is = absurd is
 

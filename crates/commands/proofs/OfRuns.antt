@@ -7,6 +7,7 @@ use Rattle.stress_runs.specs.declared.keeping.Part.{Part}
 use Rattle.std.specs.Prelude.{Result, IfOk, IfErr, OnOk, is_some}
 use Rattle.sim_inputs.specs.declared.line.RunCommand.{RunCommand}
 use Rattle.sim_inputs.specs.declared.line.ProgramCommand.TheVariants as commands
+use Rattle.symbols.specs.Tables.{Table}
 use Rattle.command_parts.specs.{declared.refused.Refused.Refused, Inputs.Read}
 use Rattle.core_commands.specs.{Account.IsTraceWritten}
 use Rattle.core_commands.specs.{Run.IsRunRefusal, Run.RunComesTo}
@@ -16,7 +17,7 @@ use Rattle.core_commands.specs.{declared.wanted.Wanted.Wanted, Wanted.run_wants}
 use Rattle.core_commands.specs.Stress.{StressComesTo, AreEndsWritten}
 
 module _ {S : Type 0} (begins : S → ℕ → Part → S → Type 0) (written : S → Option (List ℕ)) (has_failed : S → Bool)
-    (before after : S) (run : RunCommand) (settings : Settings) (program : ProgramImage) (second : Read)
+    (before after : S) (run : RunCommand) (settings : Settings) (program : ProgramImage) (names : Table) (second : Read)
     (old new : Option (List ℕ)) (answer : Result ℕ Refused) (refused : IfErr answer (IsRunRefusal settings))
     (unbroken : OnOk answer (has_failed after ≡ false)) (is_finished : S → Bool)
     (finished : OnOk answer (is_finished after ≡ true)) (unreported : has_failed after ≡ true → new ≡ old) where
@@ -24,7 +25,7 @@ module _ {S : Type 0} (begins : S → ℕ → Part → S → Type 0) (written : 
       → IfOk answer (StressComesTo settings program times
       (AreEndsWritten begins written has_failed before after keep) old new)
       → (keep ≡ false → after ≡ before)
-      → IsPerformed begins is_finished written has_failed before after (commands.Run run) settings program second old new answer
+      → IsPerformed begins is_finished written has_failed before after (commands.Run run) settings program names second old new answer
   many_performed times keep is keeps ended unwanted = record {
     refused = refused;
     ended = subst
@@ -42,7 +43,7 @@ module _ {S : Type 0} (begins : S → ℕ → Part → S → Type 0) (written : 
   pub one_performed : (wanted : Wanted) → run.times ≡ None → wanted ≡ run_wants run
       → IfOk answer (RunComesTo settings program wanted (IsTraceWritten written has_failed before after wanted.trace) old new)
       → (wanted.trace ≡ false → after ≡ before)
-      → IsPerformed begins is_finished written has_failed before after (commands.Run run) settings program second old new answer
+      → IsPerformed begins is_finished written has_failed before after (commands.Run run) settings program names second old new answer
   one_performed wanted is same ended unwanted = record {
     refused = refused;
     ended = subst

@@ -6,6 +6,7 @@ use Rattle.std.specs.List.{list_any, list_all}
 use Rattle.std.specs.Io.KnownBytes.{Appends, Keeps}
 use mathlib.Core.Logic.{inl, inr}
 use Rattle.elf_image.specs.Image.{ProgramImage}
+use Rattle.symbols.specs.Tables.{Table}
 use Rattle.commands.specs.Written.{ToWrite}
 use Rattle.smt_model.specs.{declared.config.Status.Status, Plain.is_going_status}
 use Rattle.text_fields.specs.{Printing.Prints}
@@ -20,22 +21,22 @@ use Rattle.command_parts.specs.Refused.{AreAccepted, refusal_of}
 use Rattle.command_parts.specs.Inputs.{Read}
 use Rattle.commands.specs.Commands.{IsCommandRefusal, CommandComesTo, AreUnfit}
 
-pub record IsSound (command : ProgramCommand) (settings : Settings) (program : ProgramImage) (second : Read)
-    : Type 1 where
+pub record IsSound (command : ProgramCommand) (settings : Settings) (program : ProgramImage) (names : Table)
+    (second : Read) : Type 1 where
   -- It never refuses the image, and of settings that are a core's it refuses those that are unfit.
-  pub no_image : (number : ℕ) → IsCommandRefusal command settings program second (Image number) → ⊥
-  pub unfit : AreAccepted settings → IsCommandRefusal command settings program second Config
+  pub no_image : (number : ℕ) → IsCommandRefusal command settings program names second (Image number) → ⊥
+  pub unfit : AreAccepted settings → IsCommandRefusal command settings program names second Config
       → AreUnfit command settings program second
   -- Behind what it comes to, only the output may still be refused. A flush changes nothing of it, and its
   -- exit status says how harts stand.
   pub output : (Traced : ToWrite → Type 0) (old new : Option (List ℕ)) (status : ℕ)
-      → CommandComesTo command settings program second Traced old new status
-      → IsCommandRefusal command settings program second Output
+      → CommandComesTo command settings program names second Traced old new status
+      → IsCommandRefusal command settings program names second Output
   pub flushed : (Traced : ToWrite → Type 0) (old mid new : Option (List ℕ)) (status : ℕ) → Keeps mid new
-      → CommandComesTo command settings program second Traced old mid status
-      → CommandComesTo command settings program second Traced old new status
+      → CommandComesTo command settings program names second Traced old mid status
+      → CommandComesTo command settings program names second Traced old new status
   pub says : (Traced : ToWrite → Type 0) (old new : Option (List ℕ)) (status : ℕ)
-      → CommandComesTo command settings program second Traced old new status → IsTrue (says_harts status)
+      → CommandComesTo command settings program names second Traced old new status → IsTrue (says_harts status)
 
 -- ---- For all of them
 

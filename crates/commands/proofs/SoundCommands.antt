@@ -6,6 +6,7 @@ use Rattle.std.proofs.lemmas.Bool.{true≢false, cases_lt}
 use Rattle.std.proofs.lemmas.Bool.Decides.{nat_tests}
 use mathlib.Core.Logic.{inl, inr}
 use Rattle.elf_image.specs.Image.{ProgramImage}
+use Rattle.symbols.specs.Tables.{Table}
 use Rattle.sc_machine.specs.Steps.{are_harts}
 use Rattle.smt_model.specs.{Setup.is_accepted, Rules.is_legal}
 use Rattle.sim_inputs.specs.{declared.settings.Settings.Settings}
@@ -45,9 +46,9 @@ never_without_harts settings accepted refused =
     let both = accepted empty in
     absurd (grind (arith, nat_tests, both, refused))
 
-of_step : (step : StepCommand) (settings : Settings) (program : ProgramImage) (second : Read)
-    → IsSound (commands.Step step) settings program second
-of_step step settings program (Ok script) = record {
+of_step : (step : StepCommand) (settings : Settings) (program : ProgramImage) (names : Table) (second : Read)
+    → IsSound (commands.Step step) settings program names second
+of_step step settings program names (Ok script) = record {
   no_image = λ number is. is;
   unfit = λ accepted is. never_refused settings accepted is;
   output = λ Traced old new status is. (is.accepted, is.is_asking);
@@ -64,7 +65,7 @@ of_step step settings program (Ok script) = record {
   };
   says = λ Traced old new status is. status_says status (statuses_of is.core) is.harts;
 }
-of_step step settings program (Err why) = record {
+of_step step settings program names (Err why) = record {
   no_image = λ number is. no_unread_image number why is;
   unfit = λ accepted is. no_unread_config why is;
   output = λ Traced old new status is. absurd is;
@@ -123,9 +124,9 @@ module _ (run : RunCommand) (settings : Settings) (program : ProgramImage) (Trac
   run_says None new is = status_says status (statuses_of is.core) is.harts
   run_says (Some times) new is = ap says_harts is.stands ∙ worst_says (map end_of is.cores)
 
-of_run : (run : RunCommand) (settings : Settings) (program : ProgramImage) (second : Read)
-    → IsSound (commands.Run run) settings program second
-of_run run settings program second = record {
+of_run : (run : RunCommand) (settings : Settings) (program : ProgramImage) (names : Table) (second : Read)
+    → IsSound (commands.Run run) settings program names second
+of_run run settings program names second = record {
   no_image = λ number is. is;
   unfit = λ accepted is. elim is [
     | inl refused ↦ absurd (never_refused settings accepted refused)
@@ -144,9 +145,9 @@ image_is_told number same = cc
 config_is_told : Config ≡ Output → ⊥
 config_is_told same = cc
 
-of_check : (check : CheckCommand) (settings : Settings) (program : ProgramImage) (second : Read)
-    → IsSound (commands.Check check) settings program second
-of_check check settings program (Ok trace) = record {
+of_check : (check : CheckCommand) (settings : Settings) (program : ProgramImage) (names : Table) (second : Read)
+    → IsSound (commands.Check check) settings program names second
+of_check check settings program names (Ok trace) = record {
   no_image = λ number is. elim is [
     | inl told ↦ absurd (image_is_told number told.1)
     | inr refused ↦ refused
@@ -179,7 +180,7 @@ of_check check settings program (Ok trace) = record {
   };
   says = λ Traced old new status is. status_says status (statuses_of is.core) is.harts;
 }
-of_check check settings program (Err why) = record {
+of_check check settings program names (Err why) = record {
   no_image = λ number is. no_unread_image number why is;
   unfit = λ accepted is. no_unread_config why is;
   output = λ Traced old new status is. absurd is;
@@ -187,9 +188,9 @@ of_check check settings program (Err why) = record {
   says = λ Traced old new status is. absurd is;
 }
 
-of_plain : (plain : PlainCommand) (settings : Settings) (program : ProgramImage) (second : Read)
-    → IsSound (commands.Plain plain) settings program second
-of_plain plain settings program (Ok order) = record {
+of_plain : (plain : PlainCommand) (settings : Settings) (program : ProgramImage) (names : Table) (second : Read)
+    → IsSound (commands.Plain plain) settings program names second
+of_plain plain settings program names (Ok order) = record {
   no_image = λ number is. from_rounds (rounds_of plain) _ _ ⊥ (λ rounds of. of) (λ of. of) is;
   unfit = λ accepted is.
       from_rounds (rounds_of plain) _ _ ⊥ (λ rounds of. never_without_harts settings accepted of)
@@ -220,7 +221,7 @@ of_plain plain settings program (Ok order) = record {
       (λ rounds of. status_says status (standing settings.config.harts of.ran) of.stands)
       (λ of. status_says status (standing settings.config.harts of.ran) of.stands) is;
 }
-of_plain plain settings program (Err why) = record {
+of_plain plain settings program names (Err why) = record {
   no_image = λ number is.
       from_rounds (rounds_of plain) _ _ ⊥ (λ rounds of. of) (λ of. no_unread_image number why of) is;
   unfit = λ accepted is.
@@ -246,9 +247,9 @@ of_plain plain settings program (Err why) = record {
       (λ of. absurd of) is;
 }
 
-of_schedule : (schedule : ScheduleCommand) (settings : Settings) (program : ProgramImage) (second : Read)
-    → IsSound (commands.Schedule schedule) settings program second
-of_schedule schedule settings program (Ok order) = record {
+of_schedule : (schedule : ScheduleCommand) (settings : Settings) (program : ProgramImage) (names : Table) (second : Read)
+    → IsSound (commands.Schedule schedule) settings program names second
+of_schedule schedule settings program names (Ok order) = record {
   no_image = λ number is. is;
   unfit = λ accepted is. never_refused settings accepted (λ image. is.2);
   output = λ Traced old new status is. (is.printed.0, is.printed.1);
@@ -256,7 +257,7 @@ of_schedule schedule settings program (Ok order) = record {
       record { printed = prints_kept old mid new _ is.printed flushed; zero = is.zero };
   says = λ Traced old new status is. zero_says status is.zero;
 }
-of_schedule schedule settings program (Err why) = record {
+of_schedule schedule settings program names (Err why) = record {
   no_image = λ number is. no_unread_image number why is;
   unfit = λ accepted is. no_unread_config why is;
   output = λ Traced old new status is. absurd is;
@@ -264,9 +265,9 @@ of_schedule schedule settings program (Err why) = record {
   says = λ Traced old new status is. absurd is;
 }
 
-of_script : (script : ScriptCommand) (settings : Settings) (program : ProgramImage) (second : Read)
-    → IsSound (commands.Script script) settings program second
-of_script script settings program (Ok trace) = record {
+of_script : (script : ScriptCommand) (settings : Settings) (program : ProgramImage) (names : Table) (second : Read)
+    → IsSound (commands.Script script) settings program names second
+of_script script settings program names (Ok trace) = record {
   no_image = λ number is. is;
   unfit = λ accepted is. is;
   output = λ Traced old new status is. (is.printed.0, is.printed.1);
@@ -274,7 +275,7 @@ of_script script settings program (Ok trace) = record {
       record { printed = prints_kept old mid new _ is.printed flushed; zero = is.zero };
   says = λ Traced old new status is. zero_says status is.zero;
 }
-of_script script settings program (Err why) = record {
+of_script script settings program names (Err why) = record {
   no_image = λ number is. no_unread_image number why is;
   unfit = λ accepted is. no_unread_config why is;
   output = λ Traced old new status is. absurd is;
@@ -282,9 +283,9 @@ of_script script settings program (Err why) = record {
   says = λ Traced old new status is. absurd is;
 }
 
-of_list : (list : ListCommand) (settings : Settings) (program : ProgramImage) (second : Read)
-    → IsSound (commands.List list) settings program second
-of_list list settings program second = record {
+of_list : (list : ListCommand) (settings : Settings) (program : ProgramImage) (names : Table) (second : Read)
+    → IsSound (commands.List list) settings program names second
+of_list list settings program names second = record {
   no_image = λ number is. is;
   unfit = λ accepted is. is;
   output = λ Traced old new status is. tt;
@@ -293,16 +294,16 @@ of_list list settings program second = record {
   says = λ Traced old new status is. zero_says status is.zero;
 }
 
-of_chart : (chart : ChartCommand) (settings : Settings) (program : ProgramImage) (second : Read)
-    → IsSound (commands.Chart chart) settings program second
-of_chart chart settings program (Ok trace) = record {
+of_chart : (chart : ChartCommand) (settings : Settings) (program : ProgramImage) (names : Table) (second : Read)
+    → IsSound (commands.Chart chart) settings program names second
+of_chart chart settings program names (Ok trace) = record {
   no_image = λ number is. is;
   unfit = λ accepted is. is;
   output = λ Traced old new status is. (is.history.0, is.history.1, is.history.2.0);
   flushed = λ Traced old mid new status flushed is. is;
   says = λ Traced old new status is. zero_says status is.zero;
 }
-of_chart chart settings program (Err why) = record {
+of_chart chart settings program names (Err why) = record {
   no_image = λ number is. no_unread_image number why is;
   unfit = λ accepted is. no_unread_config why is;
   output = λ Traced old new status is. absurd is;
@@ -310,9 +311,9 @@ of_chart chart settings program (Err why) = record {
   says = λ Traced old new status is. absurd is;
 }
 
-of_outcomes : (outcomes : OutcomesCommand) (settings : Settings) (program : ProgramImage) (second : Read)
-    → IsSound (commands.Outcomes outcomes) settings program second
-of_outcomes outcomes settings program second = record {
+of_outcomes : (outcomes : OutcomesCommand) (settings : Settings) (program : ProgramImage) (names : Table) (second : Read)
+    → IsSound (commands.Outcomes outcomes) settings program names second
+of_outcomes outcomes settings program names second = record {
   no_image = λ number is. is;
   unfit = λ accepted is. elim is [
     | inl few ↦ absurd (never_without_harts settings accepted few)
@@ -324,7 +325,9 @@ of_outcomes outcomes settings program second = record {
       watch = all.watch;
       terms = all.terms;
       found = all.found;
+      all = all.all;
       asked = all.asked;
+      is_of = all.is_of;
       there = all.there;
       is_found = all.is_found;
       printed = kept old mid new _ all.printed flushed;
@@ -333,7 +336,9 @@ of_outcomes outcomes settings program second = record {
     | inr more ↦ inr (record {
       watch = more.watch;
       terms = more.terms;
+      all = more.all;
       asked = more.asked;
+      is_of = more.is_of;
       there = more.there;
       beyond = more.beyond;
       printed = kept old mid new _ more.printed flushed;
@@ -346,14 +351,14 @@ of_outcomes outcomes settings program second = record {
   ];
 }
 
-pub sound : (command : ProgramCommand) (settings : Settings) (program : ProgramImage) (second : Read)
-    → IsSound command settings program second
-sound (commands.Step step) settings program second = of_step step settings program second
-sound (commands.Run run) settings program second = of_run run settings program second
-sound (commands.Check check) settings program second = of_check check settings program second
-sound (commands.Plain plain) settings program second = of_plain plain settings program second
-sound (commands.Schedule schedule) settings program second = of_schedule schedule settings program second
-sound (commands.Script script) settings program second = of_script script settings program second
-sound (commands.List list) settings program second = of_list list settings program second
-sound (commands.Outcomes outcomes) settings program second = of_outcomes outcomes settings program second
-sound (commands.Chart chart) settings program second = of_chart chart settings program second
+pub sound : (command : ProgramCommand) (settings : Settings) (program : ProgramImage) (names : Table) (second : Read)
+    → IsSound command settings program names second
+sound (commands.Step step) settings program names second = of_step step settings program names second
+sound (commands.Run run) settings program names second = of_run run settings program names second
+sound (commands.Check check) settings program names second = of_check check settings program names second
+sound (commands.Plain plain) settings program names second = of_plain plain settings program names second
+sound (commands.Schedule schedule) settings program names second = of_schedule schedule settings program names second
+sound (commands.Script script) settings program names second = of_script script settings program names second
+sound (commands.List list) settings program names second = of_list list settings program names second
+sound (commands.Outcomes outcomes) settings program names second = of_outcomes outcomes settings program names second
+sound (commands.Chart chart) settings program names second = of_chart chart settings program names second

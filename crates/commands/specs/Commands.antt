@@ -1,9 +1,10 @@
--- What is owed on a command of a program, of its settings, its program image and its second file as it was
--- read: each row names the definitions of one command. (This project's own choice.)
-use Rattle.std.specs.Prelude.{◌≡◌, ℕ, Bool, false, List, Option, Some, None, is_some}
+-- What is owed on a command of a program, of its settings, its program image, the names that it wants of it and its
+-- second file as it was read: each row names the definitions of one command. (This project's own choice.)
+use Rattle.std.specs.Prelude.{◌≡◌, ℕ, Bool, true, false, List, Option, Some, None, is_some}
 use Rattle.std.specs.Prelude.{if◌then◌else◌}
 use Rattle.elf_image.specs.Image.{ProgramImage}
 use Rattle.core_state.specs.View.{CoreView}
+use Rattle.symbols.specs.Tables.{Table}
 use Rattle.text_fields.specs.{Printing.Prints}
 use Rattle.sim_inputs.specs.{declared.settings.Settings.Settings, Files.written_chart}
 use Rattle.sim_inputs.specs.declared.line.ProgramCommand.{ProgramCommand}
@@ -28,23 +29,23 @@ use Rattle.plain_commands.specs.Outcomes.{IsOutcomesRefusal, OutcomesComeTo, wan
 
 -- When each refusal of a command comes. One that has a second file is refused where that is unread;
 -- rounds have none.
-abbrev pub IsCommandRefusal : ProgramCommand → Settings → ProgramImage → Read → Refused → Type 0
-IsCommandRefusal (commands.Step step) settings image second reason =
+abbrev pub IsCommandRefusal : ProgramCommand → Settings → ProgramImage → Table → Read → Refused → Type 0
+IsCommandRefusal (commands.Step step) settings image names second reason =
     BehindFile second (IsStepRefusal settings) reason
-IsCommandRefusal (commands.Run run) settings image second reason = IsRunRefusal settings reason
-IsCommandRefusal (commands.Check check) settings image second reason =
+IsCommandRefusal (commands.Run run) settings image names second reason = IsRunRefusal settings reason
+IsCommandRefusal (commands.Check check) settings image names second reason =
     BehindFile second (IsCheckRefusalWith (is_some (check_wants check).ends) settings image) reason
-IsCommandRefusal (commands.Plain plain) settings image second reason =
+IsCommandRefusal (commands.Plain plain) settings image names second reason =
     InRounds (rounds_of plain) (λ rounds. IsRoundsRefusal settings reason)
     (BehindFile second (IsPlainRefusal settings image) reason)
-IsCommandRefusal (commands.Schedule schedule) settings image second reason =
+IsCommandRefusal (commands.Schedule schedule) settings image names second reason =
     BehindFile second (IsScheduleRefusal settings image) reason
-IsCommandRefusal (commands.Script script) settings image second reason =
+IsCommandRefusal (commands.Script script) settings image names second reason =
     BehindFile second (IsScriptingRefusal settings image) reason
-IsCommandRefusal (commands.List list) settings image second reason = IsListRefusal reason
-IsCommandRefusal (commands.Outcomes outcomes) settings image second reason =
-    IsOutcomesRefusal settings image outcomes reason
-IsCommandRefusal (commands.Chart chart) settings image second reason =
+IsCommandRefusal (commands.List list) settings image names second reason = IsListRefusal reason
+IsCommandRefusal (commands.Outcomes outcomes) settings image names second reason =
+    IsOutcomesRefusal settings image names outcomes reason
+IsCommandRefusal (commands.Chart chart) settings image names second reason =
     BehindFile second (λ trace. IsChartRefusal settings image trace chart) reason
 
 -- What `run` comes to: one run, or as many as are asked for.
@@ -57,28 +58,28 @@ RunsComeTo (Some times) run settings image Traced old new status =
 
 -- What a command comes to. `Traced` says whether its files are written, where that is wanted: a trace of
 -- a core, or the files of ends.
-abbrev pub CommandComesTo : ProgramCommand → Settings → ProgramImage → Read → (ToWrite → Type 0)
+abbrev pub CommandComesTo : ProgramCommand → Settings → ProgramImage → Table → Read → (ToWrite → Type 0)
     → Option (List ℕ) → Option (List ℕ) → ℕ → Type 0
-CommandComesTo (commands.Step step) settings image second Traced old new status =
+CommandComesTo (commands.Step step) settings image names second Traced old new status =
     OfFile second (λ script. StepComesTo settings image script step.why (step_wants step)
     (λ core. Traced (TraceOf (is_some step.trace) core)) old new status)
-CommandComesTo (commands.Run run) settings image second Traced old new status =
+CommandComesTo (commands.Run run) settings image names second Traced old new status =
     RunsComeTo run.times run settings image Traced old new status
-CommandComesTo (commands.Check check) settings image second Traced old new status =
+CommandComesTo (commands.Check check) settings image names second Traced old new status =
     OfFile second (λ trace. CheckComesTo settings image trace (check_wants check) old new status)
-CommandComesTo (commands.Plain plain) settings image second Traced old new status =
+CommandComesTo (commands.Plain plain) settings image names second Traced old new status =
     InRounds (rounds_of plain)
     (λ rounds. RoundsComeTo settings image rounds plain.records old new status)
     (OfFile second (λ order. PlainComesTo settings image order plain.records old new status))
-CommandComesTo (commands.Schedule schedule) settings image second Traced old new status =
+CommandComesTo (commands.Schedule schedule) settings image names second Traced old new status =
     OfFile second (λ order. ScheduleComesTo settings image order old new status)
-CommandComesTo (commands.Script script) settings image second Traced old new status =
+CommandComesTo (commands.Script script) settings image names second Traced old new status =
     OfFile second (λ trace. ScriptComesTo settings image trace old new status)
-CommandComesTo (commands.List list) settings image second Traced old new status =
+CommandComesTo (commands.List list) settings image names second Traced old new status =
     ListComesTo image old new status
-CommandComesTo (commands.Outcomes outcomes) settings image second Traced old new status =
-    OutcomesComeTo settings image outcomes old new status
-CommandComesTo (commands.Chart chart) settings image second Traced old new status =
+CommandComesTo (commands.Outcomes outcomes) settings image names second Traced old new status =
+    OutcomesComeTo settings image names outcomes old new status
+CommandComesTo (commands.Chart chart) settings image names second Traced old new status =
     OfFile second (λ trace. ChartComesTo settings image trace chart status)
 
 -- What a command may refuse of settings that are a configuration's: a run of threads needs an actor
@@ -114,3 +115,8 @@ program_writes_file (commands.Run run) = if is_some run.times then is_some run.k
 program_writes_file (commands.Chart chart) = is_some (written_chart chart)
 program_writes_file (commands.Outcomes outcomes) = wants_order outcomes
 program_writes_file _ = false
+
+-- The command shows or takes names of its program.
+abbrev pub wants_names : ProgramCommand → Bool
+wants_names (commands.Outcomes outcomes) = true
+wants_names _ = false

@@ -3,17 +3,19 @@
 use Rattle.std.specs.Prelude.{◌≡◌, ◌⊎◌, ℕ, Bool, true, false, List, Option, Some, None, is_some, Result, Err}
 use Rattle.std.specs.Prelude.{OnOk, IfOk, IfErr}
 use Rattle.elf_image.specs.Image.{ProgramImage}
+use Rattle.symbols.specs.Tables.{Table}
 use Rattle.sim_inputs.specs.{declared.line.Command.Command, declared.settings.Settings.Settings}
 use Rattle.command_parts.specs.{declared.refused.Refused.Refused}
 use Rattle.command_parts.specs.declared.refused.Refused.TheVariants.{Image, Config, Memory, File, Output}
 use Rattle.command_parts.specs.declared.refused.Unread.TheVariants as unread
 use Rattle.command_parts.specs.Refused.{IsFirstFailed, AreAccepted}
-use Rattle.command_parts.specs.Inputs.{Read, OfFile, BehindFile, OfSettings, OfProgram, IsNoConfiguration}
+use Rattle.command_parts.specs.Inputs.{Read, OfFile, BehindFile, OfSettings, OfProgram, OfNamedProgram}
+use Rattle.command_parts.specs.Inputs.{IsNoConfiguration}
 use Rattle.stress_runs.specs.declared.keeping.Part.{Part}
 use Rattle.commands.specs.Written.{ToWrite, TextOf, IsWritten}
 use Rattle.core_commands.specs.Migrate.{IsMigrateRefusal, MigrateComesTo}
 use Rattle.commands.specs.Commands.{IsCommandRefusal, CommandComesTo, AreUnfit, IsProgramUnreported}
-use Rattle.commands.specs.Commands.{program_writes_file}
+use Rattle.commands.specs.Commands.{program_writes_file, wants_names}
 use Rattle.commands.specs.Explain.{IsExplainRefusal, ExplainComesTo, IsBesideFault, TellsBeside}
 use Rattle.sim_inputs.specs.declared.line.Beside.{Beside}
 use Rattle.sim_inputs.specs.Files.{written_for_test}
@@ -32,18 +34,18 @@ IsProgramRefusal command config image second Config = OfFile config IsNoConfigur
 IsProgramRefusal command config image second Memory = Unit {0}
 IsProgramRefusal command config image second File = (config ≡ Err unread.File)
     ⊎ OfSettings config (λ settings. image ≡ Err unread.File)
-    ⊎ OfProgram config image
-    (λ settings program. IsCommandRefusal command settings program second File)
-IsProgramRefusal command config image second reason = OfProgram config image
-    (λ settings program. IsCommandRefusal command settings program second reason)
+    ⊎ OfNamedProgram (wants_names command) config image
+    (λ settings program names. IsCommandRefusal command settings program names second File)
+IsProgramRefusal command config image second reason = OfNamedProgram (wants_names command) config image
+    (λ settings program names. IsCommandRefusal command settings program names second reason)
 
 -- What it comes to: its configuration's settings are a core's, its image passes every check, and the command has
--- come to what is owed on it.
+-- come to what is owed on it, with the names that it wants.
 abbrev pub ProgramComesTo : ProgramCommand → Read → Read → Read → (ToWrite → Type 0)
     → Option (List ℕ) → Option (List ℕ) → ℕ → Type 0
-ProgramComesTo command config image second Traced old new status = OfProgram config image
-    (λ settings program. AreAccepted settings
-    × CommandComesTo command settings program second Traced old new status)
+ProgramComesTo command config image second Traced old new status = OfNamedProgram (wants_names command) config image
+    (λ settings program names. AreAccepted settings
+    × CommandComesTo command settings program names second Traced old new status)
 
 -- When each refusal comes of what explains a configuration and an image: theirs, and behind them that of the
 -- text beside them.
@@ -148,15 +150,15 @@ writes_file (commands.Explain explain) = false
 writes_file (commands.Litmus litmus) = is_some (written_for_test litmus)
 writes_file (commands.Migrate migrate) = true
 
--- What a command has answered, of its settings, its program image and its second file, before the
+-- What a command has answered, of its settings, its program image, its names and its second file, before the
 -- output is flushed: a refusal that may come of it, or an exit status behind what is owed on it.
 -- Where no file is written nothing goes into the sink of its files. The sink hasn't failed behind an
 -- exit status, and what was put into it is finished; where it has failed, nothing is printed but what a command prints before its trace.
 pub record IsPerformed {S : Type 0} (begins : S → ℕ → Part → S → Type 0) (is_finished : S → Bool)
     (written : S → Option (List ℕ)) (has_failed : S → Bool) (before after : S) (command : ProgramCommand) (settings : Settings) (program : ProgramImage)
-    (second : Read) (old new : Option (List ℕ)) (answer : Result ℕ Refused) : Type 0 where
-  pub refused : IfErr answer (IsCommandRefusal command settings program second)
-  pub ended : IfOk answer (CommandComesTo command settings program second
+    (names : Table) (second : Read) (old new : Option (List ℕ)) (answer : Result ℕ Refused) : Type 0 where
+  pub refused : IfErr answer (IsCommandRefusal command settings program names second)
+  pub ended : IfOk answer (CommandComesTo command settings program names second
       (IsWritten begins written has_failed before after) old new)
   pub unwanted : program_writes_file command ≡ false → after ≡ before
   pub unbroken : OnOk answer (has_failed after ≡ false)

@@ -6,9 +6,9 @@ ghost use Rattle.command_parts.specs.declared.refused.Refused.TheVariants.{Outpu
 ghost use Rattle.report_lines.specs.Statuses.{says_harts};
 ghost use Rattle.command_parts.specs.declared.refused.Refused.{Refused as AnyRefused};
 ghost use Rattle.command_parts.specs.Refused.{exit_status_of, refusal_of};
-ghost use Rattle.sim_inputs.specs.declared.line.ProgramCommand.TheVariants.{Run};
 ghost use Rattle.sim_inputs.specs.Files.{written_for_test};
-ghost use Rattle.command_parts.specs.Inputs.{as_read, Read, OfProgram};
+ghost use Rattle.command_parts.specs.Inputs.{as_read, OfProgram};
+ghost use Rattle.symbols.specs.Tables.{table_of};
 ghost use Rattle.commands.specs.Commands.{IsProgramUnreported, program_writes_file};
 ghost use Rattle.commands.specs.Perform.{IsRefusal, LineComesTo, IsLeft, IsUnreported, writes_file};
 ghost use Rattle.commands.specs.Perform.{IsProgramRefusal, ProgramComesTo, IsPerformed};
@@ -21,25 +21,25 @@ ghost use Rattle.commands.specs.Written.{IsWritten};
 use crate::explain::perform_explain;
 use crate::explain_beside::tell_beside;
 use crate::list::perform_list;
+use crate::naming::{names_where, wants_names};
+use crate::runs::perform_runs;
 use actors::Gate;
 use command_parts::{Context, Inputs, Refused, Unread, image_of, refuse, settings_of};
 use core_commands::{
-    Wanted, perform_chart, perform_check, perform_migrate, perform_run, perform_script,
-    perform_step, perform_stress,
+    Wanted, perform_chart, perform_check, perform_migrate, perform_script, perform_step,
 };
 use elf_image::Image;
 use plain_commands::{
     perform_litmus, perform_outcomes, perform_plain, perform_rounds, perform_schedule, rounds_of,
 };
-use sim_inputs::{
-    Beside, Command, ExplainCommand, Line, LitmusCommand, ProgramCommand, RunCommand, Settings,
-};
+use sim_inputs::{Beside, Command, ExplainCommand, Line, LitmusCommand, ProgramCommand, Settings};
 use smt_core::Predict;
 use std::alloc::Global;
 use std::io::Write;
 use std::sync::Wait;
 use std::thread::Threads;
 use stress_runs::EndFiles;
+use symbols::Symbols;
 
 /// Does all that the program does once its files are read, and answers its exit status: how the harts
 /// stand, 0 for a listing, a schedule, a script, a chart, a litmus test and a migration, 2 for a refused
@@ -294,9 +294,10 @@ fn read_and_perform<
     let settings = settings_of(config, context.alloc)?;
     let file = inputs.program?;
     let image = image_of(file, settings.ram, context.alloc)?;
+    let names = names_where(wants_names(command), file, context.alloc)?;
     let second = inputs.second;
     // Handed on as it is: a `?` would leave the prover to find what the refusal becomes.
-    let status = match perform_command(context, command, &settings, &image, second) {
+    let status = match perform_command(context, command, &settings, &image, &names, second) {
         Ok(status) => status,
         Err(refused) => return Err(refused),
     };
@@ -306,7 +307,8 @@ fn read_and_perform<
     }
 }
 
-/// Does what a command of a program asks for, of its settings, its image and its second file.
+/// Does what a command of a program asks for, of its settings, its image with the names that it wants, and its second
+/// file.
 fn perform_command<
     G: Gate + Sync,
     P: Predict + Copy + Send,
@@ -318,12 +320,13 @@ fn perform_command<
     command: &ProgramCommand<'_>,
     settings: &Settings,
     image: &Image,
+    names: &Symbols<'_>,
     second: Result<&[u8], Unread>,
 ) -> Result<u8, Refused>
     requires works { S.has_failed context.old.files ≡ false }
     requires finished { S.is_finished context.old.files ≡ true }
     ensures { IsPerformed S.begins S.is_finished S.written S.has_failed context.old.files context.new.files command.now
-        settings.now image.now (as_read second.entry) (W.contents context.old.out) (W.contents context.new.out) result }
+        settings.now image.now (table_of names.now) (as_read second.entry) (W.contents context.old.out) (W.contents context.new.out) result }
 {
     let alloc = context.alloc;
     match command {
@@ -361,37 +364,12 @@ fn perform_command<
             perform_script(image, settings, text, &mut context.out, alloc)
         }
         ProgramCommand::List(_) => perform_list(image, &mut context.out),
-        ProgramCommand::Outcomes(outcomes) => perform_outcomes(context, image, settings, outcomes),
+        ProgramCommand::Outcomes(outcomes) => {
+            perform_outcomes(context, image, settings, names, outcomes)
+        }
         ProgramCommand::Chart(chart) => {
             let text = second?;
             perform_chart(context, image, settings, text, chart)
         }
     }
-}
-
-/// Runs an image once, or as often as is asked for.
-fn perform_runs<
-    G: Gate + Sync,
-    P: Predict + Copy + Send,
-    S: EndFiles,
-    W: Write,
-    R: Threads + Wait + Sync,
->(
-    context: &mut Context<'_, R, G, P, S, W>,
-    image: &Image,
-    settings: &Settings,
-    run: &RunCommand<'_>,
-) -> Result<u8, Refused>
-    requires works { S.has_failed context.old.files ≡ false }
-    requires finished { S.is_finished context.old.files ≡ true }
-    ensures { (second : Read) → IsPerformed S.begins S.is_finished S.written S.has_failed context.old.files context.new.files
-        (Run run.now) settings.now image.now second (W.contents context.old.out) (W.contents context.new.out)
-        result }
-{
-    if let Some(times) = run.times {
-        let keep = run.keep.is_some();
-        return perform_stress(context, image, settings, times, keep);
-    }
-    let wanted = Wanted::of_run(run);
-    perform_run(context, image, settings, wanted)
 }

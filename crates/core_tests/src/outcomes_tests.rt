@@ -7,7 +7,7 @@ use outcomes::{Outcomes, OutcomesRefused, find_outcomes};
 use smt_model::Status;
 use std::alloc::Global;
 use test_support::{file_of, image_of};
-use watched_outcomes::{Watch, WatchedRegister};
+use watched_outcomes::{Watch, WatchedBytes, WatchedRegister, Width};
 
 /// `lui x5,0x80001`, `lw x7,0(x5)`, `addi x7,x7,1`, `sw x7,0(x5)`, `addi x10,x7,0`, `addi x17,x0,93`, `ecall`:
 /// a hart adds one to a word, and ends with what it has written.
@@ -36,7 +36,10 @@ fn image_with(words: &[u32], alloc: Global) -> Option<Image> {
 /// A word that is watched.
 fn watching(word: u32) -> Watch {
     let mut words = ArrayVec::new();
-    words.push(word);
+    words.push(WatchedBytes {
+        address: word,
+        width: Width::Word,
+    });
     Watch {
         registers: ArrayVec::new(),
         words,
@@ -134,7 +137,10 @@ fn watching_swap() -> Watch {
         register: 10,
     });
     let mut words = ArrayVec::new();
-    words.push(0x8000_1000);
+    words.push(WatchedBytes {
+        address: 0x8000_1000,
+        width: Width::Word,
+    });
     Watch { registers, words }
 }
 
@@ -185,7 +191,10 @@ fn watching_the_last() -> Watch {
         register: 10,
     });
     let mut words = ArrayVec::new();
-    words.push(0x8000_1024);
+    words.push(WatchedBytes {
+        address: 0x8000_1024,
+        width: Width::Word,
+    });
     Watch { registers, words }
 }
 
@@ -240,7 +249,10 @@ fn watching_written() -> Watch {
         register: 10,
     });
     let mut words = ArrayVec::new();
-    words.push(0x8000_0014);
+    words.push(WatchedBytes {
+        address: 0x8000_0014,
+        width: Width::Word,
+    });
     Watch { registers, words }
 }
 

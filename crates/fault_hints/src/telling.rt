@@ -79,7 +79,7 @@ fn add_asked_fault(
             Part::Cause,
             b"--watch and --exists name more than 64 registers and words",
         ),
-        Refused::NoWord(address) => add_absent_word(address, fault, hint, alloc),
+        Refused::NoWord(bytes) => add_absent_word(bytes, fault, hint, alloc),
         Refused::NoOutcome(number) => add_absent_outcome(number, hint, alloc),
         Refused::NotStuck => hint.add(
             Part::Cause,

@@ -13,7 +13,10 @@ use Rattle.text_fields.proofs.{SplittingLaws.field-cut, SplittingLaws.rest-cut, 
 use Rattle.text_fields.proofs.ValueLaws.{no_number}
 use Rattle.text_fields.specs.declared.read.FieldError.{FieldError}
 use Rattle.rv_text.specs.Registers.{abi_name, x_name, lettered, pointer_name, IsNameOf}
-use Rattle.outcome_queries.specs.Watched.{Spells, SpellsRegister, SpellsWord}
+use Rattle.outcome_queries.specs.Watched.{Spells, SpellsRegister, SpellsBytes}
+use Rattle.watched_outcomes.specs.declared.watch.{WatchedBytes.WatchedBytes, Width.Width}
+use Rattle.watched_outcomes.specs.declared.watch.Width.TheVariants.{Byte, Half, Word}
+use Rattle.watched_outcomes.specs.Watching.{bytes_of}
 use Rattle.outcome_queries.specs.declared.watched.Watched.{Watched}
 use Rattle.outcome_queries.specs.declared.watched.Watched.TheVariants as watched
 
@@ -120,32 +123,38 @@ register_parts text h r is =
     let others : rest 64 text ≡ decimal h = rw is.spelled (rest-cut 64 is.name (decimal h) lacks) in
     (rw first is.names, rw others (decimal_field-decimal 255 h is.in_range (grind arith)))
 
--- the word at an address
-pub word_is : (text : List ℕ) (a : ℕ) → rest 58 text ≡ codes "4" → hex_field 8 (field 58 text) ≡ Ok a
-    → SpellsWord text a
-word_is text a behind read =
-    let some : rest 58 text ≢ [] = λ none. let nothing = rw behind at none in cc in
+-- the bytes at an address
+bytes_some : (w : Width) → decimal (bytes_of w) ≢ []
+bytes_some Byte = λ is. cc
+bytes_some Half = λ is. cc
+bytes_some Word = λ is. cc
+
+pub bytes_are : (text : List ℕ) (a : ℕ) (w : Width) → rest 58 text ≡ decimal (bytes_of w)
+    → hex_field 8 (field 58 text) ≡ Ok a → SpellsBytes text (record { address = a; width = w })
+bytes_are text a w behind read =
+    let some : rest 58 text ≢ [] = λ none. bytes_some w (sym behind ∙ none) in
     let number = hex_field_only 8 a (field 58 text) read in
-    let cut : text ≡ field 58 text ++ 58 ∷ codes "4" =
+    let cut : text ≡ field 58 text ++ 58 ∷ decimal (bytes_of w) =
     subst (λ t. text ≡ field 58 text ++ 58 ∷ t) behind (cut_where 58 text some) in
     record {
       in_range = number.0;
-      spelled = subst (λ t. text ≡ t ++ 58 ∷ codes "4") number.1 cut;
+      spelled = subst (λ t. text ≡ t ++ 58 ∷ decimal (bytes_of w)) number.1 cut;
     }
 
-pub word_parts : (text : List ℕ) (a : ℕ) (is : SpellsWord text a)
-    → (rest 58 text ≡ codes "4") × (hex_field 8 (field 58 text) ≡ Ok a)
-word_parts text a is =
-    let lacks : Lacks 58 (hex 8 a) = Lacks-hex 58 8 a refl in
-    let first : field 58 text ≡ hex 8 a = rw is.spelled (field-cut 58 (hex 8 a) (codes "4") lacks) in
-    let others : rest 58 text ≡ codes "4" = rw is.spelled (rest-cut 58 (hex 8 a) (codes "4") lacks) in
-    (others, rw first (hex_field-hex 8 a is.in_range))
+pub bytes_parts : (text : List ℕ) (b : WatchedBytes) (is : SpellsBytes text b)
+    → (rest 58 text ≡ decimal (bytes_of b.width)) × (hex_field 8 (field 58 text) ≡ Ok b.address)
+bytes_parts text b is =
+    let lacks : Lacks 58 (hex 8 b.address) = Lacks-hex 58 8 b.address refl in
+    let size = decimal (bytes_of b.width) in
+    let first : field 58 text ≡ hex 8 b.address = rw is.spelled (field-cut 58 (hex 8 b.address) size lacks) in
+    let others : rest 58 text ≡ size = rw is.spelled (rest-cut 58 (hex 8 b.address) size lacks) in
+    (others, rw first (hex_field-hex 8 b.address is.in_range))
 
 -- a text that is none of both
 pub spells_none : (text : List ℕ) → ((h r : ℕ) → SpellsRegister text h r → ⊥)
-    → ((a : ℕ) → SpellsWord text a → ⊥) → (one : Watched) → Spells text one → ⊥
-spells_none text no_register no_word (watched.Register h r) is = no_register h r is
-spells_none text no_register no_word (watched.Word a) is = no_word a is
+    → ((b : WatchedBytes) → SpellsBytes text b → ⊥) → (one : Watched) → Spells text one → ⊥
+spells_none text no_register no_bytes (watched.Register h r) is = no_register h r is
+spells_none text no_register no_bytes (watched.Bytes b) is = no_bytes b is
 
 -- what the readers' own cuts say of it
 pub no_register_named : (text name : List ℕ) → name ≡ field 64 text → ((r : ℕ) → IsNameOf r name → ⊥)
@@ -164,17 +173,17 @@ pub register_found : (text name hart : List ℕ) (h r : ℕ) → name ≡ field 
 register_found text name hart h r first others named read =
     register_is text hart h r others (subst (λ t. IsNameOf r t) first named) (sym read)
 
-pub no_size : (text size : List ℕ) → size ≡ rest 58 text → (size ≡ codes "4" → ⊥)
-    → (a : ℕ) → SpellsWord text a → ⊥
-no_size text size cut other a is = other (cut ∙ (word_parts text a is).0)
+pub no_size : (text size : List ℕ) → size ≡ rest 58 text → ((w : Width) → size ≡ decimal (bytes_of w) → ⊥)
+    → (b : WatchedBytes) → SpellsBytes text b → ⊥
+no_size text size cut other b is = other b.width (cut ∙ (bytes_parts text b is).0)
 
 pub no_address : (text address : List ℕ) (error : FieldError) → address ≡ field 58 text
-    → Err error ≡ hex_field 8 address → (a : ℕ) → SpellsWord text a → ⊥
-no_address text address error cut read a is =
-    let number : hex_field 8 address ≡ Ok a = rw cut (word_parts text a is).1 in
-    let never : Err error ≡ Ok a = read ∙ number in cc
+    → Err error ≡ hex_field 8 address → (b : WatchedBytes) → SpellsBytes text b → ⊥
+no_address text address error cut read b is =
+    let number : hex_field 8 address ≡ Ok b.address = rw cut (bytes_parts text b is).1 in
+    let never : Err error ≡ Ok b.address = read ∙ number in cc
 
-pub word_found : (text address size : List ℕ) (a : ℕ) → address ≡ field 58 text → size ≡ rest 58 text
-    → size ≡ codes "4" → Ok a ≡ hex_field 8 address → SpellsWord text a
-word_found text address size a first others is read =
-    word_is text a (sym others ∙ is) (rw (← first) (sym read))
+pub bytes_found : (text address size : List ℕ) (a : ℕ) (w : Width) → address ≡ field 58 text → size ≡ rest 58 text
+    → size ≡ decimal (bytes_of w) → Ok a ≡ hex_field 8 address → SpellsBytes text (record { address = a; width = w })
+bytes_found text address size a w first others is read =
+    bytes_are text a w (sym others ∙ is) (rw (← first) (sym read))

@@ -2,9 +2,8 @@
 use Rattle.std.proofs.Common.{◌≡◌, ℕ, suc, ◌+◌, ◌-◌, ◌≤◌, ◌<◌, List, [], ◌∷◌, ◌++◌, length, refl, sym, ap, subst, ◌∙◌, arith}
 use Rattle.std.proofs.Common.{append_assoc}
 use Rattle.std.proofs.lemmas.List.{length-append}
-use Rattle.text_fields.specs.Splitting.{field, field_count, rest}
-use Rattle.text_fields.proofs.SplittingLaws.{Parts, parts_of}
-use Rattle.outcome_queries.specs.declared.refused.QueryRefused.{QueryRefused}
+use Rattle.outcome_queries.specs.Quoted.{field_outside}
+use Rattle.outcome_queries.specs.declared.refused.{QueryRefused.QueryRefused, Expected.Expected}
 use Rattle.outcome_queries.specs.Lists.{IsSeparated, IsPartRefused, IsRefusedFor}
 
 -- Of a text this much has been read, and the rest says what is left.
@@ -16,21 +15,17 @@ pub record IsRead {A : Type 0} (Says : List ℕ → A → Type 0) (s : ℕ) (tex
 pub nothing_read : {A : Type 0} (Says : List ℕ → A → Type 0) (s : ℕ) (text : List ℕ) → IsRead Says s text text []
 nothing_read Says s text = record { before = []; whole = refl; goes_on = λ more is. is }
 
-cut_of : (s : ℕ) (text : List ℕ) → 1 < field_count s text → text ≡ field s text ++ s ∷ rest s text
-cut_of s text more = ((parts_of s text).cut (omega (arith, more))).0
-
 with_first : {A : Type 0} (Says : List ℕ → A → Type 0) (s : ℕ) (text first others : List ℕ) (one : A) (more : List A)
     → text ≡ first ++ s ∷ others → Says first one → IsSeparated Says s others more → IsSeparated Says s text (one ∷ more)
 with_first Says s text first others one [] cut says is = absurd is
 with_first Says s text first others one (next ∷ more) cut says is = (first, others, cut, says, is)
 
 -- one more part is read
-pub part_read : {A : Type 0} (Says : List ℕ → A → Type 0) (s n : ℕ) (text old_rest first new_rest : List ℕ) (old new : List A)
-    → IsRead Says s text old_rest old → n ≡ field_count s old_rest → 1 < n → first ≡ field s old_rest → new_rest ≡ rest s old_rest
+pub part_read : {A : Type 0} (Says : List ℕ → A → Type 0) (s : ℕ) (text old_rest first new_rest : List ℕ)
+    (old new : List A) → IsRead Says s text old_rest old → old_rest ≡ first ++ s ∷ new_rest
     → (one : A) × Says first one × (new ≡ old ++ one ∷ []) → IsRead Says s text new_rest new
-part_read {A} Says s n text old_rest first new_rest old new is count more at behind taken =
+part_read {A} Says s text old_rest first new_rest old new is cut taken =
     let one = taken.0 in
-    let cut : old_rest ≡ first ++ s ∷ new_rest = rw (at, behind) (cut_of s old_rest (omega (arith, count, more))) in
     record {
       before = is.before ++ (first ++ s ∷ []);
       whole = is.whole ∙ ap (λ t. is.before ++ t) (cut ∙ sym (append_assoc first (s ∷ []) new_rest))
@@ -54,19 +49,19 @@ within Says s text rest_text items is =
     let long : length text ≡ length is.before + length rest_text =
     ap length is.whole ∙ length-append is.before rest_text in omega (arith, long)
 
-pub shorter : (s n : ℕ) (old_rest new_rest : List ℕ) → n ≡ field_count s old_rest → 1 < n → new_rest ≡ rest s old_rest
+pub shorter : (s : ℕ) (old_rest first new_rest : List ℕ) → old_rest ≡ first ++ s ∷ new_rest
     → length new_rest < length old_rest
-shorter s n old_rest new_rest count more behind =
-    let cut = cut_of s old_rest (omega (arith, count, more)) in
-    let long : length old_rest ≡ length (field s old_rest) + suc (length (rest s old_rest)) =
-    ap length cut ∙ length-append (field s old_rest) (s ∷ rest s old_rest) in
-    let same : length new_rest ≡ length (rest s old_rest) = ap length behind in omega (arith, long, same)
+shorter s old_rest first new_rest cut =
+    let long : length old_rest ≡ length first + suc (length new_rest) =
+    ap length cut ∙ length-append first (s ∷ new_rest) in omega (arith, long)
 
 -- a part is refused
-refused_at : {A : Type 0} (Says : List ℕ → A → Type 0) (s : ℕ) (text rest_text part : List ℕ) (items : List A)
-    (column : ℕ) (refused : QueryRefused) → IsRead Says s text rest_text items → part ≡ field s rest_text
-    → column + length rest_text ≡ length text + 1 → IsPartRefused Says part column refused → IsRefusedFor Says s text refused
-refused_at Says s text rest_text part items column refused is at place why =
+refused_at : {A : Type 0} (Says : List ℕ → A → Type 0) (Denies : List ℕ → Expected → Type 0) (s : ℕ)
+    (text rest_text part : List ℕ) (items : List A) (column : ℕ) (refused : QueryRefused)
+    → IsRead Says s text rest_text items → part ≡ field_outside s rest_text
+    → column + length rest_text ≡ length text + 1 → IsPartRefused Denies part column refused
+    → IsRefusedFor Denies s text refused
+refused_at Says Denies s text rest_text part items column refused is at place why =
     let long : length text ≡ length is.before + length rest_text =
     ap length is.whole ∙ length-append is.before rest_text in
     let same : column ≡ length is.before + 1 = omega (arith, long, place) in
@@ -74,22 +69,15 @@ refused_at Says s text rest_text part items column refused is at place why =
       before = is.before;
       rest = rest_text;
       whole = is.whole;
-      part = subst (λ k. IsPartRefused Says (field s rest_text) k refused) same
-          (subst (λ t. IsPartRefused Says t column refused) at why);
+      part = subst (λ k. IsPartRefused Denies (field_outside s rest_text) k refused) same
+          (subst (λ t. IsPartRefused Denies t column refused) at why);
     }
 
-pub first_refused : {A : Type 0} (Says : List ℕ → A → Type 0) (s : ℕ) (text rest_text part : List ℕ) (items : List A)
-    (refused : QueryRefused) → IsRead Says s text rest_text items → part ≡ field s rest_text
-    → IsPartRefused Says part (length text - length rest_text + 1) refused → IsRefusedFor Says s text refused
-first_refused Says s text rest_text part items refused is at why =
+pub part_refused : {A : Type 0} (Says : List ℕ → A → Type 0) (Denies : List ℕ → Expected → Type 0) (s : ℕ)
+    (text rest_text part : List ℕ) (items : List A) (refused : QueryRefused) → IsRead Says s text rest_text items
+    → part ≡ field_outside s rest_text → IsPartRefused Denies part (length text - length rest_text + 1) refused
+    → IsRefusedFor Denies s text refused
+part_refused Says Denies s text rest_text part items refused is at why =
     let fits = within Says s text rest_text items is in
-    refused_at Says s text rest_text part items (length text - length rest_text + 1) refused is at (omega (arith, fits)) why
-
-pub last_refused : {A : Type 0} (Says : List ℕ → A → Type 0) (s n : ℕ) (text last : List ℕ) (items : List A)
-    (refused : QueryRefused) → IsRead Says s text last items → n ≡ field_count s last → n ≤ 1
-    → IsPartRefused Says last (length text - length last + 1) refused → IsRefusedFor Says s text refused
-last_refused Says s n text last items refused is told one why =
-    let parts = parts_of s last in
-    let count = parts.count in
-    let alone : last ≡ field s last = parts.alone (omega (arith, one, count, told)) in
-    first_refused Says s text last last items refused is alone why
+    refused_at Says Denies s text rest_text part items (length text - length rest_text + 1) refused is at
+    (omega (arith, fits)) why

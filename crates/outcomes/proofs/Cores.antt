@@ -11,6 +11,7 @@ use Rattle.smt_laws.specs.Sequential.{IsSequential, EachIsSequential}
 use Rattle.outcome_laws.specs.Paths.{path, can_step, IsEnd, RunsArePaths}
 use Rattle.watched_outcomes.specs.declared.watch.{Watch.Watch, WatchedRegister.WatchedRegister}
 use Rattle.watched_outcomes.specs.{Endings.Ending, Endings.ending_of, Endings.watched_in, Endings.word_in, Watching.AreThere}
+use Rattle.watched_outcomes.specs.{declared.watch.WatchedBytes.WatchedBytes, Watching.bytes_of}
 use Rattle.watched_outcomes.specs.{Watching.is_register_there}
 use Rattle.outcomes.specs.Found.{Found, EndsSo, ListsAll, AllAreOver, CoversCores, committed_in, core_word, core_ending}
 use Rattle.outcomes.proofs.{Endings.map_members, Graph.none_behind}
@@ -40,7 +41,7 @@ module _ (setup : Setup) (watch : Watch) (there : AreThere setup.harts watch) (p
       (sym (fun_ext is.statuses))
       (sym (map_members (watched_in is.ran.state) (committed_in setup past) watch.registers.items register_same))
       ∙ ap₂ (λ (b : ℕ → ℕ) o. made (map is.ran.state.statuses (below setup.harts))
-      (map (watched_in is.ran.state) watch.registers.items) (map (λ a. number_at b a 4) watch.words.items) o)
+      (map (watched_in is.ran.state) watch.registers.items) (map (λ (w : WatchedBytes). number_at b w.address (bytes_of w.width)) watch.words.items) o)
       (sym (fun_ext is.bytes)) (sym is.output)
 
   pub end_of_core : AllAreOver setup past → IsEnd setup is.ran.state

@@ -9,6 +9,7 @@ use Rattle.outcome_laws.specs.Live.{AreAlike}
 use Rattle.condensed_machine.specs.Resting.{is_watched}
 use Rattle.watched_outcomes.specs.declared.{watch.Watch.Watch, watch.WatchedRegister.WatchedRegister}
 use Rattle.watched_outcomes.specs.{Endings.Ending, Endings.ending_of, Endings.watched_in, Endings.word_in}
+use Rattle.watched_outcomes.specs.{declared.watch.WatchedBytes.WatchedBytes, Watching.bytes_of}
 use Rattle.outcomes.specs.{Refusals.AreWatched}
 use Rattle.watched_outcomes.specs.{Watching.AreThere, Watching.is_register_there}
 
@@ -32,7 +33,7 @@ parts_same h watch s t statuses registers bytes output =
     ∙ ap₂ (λ (b : ℕ → ℕ) o. record {
       statuses = map t.statuses (below h);
       registers = map (watched_in t) watch.registers.items;
-      words = map (λ a. number_at b a 4) watch.words.items;
+      words = map (λ (w : WatchedBytes). number_at b w.address (bytes_of w.width)) watch.words.items;
       output = o;
     }) bytes output
 

@@ -9,6 +9,7 @@ use Rattle.smt_model.specs.{Basics.below, Bytes.number_at, Registers.committed, 
 use Rattle.smt_model.specs.Memory.{byte_at, output, status}
 use Rattle.outcome_laws.specs.{Paths.path, Paths.IsEnd, Search.CanEnd}
 use Rattle.watched_outcomes.specs.declared.{watch.Watch.Watch, watch.WatchedRegister.WatchedRegister}
+use Rattle.watched_outcomes.specs.{declared.watch.WatchedBytes.WatchedBytes, Watching.bytes_of}
 use Rattle.watched_outcomes.specs.Endings.{Ending, ending_of}
 
 -- An outcome, and an order of harts that leads to it, the first step first.
@@ -72,8 +73,8 @@ AllAreOver setup past = (h : ℕ) → h < setup.harts → is_going_status (statu
 abbrev pub committed_in : Setup → List Event → WatchedRegister → ℕ
 committed_in setup past w = unwrap_or (value setup past (committed past w.hart w.register)) 0
 
-abbrev pub core_word : Setup → List Event → ℕ → ℕ
-core_word setup past addr = number_at (byte_at setup past) addr 4
+abbrev pub core_word : Setup → List Event → WatchedBytes → ℕ
+core_word setup past w = number_at (byte_at setup past) w.address (bytes_of w.width)
 
 abbrev pub core_ending : Setup → Watch → List Event → Ending
 core_ending setup watch past = record {

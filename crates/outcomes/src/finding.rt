@@ -20,7 +20,7 @@ use elf_image::Image;
 use sc_machine::PlainRefused;
 use searches::{Onlooker, Search, SearchStopped, explore};
 use std::alloc::Global;
-use watched_outcomes::Watch;
+use watched_outcomes::{Watch, WatchedBytes};
 
 /// Finds all outcomes of a program of 1 to `MOST_HARTS` harts, by a search over at most `budget` states of
 /// the plain machine. The onlooker is told now and then how far the search is.
@@ -118,7 +118,8 @@ fn check_watch(machine: &CondensedMachine, watch: &Watch) -> Result<(), Outcomes
         return Err(OutcomesRefused::Register(index));
     }
     for index in 0..watch.words.len() {
-        if !machine.is_word(watch.words[index]) {
+        let WatchedBytes { address, width } = watch.words[index];
+        if !machine.can_load(address, width.bytes()) {
             return Err(OutcomesRefused::Word(index));
         }
     }

@@ -1,8 +1,9 @@
+use Rattle.symbols.specs.Tables.{table_of}
 use Rattle.command_parts.specs.Inputs.{as_read}
 use Rattle.commands.proofs.performing.perform_command.Goals as goal
 
 pub returns-in-Run : goal.returns-in-Run
-returns-in-Run g c = rw c.in-Run.is (c.perform_runs.ensures (as_read c.args.second))
+returns-in-Run g c = rw c.in-Run.is (c.perform_runs.ensures (table_of c.args.names.now) (as_read c.args.second))
 
 pub returns-in_ok-script-in-Step : goal.returns-in_ok-script-in-Step
 returns-in_ok-script-in-Step g c =

@@ -1,9 +1,9 @@
 use Rattle.outcome_queries.proofs.WatchLists.{list_turn, terms_turn, terms_step, all_told, all_once}
 use Rattle.outcome_queries.proofs.watching.with_terms.Goals as goal
 
-pub loop-watched-preserved : goal.loop-watched-preserved
-loop-watched-preserved c =
-    list_turn c.args.list.now _ _ c.loop-watched.watched-index _ c.loop-watched-test.true c.loop-watched.invariant
+pub loop-asked-preserved : goal.loop-asked-preserved
+loop-asked-preserved c =
+    list_turn c.args.list.now _ _ c.loop-asked.asked-index _ c.loop-asked-test.true c.loop-asked.invariant
     (c.add.ensures.once c.if-not-add.false)
 
 pub loop-term-preserved : goal.loop-term-preserved
