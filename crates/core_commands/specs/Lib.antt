@@ -7,6 +7,7 @@ pub mod Stress
 pub mod Check
 pub mod Script
 pub mod Chart
+pub mod ChartEnds
 pub mod Migrate
 pub mod Told
 pub mod Judgement

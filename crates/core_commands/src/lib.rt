@@ -8,6 +8,7 @@
 
 mod account;
 mod chart;
+mod chart_ends;
 mod check;
 mod judgement;
 mod migrate;

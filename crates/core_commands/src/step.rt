@@ -13,10 +13,12 @@ ghost use Rattle.scripts.specs.Session.{AreAskedWith, AreCounted};
 ghost use Rattle.command_parts.specs.Refused.{PassesAll, AreAccepted, BehindImage, IsCoreRefusal};
 ghost use Rattle.core_commands.specs.Step.{IsStepRefusal, StepComesTo, IsAsking, IsScriptRefusal};
 ghost use Rattle.core_commands.specs.Step.{ArePrinted};
+ghost use Rattle.address_labels.specs.Labels.{marks_of};
 ghost use Rattle.core_commands.specs.Account.{IsTraceWritten};
 
 use crate::account::{idle_of, write_account};
 use crate::wanted::Wanted;
+use address_labels::Labels;
 use command_parts::{Context, Refused, image_of};
 use elf_image::Image;
 use explained_asks::explain;
@@ -235,11 +237,12 @@ pub fn perform_step<R, G, P: Predict + Copy, S: EndFiles, W: Write>(
     script: &[u8],
     why: bool,
     wanted: Wanted,
+    labels: &Labels<'_>,
 ) -> Result<u8, Refused>
     requires works { S.has_failed context.old.files ≡ false }
     requires finished { S.is_finished context.old.files ≡ true }
     ensures refused { IfErr result (IsStepRefusal settings.now script.now) }
-    ensures ended { IfOk result (StepComesTo settings.now image.now script.now why wanted
+    ensures ended { IfOk result (StepComesTo settings.now image.now script.now why wanted (marks_of labels.now)
         (IsTraceWritten S.written S.has_failed context.old.files context.new.files wanted.trace)
         (W.contents context.old.out) (W.contents context.new.out)) }
     ensures unwanted { wanted.trace ≡ false → context.new.files ≡ context.old.files }
@@ -254,6 +257,7 @@ pub fn perform_step<R, G, P: Predict + Copy, S: EndFiles, W: Write>(
         &finished.core,
         idle,
         wanted,
+        labels,
         &mut context.files,
         &mut context.out,
         context.alloc,
