@@ -59,7 +59,9 @@ pub fn write_svg<W: Write>(
         first = first_left(rows, first, band.from);
         page.write_ruler(&band, top, count_shown(rows, first, view, &band), out)?;
         top = page.below_ruler(top);
-        top = write_rows(rows, first, events, view, &band, &page, &widths, named, top, out)?;
+        top = write_rows(
+            rows, first, events, view, &band, &page, &widths, named, top, out,
+        )?;
         top = page.below_band(top);
     }
     write_end(out)

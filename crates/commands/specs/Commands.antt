@@ -12,7 +12,7 @@ use Rattle.sim_inputs.specs.declared.line.ProgramCommand.TheVariants as commands
 use Rattle.command_parts.specs.{declared.refused.Refused.Refused}
 use Rattle.command_parts.specs.Inputs.{Read, OfFile, BehindFile}
 use Rattle.core_commands.specs.Wanted.{step_wants, run_wants, check_wants}
-use Rattle.core_commands.specs.Step.{IsStepRefusal, StepComesTo, ArePrinted}
+use Rattle.core_commands.specs.Step.{IsStepRefusal, StepComesTo, AreMarked}
 use Rattle.sim_inputs.specs.declared.line.RunCommand.{RunCommand}
 use Rattle.core_commands.specs.Run.{IsRunRefusal, RunComesTo, LackARole}
 use Rattle.core_commands.specs.{Stress.StressComesTo}
@@ -108,8 +108,8 @@ AreUnfit _ settings image second = ⊥
 -- threads, or where the file is that of a chart or of an order. No other command of a program writes a file.
 abbrev pub IsProgramUnreported : ProgramCommand → Read → Option (List ℕ) → Option (List ℕ) → Type 0
 IsProgramUnreported (commands.Step step) second old new =
-    (core : CoreView) × (idle : List ℕ)
-    × Prints old new (λ text. OfFile second (λ script. ArePrinted step.why script core idle text))
+    (core : CoreView) × (idle : List ℕ) × (marks : Marks)
+    × Prints old new (λ text. OfFile second (λ script. AreMarked step.why marks script core idle text))
 IsProgramUnreported (commands.Run run) second old new = new ≡ old
 IsProgramUnreported (commands.Chart chart) second old new = new ≡ old
 IsProgramUnreported (commands.Outcomes outcomes) second old new = new ≡ old

@@ -385,7 +385,15 @@ fn perform_command<
         ProgramCommand::Check(check) => {
             let wanted = Wanted::of_check(check);
             let text = second?;
-            perform_check(image, settings, text, wanted, labels, &mut context.out, alloc)
+            perform_check(
+                image,
+                settings,
+                text,
+                wanted,
+                labels,
+                &mut context.out,
+                alloc,
+            )
         }
         ProgramCommand::Plain(plain) => {
             if let Some(rounds) = rounds_of(plain) {

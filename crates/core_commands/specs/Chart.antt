@@ -30,8 +30,8 @@ IsPictureRefusal chart refused.Memory = Unit {0}
 IsPictureRefusal chart _ = ⊥
 
 -- What is drawn: the rows of a history, its events and the names of its program, of all harts or of the one that is named.
-pub record IsDrawnOf (setup : Setup) (events : List Event) (chart : ChartCommand) (names : Table) (drawn : Drawn) : Type 0
-where
+pub record IsDrawnOf (setup : Setup) (events : List Event) (chart : ChartCommand) (names : Table)
+    (drawn : Drawn) : Type 0 where
   pub rows : AreRows (reverse events) drawn.rows.now
   pub events_are : drawn.events.now ≡ events
   pub hart : drawn.hart ≡ chart.hart

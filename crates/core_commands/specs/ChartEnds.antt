@@ -62,8 +62,8 @@ is_event_in hart symbol rows events place =
     option_map_or (is_event_of hart symbol rows) (slice_get events place) false
 
 -- The place is that of the last event of one.
-pub record IsLastEvent (hart : Option ℕ) (symbol : Symbol) (rows : List Row) (events : List Event) (place : ℕ) : Type 0
-where
+pub record IsLastEvent (hart : Option ℕ) (symbol : Symbol) (rows : List Row) (events : List Event)
+    (place : ℕ) : Type 0 where
   pub is : is_event_in hart symbol rows events place ≡ true
   pub last : (later : ℕ) → place < later → is_event_in hart symbol rows events later ≡ false
 

@@ -1,6 +1,7 @@
 pub mod Account
 pub mod Wanted
 pub mod Step
+pub mod NamedAsks
 pub mod Prompt
 pub mod Run
 pub mod Stress

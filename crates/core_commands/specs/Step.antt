@@ -1,5 +1,5 @@
 -- The command `step`: a script's asks, made of a core. (This project's own choice.)
-use Rattle.std.specs.Prelude.{◌≡◌, ℕ, Bool, true, false, List, ◌++◌, Option}
+use Rattle.std.specs.Prelude.{◌≡◌, ℕ, Bool, true, false, ◌||◌, List, ◌++◌, Option, is_some}
 use Rattle.elf_image.specs.Image.{ProgramImage}
 use Rattle.core_state.specs.{Setup.setup_of, View.CoreView}
 use Rattle.smt_core.specs.Shown.{Shown}
@@ -12,6 +12,7 @@ use Rattle.command_parts.specs.declared.refused.Refused.TheVariants.{Config, Scr
 use Rattle.command_parts.specs.Refused.{AreAccepted, AreRefused}
 use Rattle.report_lines.specs.Lines.{status_number}
 use Rattle.address_labels.specs.Labels.{Marks}
+use Rattle.core_commands.specs.NamedAsks.{IsNamedText}
 use Rattle.core_commands.specs.declared.wanted.Wanted.{Wanted}
 use Rattle.core_commands.specs.Account.{IsAccount, idle_of, statuses_of}
 
@@ -41,13 +42,25 @@ abbrev pub ArePrinted : Bool → List ℕ → CoreView → List ℕ → List ℕ
 ArePrinted false script core idle text = AreCounted script core idle text
 ArePrinted true script core idle text = (lines : List ℕ) × AreCounted script core idle lines
 
+-- A text of asks as it is printed: with what is wanted beside the pcs of its fetches, where something is.
+abbrev pub IsMarkedIf : Bool → Marks → List ℕ → List ℕ → Type 0
+IsMarkedIf true marks text marked = IsNamedText marks text marked
+IsMarkedIf false marks text marked = marked ≡ text
+
+abbrev pub IsMarked : Marks → List ℕ → List ℕ → Type 0
+IsMarked marks text marked = IsMarkedIf (is_some marks.names || is_some marks.lines) marks text marked
+
+abbrev pub AreMarked : Bool → Marks → List ℕ → CoreView → List ℕ → List ℕ → Type 0
+AreMarked with_why marks script core idle marked =
+    (text : List ℕ) × ArePrinted with_why script core idle text × IsMarked marks text marked
+
 -- The lines of all that a script has asked of a core, and then what is printed of it.
 pub record AreAsksAndAccount (core : CoreView) (script : List ℕ)
     (with_why : Bool) (wanted : Wanted) (marks : Marks) (text : List ℕ) : Type 0 where
   pub asks : List ℕ
   pub account : List ℕ
   pub idle : List ℕ
-  pub are_printed : ArePrinted with_why script core idle asks
+  pub are_printed : AreMarked with_why marks script core idle asks
   pub is_account : IsAccount core (idle_of core idle) wanted marks account
   pub both : text ≡ asks ++ account
 

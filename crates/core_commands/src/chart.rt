@@ -138,11 +138,7 @@ fn draw(
 fn labels_of<'a>(chart: &ChartCommand<'_>, drawn: &Drawn<'a>) -> Labels<'a>
     ensures { marks_of result ≡ marks_where chart.now.names (table_of drawn.now.names.now) None }
 {
-    let names = if chart.names {
-        Some(drawn.names)
-    } else {
-        None
-    };
+    let names = if chart.names { Some(drawn.names) } else { None };
     Labels { names, lines: None }
 }
 

@@ -12,6 +12,7 @@ mod chart_ends;
 mod check;
 mod judgement;
 mod migrate;
+mod named_asks;
 mod prompt;
 mod run;
 mod script;
