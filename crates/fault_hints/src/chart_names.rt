@@ -2,18 +2,14 @@
 
 use crate::inside_text::add_line;
 use crate::line_fault::LineFault;
+use crate::named::{add_addresses, nearest};
 use crate::named_files::{add_lines, add_program};
-use command_parts::ChartOption;
+use command_parts::{ChartOption, Inputs};
 use hints::{Hint, Part};
-use sim_inputs::{ChartEnd, Command, ProgramCommand};
+use sim_inputs::{ChartEnd, Command, Line, ProgramCommand};
 use source_lines::LineFault as SourceFault;
 use std::alloc::{AllocError, Global};
-use strsim::osa_distance;
-use symbols::{Symbols, Unread, read};
-
-/// How far a name may be from the word that is taken for it: at most a third of its letters, rounded up, are missing,
-/// exchanged or too many.
-const LETTERS_A_FAULT: usize = 3;
+use symbols::{Name, Unread, read};
 
 /// Adds that an option of a chart names nothing in the program, and what was meant.
 pub(crate) fn add_nothing_named(
@@ -28,11 +24,35 @@ pub(crate) fn add_nothing_named(
     match read(file, alloc) {
         Ok(symbols) => {
             hint.add(Part::Cause, b"nothing in the image has this name")?;
-            add_nearest(word_of(option, fault), &symbols, hint, alloc)
+            let word = word_of(option, fault).as_bytes();
+            match nearest(&symbols, word, alloc)? {
+                Some(meant) => hint.add(Part::Meant, meant),
+                None => Ok(()),
+            }
         }
-        Err(Unread::Absent) => hint.add(Part::Cause, b"the image has no table of symbols"),
-        Err(Unread::Damaged) => hint.add(Part::Cause, b"the image's table of symbols is damaged"),
+        Err(Unread::Absent) => hint.add(Part::Cause, NO_TABLE.as_bytes()),
+        Err(Unread::Damaged) => hint.add(Part::Cause, DAMAGED.as_bytes()),
         Err(Unread::Memory) => Err(AllocError),
+    }
+}
+
+/// Why an image has no names.
+const NO_TABLE: &str = "the image has no table of symbols";
+
+const DAMAGED: &str = "the image's table of symbols is damaged";
+
+/// Why there are no names in the image of a line that shows some; none where there are, or none are to be shown.
+pub fn why_nameless(line: &Line<'_>, inputs: &Inputs<'_>, alloc: Global) -> Option<&'static str> {
+    let Command::OfProgram(command) = line.command else {
+        return None;
+    };
+    if !command.shows_names() {
+        return None;
+    }
+    match read(inputs.program.ok()?, alloc) {
+        Err(Unread::Absent) => Some(NO_TABLE),
+        Err(Unread::Damaged) => Some(DAMAGED),
+        _ => None,
     }
 }
 
@@ -44,11 +64,19 @@ pub(crate) fn add_several_named(
     alloc: Global,
 ) -> Result<(), AllocError> {
     add_option(option, fault, hint, alloc)?;
-    hint.add(Part::Cause, b"several parts of the program have this name")?;
     hint.add(
         Part::Expected,
         b"FILE:NAME, with the file of the part that is meant",
-    )
+    )?;
+    let file = fault.inputs.program.unwrap_or(&[]);
+    let Ok(symbols) = read(file, alloc) else {
+        return Ok(());
+    };
+    let name = Name {
+        file: None,
+        name: word_of(option, fault).as_bytes(),
+    };
+    add_addresses(&symbols, &name, hint, alloc)
 }
 
 /// Adds that nothing is fetched in what an option of a chart names.
@@ -73,8 +101,11 @@ pub(crate) fn add_turned(
     hint: &mut Hint,
     alloc: Global,
 ) -> Result<(), AllocError> {
-    add_option(ChartOption::From, fault, hint, alloc)?;
-    add_option(ChartOption::To, fault, hint, alloc)?;
+    for option in [ChartOption::From, ChartOption::To] {
+        if !word_of(option, fault).is_empty() {
+            add_option(option, fault, hint, alloc)?;
+        }
+    }
     let cause = format!(in alloc; "the first event would be {from}, and the last {to}")?;
     hint.add(Part::Cause, cause.as_bytes())
 }
@@ -124,30 +155,5 @@ fn word_of<'a>(option: ChartOption, fault: &LineFault<'a>) -> &'a str {
     match end {
         ChartEnd::Function(name) => name,
         ChartEnd::Event(_) => "",
-    }
-}
-
-/// Adds the name that is the nearest to a word, if one is near.
-fn add_nearest(
-    word: &str,
-    symbols: &Symbols<'_>,
-    hint: &mut Hint,
-    alloc: Global,
-) -> Result<(), AllocError> {
-    let mut nearest = None;
-    let mut least = usize::MAX;
-    for symbol in symbols.as_slice() {
-        let Ok(name) = str::from_utf8(symbols.name_of(symbol)) else {
-            continue;
-        };
-        let distance = osa_distance(alloc, word, name)?;
-        if distance < least && distance <= name.len().div_ceil(LETTERS_A_FAULT) {
-            least = distance;
-            nearest = Some(name);
-        }
-    }
-    match nearest {
-        Some(name) => hint.add(Part::Meant, name.as_bytes()),
-        None => Ok(()),
     }
 }

@@ -23,6 +23,7 @@ mod telling;
 mod trace_lines;
 mod words_fault;
 
+pub use chart_names::why_nameless;
 pub use file_fault::FileFault;
 pub use line_fault::{FileFaults, LineFault};
 pub use telling::add_line_fault;

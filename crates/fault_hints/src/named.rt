@@ -66,7 +66,7 @@ fn add_meant(
 
 /// The name that is the nearest to another one, if one is near: at most a third of its letters, rounded up, are
 /// missing, exchanged or too many.
-fn nearest<'a>(
+pub(crate) fn nearest<'a>(
     symbols: &Symbols<'a>,
     asked: &[u8],
     alloc: Global,
@@ -98,7 +98,7 @@ fn comparable(name: &[u8]) -> Option<&str> {
 }
 
 /// Adds the addresses of a name that has several, each with its file.
-fn add_addresses(
+pub(crate) fn add_addresses(
     symbols: &Symbols<'_>,
     name: &Name<'_>,
     hint: &mut Hint,

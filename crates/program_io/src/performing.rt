@@ -194,6 +194,8 @@ impl<S: Files + Input + Threads + Wait + Sync, G: Gate + Sync, P: Predict + Copy
         if let Some(refused) = context.refused {
             let files = read.faults_with(context.files.fault(), context.out.failure());
             self.hint_of_line(refused, line, inputs, files, err);
+        } else {
+            self.hinting().tell_nameless(line, &inputs, status, err);
         }
         status
     }
@@ -252,6 +254,8 @@ impl<S: Files + Input + Threads + Wait + Sync, G: Gate + Sync, P: Predict + Copy
         if let Some(refused) = context.refused {
             let files = read.faults_with(context.files.fault(), context.out.failure());
             self.hint_of_line(refused, line, inputs, files, err);
+        } else {
+            self.hinting().tell_nameless(line, &inputs, status, err);
         }
         status
     }

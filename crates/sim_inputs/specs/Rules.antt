@@ -186,7 +186,7 @@ script_command = subcommand (codes "script") (image_rule ∷ trace_rule ∷ conf
 abbrev pub list_command : App
 list_command = subcommand (codes "list") (image_rule ∷ config_rule ∷ lines_rule ∷ names_rule ∷ [])
 
--- `chart IMAGE TRACE`, with `--config FILE`, `--from N|F`, `--to N|F`, `--hart N`, `--names`, `--width N`, `--svg FILE`
+-- `chart IMAGE TRACE`, with `--config FILE`, `--from PLACE`, `--to PLACE`, `--hart N`, `--names`, `--width N`, `--svg FILE`
 -- and `--kanata FILE`.
 abbrev pub chart_command : App
 chart_command = subcommand (codes "chart") (image_rule ∷ trace_rule ∷ config_rule ∷ from_rule ∷ to_rule

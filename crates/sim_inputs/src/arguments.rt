@@ -14,7 +14,7 @@ pub(crate) enum Kind {
     Folder,
     /// `--name N`, which may be there.
     Number,
-    /// `--name N|F`, which may be there.
+    /// `--name PLACE`, which may be there.
     Place,
     /// `--name LIST`, which may be there.
     List,
@@ -88,7 +88,7 @@ pub(crate) const LOOKS: Argument = Argument {
 pub(crate) const LINES: Argument = Argument {
     kind: Kind::Option,
     name: "lines",
-    help: "Put source lines behind addresses: image.sh -g writes them",
+    help: "Put source lines behind addresses, from image.sh -g",
 };
 
 pub(crate) const NAMES: Argument = Argument {
@@ -172,13 +172,13 @@ pub(crate) const EXPLAINED_TRACE: Argument = Argument {
 pub(crate) const FROM: Argument = Argument {
     kind: Kind::Place,
     name: "from",
-    help: "The first event that is drawn, or a function's first fetch",
+    help: "The first event that is drawn, or where a function begins",
 };
 
 pub(crate) const TO: Argument = Argument {
     kind: Kind::Place,
     name: "to",
-    help: "The last event that is drawn, or a function's last event",
+    help: "The last event that is drawn, or where a function ends",
 };
 
 pub(crate) const HART: Argument = Argument {

@@ -233,7 +233,7 @@ fn argument_of<'a>(row: &'static Argument, alloc: Global) -> Arg<'a>
         Kind::Folder => argument.long(row.name).value_name("FOLDER"),
         Kind::Flag => argument.long(row.name).action(ArgAction::SetTrue),
         Kind::Number => argument.long(row.name).value_name("N"),
-        Kind::Place => argument.long(row.name).value_name("N|F"),
+        Kind::Place => argument.long(row.name).value_name("PLACE"),
         Kind::List => argument.long(row.name).value_name("LIST"),
         Kind::Condition => argument.long(row.name).value_name("CONDITION"),
         Kind::When => argument.long(row.name).value_name("WHEN"),
