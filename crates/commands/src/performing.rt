@@ -9,8 +9,7 @@ ghost use Rattle.command_parts.specs.Refused.{exit_status_of, refusal_of};
 ghost use Rattle.sim_inputs.specs.Files.{written_for_test};
 ghost use Rattle.command_parts.specs.Inputs.{as_read, OfProgram};
 ghost use Rattle.symbols.specs.Tables.{table_of};
-ghost use Rattle.address_labels.specs.Labels.{lines_in, marks_of, marks_where};
-ghost use Rattle.sim_inputs.specs.Files.{shows_names};
+ghost use Rattle.address_labels.specs.Labels.{lines_in};
 ghost use Rattle.commands.specs.Commands.{IsProgramUnreported, program_writes_file};
 ghost use Rattle.commands.specs.Perform.{IsRefusal, LineComesTo, IsLeft, IsUnreported, writes_file};
 ghost use Rattle.commands.specs.Perform.{IsProgramRefusal, ProgramComesTo, IsPerformed};
@@ -20,13 +19,13 @@ ghost use Rattle.commands.specs.Perform.{IsMigrateLineRefusal, MigrationComesTo}
 ghost use Rattle.event_text.specs.Sinking.{HasPut};
 ghost use Rattle.commands.specs.Written.{IsWritten};
 
+use crate::about::About;
 use crate::explain::perform_explain;
 use crate::explain_beside::tell_beside;
 use crate::list::perform_list;
 use crate::naming::{names_where, wants_names};
 use crate::runs::perform_runs;
 use actors::Gate;
-use address_labels::Labels;
 use command_parts::{Context, Inputs, Refused, Unread, image_of, lines_where, refuse, settings_of};
 use core_commands::{
     Wanted, perform_chart, perform_check, perform_migrate, perform_script, perform_step,
@@ -37,13 +36,11 @@ use plain_commands::{
 };
 use sim_inputs::{Beside, Command, ExplainCommand, Line, LitmusCommand, ProgramCommand, Settings};
 use smt_core::Predict;
-use source_lines::SourceLines;
 use std::alloc::Global;
 use std::io::Write;
 use std::sync::Wait;
 use std::thread::Threads;
 use stress_runs::EndFiles;
-use symbols::Symbols;
 
 /// Does all that the program does once its files are read, and answers its exit status: how the harts
 /// stand, 0 for a listing, a schedule, a script, a chart, a litmus test and a migration, 2 for a refused
@@ -316,34 +313,6 @@ fn read_and_perform<
     match context.out.flush() {
         Ok(()) => Ok(status),
         Err(_) => Err(Refused::Output),
-    }
-}
-
-/// What a command of a program is about.
-#[derive(Clone, Copy, Drop)]
-struct About<'a> {
-    settings: &'a Settings,
-    image: &'a Image,
-    /// The names that it wants, and the lines of its sources.
-    names: &'a Symbols<'a>,
-    lines: Option<&'a SourceLines<'a>>,
-}
-
-impl<'a> About<'a> {
-    /// What stands beside addresses that a command shows.
-    fn labels_for(&self, command: &ProgramCommand<'_>) -> Labels<'a>
-        ensures { marks_of result ≡ marks_where (shows_names command.now) (table_of self.now.names.now)
-            (lines_in self.now.lines) }
-    {
-        let names = if command.shows_names() {
-            Some(self.names)
-        } else {
-            None
-        };
-        Labels {
-            names,
-            lines: self.lines,
-        }
     }
 }
 
