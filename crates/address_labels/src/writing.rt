@@ -2,10 +2,9 @@
 
 ghost use Rattle.std.specs.Prelude.{◌≡◌, OnOk, option_map};
 ghost use Rattle.std.specs.Io.KnownBytes.{Appends};
-ghost use Rattle.text_fields.specs.Spelling.{hex};
 ghost use Rattle.symbols.specs.Tables.{table_of};
 ghost use Rattle.source_lines.specs.Lines.{origin_of, origins_of};
-ghost use Rattle.address_labels.specs.Labels.{Place as NamedPlace, marks_of};
+ghost use Rattle.address_labels.specs.Labels.{marks_of};
 ghost use Rattle.address_labels.specs.Texts.{
   behind_text,
   close_of,
@@ -16,7 +15,6 @@ ghost use Rattle.address_labels.specs.Texts.{
   open_of,
   origin_field,
   place_field,
-  place_text,
 };
 
 use crate::labels::Labels;

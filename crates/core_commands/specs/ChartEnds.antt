@@ -111,17 +111,19 @@ abbrev pub OfName : ChartEnd → (List ℕ → Type 0) → Type 0
 OfName (ends.Event number) P = ⊥
 OfName (ends.Function name) P = P name.now
 
-abbrev pub end_by : ChartOption → ChartCommand → ChartEnd
-end_by From chart = chart.from
-end_by To chart = chart.to
+-- When one of the ends is refused, which an option gives.
+abbrev pub IsEndFault : ChartOption → ChartEnd → Drawn → Refused → Type 0
+IsEndFault option end drawn (refused.NamesNothing one) =
+    (one ≡ option) × OfName end (λ word. IsMeaningOf (table_of drawn.names.now) word Nothing)
+IsEndFault option end drawn (refused.NamesSeveral one) =
+    (one ≡ option) × OfName end (λ word. IsMeaningOf (table_of drawn.names.now) word Several)
+IsEndFault option end drawn (refused.NeverFetched one) =
+    (one ≡ option) × OfName end (λ word. IsNeverFetched word drawn)
+IsEndFault option end drawn _ = ⊥
 
+-- And both: the first is looked at first, then the last, and then whether they are turned round.
 abbrev pub IsEndRefusal : ChartCommand → Drawn → Refused → Type 0
-IsEndRefusal chart drawn (refused.NamesNothing option) =
-    OfName (end_by option chart) (λ word. IsMeaningOf (table_of drawn.names.now) word Nothing)
-IsEndRefusal chart drawn (refused.NamesSeveral option) =
-    OfName (end_by option chart) (λ word. IsMeaningOf (table_of drawn.names.now) word Several)
-IsEndRefusal chart drawn (refused.NeverFetched option) =
-    OfName (end_by option chart) (λ word. IsNeverFetched word drawn)
 IsEndRefusal chart drawn (refused.Turned from to) =
     IsFirst chart.from drawn from × IsLast chart.to drawn to × (to < from)
-IsEndRefusal chart drawn _ = ⊥
+IsEndRefusal chart drawn reason = IsEndFault From chart.from drawn reason
+    ⊎ (((place : ℕ) × IsFirst chart.from drawn place) × IsEndFault To chart.to drawn reason)

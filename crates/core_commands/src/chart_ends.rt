@@ -1,11 +1,13 @@
 //! Where a chart begins and ends, where its options name functions.
 
-ghost use Rattle.std.specs.Prelude.{◌≡◌, ◌≤◌, ℕ, IfOk, IfErr, IfSome, IfNone, Some, None, option_map};
+ghost use Rattle.std.specs.Prelude.{◌≡◌, ℕ, IfOk, IfErr, IfSome, IfNone, false};
+ghost use Rattle.command_parts.specs.declared.refused.ChartOption.TheVariants.{From, To};
 ghost use Rattle.charts.specs.Views.{draws_hart};
 ghost use Rattle.symbols.specs.Tables.{table_of};
 ghost use Rattle.text_fields.specs.Splitting.{Lacks};
 ghost use Rattle.core_commands.specs.ChartEnds.{
   AreEnds,
+  IsEndFault,
   IsEndRefusal,
   IsFirst,
   IsInFile,
@@ -50,6 +52,7 @@ pub(crate) fn ends_of(chart: &ChartCommand<'_>, drawn: &Drawn<'_>) -> Result<(u3
 /// The event at which a chart begins.
 fn first_event(end: ChartEnd<'_>, drawn: &Drawn<'_>) -> Result<u32, Refused>
     ensures first { IfOk result (IsFirst end drawn.now) }
+    ensures refused { IfErr result (IsEndFault From end drawn.now) }
 {
     let name = match end {
         ChartEnd::Event(place) => return Ok(place),
@@ -65,6 +68,7 @@ fn first_event(end: ChartEnd<'_>, drawn: &Drawn<'_>) -> Result<u32, Refused>
 /// The event at which a chart ends.
 fn last_event(end: ChartEnd<'_>, drawn: &Drawn<'_>) -> Result<u32, Refused>
     ensures last { IfOk result (IsLast end drawn.now) }
+    ensures refused { IfErr result (IsEndFault To end drawn.now) }
 {
     let name = match end {
         ChartEnd::Event(place) => return Ok(place),

@@ -1,7 +1,7 @@
 //! A line, as its text has it.
 
 ghost use Rattle.std.specs.Prelude.{◌≡◌, IfOk, IfErr, Some, None, reverse};
-ghost use Rattle.text_fields.specs.Splitting.{field, rest};
+ghost use Rattle.text_fields.specs.Splitting.{rest};
 ghost use Rattle.source_lines.specs.Lines.{line_text, origin_of};
 ghost use Rattle.source_lines.specs.Faults.{number_in, spelling_fault};
 

@@ -1,8 +1,7 @@
 //! The lines of a text.
 
-ghost use Rattle.std.specs.Prelude.{◌≡◌, IfOk, IfErr, IfSome, Some, None, option_map};
-ghost use Rattle.text_fields.specs.Splitting.{field};
-ghost use Rattle.source_lines.specs.Lines.{AreLinesOf, AreRising, origin_of, origins_of};
+ghost use Rattle.std.specs.Prelude.{◌≡◌, IfOk, IfErr, Some, None};
+ghost use Rattle.source_lines.specs.Lines.{AreLinesOf, AreRising, origins_of};
 ghost use Rattle.source_lines.specs.Faults.{IsLinesRefusal, fault_of};
 
 use crate::line::{LineFault, SourceLine, read_line};
