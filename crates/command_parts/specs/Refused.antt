@@ -14,6 +14,7 @@ use Rattle.command_parts.specs.declared.refused.Refused.TheVariants.{Register, N
 use Rattle.command_parts.specs.declared.refused.Refused.TheVariants.{Picture, Memory, Thread, File, Output}
 use Rattle.command_parts.specs.declared.refused.Refused.TheVariants.{Watch, Condition, ManyWatched, NoWord}
 use Rattle.command_parts.specs.declared.refused.Refused.TheVariants.{NoOutcome, NotStuck, Litmus, NothingToDraw}
+use Rattle.command_parts.specs.declared.refused.Refused.TheVariants.{Lines, NamesNothing, NamesSeveral, NeverFetched, Turned}
 use Rattle.command_parts.specs.declared.refused.Unread.TheVariants as unread
 
 -- The number of the exit status: 2 for an input, 4 for a trace, 5 for memory, threads, files and
@@ -33,6 +34,11 @@ exit_status_of (NoUnit kind) = 2
 exit_status_of (Limit least) = 2
 exit_status_of (NoHart hart) = 2
 exit_status_of (Picture last) = 2
+exit_status_of (Lines line fault) = 2
+exit_status_of (NamesNothing option) = 2
+exit_status_of (NamesSeveral option) = 2
+exit_status_of (NeverFetched option) = 2
+exit_status_of (Turned from to) = 2
 exit_status_of (Watch why) = 2
 exit_status_of (Condition why) = 2
 exit_status_of ManyWatched = 2

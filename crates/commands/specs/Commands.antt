@@ -12,7 +12,7 @@ use Rattle.sim_inputs.specs.declared.line.ProgramCommand.TheVariants as commands
 use Rattle.command_parts.specs.{declared.refused.Refused.Refused}
 use Rattle.command_parts.specs.Inputs.{Read, OfFile, BehindFile}
 use Rattle.core_commands.specs.Wanted.{step_wants, run_wants, check_wants}
-use Rattle.core_commands.specs.Step.{IsStepRefusal, StepComesTo, ArePrinted}
+use Rattle.core_commands.specs.Step.{IsStepRefusal, StepComesTo, AreMarked}
 use Rattle.sim_inputs.specs.declared.line.RunCommand.{RunCommand}
 use Rattle.core_commands.specs.Run.{IsRunRefusal, RunComesTo, LackARole}
 use Rattle.core_commands.specs.{Stress.StressComesTo}
@@ -24,6 +24,11 @@ use Rattle.plain_commands.specs.Plain.{IsPlainRefusal, PlainComesTo}
 use Rattle.plain_commands.specs.PlainRounds.{rounds_of, InRounds, IsRoundsRefusal, RoundsComeTo}
 use Rattle.plain_commands.specs.Schedule.{IsScheduleRefusal, ScheduleComesTo}
 use Rattle.core_commands.specs.Script.{IsScriptingRefusal, ScriptComesTo}
+use Rattle.source_lines.specs.Lines.{Origin}
+use Rattle.address_labels.specs.Labels.{Marks, marks_where}
+use Rattle.sim_inputs.specs.Files.{lines_of}
+use Rattle.sim_inputs.specs.declared.line.ChartEnd.{ChartEnd}
+use Rattle.sim_inputs.specs.declared.line.ChartEnd.TheVariants as ends
 use Rattle.commands.specs.List.{IsListRefusal, ListComesTo}
 use Rattle.plain_commands.specs.Outcomes.{IsOutcomesRefusal, OutcomesComeTo, wants_order}
 
@@ -46,41 +51,44 @@ IsCommandRefusal (commands.List list) settings image names second reason = IsLis
 IsCommandRefusal (commands.Outcomes outcomes) settings image names second reason =
     IsOutcomesRefusal settings image names outcomes reason
 IsCommandRefusal (commands.Chart chart) settings image names second reason =
-    BehindFile second (λ trace. IsChartRefusal settings image trace chart) reason
+    BehindFile second (λ trace. IsChartRefusal settings image trace chart names) reason
 
 -- What `run` comes to: one run, or as many as are asked for.
-abbrev pub RunsComeTo : Option ℕ → RunCommand → Settings → ProgramImage → (ToWrite → Type 0)
+abbrev pub RunsComeTo : Option ℕ → RunCommand → Settings → ProgramImage → Marks → (ToWrite → Type 0)
     → Option (List ℕ) → Option (List ℕ) → ℕ → Type 0
-RunsComeTo None run settings image Traced old new status =
-    RunComesTo settings image (run_wants run) (λ core. Traced (TraceOf (is_some run.trace) core)) old new status
-RunsComeTo (Some times) run settings image Traced old new status =
+RunsComeTo None run settings image marks Traced old new status =
+    RunComesTo settings image (run_wants run) marks (λ core. Traced (TraceOf (is_some run.trace) core)) old new status
+RunsComeTo (Some times) run settings image marks Traced old new status =
     StressComesTo settings image times (λ cores. Traced (EndsOf (is_some run.keep) cores)) old new status
 
 -- What a command comes to. `Traced` says whether its files are written, where that is wanted: a trace of
 -- a core, or the files of ends.
-abbrev pub CommandComesTo : ProgramCommand → Settings → ProgramImage → Table → Read → (ToWrite → Type 0)
+abbrev pub CommandComesTo : ProgramCommand → Settings → ProgramImage → Table → Option (List Origin) → Read
+    → (ToWrite → Type 0)
     → Option (List ℕ) → Option (List ℕ) → ℕ → Type 0
-CommandComesTo (commands.Step step) settings image names second Traced old new status =
-    OfFile second (λ script. StepComesTo settings image script step.why (step_wants step)
+CommandComesTo (commands.Step step) settings image names lines second Traced old new status =
+    OfFile second (λ script. StepComesTo settings image script step.why (step_wants step) (marks_where step.names names lines)
     (λ core. Traced (TraceOf (is_some step.trace) core)) old new status)
-CommandComesTo (commands.Run run) settings image names second Traced old new status =
-    RunsComeTo run.times run settings image Traced old new status
-CommandComesTo (commands.Check check) settings image names second Traced old new status =
-    OfFile second (λ trace. CheckComesTo settings image trace (check_wants check) old new status)
-CommandComesTo (commands.Plain plain) settings image names second Traced old new status =
+CommandComesTo (commands.Run run) settings image names lines second Traced old new status =
+    RunsComeTo run.times run settings image (marks_where run.names names lines) Traced old new status
+CommandComesTo (commands.Check check) settings image names lines second Traced old new status =
+    OfFile second (λ trace. CheckComesTo settings image trace (check_wants check)
+    (marks_where check.names names lines) old new status)
+CommandComesTo (commands.Plain plain) settings image names lines second Traced old new status =
     InRounds (rounds_of plain)
-    (λ rounds. RoundsComeTo settings image rounds plain.records old new status)
-    (OfFile second (λ order. PlainComesTo settings image order plain.records old new status))
-CommandComesTo (commands.Schedule schedule) settings image names second Traced old new status =
+    (λ rounds. RoundsComeTo settings image rounds plain.records (marks_where plain.names names lines) old new status)
+    (OfFile second (λ order. PlainComesTo settings image order plain.records
+    (marks_where plain.names names lines) old new status))
+CommandComesTo (commands.Schedule schedule) settings image names lines second Traced old new status =
     OfFile second (λ order. ScheduleComesTo settings image order old new status)
-CommandComesTo (commands.Script script) settings image names second Traced old new status =
+CommandComesTo (commands.Script script) settings image names lines second Traced old new status =
     OfFile second (λ trace. ScriptComesTo settings image trace old new status)
-CommandComesTo (commands.List list) settings image names second Traced old new status =
-    ListComesTo image old new status
-CommandComesTo (commands.Outcomes outcomes) settings image names second Traced old new status =
+CommandComesTo (commands.List list) settings image names lines second Traced old new status =
+    ListComesTo image (marks_where list.names names lines) old new status
+CommandComesTo (commands.Outcomes outcomes) settings image names lines second Traced old new status =
     OutcomesComeTo settings image names outcomes old new status
-CommandComesTo (commands.Chart chart) settings image names second Traced old new status =
-    OfFile second (λ trace. ChartComesTo settings image trace chart status)
+CommandComesTo (commands.Chart chart) settings image names lines second Traced old new status =
+    OfFile second (λ trace. ChartComesTo settings image trace chart names status)
 
 -- What a command may refuse of settings that are a configuration's: a run of threads needs an actor
 -- of each role, and a trace, checked, drawn or asked for again, may have no more events than a core.
@@ -100,8 +108,8 @@ AreUnfit _ settings image second = ⊥
 -- threads, or where the file is that of a chart or of an order. No other command of a program writes a file.
 abbrev pub IsProgramUnreported : ProgramCommand → Read → Option (List ℕ) → Option (List ℕ) → Type 0
 IsProgramUnreported (commands.Step step) second old new =
-    (core : CoreView) × (idle : List ℕ)
-    × Prints old new (λ text. OfFile second (λ script. ArePrinted step.why script core idle text))
+    (core : CoreView) × (idle : List ℕ) × (marks : Marks)
+    × Prints old new (λ text. OfFile second (λ script. AreMarked step.why marks script core idle text))
 IsProgramUnreported (commands.Run run) second old new = new ≡ old
 IsProgramUnreported (commands.Chart chart) second old new = new ≡ old
 IsProgramUnreported (commands.Outcomes outcomes) second old new = new ≡ old
@@ -117,6 +125,21 @@ program_writes_file (commands.Outcomes outcomes) = wants_order outcomes
 program_writes_file _ = false
 
 -- The command shows or takes names of its program.
+abbrev pub is_function : ChartEnd → Bool
+is_function (ends.Event number) = false
+is_function (ends.Function name) = true
+
 abbrev pub wants_names : ProgramCommand → Bool
 wants_names (commands.Outcomes outcomes) = true
-wants_names _ = false
+wants_names (commands.Chart chart) = chart.names || (is_function chart.from || is_function chart.to)
+wants_names (commands.Step step) = step.names
+wants_names (commands.Run run) = run.names
+wants_names (commands.Check check) = check.names
+wants_names (commands.Plain plain) = plain.names
+wants_names (commands.List list) = list.names
+wants_names (commands.Schedule schedule) = false
+wants_names (commands.Script script) = false
+
+-- It reads the lines of its sources.
+abbrev pub reads_lines : ProgramCommand → Bool
+reads_lines command = is_some (lines_of command)

@@ -6,16 +6,18 @@ use Rattle.elf_image.specs.Image.{ProgramImage}
 use Rattle.symbols.specs.Tables.{Table}
 use Rattle.sim_inputs.specs.{declared.line.Command.Command, declared.settings.Settings.Settings}
 use Rattle.command_parts.specs.{declared.refused.Refused.Refused}
-use Rattle.command_parts.specs.declared.refused.Refused.TheVariants.{Image, Config, Memory, File, Output}
+use Rattle.command_parts.specs.declared.refused.Refused.TheVariants.{Image, Config, Lines, Memory, File, Output}
 use Rattle.command_parts.specs.declared.refused.Unread.TheVariants as unread
 use Rattle.command_parts.specs.Refused.{IsFirstFailed, AreAccepted}
+use Rattle.source_lines.specs.Lines.{Origin}
+use Rattle.command_parts.specs.Inputs.{IsLinesFault, OfLines}
 use Rattle.command_parts.specs.Inputs.{Read, OfFile, BehindFile, OfSettings, OfProgram, OfNamedProgram}
 use Rattle.command_parts.specs.Inputs.{IsNoConfiguration}
 use Rattle.stress_runs.specs.declared.keeping.Part.{Part}
 use Rattle.commands.specs.Written.{ToWrite, TextOf, IsWritten}
 use Rattle.core_commands.specs.Migrate.{IsMigrateRefusal, MigrateComesTo}
 use Rattle.commands.specs.Commands.{IsCommandRefusal, CommandComesTo, AreUnfit, IsProgramUnreported}
-use Rattle.commands.specs.Commands.{program_writes_file, wants_names}
+use Rattle.commands.specs.Commands.{reads_lines, program_writes_file, wants_names}
 use Rattle.commands.specs.Explain.{IsExplainRefusal, ExplainComesTo, IsBesideFault, TellsBeside}
 use Rattle.sim_inputs.specs.declared.line.Beside.{Beside}
 use Rattle.sim_inputs.specs.Files.{written_for_test}
@@ -24,28 +26,32 @@ use Rattle.sim_inputs.specs.declared.line.ProgramCommand.{ProgramCommand}
 use Rattle.sim_inputs.specs.declared.line.Command.TheVariants as commands
 use Rattle.plain_commands.specs.Litmus.{IsLitmusRefusal, LitmusComesTo}
 
--- When each refusal comes of a command of a program: the configuration is looked at first, then the image, then
--- what the command needs. A file that can't be read is refused where it is looked at.
-abbrev pub IsProgramRefusal : ProgramCommand → Read → Read → Read → Refused → Type 0
-IsProgramRefusal command config image second (Image number) = OfSettings config
+-- When each refusal comes of a command of a program: the configuration is looked at first, then the image, then the
+-- lines of its sources, and then what the command needs. A file that can't be read is refused where it is looked at.
+abbrev pub IsProgramRefusal : ProgramCommand → Read → Read → Read → Read → Refused → Type 0
+IsProgramRefusal command config image second lines (Image number) = OfSettings config
     (λ settings. OfFile image (λ file. IsFirstFailed file settings.ram number))
-IsProgramRefusal command config image second Config = OfFile config IsNoConfiguration
+IsProgramRefusal command config image second lines Config = OfFile config IsNoConfiguration
     ⊎ OfProgram config image (λ settings program. AreUnfit command settings program second)
-IsProgramRefusal command config image second Memory = Unit {0}
-IsProgramRefusal command config image second File = (config ≡ Err unread.File)
+IsProgramRefusal command config image second lines (Lines number fault) = OfProgram config image
+    (λ settings program. IsLinesFault (reads_lines command) lines program (Lines number fault))
+IsProgramRefusal command config image second lines Memory = Unit {0}
+IsProgramRefusal command config image second lines File = (config ≡ Err unread.File)
     ⊎ OfSettings config (λ settings. image ≡ Err unread.File)
+    ⊎ OfProgram config image (λ settings program. IsLinesFault (reads_lines command) lines program File)
     ⊎ OfNamedProgram (wants_names command) config image
     (λ settings program names. IsCommandRefusal command settings program names second File)
-IsProgramRefusal command config image second reason = OfNamedProgram (wants_names command) config image
+IsProgramRefusal command config image second lines reason = OfNamedProgram (wants_names command) config image
     (λ settings program names. IsCommandRefusal command settings program names second reason)
 
 -- What it comes to: its configuration's settings are a core's, its image passes every check, and the command has
--- come to what is owed on it, with the names that it wants.
-abbrev pub ProgramComesTo : ProgramCommand → Read → Read → Read → (ToWrite → Type 0)
+-- come to what is owed on it, with the names and the source lines that it wants.
+abbrev pub ProgramComesTo : ProgramCommand → Read → Read → Read → Read → (ToWrite → Type 0)
     → Option (List ℕ) → Option (List ℕ) → ℕ → Type 0
-ProgramComesTo command config image second Traced old new status = OfNamedProgram (wants_names command) config image
-    (λ settings program names. AreAccepted settings
-    × CommandComesTo command settings program names second Traced old new status)
+ProgramComesTo command config image second lines Traced old new status =
+    OfNamedProgram (wants_names command) config image
+    (λ settings program names. AreAccepted settings × OfLines (reads_lines command) lines program
+    (λ origins. CommandComesTo command settings program names origins second Traced old new status))
 
 -- When each refusal comes of what explains a configuration and an image: theirs, and behind them that of the
 -- text beside them.
@@ -110,23 +116,23 @@ MigrateLineComesTo config trace Traced old new status =
     (new ≡ old) × MigrationComesTo config trace (λ text. Traced (TextOf text)) status
 
 -- When each refusal of a line comes, and what it comes to, by what its command is of.
-abbrev pub IsRefusal : Command → Read → Read → Read → Refused → Type 0
-IsRefusal (commands.OfProgram command) config image second reason =
-    IsProgramRefusal command config image second reason
-IsRefusal (commands.Explain explain) config image second reason =
+abbrev pub IsRefusal : Command → Read → Read → Read → Read → Refused → Type 0
+IsRefusal (commands.OfProgram command) config image second lines reason =
+    IsProgramRefusal command config image second lines reason
+IsRefusal (commands.Explain explain) config image second lines reason =
     IsExplainLineRefusal explain.beside config image second reason
-IsRefusal (commands.Litmus litmus) config test second reason = IsLitmusLineRefusal litmus config test reason
-IsRefusal (commands.Migrate migrate) config none trace reason = IsMigrateLineRefusal config trace reason
+IsRefusal (commands.Litmus litmus) config test second lines reason = IsLitmusLineRefusal litmus config test reason
+IsRefusal (commands.Migrate migrate) config none trace lines reason = IsMigrateLineRefusal config trace reason
 
-abbrev pub LineComesTo : Command → Read → Read → Read → (ToWrite → Type 0)
+abbrev pub LineComesTo : Command → Read → Read → Read → Read → (ToWrite → Type 0)
     → Option (List ℕ) → Option (List ℕ) → ℕ → Type 0
-LineComesTo (commands.OfProgram command) config image second Traced old new status =
-    ProgramComesTo command config image second Traced old new status
-LineComesTo (commands.Explain explain) config image second Traced old new status =
+LineComesTo (commands.OfProgram command) config image second lines Traced old new status =
+    ProgramComesTo command config image second lines Traced old new status
+LineComesTo (commands.Explain explain) config image second lines Traced old new status =
     ExplainLineComesTo explain.beside config image second old new status
-LineComesTo (commands.Litmus litmus) config test second Traced old new status =
+LineComesTo (commands.Litmus litmus) config test second lines Traced old new status =
     LitmusLineComesTo litmus config test old new status
-LineComesTo (commands.Migrate migrate) config none trace Traced old new status =
+LineComesTo (commands.Migrate migrate) config none trace lines Traced old new status =
     MigrateLineComesTo config trace Traced old new status
 
 -- A migration that was refused has put nothing into the sink of its file, unless the output failed.
@@ -150,15 +156,15 @@ writes_file (commands.Explain explain) = false
 writes_file (commands.Litmus litmus) = is_some (written_for_test litmus)
 writes_file (commands.Migrate migrate) = true
 
--- What a command has answered, of its settings, its program image, its names and its second file, before the
+-- What a command has answered, of its settings, its program image, its names, its source lines and its second file, before the
 -- output is flushed: a refusal that may come of it, or an exit status behind what is owed on it.
 -- Where no file is written nothing goes into the sink of its files. The sink hasn't failed behind an
 -- exit status, and what was put into it is finished; where it has failed, nothing is printed but what a command prints before its trace.
 pub record IsPerformed {S : Type 0} (begins : S → ℕ → Part → S → Type 0) (is_finished : S → Bool)
     (written : S → Option (List ℕ)) (has_failed : S → Bool) (before after : S) (command : ProgramCommand) (settings : Settings) (program : ProgramImage)
-    (names : Table) (second : Read) (old new : Option (List ℕ)) (answer : Result ℕ Refused) : Type 0 where
+    (names : Table) (lines : Option (List Origin)) (second : Read) (old new : Option (List ℕ)) (answer : Result ℕ Refused) : Type 0 where
   pub refused : IfErr answer (IsCommandRefusal command settings program names second)
-  pub ended : IfOk answer (CommandComesTo command settings program names second
+  pub ended : IfOk answer (CommandComesTo command settings program names lines second
       (IsWritten begins written has_failed before after) old new)
   pub unwanted : program_writes_file command ≡ false → after ≡ before
   pub unbroken : OnOk answer (has_failed after ≡ false)

@@ -4,10 +4,10 @@ ghost use Rattle.std.specs.Prelude.{◌≡◌, IfOk, IfErr};
 ghost use Rattle.symbols.specs.Tables.{table_of};
 ghost use Rattle.command_parts.specs.declared.refused.Refused.TheVariants.{Memory};
 ghost use Rattle.command_parts.specs.Inputs.{AreNamesFor};
-ghost use Rattle.commands.specs.Commands.{wants_names};
+ghost use Rattle.commands.specs.Commands.{is_function, wants_names};
 
 use command_parts::{Refused, names_in};
-use sim_inputs::ProgramCommand;
+use sim_inputs::{ChartEnd, ProgramCommand};
 use std::alloc::Global;
 use symbols::Symbols;
 
@@ -17,10 +17,23 @@ pub(crate) fn wants_names(command: &ProgramCommand<'_>) -> bool
 {
     match command {
         ProgramCommand::Outcomes(_) => true,
-        ProgramCommand::Step(_) | ProgramCommand::Run(_) | ProgramCommand::Check(_) => false,
-        ProgramCommand::Plain(_) | ProgramCommand::Schedule(_) => false,
-        ProgramCommand::Script(_) | ProgramCommand::List(_) | ProgramCommand::Chart(_) => false,
+        ProgramCommand::Chart(chart) => {
+            chart.names || is_function(chart.from) || is_function(chart.to)
+        }
+        ProgramCommand::Step(step) => step.names,
+        ProgramCommand::Run(run) => run.names,
+        ProgramCommand::Check(check) => check.names,
+        ProgramCommand::Plain(plain) => plain.names,
+        ProgramCommand::List(list) => list.names,
+        ProgramCommand::Schedule(_) | ProgramCommand::Script(_) => false,
     }
+}
+
+/// Whether a chart begins or ends at a function.
+fn is_function(end: ChartEnd<'_>) -> bool
+    ensures { result ≡ is_function end }
+{
+    matches!(end, ChartEnd::Function(_))
 }
 
 /// The names of the program in an image's file, where they are wanted; else none.

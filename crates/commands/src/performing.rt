@@ -9,6 +9,7 @@ ghost use Rattle.command_parts.specs.Refused.{exit_status_of, refusal_of};
 ghost use Rattle.sim_inputs.specs.Files.{written_for_test};
 ghost use Rattle.command_parts.specs.Inputs.{as_read, OfProgram};
 ghost use Rattle.symbols.specs.Tables.{table_of};
+ghost use Rattle.address_labels.specs.Labels.{lines_in};
 ghost use Rattle.commands.specs.Commands.{IsProgramUnreported, program_writes_file};
 ghost use Rattle.commands.specs.Perform.{IsRefusal, LineComesTo, IsLeft, IsUnreported, writes_file};
 ghost use Rattle.commands.specs.Perform.{IsProgramRefusal, ProgramComesTo, IsPerformed};
@@ -18,13 +19,14 @@ ghost use Rattle.commands.specs.Perform.{IsMigrateLineRefusal, MigrationComesTo}
 ghost use Rattle.event_text.specs.Sinking.{HasPut};
 ghost use Rattle.commands.specs.Written.{IsWritten};
 
+use crate::about::About;
 use crate::explain::perform_explain;
 use crate::explain_beside::tell_beside;
 use crate::list::perform_list;
 use crate::naming::{names_where, wants_names};
 use crate::runs::perform_runs;
 use actors::Gate;
-use command_parts::{Context, Inputs, Refused, Unread, image_of, refuse, settings_of};
+use command_parts::{Context, Inputs, Refused, Unread, image_of, lines_where, refuse, settings_of};
 use core_commands::{
     Wanted, perform_chart, perform_check, perform_migrate, perform_script, perform_step,
 };
@@ -39,12 +41,12 @@ use std::io::Write;
 use std::sync::Wait;
 use std::thread::Threads;
 use stress_runs::EndFiles;
-use symbols::Symbols;
 
 /// Does all that the program does once its files are read, and answers its exit status: how the harts
 /// stand, 0 for a listing, a schedule, a script, a chart, a litmus test and a migration, 2 for a refused
 /// input, 4 for a refused trace, 5 where memory, a thread or a file failed. A refusal is one line on `err`.
-/// The configuration is looked at first, then the image, then the script, the order or the trace; a file
+/// The configuration is looked at first, then the image, the lines of its sources, and then the script, the order or the
+/// trace; a file
 /// that couldn't be read is refused where it is looked at. All that is printed is flushed. The context keeps
 /// why the line was refused, if it was.
 ///
@@ -68,14 +70,14 @@ pub fn perform<
     ensures unset { IfErr inputs.now.config (λ why. result ≡ 5) }
     ensures refused { says_harts result ≡ false → (reason : AnyRefused)
         × (exit_status_of reason ≡ result) × IsRefusal line.now.command
-        (as_read inputs.now.config) (as_read inputs.now.program) (as_read inputs.now.second) reason }
+        (as_read inputs.now.config) (as_read inputs.now.program) (as_read inputs.now.second) (as_read inputs.now.lines) reason }
     ensures ended { IsTrue (says_harts result) → LineComesTo line.now.command
-        (as_read inputs.now.config) (as_read inputs.now.program) (as_read inputs.now.second)
+        (as_read inputs.now.config) (as_read inputs.now.program) (as_read inputs.now.second) (as_read inputs.now.lines)
         (IsWritten S.begins S.written S.has_failed context.old.files context.new.files) (W.contents context.old.out)
         (W.contents context.new.out) result }
     ensures left { says_harts result ≡ false → (reason : AnyRefused)
         × (exit_status_of reason ≡ result) × IsRefusal line.now.command (as_read inputs.now.config)
-        (as_read inputs.now.program) (as_read inputs.now.second) reason
+        (as_read inputs.now.program) (as_read inputs.now.second) (as_read inputs.now.lines) reason
         × IsLeft line.now.command context.old.files context.new.files reason }
     ensures finished { IsTrue (says_harts result) → S.is_finished context.new.files ≡ true }
     ensures unwanted { writes_file line.now.command ≡ false → context.new.files ≡ context.old.files }
@@ -117,9 +119,9 @@ fn perform_line<
     requires finished { S.is_finished context.old.files ≡ true }
     ensures unset { IfErr inputs.now.config (λ why. result ≡ Err (refusal_of why)) }
     ensures refused { IfErr result (IsRefusal line.now.command (as_read inputs.now.config)
-        (as_read inputs.now.program) (as_read inputs.now.second)) }
+        (as_read inputs.now.program) (as_read inputs.now.second) (as_read inputs.now.lines)) }
     ensures ended { IfOk result (LineComesTo line.now.command (as_read inputs.now.config)
-        (as_read inputs.now.program) (as_read inputs.now.second)
+        (as_read inputs.now.program) (as_read inputs.now.second) (as_read inputs.now.lines)
         (IsWritten S.begins S.written S.has_failed context.old.files context.new.files) (W.contents context.old.out)
         (W.contents context.new.out)) }
     ensures left { IfErr result (IsLeft line.now.command context.old.files context.new.files) }
@@ -280,9 +282,9 @@ fn read_and_perform<
     requires finished { S.is_finished context.old.files ≡ true }
     ensures unset { IfErr inputs.now.config (λ why. result ≡ Err (refusal_of why)) }
     ensures refused { IfErr result (IsProgramRefusal command.now (as_read inputs.now.config)
-        (as_read inputs.now.program) (as_read inputs.now.second)) }
+        (as_read inputs.now.program) (as_read inputs.now.second) (as_read inputs.now.lines)) }
     ensures ended { IfOk result (ProgramComesTo command.now (as_read inputs.now.config)
-        (as_read inputs.now.program) (as_read inputs.now.second)
+        (as_read inputs.now.program) (as_read inputs.now.second) (as_read inputs.now.lines)
         (IsWritten S.begins S.written S.has_failed context.old.files context.new.files) (W.contents context.old.out)
         (W.contents context.new.out)) }
     ensures finished { OnOk result (S.is_finished context.new.files ≡ true) }
@@ -295,9 +297,16 @@ fn read_and_perform<
     let file = inputs.program?;
     let image = image_of(file, settings.ram, context.alloc)?;
     let names = names_where(wants_names(command), file, context.alloc)?;
-    let second = inputs.second;
+    let wants_lines = command.lines().is_some();
+    let lines = lines_where(wants_lines, inputs.lines, &image, context.alloc)?;
+    let about = About {
+        settings: &settings,
+        image: &image,
+        names: &names,
+        lines: lines.as_ref(),
+    };
     // Handed on as it is: a `?` would leave the prover to find what the refusal becomes.
-    let status = match perform_command(context, command, &settings, &image, &names, second) {
+    let status = match perform_command(context, command, &about, inputs.second) {
         Ok(status) => status,
         Err(refused) => return Err(refused),
     };
@@ -307,8 +316,8 @@ fn read_and_perform<
     }
 }
 
-/// Does what a command of a program asks for, of its settings, its image with the names that it wants, and its second
-/// file.
+/// Does what a command of a program asks for, of its settings, its image with the names and the lines that it wants, and
+/// its second file.
 fn perform_command<
     G: Gate + Sync,
     P: Predict + Copy + Send,
@@ -318,32 +327,46 @@ fn perform_command<
 >(
     context: &mut Context<'_, R, G, P, S, W>,
     command: &ProgramCommand<'_>,
-    settings: &Settings,
-    image: &Image,
-    names: &Symbols<'_>,
+    about: &About<'_>,
     second: Result<&[u8], Unread>,
 ) -> Result<u8, Refused>
     requires works { S.has_failed context.old.files ≡ false }
     requires finished { S.is_finished context.old.files ≡ true }
     ensures { IsPerformed S.begins S.is_finished S.written S.has_failed context.old.files context.new.files command.now
-        settings.now image.now (table_of names.now) (as_read second.entry) (W.contents context.old.out) (W.contents context.new.out) result }
+        about.now.settings.now about.now.image.now (table_of about.now.names.now) (lines_in about.now.lines)
+        (as_read second.entry) (W.contents context.old.out) (W.contents context.new.out) result }
 {
     let alloc = context.alloc;
+    let About {
+        settings,
+        image,
+        names,
+        lines: _,
+    } = *about;
+    let labels = &about.labels_for(command);
     match command {
         ProgramCommand::Step(step) => {
             let wanted = Wanted::of_step(step);
             let script = second?;
-            perform_step(context, image, settings, script, step.why, wanted)
+            perform_step(context, image, settings, script, step.why, wanted, labels)
         }
-        ProgramCommand::Run(run) => perform_runs(context, image, settings, run),
+        ProgramCommand::Run(run) => perform_runs(context, image, settings, run, labels),
         ProgramCommand::Check(check) => {
             let wanted = Wanted::of_check(check);
             let text = second?;
-            perform_check(image, settings, text, wanted, &mut context.out, alloc)
+            perform_check(
+                image,
+                settings,
+                text,
+                wanted,
+                labels,
+                &mut context.out,
+                alloc,
+            )
         }
         ProgramCommand::Plain(plain) => {
             if let Some(rounds) = rounds_of(plain) {
-                return perform_rounds(context, image, settings, rounds, plain.records);
+                return perform_rounds(context, image, settings, rounds, plain.records, labels);
             }
             let order = second?;
             perform_plain(
@@ -351,6 +374,7 @@ fn perform_command<
                 settings,
                 order,
                 plain.records,
+                labels,
                 &mut context.out,
                 alloc,
             )
@@ -363,13 +387,13 @@ fn perform_command<
             let text = second?;
             perform_script(image, settings, text, &mut context.out, alloc)
         }
-        ProgramCommand::List(_) => perform_list(image, &mut context.out),
+        ProgramCommand::List(_) => perform_list(image, labels, &mut context.out),
         ProgramCommand::Outcomes(outcomes) => {
             perform_outcomes(context, image, settings, names, outcomes)
         }
         ProgramCommand::Chart(chart) => {
             let text = second?;
-            perform_chart(context, image, settings, text, chart)
+            perform_chart(context, image, settings, text, chart, names)
         }
     }
 }

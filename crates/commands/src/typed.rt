@@ -13,8 +13,10 @@ ghost use Rattle.commands.specs.Typed.{TypedComesTo};
 ghost use Rattle.command_parts.specs.Refused.{exit_status_of, refusal_of};
 ghost use Rattle.core_commands.specs.Wanted.{step_wants};
 
+use crate::naming::names_where;
 use crate::performing::refuse_line;
-use command_parts::{Context, Inputs, Refused, image_of, settings_of};
+use address_labels::Labels;
+use command_parts::{Context, Inputs, Refused, image_of, lines_where, settings_of};
 use core_commands::{Wanted, perform_prompt};
 use sim_inputs::StepCommand;
 use smt_core::Predict;
@@ -39,9 +41,9 @@ pub fn perform_typed<R, G, P: Predict + Copy, B: BufRead, S: EndFiles, W: Write,
     ensures unset { IfErr inputs.now.config (λ why. result ≡ 5) }
     ensures refused { says_harts result ≡ false → (reason : AnyRefused)
         × (exit_status_of reason ≡ result) × IsRefusal (OfProgram (Step step.now))
-        (as_read inputs.now.config) (as_read inputs.now.program) (Ok []) reason }
-    ensures ended { IsTrue (says_harts result) → TypedComesTo P.predicts context.old.predict
-        (as_read inputs.now.config) (as_read inputs.now.program) (B.remaining reader.old)
+        (as_read inputs.now.config) (as_read inputs.now.program) (Ok []) (as_read inputs.now.lines) reason }
+    ensures ended { IsTrue (says_harts result) → TypedComesTo P.predicts context.old.predict step.now
+        (as_read inputs.now.config) (as_read inputs.now.program) (as_read inputs.now.lines) (B.remaining reader.old)
         (step_wants step.now)
         (IsTraceWritten S.written S.has_failed context.old.files context.new.files (is_some step.now.trace))
         (W.contents context.old.out) (W.contents context.new.out) result }
@@ -65,9 +67,9 @@ fn read_and_prompt<R, G, P: Predict + Copy, B: BufRead, S: EndFiles, W: Write>(
     requires finished { S.is_finished context.old.files ≡ true }
     ensures unset { IfErr inputs.now.config (λ why. result ≡ Err (refusal_of why)) }
     ensures refused { IfErr result (IsRefusal (OfProgram (Step step.now)) (as_read inputs.now.config)
-        (as_read inputs.now.program) (Ok [])) }
-    ensures ended { IfOk result (TypedComesTo P.predicts context.old.predict (as_read inputs.now.config)
-        (as_read inputs.now.program) (B.remaining reader.old) (step_wants step.now)
+        (as_read inputs.now.program) (Ok []) (as_read inputs.now.lines)) }
+    ensures ended { IfOk result (TypedComesTo P.predicts context.old.predict step.now (as_read inputs.now.config)
+        (as_read inputs.now.program) (as_read inputs.now.lines) (B.remaining reader.old) (step_wants step.now)
         (IsTraceWritten S.written S.has_failed context.old.files context.new.files (is_some step.now.trace))
         (W.contents context.old.out) (W.contents context.new.out)) }
     ensures finished { OnOk result (S.is_finished context.new.files ≡ true) }
@@ -77,9 +79,17 @@ fn read_and_prompt<R, G, P: Predict + Copy, B: BufRead, S: EndFiles, W: Write>(
     let settings = settings_of(config, context.alloc)?;
     let file = inputs.program?;
     let image = image_of(file, settings.ram, context.alloc)?;
+    let names = names_where(step.names, file, context.alloc)?;
+    let lines = lines_where(step.lines.is_some(), inputs.lines, &image, context.alloc)?;
+    let labels = Labels {
+        names: if step.names { Some(&names) } else { None },
+        lines: lines.as_ref(),
+    };
     let wanted = Wanted::of_step(step);
     // Handed on as it is: a `?` would leave the prover to find what the refusal becomes.
-    let status = match perform_prompt(context, &image, &settings, step.why, wanted, reader) {
+    let status = match perform_prompt(
+        context, &image, &settings, step.why, wanted, &labels, reader,
+    ) {
         Ok(status) => status,
         Err(refused) => return Err(refused),
     };

@@ -14,6 +14,7 @@ use Rattle.command_parts.specs.declared.refused.Refused.{Refused}
 use Rattle.command_parts.specs.declared.refused.Refused.TheVariants.{Image, Memory}
 use Rattle.command_parts.specs.declared.refused.Refused.TheVariants.{Output}
 use Rattle.command_parts.specs.Refused.{AreAccepted}
+use Rattle.address_labels.specs.Labels.{Marks}
 use Rattle.core_commands.specs.{Account.IsReported, Account.idle_of, declared.wanted.Wanted.Wanted}
 use Rattle.core_commands.specs.Step.{IsStepRefusal, IsAsking, StepComesTo, ArePrinted}
 
@@ -32,14 +33,14 @@ never_image settings script number is = is
 
 -- The asks were printed, and then the account.
 pub comes_to : (settings : Settings) (image : ProgramImage) (script : List ℕ)
-    (with_why : Bool) (wanted : Wanted) (core : CoreView) (idle : List ℕ) (Traced : CoreView → Type 0)
+    (with_why : Bool) (wanted : Wanted) (marks : Marks) (core : CoreView) (idle : List ℕ) (Traced : CoreView → Type 0)
     (old mid new : Option (List ℕ)) (exit_status : ℕ)
     → AreAccepted settings → IsAsking script
     → core.setup ≡ setup_of image settings.config → core.limit ≡ settings.limit → Shown core
     → Prints old mid (ArePrinted with_why script core idle)
-    → Traced core → IsReported core (idle_of core idle) wanted mid new exit_status
-    → StepComesTo settings image script with_why wanted Traced old new exit_status
-comes_to settings image script with_why wanted core idle Traced old mid new exit_status
+    → Traced core → IsReported core (idle_of core idle) wanted marks mid new exit_status
+    → StepComesTo settings image script with_why wanted marks Traced old new exit_status
+comes_to settings image script with_why wanted marks core idle Traced old mid new exit_status
     accepted asking setup limit shown asks traced reported = record {
       accepted = accepted;
       is_asking = asking;

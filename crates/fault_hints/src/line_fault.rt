@@ -8,6 +8,7 @@ pub struct FileFaults {
     pub config: Option<FileFault>,
     pub program: Option<FileFault>,
     pub second: Option<FileFault>,
+    pub lines: Option<FileFault>,
     /// The file that is written, or one of those of ends.
     pub written: Option<FileFault>,
     /// Standard output.

@@ -85,7 +85,7 @@ fn spelled(
 
 /// The symbol whose name is the nearest to another one, if one is near: at most a third of its letters, rounded up, are
 /// missing, exchanged or too many.
-fn nearest(
+pub(crate) fn nearest(
     symbols: &Symbols<'_>,
     asked: &[u8],
     alloc: Global,
@@ -117,7 +117,7 @@ fn comparable(name: &[u8]) -> Option<&str> {
 }
 
 /// Adds the addresses of a name that has several, each with its file.
-fn add_addresses(
+pub(crate) fn add_addresses(
     symbols: &Symbols<'_>,
     name: &Name<'_>,
     hint: &mut Hint,

@@ -77,6 +77,18 @@ pub(crate) fn add_second(
     }
 }
 
+/// Adds the source lines of the line.
+pub(crate) fn add_lines(
+    fault: &LineFault<'_>,
+    hint: &mut Hint,
+    alloc: Global,
+) -> Result<(), AllocError> {
+    match fault.line.files().lines {
+        Some(name) => add_read(name, "the source lines", hint, alloc),
+        None => Ok(()),
+    }
+}
+
 /// Adds a file that is read.
 fn add_read(name: &str, role: &str, hint: &mut Hint, alloc: Global) -> Result<(), AllocError> {
     let shown = if is_standard_input(name) {
@@ -112,6 +124,9 @@ pub(crate) fn add_unread(
     } else if is_refused(inputs.program, Unread::File) {
         add_program(fault, hint, alloc)?;
         (named.program, files.program)
+    } else if is_refused(inputs.lines, Unread::File) {
+        add_lines(fault, hint, alloc)?;
+        (named.lines, files.lines)
     } else {
         add_second(fault, hint, alloc)?;
         (named.second, files.second)
@@ -141,6 +156,8 @@ pub(crate) fn add_memory(
         add_config(fault, hint, alloc)?;
     } else if is_refused(inputs.program, Unread::Memory) {
         add_program(fault, hint, alloc)?;
+    } else if is_refused(inputs.lines, Unread::Memory) {
+        add_lines(fault, hint, alloc)?;
     } else if is_refused(inputs.second, Unread::Memory) {
         add_second(fault, hint, alloc)?;
     } else {

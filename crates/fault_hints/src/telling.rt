@@ -4,6 +4,9 @@ use crate::asked::{
     add_absent_outcome, add_absent_word, add_condition, add_hart, add_limit, add_litmus,
     add_picture, add_unit, add_watch,
 };
+use crate::chart_names::{
+    add_never_fetched, add_nothing_named, add_several_named, add_source_line, add_turned,
+};
 use crate::explained::{add_config_fault, add_image_fault};
 use crate::line_fault::LineFault;
 use crate::named_files::{add_memory, add_second, add_unread, add_unwritten};
@@ -73,6 +76,11 @@ fn add_asked_fault(
         Refused::Limit(least) => add_limit(least, fault, hint, alloc),
         Refused::NoHart(hart) => add_hart(hart, fault, hint, alloc),
         Refused::Picture(last) => add_picture(last, hint, alloc),
+        Refused::Lines { line, fault: why } => add_source_line(line, why, fault, hint, alloc),
+        Refused::NamesNothing(option) => add_nothing_named(option, fault, hint, alloc),
+        Refused::NamesSeveral(option) => add_several_named(option, fault, hint, alloc),
+        Refused::NeverFetched(option) => add_never_fetched(option, fault, hint, alloc),
+        Refused::Turned { from, to } => add_turned(from, to, fault, hint, alloc),
         Refused::Watch(why) => add_watch(why, fault, hint, alloc),
         Refused::Condition(why) => add_condition(why, fault, hint, alloc),
         Refused::ManyWatched => hint.add(

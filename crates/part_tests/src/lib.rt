@@ -56,6 +56,7 @@ mod shared_memory_tests;
 #[cfg(test)]
 mod sizes_tests;
 #[cfg(test)]
+mod source_lines_tests;
 mod symbols_tests;
 #[cfg(test)]
 mod text_fields_tests;

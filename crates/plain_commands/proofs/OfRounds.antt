@@ -49,11 +49,11 @@ refusal settings stopped.Memory answer exact is = tt
 refusal settings stopped.Output answer exact is =
     accepted_harts answer (are_harts settings.config.harts) (Err stopped.Output) exact is (λ same. absurd (cc))
 
-pub comes_to : (settings : Settings) (image : ProgramImage) (rounds : Rounds) (with_records : Bool) (left : RoundsRun)
+pub comes_to : (settings : Settings) (image : ProgramImage) (rounds : Rounds) (with_records : Bool) (marks : Marks) (left : RoundsRun)
     (old mid new : Option (List ℕ)) (status : ℕ) → are_harts settings.config.harts ≡ true
-    → OfEachSetup image settings.config.harts (λ setup. HasLeft setup rounds with_records old mid left)
-    → IsReported left mid new status → RoundsComeTo settings image rounds with_records old new status
-comes_to settings image rounds with_records left old mid new status accepted left_each reported =
+    → OfEachSetup image settings.config.harts (λ setup. HasLeft setup rounds with_records marks old mid left)
+    → IsReported left mid new status → RoundsComeTo settings image rounds with_records marks old new status
+comes_to settings image rounds with_records marks left old mid new status accepted left_each reported =
     let has = left_each (setup_of image settings.config) refl refl in
     record {
       accepted = accepted;

@@ -212,7 +212,7 @@ impl<S: Files + Input + Threads + Wait + Sync, G: Gate + Sync, P: Predict + Copy
         ensures known { IsTrue (says_harts result) ⊎ (result ≡ 2) ⊎ (result ≡ 4) ⊎ (result ≡ 5) }
         ensures refused { says_harts result ≡ false → (reason : AnyRefused)
             × (exit_status_of reason ≡ result) × IsRefusal line.now.command (read_of read.now.config)
-            (read_of read.now.program) (read_of read.now.second) reason }
+            (read_of read.now.program) (read_of read.now.second) (read_of read.now.lines) reason }
     {
         let inputs = read.lent();
         let status = perform(context, line, &inputs, err);
@@ -220,6 +220,8 @@ impl<S: Files + Input + Threads + Wait + Sync, G: Gate + Sync, P: Predict + Copy
         if let Some(refused) = context.refused {
             let files = read.faults_with(context.files.fault(), context.out.failure());
             self.hint_of_line(refused, line, inputs, files, err);
+        } else {
+            self.hinting().tell_nameless(line, &inputs, status, err);
         }
         status
     }
@@ -288,7 +290,7 @@ impl<S: Files + Input + Threads + Wait + Sync, G: Gate + Sync, P: Predict + Copy
         ensures known { IsTrue (says_harts result) ⊎ (result ≡ 2) ⊎ (result ≡ 4) ⊎ (result ≡ 5) }
         ensures refused { says_harts result ≡ false → (reason : AnyRefused)
             × (exit_status_of reason ≡ result) × IsRefusal (OfProgram (Step step.now))
-            (read_of read.now.config) (read_of read.now.program) (Ok []) reason }
+            (read_of read.now.config) (read_of read.now.program) (Ok []) (read_of read.now.lines) reason }
     {
         let mut reader = self.system.reader();
         let inputs = read.lent();
@@ -297,6 +299,8 @@ impl<S: Files + Input + Threads + Wait + Sync, G: Gate + Sync, P: Predict + Copy
         if let Some(refused) = context.refused {
             let files = read.faults_with(context.files.fault(), context.out.failure());
             self.hint_of_line(refused, line, inputs, files, err);
+        } else {
+            self.hinting().tell_nameless(line, &inputs, status, err);
         }
         status
     }

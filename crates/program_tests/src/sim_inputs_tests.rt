@@ -7,9 +7,9 @@ mod refused_words;
 
 use crate::rows::holds;
 use sim_inputs::{
-    Beside, ChartCommand, CheckCommand, Command, ExplainCommand, HintsWanted, Line, ListCommand,
-    LitmusCommand, MigrateCommand, OutcomesCommand, PlainCommand, ProgramCommand, RunCommand,
-    ScheduleCommand, ScriptCommand, StepCommand, read_words,
+    Beside, ChartCommand, ChartEnd, CheckCommand, Command, ExplainCommand, HintsWanted, Line,
+    ListCommand, LitmusCommand, MigrateCommand, OutcomesCommand, PlainCommand, ProgramCommand,
+    RunCommand, ScheduleCommand, ScriptCommand, StepCommand, read_words,
 };
 use std::alloc::{AllocError, Global};
 
@@ -32,9 +32,10 @@ static LINES: [(&str, Line<'_>); 41] = [
             command: Command::OfProgram(ProgramCommand::Chart(ChartCommand {
                 image: "a",
                 trace: "t",
-                from: 0,
-                to: 16_777_215,
+                from: ChartEnd::Event(0),
+                to: ChartEnd::Event(16_777_215),
                 hart: None,
+                names: false,
                 width: 120,
                 svg: None,
                 kanata: None,
@@ -49,9 +50,10 @@ static LINES: [(&str, Line<'_>); 41] = [
             command: Command::OfProgram(ProgramCommand::Chart(ChartCommand {
                 image: "a",
                 trace: "t",
-                from: 7,
-                to: 7,
+                from: ChartEnd::Event(7),
+                to: ChartEnd::Event(7),
                 hart: Some(7),
+                names: false,
                 width: 1,
                 svg: Some("p"),
                 kanata: None,
@@ -70,6 +72,8 @@ static LINES: [(&str, Line<'_>); 41] = [
                 counts: false,
                 json: false,
                 looks: false,
+                lines: None,
+                names: false,
                 records: false,
                 show: false,
                 why: false,
@@ -88,6 +92,8 @@ static LINES: [(&str, Line<'_>); 41] = [
                 counts: false,
                 json: false,
                 looks: false,
+                lines: None,
+                names: false,
                 records: false,
                 show: false,
                 why: false,
@@ -106,6 +112,8 @@ static LINES: [(&str, Line<'_>); 41] = [
                 counts: false,
                 json: false,
                 looks: false,
+                lines: None,
+                names: false,
                 records: false,
                 show: false,
                 why: false,
@@ -124,6 +132,8 @@ static LINES: [(&str, Line<'_>); 41] = [
                 counts: false,
                 json: false,
                 looks: false,
+                lines: None,
+                names: false,
                 records: true,
                 show: false,
                 why: false,
@@ -142,6 +152,8 @@ static LINES: [(&str, Line<'_>); 41] = [
                 counts: false,
                 json: false,
                 looks: false,
+                lines: None,
+                names: false,
                 records: false,
                 show: true,
                 why: false,
@@ -160,6 +172,8 @@ static LINES: [(&str, Line<'_>); 41] = [
                 counts: false,
                 json: false,
                 looks: false,
+                lines: None,
+                names: false,
                 records: false,
                 show: false,
                 why: false,
@@ -178,6 +192,8 @@ static LINES: [(&str, Line<'_>); 41] = [
                 counts: false,
                 json: false,
                 looks: false,
+                lines: None,
+                names: false,
                 records: true,
                 show: true,
                 why: false,
@@ -196,6 +212,8 @@ static LINES: [(&str, Line<'_>); 41] = [
                 counts: false,
                 json: false,
                 looks: true,
+                lines: None,
+                names: false,
                 records: false,
                 show: false,
                 why: false,
@@ -212,6 +230,8 @@ static LINES: [(&str, Line<'_>); 41] = [
                 trace: None,
                 counts: false,
                 json: false,
+                lines: None,
+                names: false,
                 records: false,
                 why: false,
                 times: None,
@@ -229,6 +249,8 @@ static LINES: [(&str, Line<'_>); 41] = [
                 trace: None,
                 counts: false,
                 json: false,
+                lines: None,
+                names: false,
                 records: true,
                 why: false,
                 times: None,
@@ -246,6 +268,8 @@ static LINES: [(&str, Line<'_>); 41] = [
                 trace: Some("t"),
                 counts: false,
                 json: false,
+                lines: None,
+                names: false,
                 records: false,
                 why: false,
                 times: None,
@@ -263,6 +287,8 @@ static LINES: [(&str, Line<'_>); 41] = [
                 trace: "t",
                 counts: false,
                 json: false,
+                lines: None,
+                names: false,
                 records: false,
                 why: false,
             })),
@@ -278,6 +304,8 @@ static LINES: [(&str, Line<'_>); 41] = [
                 trace: "t",
                 counts: false,
                 json: false,
+                lines: None,
+                names: false,
                 records: true,
                 why: false,
             })),
@@ -294,6 +322,8 @@ static LINES: [(&str, Line<'_>); 41] = [
                 rounds: None,
                 steps: None,
                 seed: None,
+                lines: None,
+                names: false,
                 records: false,
             })),
         },
@@ -309,6 +339,8 @@ static LINES: [(&str, Line<'_>); 41] = [
                 rounds: None,
                 steps: None,
                 seed: None,
+                lines: None,
+                names: false,
                 records: true,
             })),
         },
@@ -362,7 +394,11 @@ static LINES: [(&str, Line<'_>); 41] = [
         Line {
             config: None,
             hints: HintsWanted::Auto,
-            command: Command::OfProgram(ProgramCommand::List(ListCommand { image: "list.elf" })),
+            command: Command::OfProgram(ProgramCommand::List(ListCommand {
+                image: "list.elf",
+                lines: None,
+                names: false,
+            })),
         },
     ),
     (
@@ -370,7 +406,11 @@ static LINES: [(&str, Line<'_>); 41] = [
         Line {
             config: Some("c.toml"),
             hints: HintsWanted::Auto,
-            command: Command::OfProgram(ProgramCommand::List(ListCommand { image: "list.elf" })),
+            command: Command::OfProgram(ProgramCommand::List(ListCommand {
+                image: "list.elf",
+                lines: None,
+                names: false,
+            })),
         },
     ),
     (
@@ -383,6 +423,8 @@ static LINES: [(&str, Line<'_>); 41] = [
                 trace: None,
                 counts: false,
                 json: false,
+                lines: None,
+                names: false,
                 records: false,
                 why: false,
                 times: Some(1_000_000),
@@ -400,6 +442,8 @@ static LINES: [(&str, Line<'_>); 41] = [
                 trace: None,
                 counts: true,
                 json: true,
+                lines: None,
+                names: false,
                 records: false,
                 why: true,
                 times: None,
@@ -417,6 +461,8 @@ static LINES: [(&str, Line<'_>); 41] = [
                 trace: "-",
                 counts: true,
                 json: true,
+                lines: None,
+                names: false,
                 records: false,
                 why: true,
             })),
@@ -434,6 +480,8 @@ static LINES: [(&str, Line<'_>); 41] = [
                 counts: true,
                 json: true,
                 looks: false,
+                lines: None,
+                names: false,
                 records: false,
                 show: false,
                 why: false,
@@ -451,6 +499,8 @@ static LINES: [(&str, Line<'_>); 41] = [
                 rounds: Some(4_294_967_295),
                 steps: Some(0),
                 seed: Some(7),
+                lines: None,
+                names: false,
                 records: false,
             })),
         },
@@ -466,6 +516,8 @@ static LINES: [(&str, Line<'_>); 41] = [
                 rounds: Some(1),
                 steps: None,
                 seed: None,
+                lines: None,
+                names: false,
                 records: true,
             })),
         },
@@ -709,14 +761,46 @@ fn numbers_of<'a>(line: &Line<'a>) -> ([Option<u32>; 3], Option<&'a str>) {
 fn view_of(line: &Line<'_>) -> Option<(u32, u32, Option<u32>, u32, bool)> {
     match line.command {
         Command::OfProgram(ProgramCommand::Chart(chart)) => Some((
-            chart.from,
-            chart.to,
+            event_of(chart.from),
+            event_of(chart.to),
             chart.hart,
             chart.width,
             chart.svg.is_some(),
         )),
         _ => None,
     }
+}
+
+/// The event at which a chart begins or ends; one that there can't be where it is a function.
+fn event_of(end: ChartEnd<'_>) -> u32 {
+    match end {
+        ChartEnd::Event(place) => place,
+        ChartEnd::Function(_) => u32::MAX,
+    }
+}
+
+/// Where a chart of these words begins and ends, as functions.
+fn functions_of<'a>(words: &[&'a str], alloc: Global) -> Option<(&'a str, &'a str)> {
+    let Ok(line) = read_words(words, alloc) else {
+        return None;
+    };
+    let Command::OfProgram(ProgramCommand::Chart(chart)) = line.command else {
+        return None;
+    };
+    match (chart.from, chart.to) {
+        (ChartEnd::Function(from), ChartEnd::Function(to)) => Some((from, to)),
+        _ => None,
+    }
+}
+
+#[test]
+fn a_chart_goes_from_function_to_function(rt: HostRuntime) {
+    let words = ["smtsim", "chart", "a", "t", "--from", "lock", "--to", "'7'"];
+    assert!(rt; functions_of(&words, rt.alloc()) == Some(("lock", "7")));
+    let digit = ["smtsim", "chart", "a", "t", "--from", "7x"];
+    assert!(rt; read_words(&digit, rt.alloc()).is_err());
+    let quote = ["smtsim", "chart", "a", "t", "--from", "'lock"];
+    assert!(rt; read_words(&quote, rt.alloc()).is_err());
 }
 
 /// The texts of a line that asks for outcomes, and whether its file is a script.
@@ -764,9 +848,10 @@ static NAMED: [(Line<'_>, Named<'_>); 14] = [
             command: Command::OfProgram(ProgramCommand::Chart(ChartCommand {
                 image: "a",
                 trace: "t",
-                from: 0,
-                to: 9,
+                from: ChartEnd::Event(0),
+                to: ChartEnd::Event(9),
                 hart: None,
+                names: false,
                 width: 80,
                 svg: None,
                 kanata: Some("k"),
@@ -785,6 +870,8 @@ static NAMED: [(Line<'_>, Named<'_>); 14] = [
                 counts: false,
                 json: false,
                 looks: false,
+                lines: None,
+                names: false,
                 records: true,
                 show: true,
                 why: false,
@@ -801,6 +888,8 @@ static NAMED: [(Line<'_>, Named<'_>); 14] = [
                 trace: Some("t"),
                 counts: false,
                 json: false,
+                lines: None,
+                names: false,
                 records: true,
                 why: false,
                 times: None,
@@ -818,6 +907,8 @@ static NAMED: [(Line<'_>, Named<'_>); 14] = [
                 trace: "t",
                 counts: false,
                 json: false,
+                lines: None,
+                names: false,
                 records: true,
                 why: false,
             })),
@@ -834,6 +925,8 @@ static NAMED: [(Line<'_>, Named<'_>); 14] = [
                 rounds: None,
                 steps: None,
                 seed: None,
+                lines: None,
+                names: false,
                 records: false,
             })),
         },
@@ -865,7 +958,11 @@ static NAMED: [(Line<'_>, Named<'_>); 14] = [
         Line {
             config: Some("c"),
             hints: HintsWanted::Auto,
-            command: Command::OfProgram(ProgramCommand::List(ListCommand { image: "a" })),
+            command: Command::OfProgram(ProgramCommand::List(ListCommand {
+                image: "a",
+                lines: None,
+                names: false,
+            })),
         },
         (Some("c"), Some("a"), None, None),
     ),

@@ -30,6 +30,9 @@ use Rattle.sim_inputs.specs.declared.line.OutcomesCommand.{OutcomesCommand}
 use Rattle.sim_inputs.specs.declared.line.{LitmusCommand.LitmusCommand, MigrateCommand.MigrateCommand}
 use Rattle.sim_inputs.specs.declared.line.{Beside.Beside}
 use Rattle.sim_inputs.specs.declared.line.Beside.TheVariants as beside
+use Rattle.sim_inputs.specs.declared.line.{ChartEnd.ChartEnd}
+use Rattle.sim_inputs.specs.declared.line.ChartEnd.TheVariants as ends
+use Rattle.sim_inputs.specs.ChartEnds.{do_ends_rise, IsEndOf}
 use Rattle.sim_inputs.specs.Rules.{smtsim}
 use Rattle.sim_inputs.specs.Files.{is_standard_input, reads_input_once, writes_no_dash}
 use Rattle.sim_inputs.specs.HintsWanted.{hints_in}
@@ -117,6 +120,8 @@ pub record IsStep (rows : List Row) (step : StepCommand) : Type 0 where
   pub counts : IsFlag rows (codes "counts") step.counts
   pub json : IsFlag rows (codes "json") step.json
   pub looks : IsFlag rows (codes "looks") step.looks
+  pub lines : IsFileOption rows (codes "lines") step.lines
+  pub names : IsFlag rows (codes "names") step.names
   pub records : IsFlag rows (codes "records") step.records
   pub show : IsFlag rows (codes "show") step.show
   pub why : IsFlag rows (codes "why") step.why
@@ -124,7 +129,7 @@ pub record IsStep (rows : List Row) (step : StepCommand) : Type 0 where
 -- A run has an option of its report. Many runs have none, and a folder of theirs has a name, which is no dash; there
 -- is one at least, and one alone has no folder.
 abbrev pub is_reported : RunCommand → Bool
-is_reported run = is_some run.trace || run.counts || run.json || run.records || run.why
+is_reported run = is_some run.trace || run.counts || run.json || is_some run.lines || run.names || run.records || run.why
 
 abbrev pub has_named_folder : RunCommand → Bool
 has_named_folder run =
@@ -139,6 +144,8 @@ pub record IsRun (rows : List Row) (run : RunCommand) : Type 0 where
   pub trace : IsFileOption rows (codes "trace") run.trace
   pub counts : IsFlag rows (codes "counts") run.counts
   pub json : IsFlag rows (codes "json") run.json
+  pub lines : IsFileOption rows (codes "lines") run.lines
+  pub names : IsFlag rows (codes "names") run.names
   pub records : IsFlag rows (codes "records") run.records
   pub why : IsFlag rows (codes "why") run.why
   pub times : IsNumberOption rows (codes "times") most_times run.times
@@ -150,6 +157,8 @@ pub record IsCheck (rows : List Row) (check : CheckCommand) : Type 0 where
   pub trace : IsFile rows (codes "TRACE") check.trace
   pub counts : IsFlag rows (codes "counts") check.counts
   pub json : IsFlag rows (codes "json") check.json
+  pub lines : IsFileOption rows (codes "lines") check.lines
+  pub names : IsFlag rows (codes "names") check.names
   pub records : IsFlag rows (codes "records") check.records
   pub why : IsFlag rows (codes "why") check.why
 
@@ -166,6 +175,8 @@ pub record IsPlain (rows : List Row) (plain : PlainCommand) : Type 0 where
   pub rounds : IsNumberOption rows (codes "rounds") most_rounds plain.rounds
   pub steps : IsNumberOption rows (codes "steps") most_rounds plain.steps
   pub seed : IsNumberOption rows (codes "seed") most_rounds plain.seed
+  pub lines : IsFileOption rows (codes "lines") plain.lines
+  pub names : IsFlag rows (codes "names") plain.names
   pub records : IsFlag rows (codes "records") plain.records
   pub together : can_be_plain plain ≡ true
 
@@ -179,19 +190,31 @@ pub record IsScript (rows : List Row) (script : ScriptCommand) : Type 0 where
 
 pub record IsList (rows : List Row) (list : ListCommand) : Type 0 where
   pub image : IsFile rows (codes "IMAGE") list.image
+  pub lines : IsFileOption rows (codes "lines") list.lines
+  pub names : IsFlag rows (codes "names") list.names
 
--- The last event that is drawn isn't before the first, a line has room, and there's one file at most.
+-- The last event that is drawn isn't before the first, where both are numbers; a line has room, and there's one file at
+-- most.
 abbrev pub can_be_drawn : ChartCommand → Bool
 can_be_drawn chart =
-    (nat_le chart.from chart.to && nat_le 1 chart.width)
+    (do_ends_rise chart.from chart.to && nat_le 1 chart.width)
     && not (is_some chart.svg && is_some chart.kanata)
+
+-- Where a chart begins or ends: at the default event, where the option isn't given, or where its word says.
+abbrev pub IsEndIn : Option Text → ℕ → ℕ → ChartEnd → Type 0
+IsEndIn None default greatest end = end ≡ ends.Event default
+IsEndIn (Some word) default greatest end = IsEndOf word greatest end
+
+abbrev pub IsEnd : List Row → Text → ℕ → ℕ → ChartEnd → Type 0
+IsEnd rows name default greatest end = IsEndIn (first_of name rows) default greatest end
 
 pub record IsChart (rows : List Row) (chart : ChartCommand) : Type 0 where
   pub image : IsFile rows (codes "IMAGE") chart.image
   pub trace : IsFile rows (codes "TRACE") chart.trace
-  pub from : IsNumber rows (codes "from") 0 last_place chart.from
-  pub to : IsNumber rows (codes "to") last_place last_place chart.to
+  pub from : IsEnd rows (codes "from") 0 last_place chart.from
+  pub to : IsEnd rows (codes "to") last_place last_place chart.to
   pub hart : IsNumberOption rows (codes "hart") last_hart chart.hart
+  pub names : IsFlag rows (codes "names") chart.names
   pub width : IsNumber rows (codes "width") usual_columns most_columns chart.width
   pub svg : IsFileOption rows (codes "svg") chart.svg
   pub kanata : IsFileOption rows (codes "kanata") chart.kanata

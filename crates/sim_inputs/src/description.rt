@@ -7,10 +7,10 @@ ghost use Rattle.sim_inputs.specs.Table.{own_arguments_in, rule_in, subcommand_i
 
 use crate::arguments::{
     Argument, CONFIG, COUNTS, EXISTS, EXPLAINED_ORDER, EXPLAINED_SCRIPT, EXPLAINED_TRACE, FROM,
-    HART, HINTS, IMAGE, JSON, KANATA, KEEP, Kind, LOOKS, ORDER, ORDER_OR_ROUNDS, OUTCOME, RECORDS,
-    ROUNDS, SCRIPT, SEED, SHOW, STATES, STEPS, STUCK, SVG, SVG_OF_WHY, TEST, TIMES, TO, TRACE,
-    WATCH, WHY, WHY_ENDS, WHY_NEVER, WHY_REFUSED, WIDTH, WITNESS, WRITTEN_IMAGE, WRITTEN_OUT,
-    WRITTEN_SCRIPT, WRITTEN_TRACE,
+    HART, HINTS, IMAGE, JSON, KANATA, KEEP, Kind, LINES, LOOKS, NAMES, ORDER, ORDER_OR_ROUNDS,
+    OUTCOME, RECORDS, ROUNDS, SCRIPT, SEED, SHOW, STATES, STEPS, STUCK, SVG, SVG_OF_WHY, TEST,
+    TIMES, TO, TRACE, WATCH, WHY, WHY_ENDS, WHY_NEVER, WHY_REFUSED, WIDTH, WITNESS, WRITTEN_IMAGE,
+    WRITTEN_OUT, WRITTEN_SCRIPT, WRITTEN_TRACE,
 };
 use crate::forms::{
     CHART_FORM, CONFIGURATION_FORM, LITMUS_FORM, MIGRATE_FORM, ORDER_FORM, OUTCOMES_FORM,
@@ -39,7 +39,9 @@ static OF_IMAGES: [Subcommand; 10] = [
             CONFIG,
             COUNTS,
             JSON,
+            LINES,
             LOOKS,
+            NAMES,
             RECORDS,
             SHOW,
             WHY,
@@ -55,6 +57,8 @@ static OF_IMAGES: [Subcommand; 10] = [
             CONFIG,
             COUNTS,
             JSON,
+            LINES,
+            NAMES,
             RECORDS,
             WHY_ENDS,
             TIMES,
@@ -66,13 +70,33 @@ static OF_IMAGES: [Subcommand; 10] = [
     Subcommand {
         name: "check",
         about: "Check that a trace is a history of the core, and print its report",
-        arguments: &[IMAGE, TRACE, CONFIG, COUNTS, JSON, RECORDS, WHY_REFUSED],
+        arguments: &[
+            IMAGE,
+            TRACE,
+            CONFIG,
+            COUNTS,
+            JSON,
+            LINES,
+            NAMES,
+            RECORDS,
+            WHY_REFUSED,
+        ],
         form: TRACE_FORM,
     },
     Subcommand {
         name: "plain",
         about: "Run the plain machine in an order of harts, and print a report",
-        arguments: &[IMAGE, ORDER_OR_ROUNDS, CONFIG, RECORDS, ROUNDS, STEPS, SEED],
+        arguments: &[
+            IMAGE,
+            ORDER_OR_ROUNDS,
+            CONFIG,
+            LINES,
+            NAMES,
+            RECORDS,
+            ROUNDS,
+            STEPS,
+            SEED,
+        ],
         form: ORDER_FORM,
     },
     Subcommand {
@@ -90,13 +114,15 @@ static OF_IMAGES: [Subcommand; 10] = [
     Subcommand {
         name: "list",
         about: "Print each word of the program's code: address, word, instruction",
-        arguments: &[IMAGE, CONFIG],
+        arguments: &[IMAGE, CONFIG, LINES, NAMES],
         form: "",
     },
     Subcommand {
         name: "chart",
         about: "Draw a trace's pipeline: a row an instruction, a column an event",
-        arguments: &[IMAGE, TRACE, CONFIG, FROM, TO, HART, WIDTH, SVG, KANATA],
+        arguments: &[
+            IMAGE, TRACE, CONFIG, FROM, TO, HART, NAMES, WIDTH, SVG, KANATA,
+        ],
         form: CHART_FORM,
     },
     Subcommand {
@@ -207,6 +233,7 @@ fn argument_of<'a>(row: &'static Argument, alloc: Global) -> Arg<'a>
         Kind::Folder => argument.long(row.name).value_name("FOLDER"),
         Kind::Flag => argument.long(row.name).action(ArgAction::SetTrue),
         Kind::Number => argument.long(row.name).value_name("N"),
+        Kind::Place => argument.long(row.name).value_name("PLACE"),
         Kind::List => argument.long(row.name).value_name("LIST"),
         Kind::Condition => argument.long(row.name).value_name("CONDITION"),
         Kind::When => argument.long(row.name).value_name("WHEN"),

@@ -3,7 +3,7 @@
 //!
 //! Read in this order: `line` (what the words may ask for), `hints_wanted` (when hints are told), `files` (the
 //! files that they name), `words` (how they are read), `found_commands` (what was found for each command), `found_values`
-//! (what for one option), `clap_errors` (what is made of an error of `clap`), `refused_words`, `refused_options` and
+//! (what for one option), `chart_ends` (where a chart begins and ends), `clap_errors` (what is made of an error of `clap`), `refused_words`, `refused_options` and
 //! `refused_together` (why words are refused, for a person), `description` (the command line as it is described to
 //! `clap`), `arguments` (its arguments and options), `forms` (what stands behind it of files), `limits` (what stands in
 //! its texts for the limits of a core); then `settings`, `configuration` (how they are read), `roles` and `ranges`
@@ -11,6 +11,7 @@
 #![tactic(auto)]
 
 mod arguments;
+mod chart_ends;
 mod clap_errors;
 mod configuration;
 mod description;
@@ -37,9 +38,9 @@ pub use explained::{
 pub use files::{Files, is_standard_input};
 pub use hints_wanted::{HintsWanted, hints_asked};
 pub use line::{
-    Beside, ChartCommand, CheckCommand, Command, ExplainCommand, Line, ListCommand, LitmusCommand,
-    MigrateCommand, OutcomesCommand, PlainCommand, ProgramCommand, RunCommand, ScheduleCommand,
-    ScriptCommand, StepCommand, WordsRefused,
+    Beside, ChartCommand, ChartEnd, CheckCommand, Command, ExplainCommand, Line, ListCommand,
+    LitmusCommand, MigrateCommand, OutcomesCommand, PlainCommand, ProgramCommand, RunCommand,
+    ScheduleCommand, ScriptCommand, StepCommand, WordsRefused,
 };
 pub use refused_words::add_refused_words;
 pub use settings::Settings;

@@ -14,7 +14,7 @@ mod sections;
 mod symbol;
 
 pub use meanings::{Meaning, Name, meaning_of, namesakes};
-pub use naming::{Place, name_at};
+pub use naming::{Place, covers, name_at};
 pub use parts::file_of;
 pub use reading::{Symbols, Unread, read};
 pub use symbol::Symbol;

@@ -190,6 +190,7 @@ fn a_run_needs_its_image(rt: HostRuntime) {
         config: Ok(SINGLE),
         program: Err(Unread::File),
         second: Ok(b""),
+        lines: Ok(b""),
     };
     let line = run_line(false, None);
     let Performed { status, out, err } = perform_whole(&rt, &line, &inputs, rt.alloc());
