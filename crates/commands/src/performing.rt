@@ -21,6 +21,7 @@ ghost use Rattle.commands.specs.Written.{IsWritten};
 use crate::explain::perform_explain;
 use crate::explain_beside::tell_beside;
 use crate::list::perform_list;
+use crate::two_cores::are_two_cores;
 use actors::Gate;
 use command_parts::{Context, Inputs, Refused, Unread, image_of, refuse, settings_of};
 use core_commands::{
@@ -32,7 +33,8 @@ use plain_commands::{
     perform_litmus, perform_outcomes, perform_plain, perform_rounds, perform_schedule, rounds_of,
 };
 use sim_inputs::{
-    Beside, Command, ExplainCommand, Line, LitmusCommand, ProgramCommand, RunCommand, Settings,
+    Beside, Command, ExplainCommand, HartCount, Line, LitmusCommand, ProgramCommand, RunCommand,
+    Settings,
 };
 use smt_core::Predict;
 use std::alloc::Global;
@@ -44,8 +46,8 @@ use stress_runs::EndFiles;
 /// Does all that the program does once its files are read, and answers its exit status: how the harts
 /// stand, 0 for a listing, a schedule, a script, a chart, a litmus test and a migration, 2 for a refused
 /// input, 4 for a refused trace, 5 where memory, a thread or a file failed. A refusal is one line on `err`.
-/// The configuration is looked at first, then the image, then the script, the order or the trace; a file
-/// that couldn't be read is refused where it is looked at. All that is printed is flushed. The context keeps
+/// The configuration is looked at first, then the image, then the script, the order or the trace, and there first whether
+/// it names another core than the line's harts; a file that couldn't be read is refused where it is looked at. All that is printed is flushed. The context keeps
 /// why the line was refused, if it was.
 ///
 /// The trace of a core goes into `files`, a sink that hasn't failed, where the line names a file for it:
@@ -67,14 +69,14 @@ pub fn perform<
     ensures known { IsTrue (says_harts result) ⊎ (result ≡ 2) ⊎ (result ≡ 4) ⊎ (result ≡ 5) }
     ensures unset { IfErr inputs.now.config (λ why. result ≡ 5) }
     ensures refused { says_harts result ≡ false → (reason : AnyRefused)
-        × (exit_status_of reason ≡ result) × IsRefusal line.now.command
+        × (exit_status_of reason ≡ result) × IsRefusal line.now.harts line.now.command
         (as_read inputs.now.config) (as_read inputs.now.program) (as_read inputs.now.second) reason }
-    ensures ended { IsTrue (says_harts result) → LineComesTo line.now.command
+    ensures ended { IsTrue (says_harts result) → LineComesTo line.now.harts line.now.command
         (as_read inputs.now.config) (as_read inputs.now.program) (as_read inputs.now.second)
         (IsWritten S.begins S.written S.has_failed context.old.files context.new.files) (W.contents context.old.out)
         (W.contents context.new.out) result }
     ensures left { says_harts result ≡ false → (reason : AnyRefused)
-        × (exit_status_of reason ≡ result) × IsRefusal line.now.command (as_read inputs.now.config)
+        × (exit_status_of reason ≡ result) × IsRefusal line.now.harts line.now.command (as_read inputs.now.config)
         (as_read inputs.now.program) (as_read inputs.now.second) reason
         × IsLeft line.now.command context.old.files context.new.files reason }
     ensures finished { IsTrue (says_harts result) → S.is_finished context.new.files ≡ true }
@@ -116,9 +118,9 @@ fn perform_line<
     requires works { S.has_failed context.old.files ≡ false }
     requires finished { S.is_finished context.old.files ≡ true }
     ensures unset { IfErr inputs.now.config (λ why. result ≡ Err (refusal_of why)) }
-    ensures refused { IfErr result (IsRefusal line.now.command (as_read inputs.now.config)
+    ensures refused { IfErr result (IsRefusal line.now.harts line.now.command (as_read inputs.now.config)
         (as_read inputs.now.program) (as_read inputs.now.second)) }
-    ensures ended { IfOk result (LineComesTo line.now.command (as_read inputs.now.config)
+    ensures ended { IfOk result (LineComesTo line.now.harts line.now.command (as_read inputs.now.config)
         (as_read inputs.now.program) (as_read inputs.now.second)
         (IsWritten S.begins S.written S.has_failed context.old.files context.new.files) (W.contents context.old.out)
         (W.contents context.new.out)) }
@@ -130,9 +132,10 @@ fn perform_line<
 {
     let alloc = context.alloc;
     match &line.command {
-        Command::OfProgram(command) => read_and_perform(context, command, inputs),
+        Command::OfProgram(command) => read_and_perform(context, command, line.harts, inputs),
         Command::Explain(explain) => read_and_explain(
             explain,
+            line.harts,
             inputs,
             &mut context.predict,
             &mut context.out,
@@ -154,27 +157,28 @@ fn perform_line<
 /// image are taken before they are refused. What is explained beside them is looked at where both are accepted.
 fn read_and_explain<P: Predict, W: Write>(
     explain: &ExplainCommand<'_>,
+    harts: Option<HartCount>,
     inputs: &Inputs<'_>,
     predict: &mut P,
     out: &mut W,
     alloc: Global,
 ) -> Result<u8, Refused>
     ensures unset { IfErr inputs.now.config (λ why. result ≡ Err (refusal_of why)) }
-    ensures refused { IfErr result (IsExplainLineRefusal explain.now.beside (as_read inputs.now.config)
+    ensures refused { IfErr result (IsExplainLineRefusal harts explain.now.beside (as_read inputs.now.config)
         (as_read inputs.now.program) (as_read inputs.now.second)) }
-    ensures ended { IfOk result (ExplainLineComesTo explain.now.beside (as_read inputs.now.config)
+    ensures ended { IfOk result (ExplainLineComesTo harts explain.now.beside (as_read inputs.now.config)
         (as_read inputs.now.program) (as_read inputs.now.second) (W.contents out.old) (W.contents out.new)) }
 {
     let text = inputs.config?;
     // Handed on as it is: a `?` would leave the prover to find what the refusal becomes.
-    let status = match perform_explain(text, inputs.program, out, alloc) {
+    let status = match perform_explain(text, harts, inputs.program, out, alloc) {
         Ok(status) => status,
         Err(refused) => return Err(refused),
     };
     match explain.beside {
         None => Ok(status),
         Some(beside) => {
-            read_and_tell(beside, text, inputs, predict, out, alloc)?;
+            read_and_tell(beside, text, harts, inputs, predict, out, alloc)?;
             Ok(status)
         }
     }
@@ -184,20 +188,25 @@ fn read_and_explain<P: Predict, W: Write>(
 fn read_and_tell<P: Predict, W: Write>(
     beside: Beside<'_>,
     config: &[u8],
+    harts: Option<HartCount>,
     inputs: &Inputs<'_>,
     predict: &mut P,
     out: &mut W,
     alloc: Global,
 ) -> Result<(), Refused>
-    ensures refused { IfErr result (IsExplainLineRefusal (Some beside) (Ok config.now)
+    ensures refused { IfErr result (IsExplainLineRefusal harts (Some beside) (Ok config.now)
         (as_read inputs.now.program) (as_read inputs.now.second)) }
     ensures told { OnOk result (OfProgram (Ok config.now) (as_read inputs.now.program)
-        (λ settings program. HasToldBeside (Some beside) settings program (as_read inputs.now.second)
+        (λ settings program. HasToldBeside harts (Some beside) settings program (as_read inputs.now.second)
         (W.contents out.old) (W.contents out.new))) }
 {
-    let settings = settings_of(config, alloc)?;
+    let own = settings_of(config, alloc)?;
     let bytes = inputs.program?;
-    let image = image_of(bytes, settings.ram, alloc)?;
+    let image = image_of(bytes, own.ram, alloc)?;
+    let settings = own.with_harts(harts);
+    if beside.is_trace() && are_two_cores(harts, inputs.second) {
+        return Err(Refused::Harts);
+    }
     let text = inputs.second?;
     match tell_beside(beside, text, &settings, &image, predict, out, alloc) {
         Ok(()) => Ok(()),
@@ -274,14 +283,15 @@ fn read_and_perform<
 >(
     context: &mut Context<'_, R, G, P, S, W>,
     command: &ProgramCommand<'_>,
+    harts: Option<HartCount>,
     inputs: &Inputs<'_>,
 ) -> Result<u8, Refused>
     requires works { S.has_failed context.old.files ≡ false }
     requires finished { S.is_finished context.old.files ≡ true }
     ensures unset { IfErr inputs.now.config (λ why. result ≡ Err (refusal_of why)) }
-    ensures refused { IfErr result (IsProgramRefusal command.now (as_read inputs.now.config)
+    ensures refused { IfErr result (IsProgramRefusal harts command.now (as_read inputs.now.config)
         (as_read inputs.now.program) (as_read inputs.now.second)) }
-    ensures ended { IfOk result (ProgramComesTo command.now (as_read inputs.now.config)
+    ensures ended { IfOk result (ProgramComesTo harts command.now (as_read inputs.now.config)
         (as_read inputs.now.program) (as_read inputs.now.second)
         (IsWritten S.begins S.written S.has_failed context.old.files context.new.files) (W.contents context.old.out)
         (W.contents context.new.out)) }
@@ -291,10 +301,14 @@ fn read_and_perform<
         (as_read inputs.now.second) (W.contents context.old.out) (W.contents context.new.out) }
 {
     let config = inputs.config?;
-    let settings = settings_of(config, context.alloc)?;
+    let own = settings_of(config, context.alloc)?;
     let file = inputs.program?;
-    let image = image_of(file, settings.ram, context.alloc)?;
+    let image = image_of(file, own.ram, context.alloc)?;
+    let settings = own.with_harts(harts);
     let second = inputs.second;
+    if command.reads_trace() && are_two_cores(harts, second) {
+        return Err(Refused::Harts);
+    }
     // Handed on as it is: a `?` would leave the prover to find what the refusal becomes.
     let status = match perform_command(context, command, &settings, &image, second) {
         Ok(status) => status,

@@ -16,17 +16,18 @@ ghost use Rattle.core_commands.specs.Wanted.{step_wants};
 use crate::performing::refuse_line;
 use command_parts::{Context, Inputs, Refused, image_of, settings_of};
 use core_commands::{Wanted, perform_prompt};
-use sim_inputs::StepCommand;
+use sim_inputs::{HartCount, StepCommand};
 use smt_core::Predict;
 use std::io::{BufRead, Write};
 use stress_runs::EndFiles;
 
 /// Does all that the program does with a line of `step` whose script is typed, once its other files
-/// are read: as `perform` does, but each line of `reader` is asked as it comes. It is refused as an
+/// are read, with so many harts where that is given: as `perform` does, but each line of `reader` is asked as it comes. It is refused as an
 /// empty script is.
 pub fn perform_typed<R, G, P: Predict + Copy, B: BufRead, S: EndFiles, W: Write, E: Write>(
     context: &mut Context<'_, R, G, P, S, W>,
     step: &StepCommand<'_>,
+    harts: Option<HartCount>,
     inputs: &Inputs<'_>,
     reader: &mut B,
     err: &mut E,
@@ -38,17 +39,17 @@ pub fn perform_typed<R, G, P: Predict + Copy, B: BufRead, S: EndFiles, W: Write,
     ensures known { IsTrue (says_harts result) ⊎ (result ≡ 2) ⊎ (result ≡ 4) ⊎ (result ≡ 5) }
     ensures unset { IfErr inputs.now.config (λ why. result ≡ 5) }
     ensures refused { says_harts result ≡ false → (reason : AnyRefused)
-        × (exit_status_of reason ≡ result) × IsRefusal (OfProgram (Step step.now))
+        × (exit_status_of reason ≡ result) × IsRefusal harts (OfProgram (Step step.now))
         (as_read inputs.now.config) (as_read inputs.now.program) (Ok []) reason }
     ensures ended { IsTrue (says_harts result) → TypedComesTo P.predicts context.old.predict
-        (as_read inputs.now.config) (as_read inputs.now.program) (B.remaining reader.old)
+        harts (as_read inputs.now.config) (as_read inputs.now.program) (B.remaining reader.old)
         (step_wants step.now)
         (IsTraceWritten S.written S.has_failed context.old.files context.new.files (is_some step.now.trace))
         (W.contents context.old.out) (W.contents context.new.out) result }
     ensures finished { IsTrue (says_harts result) → S.is_finished context.new.files ≡ true }
     ensures unwanted { is_some step.now.trace ≡ false → context.new.files ≡ context.old.files }
 {
-    match read_and_prompt(context, step, inputs, reader) {
+    match read_and_prompt(context, step, harts, inputs, reader) {
         Ok(status) => status,
         Err(refused) => refuse_line(refused, context, err),
     }
@@ -58,15 +59,16 @@ pub fn perform_typed<R, G, P: Predict + Copy, B: BufRead, S: EndFiles, W: Write,
 fn read_and_prompt<R, G, P: Predict + Copy, B: BufRead, S: EndFiles, W: Write>(
     context: &mut Context<'_, R, G, P, S, W>,
     step: &StepCommand<'_>,
+    harts: Option<HartCount>,
     inputs: &Inputs<'_>,
     reader: &mut B,
 ) -> Result<u8, Refused>
     requires works { S.has_failed context.old.files ≡ false }
     requires finished { S.is_finished context.old.files ≡ true }
     ensures unset { IfErr inputs.now.config (λ why. result ≡ Err (refusal_of why)) }
-    ensures refused { IfErr result (IsRefusal (OfProgram (Step step.now)) (as_read inputs.now.config)
+    ensures refused { IfErr result (IsRefusal harts (OfProgram (Step step.now)) (as_read inputs.now.config)
         (as_read inputs.now.program) (Ok [])) }
-    ensures ended { IfOk result (TypedComesTo P.predicts context.old.predict (as_read inputs.now.config)
+    ensures ended { IfOk result (TypedComesTo P.predicts context.old.predict harts (as_read inputs.now.config)
         (as_read inputs.now.program) (B.remaining reader.old) (step_wants step.now)
         (IsTraceWritten S.written S.has_failed context.old.files context.new.files (is_some step.now.trace))
         (W.contents context.old.out) (W.contents context.new.out)) }
@@ -74,9 +76,10 @@ fn read_and_prompt<R, G, P: Predict + Copy, B: BufRead, S: EndFiles, W: Write>(
     ensures unwanted { is_some step.now.trace ≡ false → context.new.files ≡ context.old.files }
 {
     let config = inputs.config?;
-    let settings = settings_of(config, context.alloc)?;
+    let own = settings_of(config, context.alloc)?;
     let file = inputs.program?;
-    let image = image_of(file, settings.ram, context.alloc)?;
+    let image = image_of(file, own.ram, context.alloc)?;
+    let settings = own.with_harts(harts);
     let wanted = Wanted::of_step(step);
     // Handed on as it is: a `?` would leave the prover to find what the refusal becomes.
     let status = match perform_prompt(context, &image, &settings, step.why, wanted, reader) {

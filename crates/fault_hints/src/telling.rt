@@ -2,7 +2,7 @@
 
 use crate::asked::{
     add_absent_outcome, add_absent_word, add_condition, add_hart, add_limit, add_litmus,
-    add_picture, add_unit, add_watch,
+    add_picture, add_two_cores, add_unit, add_watch,
 };
 use crate::explained::{add_config_fault, add_image_fault};
 use crate::line_fault::LineFault;
@@ -72,6 +72,7 @@ fn add_asked_fault(
         Refused::NoUnit(kind) => add_unit(kind, fault, hint, alloc),
         Refused::Limit(least) => add_limit(least, fault, hint, alloc),
         Refused::NoHart(hart) => add_hart(hart, fault, hint, alloc),
+        Refused::Harts => add_two_cores(fault, hint, alloc),
         Refused::Picture(last) => add_picture(last, hint, alloc),
         Refused::Watch(why) => add_watch(why, fault, hint, alloc),
         Refused::Condition(why) => add_condition(why, fault, hint, alloc),

@@ -53,7 +53,7 @@ pub record HasPerformed (at_terminal : Bool) (line : Line) (status : ℕ) : Type
   pub has_second : IsReadAs (second_of at_terminal line) second
   pub refused : says_harts status ≡ false → (reason : Refused)
       × (exit_status_of reason ≡ status)
-      × IsRefusal line.command config program (uncommented_for line.command second) reason
+      × IsRefusal line.harts line.command config program (uncommented_for line.command second) reason
 
 -- Words asked for a line, and it was performed with this exit status.
 pub record HavePerformed (at_terminal : Bool) (words : List (List ℕ)) (status : ℕ) : Type 0 where

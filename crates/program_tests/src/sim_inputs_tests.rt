@@ -28,6 +28,7 @@ static LINES: [(&str, Line<'_>); 41] = [
         "smtsim chart a t",
         Line {
             config: None,
+            harts: None,
             hints: HintsWanted::Auto,
             command: Command::OfProgram(ProgramCommand::Chart(ChartCommand {
                 image: "a",
@@ -45,6 +46,7 @@ static LINES: [(&str, Line<'_>); 41] = [
         "smtsim chart --from 7 a --to 7 --hart=7 t --width 1 --svg p --config c",
         Line {
             config: Some("c"),
+            harts: None,
             hints: HintsWanted::Auto,
             command: Command::OfProgram(ProgramCommand::Chart(ChartCommand {
                 image: "a",
@@ -62,6 +64,7 @@ static LINES: [(&str, Line<'_>); 41] = [
         "smtsim step first.elf first.script",
         Line {
             config: None,
+            harts: None,
             hints: HintsWanted::Auto,
             command: Command::OfProgram(ProgramCommand::Step(StepCommand {
                 image: "first.elf",
@@ -80,6 +83,7 @@ static LINES: [(&str, Line<'_>); 41] = [
         "smtsim step a b --config c",
         Line {
             config: Some("c"),
+            harts: None,
             hints: HintsWanted::Auto,
             command: Command::OfProgram(ProgramCommand::Step(StepCommand {
                 image: "a",
@@ -98,6 +102,7 @@ static LINES: [(&str, Line<'_>); 41] = [
         "smtsim step --config=c a b",
         Line {
             config: Some("c"),
+            harts: None,
             hints: HintsWanted::Auto,
             command: Command::OfProgram(ProgramCommand::Step(StepCommand {
                 image: "a",
@@ -116,6 +121,7 @@ static LINES: [(&str, Line<'_>); 41] = [
         "smtsim step a --records b",
         Line {
             config: None,
+            harts: None,
             hints: HintsWanted::Auto,
             command: Command::OfProgram(ProgramCommand::Step(StepCommand {
                 image: "a",
@@ -134,6 +140,7 @@ static LINES: [(&str, Line<'_>); 41] = [
         "smtsim step --show a b",
         Line {
             config: None,
+            harts: None,
             hints: HintsWanted::Auto,
             command: Command::OfProgram(ProgramCommand::Step(StepCommand {
                 image: "a",
@@ -152,6 +159,7 @@ static LINES: [(&str, Line<'_>); 41] = [
         "smtsim step a b --trace t",
         Line {
             config: None,
+            harts: None,
             hints: HintsWanted::Auto,
             command: Command::OfProgram(ProgramCommand::Step(StepCommand {
                 image: "a",
@@ -170,6 +178,7 @@ static LINES: [(&str, Line<'_>); 41] = [
         "smtsim step --show a --config c --trace=t b --records",
         Line {
             config: Some("c"),
+            harts: None,
             hints: HintsWanted::Auto,
             command: Command::OfProgram(ProgramCommand::Step(StepCommand {
                 image: "a",
@@ -188,6 +197,7 @@ static LINES: [(&str, Line<'_>); 41] = [
         "smtsim step a --looks b",
         Line {
             config: None,
+            harts: None,
             hints: HintsWanted::Auto,
             command: Command::OfProgram(ProgramCommand::Step(StepCommand {
                 image: "a",
@@ -206,6 +216,7 @@ static LINES: [(&str, Line<'_>); 41] = [
         "smtsim run a",
         Line {
             config: None,
+            harts: None,
             hints: HintsWanted::Auto,
             command: Command::OfProgram(ProgramCommand::Run(RunCommand {
                 image: "a",
@@ -223,6 +234,7 @@ static LINES: [(&str, Line<'_>); 41] = [
         "smtsim run --records --config c a",
         Line {
             config: Some("c"),
+            harts: None,
             hints: HintsWanted::Auto,
             command: Command::OfProgram(ProgramCommand::Run(RunCommand {
                 image: "a",
@@ -240,6 +252,7 @@ static LINES: [(&str, Line<'_>); 41] = [
         "smtsim run --trace t a",
         Line {
             config: None,
+            harts: None,
             hints: HintsWanted::Auto,
             command: Command::OfProgram(ProgramCommand::Run(RunCommand {
                 image: "a",
@@ -257,6 +270,7 @@ static LINES: [(&str, Line<'_>); 41] = [
         "smtsim check a t",
         Line {
             config: None,
+            harts: None,
             hints: HintsWanted::Auto,
             command: Command::OfProgram(ProgramCommand::Check(CheckCommand {
                 image: "a",
@@ -272,6 +286,7 @@ static LINES: [(&str, Line<'_>); 41] = [
         "smtsim check --records a --config c t",
         Line {
             config: Some("c"),
+            harts: None,
             hints: HintsWanted::Auto,
             command: Command::OfProgram(ProgramCommand::Check(CheckCommand {
                 image: "a",
@@ -287,6 +302,7 @@ static LINES: [(&str, Line<'_>); 41] = [
         "smtsim plain a b",
         Line {
             config: None,
+            harts: None,
             hints: HintsWanted::Auto,
             command: Command::OfProgram(ProgramCommand::Plain(PlainCommand {
                 image: "a",
@@ -302,6 +318,7 @@ static LINES: [(&str, Line<'_>); 41] = [
         "smtsim plain --config c a --records b",
         Line {
             config: Some("c"),
+            harts: None,
             hints: HintsWanted::Auto,
             command: Command::OfProgram(ProgramCommand::Plain(PlainCommand {
                 image: "a",
@@ -317,6 +334,7 @@ static LINES: [(&str, Line<'_>); 41] = [
         "smtsim schedule a b",
         Line {
             config: None,
+            harts: None,
             hints: HintsWanted::Auto,
             command: Command::OfProgram(ProgramCommand::Schedule(ScheduleCommand {
                 image: "a",
@@ -328,6 +346,7 @@ static LINES: [(&str, Line<'_>); 41] = [
         "smtsim schedule a --config c b",
         Line {
             config: Some("c"),
+            harts: None,
             hints: HintsWanted::Auto,
             command: Command::OfProgram(ProgramCommand::Schedule(ScheduleCommand {
                 image: "a",
@@ -339,6 +358,7 @@ static LINES: [(&str, Line<'_>); 41] = [
         "smtsim script a t",
         Line {
             config: None,
+            harts: None,
             hints: HintsWanted::Auto,
             command: Command::OfProgram(ProgramCommand::Script(ScriptCommand {
                 image: "a",
@@ -350,6 +370,7 @@ static LINES: [(&str, Line<'_>); 41] = [
         "smtsim script a --config c t",
         Line {
             config: Some("c"),
+            harts: None,
             hints: HintsWanted::Auto,
             command: Command::OfProgram(ProgramCommand::Script(ScriptCommand {
                 image: "a",
@@ -361,6 +382,7 @@ static LINES: [(&str, Line<'_>); 41] = [
         "smtsim list list.elf",
         Line {
             config: None,
+            harts: None,
             hints: HintsWanted::Auto,
             command: Command::OfProgram(ProgramCommand::List(ListCommand { image: "list.elf" })),
         },
@@ -369,6 +391,7 @@ static LINES: [(&str, Line<'_>); 41] = [
         "smtsim list --config c.toml list.elf",
         Line {
             config: Some("c.toml"),
+            harts: None,
             hints: HintsWanted::Auto,
             command: Command::OfProgram(ProgramCommand::List(ListCommand { image: "list.elf" })),
         },
@@ -377,6 +400,7 @@ static LINES: [(&str, Line<'_>); 41] = [
         "smtsim run --times 1000000 a --keep=f",
         Line {
             config: None,
+            harts: None,
             hints: HintsWanted::Auto,
             command: Command::OfProgram(ProgramCommand::Run(RunCommand {
                 image: "a",
@@ -394,6 +418,7 @@ static LINES: [(&str, Line<'_>); 41] = [
         "smtsim run --why --counts --json a",
         Line {
             config: None,
+            harts: None,
             hints: HintsWanted::Auto,
             command: Command::OfProgram(ProgramCommand::Run(RunCommand {
                 image: "a",
@@ -411,6 +436,7 @@ static LINES: [(&str, Line<'_>); 41] = [
         "smtsim check --counts a --why - --json",
         Line {
             config: None,
+            harts: None,
             hints: HintsWanted::Auto,
             command: Command::OfProgram(ProgramCommand::Check(CheckCommand {
                 image: "a",
@@ -426,6 +452,7 @@ static LINES: [(&str, Line<'_>); 41] = [
         "smtsim step - b --json --counts",
         Line {
             config: None,
+            harts: None,
             hints: HintsWanted::Auto,
             command: Command::OfProgram(ProgramCommand::Step(StepCommand {
                 image: "-",
@@ -444,6 +471,7 @@ static LINES: [(&str, Line<'_>); 41] = [
         "smtsim plain a --rounds 4294967295 --steps 0 --seed 7 --config -",
         Line {
             config: Some("-"),
+            harts: None,
             hints: HintsWanted::Auto,
             command: Command::OfProgram(ProgramCommand::Plain(PlainCommand {
                 image: "a",
@@ -459,6 +487,7 @@ static LINES: [(&str, Line<'_>); 41] = [
         "smtsim plain --rounds=1 a --records",
         Line {
             config: None,
+            harts: None,
             hints: HintsWanted::Auto,
             command: Command::OfProgram(ProgramCommand::Plain(PlainCommand {
                 image: "a",
@@ -474,6 +503,7 @@ static LINES: [(&str, Line<'_>); 41] = [
         "smtsim explain --config c a",
         Line {
             config: Some("c"),
+            harts: None,
             hints: HintsWanted::Auto,
             command: Command::Explain(ExplainCommand {
                 image: "a",
@@ -485,6 +515,7 @@ static LINES: [(&str, Line<'_>); 41] = [
         "smtsim explain a --script s",
         Line {
             config: None,
+            harts: None,
             hints: HintsWanted::Auto,
             command: Command::Explain(ExplainCommand {
                 image: "a",
@@ -496,6 +527,7 @@ static LINES: [(&str, Line<'_>); 41] = [
         "smtsim explain --order=- a",
         Line {
             config: None,
+            harts: None,
             hints: HintsWanted::Auto,
             command: Command::Explain(ExplainCommand {
                 image: "a",
@@ -507,6 +539,7 @@ static LINES: [(&str, Line<'_>); 41] = [
         "smtsim explain a --trace t",
         Line {
             config: None,
+            harts: None,
             hints: HintsWanted::Auto,
             command: Command::Explain(ExplainCommand {
                 image: "a",
@@ -518,6 +551,7 @@ static LINES: [(&str, Line<'_>); 41] = [
         "smtsim outcomes a",
         Line {
             config: None,
+            harts: None,
             hints: HintsWanted::Auto,
             command: Command::OfProgram(ProgramCommand::Outcomes(OutcomesCommand {
                 image: "a",
@@ -535,6 +569,7 @@ static LINES: [(&str, Line<'_>); 41] = [
         "smtsim outcomes --states 4294967295 a --config c --watch a0@1 --exists=h0=1 --outcome 2 --witness w",
         Line {
             config: Some("c"),
+            harts: None,
             hints: HintsWanted::Auto,
             command: Command::OfProgram(ProgramCommand::Outcomes(OutcomesCommand {
                 image: "a",
@@ -552,6 +587,7 @@ static LINES: [(&str, Line<'_>); 41] = [
         "smtsim outcomes --stuck - --script s --states 1",
         Line {
             config: None,
+            harts: None,
             hints: HintsWanted::Auto,
             command: Command::OfProgram(ProgramCommand::Outcomes(OutcomesCommand {
                 image: "-",
@@ -569,6 +605,7 @@ static LINES: [(&str, Line<'_>); 41] = [
         "smtsim litmus a",
         Line {
             config: None,
+            harts: None,
             hints: HintsWanted::Auto,
             command: Command::Litmus(LitmusCommand {
                 test: "a",
@@ -583,6 +620,7 @@ static LINES: [(&str, Line<'_>); 41] = [
         "smtsim litmus --why a --config c --states 5 --svg s",
         Line {
             config: Some("c"),
+            harts: None,
             hints: HintsWanted::Auto,
             command: Command::Litmus(LitmusCommand {
                 test: "a",
@@ -597,6 +635,7 @@ static LINES: [(&str, Line<'_>); 41] = [
         "smtsim litmus --image i -",
         Line {
             config: None,
+            harts: None,
             hints: HintsWanted::Auto,
             command: Command::Litmus(LitmusCommand {
                 test: "-",
@@ -611,6 +650,7 @@ static LINES: [(&str, Line<'_>); 41] = [
         "smtsim migrate t o",
         Line {
             config: None,
+            harts: None,
             hints: HintsWanted::Auto,
             command: Command::Migrate(MigrateCommand {
                 trace: "t",
@@ -622,6 +662,7 @@ static LINES: [(&str, Line<'_>); 41] = [
         "smtsim migrate - --config c o",
         Line {
             config: Some("c"),
+            harts: None,
             hints: HintsWanted::Auto,
             command: Command::Migrate(MigrateCommand {
                 trace: "-",
@@ -760,6 +801,7 @@ static NAMED: [(Line<'_>, Named<'_>); 14] = [
     (
         Line {
             config: Some("c"),
+            harts: None,
             hints: HintsWanted::Auto,
             command: Command::OfProgram(ProgramCommand::Chart(ChartCommand {
                 image: "a",
@@ -777,6 +819,7 @@ static NAMED: [(Line<'_>, Named<'_>); 14] = [
     (
         Line {
             config: Some("c"),
+            harts: None,
             hints: HintsWanted::Auto,
             command: Command::OfProgram(ProgramCommand::Step(StepCommand {
                 image: "a",
@@ -795,6 +838,7 @@ static NAMED: [(Line<'_>, Named<'_>); 14] = [
     (
         Line {
             config: Some("c"),
+            harts: None,
             hints: HintsWanted::Auto,
             command: Command::OfProgram(ProgramCommand::Run(RunCommand {
                 image: "a",
@@ -812,6 +856,7 @@ static NAMED: [(Line<'_>, Named<'_>); 14] = [
     (
         Line {
             config: Some("c"),
+            harts: None,
             hints: HintsWanted::Auto,
             command: Command::OfProgram(ProgramCommand::Check(CheckCommand {
                 image: "a",
@@ -827,6 +872,7 @@ static NAMED: [(Line<'_>, Named<'_>); 14] = [
     (
         Line {
             config: Some("c"),
+            harts: None,
             hints: HintsWanted::Auto,
             command: Command::OfProgram(ProgramCommand::Plain(PlainCommand {
                 image: "a",
@@ -842,6 +888,7 @@ static NAMED: [(Line<'_>, Named<'_>); 14] = [
     (
         Line {
             config: Some("c"),
+            harts: None,
             hints: HintsWanted::Auto,
             command: Command::OfProgram(ProgramCommand::Schedule(ScheduleCommand {
                 image: "a",
@@ -853,6 +900,7 @@ static NAMED: [(Line<'_>, Named<'_>); 14] = [
     (
         Line {
             config: Some("c"),
+            harts: None,
             hints: HintsWanted::Auto,
             command: Command::OfProgram(ProgramCommand::Script(ScriptCommand {
                 image: "a",
@@ -864,6 +912,7 @@ static NAMED: [(Line<'_>, Named<'_>); 14] = [
     (
         Line {
             config: Some("c"),
+            harts: None,
             hints: HintsWanted::Auto,
             command: Command::OfProgram(ProgramCommand::List(ListCommand { image: "a" })),
         },
@@ -872,6 +921,7 @@ static NAMED: [(Line<'_>, Named<'_>); 14] = [
     (
         Line {
             config: None,
+            harts: None,
             hints: HintsWanted::Auto,
             command: Command::Explain(ExplainCommand {
                 image: "a",
@@ -883,6 +933,7 @@ static NAMED: [(Line<'_>, Named<'_>); 14] = [
     (
         Line {
             config: None,
+            harts: None,
             hints: HintsWanted::Auto,
             command: Command::OfProgram(ProgramCommand::Outcomes(OutcomesCommand {
                 image: "a",
@@ -900,6 +951,7 @@ static NAMED: [(Line<'_>, Named<'_>); 14] = [
     (
         Line {
             config: Some("c"),
+            harts: None,
             hints: HintsWanted::Auto,
             command: Command::OfProgram(ProgramCommand::Outcomes(OutcomesCommand {
                 image: "a",
@@ -917,6 +969,7 @@ static NAMED: [(Line<'_>, Named<'_>); 14] = [
     (
         Line {
             config: None,
+            harts: None,
             hints: HintsWanted::Auto,
             command: Command::Litmus(LitmusCommand {
                 test: "a",
@@ -931,6 +984,7 @@ static NAMED: [(Line<'_>, Named<'_>); 14] = [
     (
         Line {
             config: Some("c"),
+            harts: None,
             hints: HintsWanted::Auto,
             command: Command::Litmus(LitmusCommand {
                 test: "a",
@@ -945,6 +999,7 @@ static NAMED: [(Line<'_>, Named<'_>); 14] = [
     (
         Line {
             config: Some("c"),
+            harts: None,
             hints: HintsWanted::Auto,
             command: Command::Migrate(MigrateCommand {
                 trace: "t",

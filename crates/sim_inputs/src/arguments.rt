@@ -65,6 +65,19 @@ pub(crate) const CONFIG: Argument = Argument {
     help: "The configuration, a TOML file: see smtsim --help",
 };
 
+pub(crate) const HARTS: Argument = Argument {
+    kind: Kind::Number,
+    name: "harts",
+    help: "How many harts there are, whatever the configuration says",
+};
+
+/// So it is beside a trace that may be of a core of its own.
+pub(crate) const HARTS_BESIDE_TRACE: Argument = Argument {
+    kind: Kind::Number,
+    name: "harts",
+    help: "How many harts there are; not for a trace that names its core",
+};
+
 pub(crate) const COUNTS: Argument = Argument {
     kind: Kind::Flag,
     name: "counts",

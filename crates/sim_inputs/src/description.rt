@@ -7,15 +7,16 @@ ghost use Rattle.sim_inputs.specs.Table.{own_arguments_in, rule_in, subcommand_i
 
 use crate::arguments::{
     Argument, CONFIG, COUNTS, EXISTS, EXPLAINED_ORDER, EXPLAINED_SCRIPT, EXPLAINED_TRACE, FROM,
-    HART, HINTS, IMAGE, JSON, KANATA, KEEP, Kind, LOOKS, ORDER, ORDER_OR_ROUNDS, OUTCOME, RECORDS,
-    ROUNDS, SCRIPT, SEED, SHOW, STATES, STEPS, STUCK, SVG, SVG_OF_WHY, TEST, TIMES, TO, TRACE,
-    WATCH, WHY, WHY_ENDS, WHY_NEVER, WHY_REFUSED, WIDTH, WITNESS, WRITTEN_IMAGE, WRITTEN_OUT,
-    WRITTEN_SCRIPT, WRITTEN_TRACE,
+    HART, HARTS, HARTS_BESIDE_TRACE, HINTS, IMAGE, JSON, KANATA, KEEP, Kind, LOOKS, ORDER,
+    ORDER_OR_ROUNDS, OUTCOME, RECORDS, ROUNDS, SCRIPT, SEED, SHOW, STATES, STEPS, STUCK, SVG,
+    SVG_OF_WHY, TEST, TIMES, TO, TRACE, WATCH, WHY, WHY_ENDS, WHY_NEVER, WHY_REFUSED, WIDTH,
+    WITNESS, WRITTEN_IMAGE, WRITTEN_OUT, WRITTEN_SCRIPT, WRITTEN_TRACE,
 };
 use crate::forms::{
     CHART_FORM, CONFIGURATION_FORM, LITMUS_FORM, MIGRATE_FORM, ORDER_FORM, OUTCOMES_FORM,
     SCRIPT_FORM, TRACE_FORM,
 };
+use crate::version::VERSION;
 use clap::{Arg, ArgAction, Command};
 use std::alloc::{AllocError, Global};
 
@@ -37,6 +38,7 @@ static OF_IMAGES: [Subcommand; 10] = [
             IMAGE,
             SCRIPT,
             CONFIG,
+            HARTS,
             COUNTS,
             JSON,
             LOOKS,
@@ -53,6 +55,7 @@ static OF_IMAGES: [Subcommand; 10] = [
         arguments: &[
             IMAGE,
             CONFIG,
+            HARTS,
             COUNTS,
             JSON,
             RECORDS,
@@ -66,25 +69,43 @@ static OF_IMAGES: [Subcommand; 10] = [
     Subcommand {
         name: "check",
         about: "Check that a trace is a history of the core, and print its report",
-        arguments: &[IMAGE, TRACE, CONFIG, COUNTS, JSON, RECORDS, WHY_REFUSED],
+        arguments: &[
+            IMAGE,
+            TRACE,
+            CONFIG,
+            HARTS_BESIDE_TRACE,
+            COUNTS,
+            JSON,
+            RECORDS,
+            WHY_REFUSED,
+        ],
         form: TRACE_FORM,
     },
     Subcommand {
         name: "plain",
         about: "Run the plain machine in an order of harts, and print a report",
-        arguments: &[IMAGE, ORDER_OR_ROUNDS, CONFIG, RECORDS, ROUNDS, STEPS, SEED],
+        arguments: &[
+            IMAGE,
+            ORDER_OR_ROUNDS,
+            CONFIG,
+            HARTS,
+            RECORDS,
+            ROUNDS,
+            STEPS,
+            SEED,
+        ],
         form: ORDER_FORM,
     },
     Subcommand {
         name: "schedule",
         about: "Print the script that makes the core retire in an order of harts",
-        arguments: &[IMAGE, ORDER, CONFIG],
+        arguments: &[IMAGE, ORDER, CONFIG, HARTS],
         form: ORDER_FORM,
     },
     Subcommand {
         name: "script",
         about: "Print the script that makes the core have a trace's history again",
-        arguments: &[IMAGE, TRACE, CONFIG],
+        arguments: &[IMAGE, TRACE, CONFIG, HARTS_BESIDE_TRACE],
         form: TRACE_FORM,
     },
     Subcommand {
@@ -96,7 +117,18 @@ static OF_IMAGES: [Subcommand; 10] = [
     Subcommand {
         name: "chart",
         about: "Draw a trace's pipeline: a row an instruction, a column an event",
-        arguments: &[IMAGE, TRACE, CONFIG, FROM, TO, HART, WIDTH, SVG, KANATA],
+        arguments: &[
+            IMAGE,
+            TRACE,
+            CONFIG,
+            HARTS_BESIDE_TRACE,
+            FROM,
+            TO,
+            HART,
+            WIDTH,
+            SVG,
+            KANATA,
+        ],
         form: CHART_FORM,
     },
     Subcommand {
@@ -105,6 +137,7 @@ static OF_IMAGES: [Subcommand; 10] = [
         arguments: &[
             IMAGE,
             CONFIG,
+            HARTS_BESIDE_TRACE,
             EXPLAINED_SCRIPT,
             EXPLAINED_ORDER,
             EXPLAINED_TRACE,
@@ -117,6 +150,7 @@ static OF_IMAGES: [Subcommand; 10] = [
         arguments: &[
             IMAGE,
             CONFIG,
+            HARTS,
             STATES,
             WATCH,
             EXISTS,
@@ -151,6 +185,7 @@ pub fn describe<'a>(alloc: Global) -> Result<Command<'a>, AllocError>
 {
     let command = Command::new(alloc, "smtsim")
         .about("Simulate a simultaneous multithreading core whose harts run one RV32IMA program")
+        .version(VERSION)
         .after_help(CONFIGURATION_FORM)
         .subcommand_required(true);
     let of_images = add_subcommands(command, &OF_IMAGES, alloc)?;

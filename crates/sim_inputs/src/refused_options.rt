@@ -27,7 +27,8 @@ macro_rules! number_option {
 }
 
 /// The options that have a number, in the order in which they are looked at.
-static NUMBERS: [NumberOption; 10] = [
+static NUMBERS: [NumberOption; 11] = [
+    number_option!("harts", 1, MOST_HARTS as u32),
     number_option!("from", 0, MOST_EVENTS - 1),
     number_option!("to", 0, MOST_EVENTS - 1),
     number_option!("hart", 0, MOST_HARTS as u32 - 1),
