@@ -1,25 +1,23 @@
 //! All that the program does with a line once its files are read.
 
-ghost use Rattle.std.specs.Prelude.{◌≡◌, ◌⊎◌, IsTrue, IfOk, IfErr, OnOk, Ok, Err, is_some, true, false};
-ghost use Rattle.std.specs.Prelude.{Some, IsSomeAnd};
+ghost use Rattle.std.specs.Prelude.{◌≡◌, ◌⊎◌, IsTrue, IfOk, IfErr, OnOk, Err, is_some, true, false};
+ghost use Rattle.std.specs.Prelude.{IsSomeAnd};
 ghost use Rattle.command_parts.specs.declared.refused.Refused.TheVariants.{Output};
 ghost use Rattle.report_lines.specs.Statuses.{says_harts};
 ghost use Rattle.command_parts.specs.declared.refused.Refused.{Refused as AnyRefused};
 ghost use Rattle.command_parts.specs.Refused.{exit_status_of, refusal_of};
 ghost use Rattle.sim_inputs.specs.declared.line.ProgramCommand.TheVariants.{Run};
 ghost use Rattle.sim_inputs.specs.Files.{written_for_test};
-ghost use Rattle.command_parts.specs.Inputs.{as_read, Read, OfProgram};
+ghost use Rattle.command_parts.specs.Inputs.{as_read, Read};
 ghost use Rattle.commands.specs.Commands.{IsProgramUnreported, program_writes_file};
 ghost use Rattle.commands.specs.Perform.{IsRefusal, LineComesTo, IsLeft, IsUnreported, writes_file};
 ghost use Rattle.commands.specs.Perform.{IsProgramRefusal, ProgramComesTo, IsPerformed};
-ghost use Rattle.commands.specs.Perform.{IsExplainLineRefusal, ExplainLineComesTo, HasToldBeside};
 ghost use Rattle.commands.specs.Perform.{IsLitmusLineRefusal, LitmusLineComesTo};
 ghost use Rattle.commands.specs.Perform.{IsMigrateLineRefusal, MigrationComesTo};
 ghost use Rattle.event_text.specs.Sinking.{HasPut};
 ghost use Rattle.commands.specs.Written.{IsWritten};
 
-use crate::explain::perform_explain;
-use crate::explain_beside::tell_beside;
+use crate::explain_line::read_and_explain;
 use crate::list::perform_list;
 use crate::two_cores::are_two_cores;
 use actors::Gate;
@@ -32,10 +30,7 @@ use elf_image::Image;
 use plain_commands::{
     perform_litmus, perform_outcomes, perform_plain, perform_rounds, perform_schedule, rounds_of,
 };
-use sim_inputs::{
-    Beside, Command, ExplainCommand, HartCount, Line, LitmusCommand, ProgramCommand, RunCommand,
-    Settings,
-};
+use sim_inputs::{Command, HartCount, Line, LitmusCommand, ProgramCommand, RunCommand, Settings};
 use smt_core::Predict;
 use std::alloc::Global;
 use std::io::Write;
@@ -46,9 +41,9 @@ use stress_runs::EndFiles;
 /// Does all that the program does once its files are read, and answers its exit status: how the harts
 /// stand, 0 for a listing, a schedule, a script, a chart, a litmus test and a migration, 2 for a refused
 /// input, 4 for a refused trace, 5 where memory, a thread or a file failed. A refusal is one line on `err`.
-/// The configuration is looked at first, then the image, then the script, the order or the trace, and there first whether
-/// it names another core than the line's harts; a file that couldn't be read is refused where it is looked at. All that is printed is flushed. The context keeps
-/// why the line was refused, if it was.
+/// The configuration is looked at first, then the image, then the script, the order or the trace, and of a trace
+/// first whether it names its core beside harts of the line; a file that couldn't be read is refused where it is
+/// looked at. All that is printed is flushed. The context keeps why the line was refused, if it was.
 ///
 /// The trace of a core goes into `files`, a sink that hasn't failed, where the line names a file for it:
 /// behind the last ask, and before the tables and the report, and its file is finished. Where the sink fails,
@@ -150,67 +145,6 @@ fn perform_line<
             alloc,
         ),
         Command::Migrate(_) => read_and_migrate(inputs, &mut context.files, alloc),
-    }
-}
-
-/// The exit status of a line that explains its files, with all flushed that it prints of them. Configuration and
-/// image are taken before they are refused. What is explained beside them is looked at where both are accepted.
-fn read_and_explain<P: Predict, W: Write>(
-    explain: &ExplainCommand<'_>,
-    harts: Option<HartCount>,
-    inputs: &Inputs<'_>,
-    predict: &mut P,
-    out: &mut W,
-    alloc: Global,
-) -> Result<u8, Refused>
-    ensures unset { IfErr inputs.now.config (λ why. result ≡ Err (refusal_of why)) }
-    ensures refused { IfErr result (IsExplainLineRefusal harts explain.now.beside (as_read inputs.now.config)
-        (as_read inputs.now.program) (as_read inputs.now.second)) }
-    ensures ended { IfOk result (ExplainLineComesTo harts explain.now.beside (as_read inputs.now.config)
-        (as_read inputs.now.program) (as_read inputs.now.second) (W.contents out.old) (W.contents out.new)) }
-{
-    let text = inputs.config?;
-    // Handed on as it is: a `?` would leave the prover to find what the refusal becomes.
-    let status = match perform_explain(text, harts, inputs.program, out, alloc) {
-        Ok(status) => status,
-        Err(refused) => return Err(refused),
-    };
-    match explain.beside {
-        None => Ok(status),
-        Some(beside) => {
-            read_and_tell(beside, text, harts, inputs, predict, out, alloc)?;
-            Ok(status)
-        }
-    }
-}
-
-/// Says what there is to say of the text beside an image and the text of a configuration.
-fn read_and_tell<P: Predict, W: Write>(
-    beside: Beside<'_>,
-    config: &[u8],
-    harts: Option<HartCount>,
-    inputs: &Inputs<'_>,
-    predict: &mut P,
-    out: &mut W,
-    alloc: Global,
-) -> Result<(), Refused>
-    ensures refused { IfErr result (IsExplainLineRefusal harts (Some beside) (Ok config.now)
-        (as_read inputs.now.program) (as_read inputs.now.second)) }
-    ensures told { OnOk result (OfProgram (Ok config.now) (as_read inputs.now.program)
-        (λ settings program. HasToldBeside harts (Some beside) settings program (as_read inputs.now.second)
-        (W.contents out.old) (W.contents out.new))) }
-{
-    let own = settings_of(config, alloc)?;
-    let bytes = inputs.program?;
-    let image = image_of(bytes, own.ram, alloc)?;
-    let settings = own.with_harts(harts);
-    if beside.is_trace() && are_two_cores(harts, inputs.second) {
-        return Err(Refused::Harts);
-    }
-    let text = inputs.second?;
-    match tell_beside(beside, text, &settings, &image, predict, out, alloc) {
-        Ok(()) => Ok(()),
-        Err(refused) => Err(refused),
     }
 }
 

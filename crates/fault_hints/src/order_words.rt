@@ -63,7 +63,7 @@ pub(crate) fn add_harts(
     let count = settings.config.harts;
     let expected = format!(in alloc; "a number below {count}, the harts of the configuration")?;
     hint.add(Part::Expected, expected.as_bytes())?;
-    hint.add(Part::More, b"--harts N makes more of them")
+    hint.add(Part::Usually, b"too few harts: --harts N makes more")
 }
 
 /// Adds the order and a word of it, and answers the word.

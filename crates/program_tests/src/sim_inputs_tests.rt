@@ -1,7 +1,8 @@
 //! The words of a line: what they ask for; and in the modules beside it words that are refused, the
-//! configuration and the help.
+//! configuration, harts and the help.
 
 mod configuration;
+mod harts;
 mod help;
 mod refused_words;
 

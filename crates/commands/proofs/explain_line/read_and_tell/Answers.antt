@@ -1,6 +1,6 @@
 -- Behind a text that is refused, and one that is accepted.
 use Rattle.commands.proofs.OfExplain.{beside_refusal}
-use Rattle.commands.proofs.performing.read_and_tell.Goals as goal
+use Rattle.commands.proofs.explain_line.read_and_tell.Goals as goal
 
 pub returns-in-Err-clause-refused : goal.returns-in-Err-clause-refused
 returns-in-Err-clause-refused g c =

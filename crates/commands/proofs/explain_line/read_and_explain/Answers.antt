@@ -1,7 +1,7 @@
 use Rattle.command_parts.specs.Inputs.{as_read}
 use Rattle.commands.proofs.OfExplain.{alone_comes_to, both_come_to}
 use mathlib.Core.Logic.{inl}
-use Rattle.commands.proofs.performing.read_and_explain.Goals as goal
+use Rattle.commands.proofs.explain_line.read_and_explain.Goals as goal
 
 pub returns-in-Err-clause-refused : goal.returns-in-Err-clause-refused
 returns-in-Err-clause-refused g c = rw c.in_ok-text.was (inl c.in-Err.ensures.refused)
