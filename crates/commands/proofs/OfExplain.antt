@@ -12,7 +12,7 @@ use Rattle.explanations.specs.Explained.{Begins, IsRefusedBy, IsAccepted, refuse
 use Rattle.sim_inputs.specs.{declared.settings.Settings.Settings}
 use Rattle.sim_inputs.specs.{Configuration.IsConfiguration, declared.line.Beside.Beside}
 use Rattle.command_parts.specs.declared.refused.Refused.{Refused}
-use Rattle.command_parts.specs.declared.refused.Refused.TheVariants.{Image, Config, Script, Order, Step, Memory, File}
+use Rattle.command_parts.specs.declared.refused.Refused.TheVariants.{Image, Config, Harts, Script, Order, Step, Memory, File}
 use Rattle.command_parts.specs.declared.refused.Refused.TheVariants.{Output, Thread, Trace, Version, Event, NoUnit, Limit, NoHart}
 use Rattle.command_parts.specs.declared.refused.Refused.TheVariants.{Prediction, Register, Picture}
 use Rattle.command_parts.specs.declared.refused.Refused.TheVariants.{Watch, Condition, ManyWatched, NoWord}
@@ -111,6 +111,7 @@ pub writing_refusal : (config : List ℕ) (image : Read) (old new : Option (List
     → IsWritingRefusal reason → IsExplainRefusal config image reason × IsExplanationOf reason old new
 writing_refusal config image old new (Image number) is = absurd is
 writing_refusal config image old new Config is = absurd is
+writing_refusal config image old new Harts is = absurd is
 writing_refusal config image old new (Script number) is = absurd is
 writing_refusal config image old new (Order index) is = absurd is
 writing_refusal config image old new (Step index why) is = absurd is
@@ -172,6 +173,7 @@ pub config_refusal : (config : List ℕ) (image : Read) (reason : Refused) → I
     → IsExplainRefusal config image reason
 config_refusal config image (Image number) is = absurd is
 config_refusal config image Config is = is
+config_refusal config image Harts is = absurd is
 config_refusal config image (Script number) is = absurd is
 config_refusal config image (Order index) is = absurd is
 config_refusal config image (Step index why) is = absurd is
@@ -203,6 +205,7 @@ pub loaded_refusal : (config : List ℕ) (settings : Settings) (file : List ℕ)
     → IsExplainRefusal config (Ok file) reason
 loaded_refusal config settings file (Image number) configured is = (settings, configured, is)
 loaded_refusal config settings file Config configured is = absurd is
+loaded_refusal config settings file Harts configured is = absurd is
 loaded_refusal config settings file (Script number) configured is = absurd is
 loaded_refusal config settings file (Order index) configured is = absurd is
 loaded_refusal config settings file (Step index why) configured is = absurd is

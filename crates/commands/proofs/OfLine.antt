@@ -12,7 +12,7 @@ use Rattle.sim_inputs.specs.{declared.line.Command.Command, declared.settings.Se
 use Rattle.sim_inputs.specs.{Configuration.IsConfiguration}
 use Rattle.report_lines.specs.Statuses.{says_harts}
 use Rattle.command_parts.specs.declared.refused.Refused.{Refused}
-use Rattle.command_parts.specs.declared.refused.Refused.TheVariants.{Image, Config, Script, Order, Step, Memory, File}
+use Rattle.command_parts.specs.declared.refused.Refused.TheVariants.{Image, Config, Harts, Script, Order, Step, Memory, File}
 use Rattle.command_parts.specs.declared.refused.Refused.TheVariants.{Output, Thread, Trace, Version, Event, NoUnit, Limit, NoHart}
 use Rattle.command_parts.specs.declared.refused.Refused.TheVariants.{Prediction, Register, Picture}
 use Rattle.command_parts.specs.declared.refused.Refused.TheVariants.{Watch, Condition, ManyWatched, NoWord}
@@ -145,6 +145,7 @@ pub known_refusal : (reason : Refused) (status : ℕ) → status ≡ exit_status
     → IsTrue (says_harts status) ⊎ (status ≡ 2) ⊎ (status ≡ 4) ⊎ (status ≡ 5)
 known_refusal (Image number) status is = inr (inl is)
 known_refusal Config status is = inr (inl is)
+known_refusal Harts status is = inr (inl is)
 known_refusal (Script number) status is = inr (inl is)
 known_refusal (Order index) status is = inr (inl is)
 known_refusal (Step index why) status is = inr (inl is)
@@ -173,6 +174,7 @@ known_refusal Output status is = inr (inr (inr is))
 never_says : (reason : Refused) → says_harts (exit_status_of reason) ≡ false
 never_says (Image number) = refl
 never_says Config = refl
+never_says Harts = refl
 never_says (Script number) = refl
 never_says (Order index) = refl
 never_says (Step index why) = refl

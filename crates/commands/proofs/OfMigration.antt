@@ -22,6 +22,7 @@ module _ (text file : List ℕ) (settings : Settings) (configured : IsConfigurat
       → IsMigrateLineRefusal (Ok text) (Ok file) why
   migrate_refusal (reason.Image number) is = absurd is
   migrate_refusal reason.Config is = absurd is
+  migrate_refusal reason.Harts is = absurd is
   migrate_refusal (reason.Script number) is = absurd is
   migrate_refusal (reason.Order index) is = absurd is
   migrate_refusal (reason.Step index stopped) is = absurd is

@@ -16,6 +16,7 @@ module _ (litmus : LitmusCommand) (text file : List ℕ) (settings : Settings)
       → IsLitmusLineRefusal litmus (Ok text) (Ok file) why
   test_refusal (reason.Image number) is = absurd is
   test_refusal reason.Config is = absurd is
+  test_refusal reason.Harts is = absurd is
   test_refusal (reason.Script number) is = absurd is
   test_refusal (reason.Order index) is = absurd is
   test_refusal (reason.Step index stopped) is = absurd is

@@ -25,6 +25,7 @@ module _ (settings : Settings) (image : ProgramImage) (command : OutcomesCommand
       → IsOutcomesRefusal settings image command why
   search_refused (reason.Image number) is = absurd is
   search_refused reason.Config is = inl is
+  search_refused reason.Harts is = absurd is
   search_refused (reason.Script number) is = absurd is
   search_refused (reason.Order index) is = absurd is
   search_refused (reason.Step index stopped) is = absurd is
@@ -65,6 +66,7 @@ pub hart_refused : (settings : Settings) (image : ProgramImage) (command : Outco
     → IsOutcomesRefusal settings image command why
 hart_refused settings image command terms condition (reason.Image number) is = absurd is
 hart_refused settings image command terms condition reason.Config is = absurd is
+hart_refused settings image command terms condition reason.Harts is = absurd is
 hart_refused settings image command terms condition (reason.Script number) is = absurd is
 hart_refused settings image command terms condition (reason.Order index) is = absurd is
 hart_refused settings image command terms condition (reason.Step index stopped) is = absurd is
