@@ -10,7 +10,8 @@ use Rattle.elf_image.specs.{declared.refusal.LoadRefused.LoadRefused, Refusal.re
 use Rattle.elf_image.specs.Image.{ProgramImage}
 use Rattle.explanations.specs.Explained.{Begins, IsRefusedBy, IsAccepted, refused_line, config_head, image_head}
 use Rattle.sim_inputs.specs.{declared.settings.Settings.Settings}
-use Rattle.sim_inputs.specs.{Configuration.IsConfiguration, declared.line.Beside.Beside}
+use Rattle.sim_inputs.specs.{Configuration.IsConfiguration, Configuration.with_harts, declared.line.Beside.Beside}
+use Rattle.sim_inputs.specs.declared.line.Beside.TheVariants as beside
 use Rattle.command_parts.specs.declared.refused.Refused.{Refused}
 use Rattle.command_parts.specs.declared.refused.Refused.TheVariants.{Image, Config, Harts, Script, Order, Step, Memory, File}
 use Rattle.command_parts.specs.declared.refused.Refused.TheVariants.{Output, Thread, Trace, Version, Event, NoUnit, Limit, NoHart}
@@ -231,32 +232,46 @@ loaded_refusal config settings file Thread configured is = absurd is
 loaded_refusal config settings file File configured is = absurd is
 loaded_refusal config settings file Output configured is = absurd is
 
--- The text beside an image that is accepted.
-pub beside_refusal : (told : Beside) (config : List ℕ) (settings : Settings) (file : List ℕ) (program : ProgramImage)
-    (second : Read) (reason : Refused) → IsConfiguration config settings → PassesAll file settings.ram
-    → IsImageOf file settings.ram program → BehindFile second (IsBesideFault told settings program) reason
-    → IsExplainLineRefusal (Some told) (Ok config) (Ok file) second reason
-beside_refusal told config settings file program second reason configured passes loaded is =
-    inr (settings, configured, (passes, program, loaded, is))
+-- The text beside an image that is accepted: what is refused of it, and of its harts. It is never refused for those.
+pub no_harts_beside : (told : Beside) (settings : Settings) (program : ProgramImage) (second : Read)
+    → BehindFile second (IsBesideFault told settings program) Harts → ⊥
+no_harts_beside (beside.Script name) settings program (Ok text) is = is
+no_harts_beside (beside.Order name) settings program (Ok text) is = is
+no_harts_beside (beside.Trace name) settings program (Ok text) is = is
+no_harts_beside told settings program (Err unread.File) is = cc
+no_harts_beside told settings program (Err unread.Memory) is = cc
+
+pub beside_refusal : (harts : Option ℕ) (told : Beside) (config : List ℕ) (own : Settings) (file : List ℕ)
+    (program : ProgramImage) (second : Read) (reason : Refused) → IsConfiguration config own
+    → PassesAll file own.ram → IsImageOf file own.ram program
+    → BehindFile second (IsBesideFault told (with_harts harts own) program) reason
+    → IsExplainLineRefusal harts (Some told) (Ok config) (Ok file) second reason
+beside_refusal harts told config own file program second Harts configured passes loaded is =
+    absurd (no_harts_beside told (with_harts harts own) program second is)
+beside_refusal harts told config own file program second reason configured passes loaded is =
+    inr (own, configured, (passes, program, loaded, is))
 
 -- Nothing is told beside it; or something is.
-pub alone_comes_to : (config : List ℕ) (image second : Read) (old new : Option (List ℕ)) (status : ℕ)
+pub alone_comes_to : (harts : Option ℕ) (config : List ℕ) (image second : Read) (old new : Option (List ℕ))
+    (status : ℕ)
     → OfProgram (Ok config) image (λ settings program. ExplainComesTo old new status)
-    → ExplainLineComesTo None (Ok config) image second old new status
-alone_comes_to config (Ok file) second old new status told = (
+    → ExplainLineComesTo harts None (Ok config) image second old new status
+alone_comes_to harts config (Ok file) second old new status told = (
   told.0,
   told.1,
   (told.2.0, told.2.1, told.2.2, (accepted_of config told.0 told.1, (new, told.2.3, refl))),
 )
-alone_comes_to config (Err why) second old new status told = absurd told.2
+alone_comes_to harts config (Err why) second old new status told = absurd told.2
 
-pub both_come_to : (told : Beside) (config : List ℕ) (image second : Read) (old mid new : Option (List ℕ))
-    (status : ℕ) → OfProgram (Ok config) image (λ settings program. ExplainComesTo old mid status)
-    → OfProgram (Ok config) image (λ settings program. HasToldBeside (Some told) settings program second mid new)
-    → ExplainLineComesTo (Some told) (Ok config) image second old new status
-both_come_to told config (Ok file) second old mid new status first then = (
+pub both_come_to : (harts : Option ℕ) (told : Beside) (config : List ℕ) (image second : Read)
+    (old mid new : Option (List ℕ)) (status : ℕ)
+    → OfProgram (Ok config) image (λ settings program. ExplainComesTo old mid status)
+    → OfProgram (Ok config) image
+    (λ settings program. HasToldBeside harts (Some told) settings program second mid new)
+    → ExplainLineComesTo harts (Some told) (Ok config) image second old new status
+both_come_to harts told config (Ok file) second old mid new status first then = (
   then.0,
   then.1,
   (then.2.0, then.2.1, then.2.2, (accepted_of config then.0 then.1, (mid, first.2.3, then.2.3))),
 )
-both_come_to told config (Err why) second old mid new status first then = absurd then.2
+both_come_to harts told config (Err why) second old mid new status first then = absurd then.2

@@ -4,7 +4,7 @@ use Rattle.std.specs.Io.KnownBytes.{Keeps}
 use Rattle.elf_image.specs.{Loaded.IsImageOf}
 use Rattle.elf_image.specs.Image.{ProgramImage}
 use Rattle.core_state.specs.{View.CoreView}
-use Rattle.sim_inputs.specs.{declared.settings.Settings.Settings, Configuration.IsConfiguration}
+use Rattle.sim_inputs.specs.{declared.settings.Settings.Settings, Configuration.IsConfiguration, Configuration.with_harts}
 use Rattle.report_lines.specs.Statuses.{says_harts}
 use Rattle.core_commands.specs.{declared.wanted.Wanted.Wanted}
 use Rattle.command_parts.specs.{Inputs.Read}
@@ -14,14 +14,14 @@ use Rattle.core_commands.specs.{Prompt.PromptComesTo}
 use Rattle.commands.specs.{Typed.TypedComesTo}
 use Rattle.commands.proofs.Sound.{prints_kept, status_says}
 
-module _ {P : Type 0} (predicts : P → ℕ → ℕ → ℕ → ℕ → P → Type 0) (before : P) (settings : Settings)
+module _ {P : Type 0} (predicts : P → ℕ → ℕ → ℕ → ℕ → P → Type 0) (before : P) (harts : Option ℕ) (settings : Settings)
     (input : Option (List ℕ)) (wanted : Wanted) (Traced : CoreView → Type 0) where
   -- A flush changes nothing of it.
   pub typed_flushed : (text : List ℕ) (file : List ℕ) (program : ProgramImage) (old mid new : Option (List ℕ))
       (status : ℕ) → IsConfiguration text settings → PassesAll file settings.ram
       → IsImageOf file settings.ram program
-      → PromptComesTo predicts before settings program input wanted Traced old mid status → Keeps mid new
-      → TypedComesTo predicts before (Ok text) (Ok file) input wanted Traced old new status
+      → PromptComesTo predicts before (with_harts harts settings) program input wanted Traced old mid status → Keeps mid new
+      → TypedComesTo predicts before harts (Ok text) (Ok file) input wanted Traced old new status
   typed_flushed text file program old mid new status configured passes loaded is flushed = (
     settings,
     configured,
@@ -43,11 +43,11 @@ module _ {P : Type 0} (predicts : P → ℕ → ℕ → ℕ → ℕ → P → Ty
     ),
   )
 
-pub typed_says : {P : Type 0} (predicts : P → ℕ → ℕ → ℕ → ℕ → P → Type 0) (before : P) (config image : Read)
+pub typed_says : {P : Type 0} (predicts : P → ℕ → ℕ → ℕ → ℕ → P → Type 0) (before : P) (harts : Option ℕ) (config image : Read)
     (input : Option (List ℕ)) (wanted : Wanted) (Traced : CoreView → Type 0) (old new : Option (List ℕ)) (status : ℕ)
-    → TypedComesTo predicts before config image input wanted Traced old new status → IsTrue (says_harts status)
-typed_says predicts before (Ok text) (Ok file) input wanted Traced old new status is =
+    → TypedComesTo predicts before harts config image input wanted Traced old new status → IsTrue (says_harts status)
+typed_says predicts before harts (Ok text) (Ok file) input wanted Traced old new status is =
     let comes = is.2.3 in
     status_says status (statuses_of comes.core) comes.harts
-typed_says predicts before (Ok text) (Err why) input wanted Traced old new status is = absurd is.2
-typed_says predicts before (Err why) image input wanted Traced old new status is = absurd is
+typed_says predicts before harts (Ok text) (Err why) input wanted Traced old new status is = absurd is.2
+typed_says predicts before harts (Err why) image input wanted Traced old new status is = absurd is

@@ -13,7 +13,7 @@ use Rattle.sim_inputs.specs.declared.line.ProgramCommand.{ProgramCommand}
 use Rattle.sim_inputs.specs.{declared.settings.Settings.Settings}
 use Rattle.report_lines.specs.Lines.{status_number, has_ended_well}
 use Rattle.report_lines.specs.Statuses.{says_harts}
-use Rattle.command_parts.specs.declared.refused.Refused.TheVariants.{Image, Config, Output}
+use Rattle.command_parts.specs.declared.refused.Refused.TheVariants.{Image, Config, Harts, Output}
 use Rattle.command_parts.specs.declared.refused.Unread.{Unread}
 use Rattle.command_parts.specs.declared.refused.Unread.TheVariants as unread
 use Rattle.command_parts.specs.Refused.{AreAccepted, refusal_of}
@@ -22,8 +22,9 @@ use Rattle.commands.specs.Commands.{IsCommandRefusal, CommandComesTo, AreUnfit}
 
 pub record IsSound (command : ProgramCommand) (settings : Settings) (program : ProgramImage) (second : Read)
     : Type 1 where
-  -- It never refuses the image, and of settings that are a core's it refuses those that are unfit.
+  -- It never refuses the image, nor harts beside a trace, and of settings that are a core's it refuses those that are unfit.
   pub no_image : (number : ℕ) → IsCommandRefusal command settings program second (Image number) → ⊥
+  pub no_harts : IsCommandRefusal command settings program second Harts → ⊥
   pub unfit : AreAccepted settings → IsCommandRefusal command settings program second Config
       → AreUnfit command settings program second
   -- Behind what it comes to, only the output may still be refused. A flush changes nothing of it, and its
@@ -42,6 +43,10 @@ pub record IsSound (command : ProgramCommand) (settings : Settings) (program : P
 pub no_unread_image : (number : ℕ) (why : Unread) → Image number ≡ refusal_of why → ⊥
 no_unread_image number unread.File is = cc
 no_unread_image number unread.Memory is = cc
+
+pub no_unread_harts : (why : Unread) → Harts ≡ refusal_of why → ⊥
+no_unread_harts unread.File is = cc
+no_unread_harts unread.Memory is = cc
 
 pub no_unread_config : (why : Unread) → Config ≡ refusal_of why → ⊥
 no_unread_config unread.File is = cc

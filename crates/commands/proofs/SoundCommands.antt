@@ -31,7 +31,7 @@ use Rattle.plain_commands.specs.{Plain.standing}
 use Rattle.command_parts.specs.declared.refused.Refused.TheVariants.{Config, Image, Output}
 use Rattle.plain_commands.specs.PlainRounds.{rounds_of, IsRoundsRefusal, RoundsComeTo}
 use Rattle.plain_commands.proofs.OfRounds.{from_rounds, in_rounds}
-use Rattle.commands.proofs.Sound.{IsSound, no_unread_image, no_unread_config, kept, prints_kept, status_says, zero_says}
+use Rattle.commands.proofs.Sound.{IsSound, no_unread_image, no_unread_harts, no_unread_config, kept, prints_kept, status_says, zero_says}
 
 -- Sizes of a core aren't refused, nor are its harts too few or too many for the plain machine.
 never_refused : (settings : Settings) → AreAccepted settings → AreRefused settings → ⊥
@@ -49,6 +49,7 @@ of_step : (step : StepCommand) (settings : Settings) (program : ProgramImage) (s
     → IsSound (commands.Step step) settings program second
 of_step step settings program (Ok script) = record {
   no_image = λ number is. is;
+  no_harts = λ is. is;
   unfit = λ accepted is. never_refused settings accepted is;
   output = λ Traced old new status is. (is.accepted, is.is_asking);
   flushed = λ Traced old mid new status flushed is. record {
@@ -66,6 +67,7 @@ of_step step settings program (Ok script) = record {
 }
 of_step step settings program (Err why) = record {
   no_image = λ number is. no_unread_image number why is;
+  no_harts = λ is. no_unread_harts why is;
   unfit = λ accepted is. no_unread_config why is;
   output = λ Traced old new status is. absurd is;
   flushed = λ Traced old mid new status flushed is. absurd is;
@@ -127,6 +129,7 @@ of_run : (run : RunCommand) (settings : Settings) (program : ProgramImage) (seco
     → IsSound (commands.Run run) settings program second
 of_run run settings program second = record {
   no_image = λ number is. is;
+  no_harts = λ is. is;
   unfit = λ accepted is. elim is [
     | inl refused ↦ absurd (never_refused settings accepted refused)
     | inr lacks ↦ lacks.1
@@ -141,6 +144,9 @@ of_run run settings program second = record {
 image_is_told : (number : ℕ) → Image number ≡ Output → ⊥
 image_is_told number same = cc
 
+harts_is_told : Harts ≡ Output → ⊥
+harts_is_told same = cc
+
 config_is_told : Config ≡ Output → ⊥
 config_is_told same = cc
 
@@ -149,6 +155,10 @@ of_check : (check : CheckCommand) (settings : Settings) (program : ProgramImage)
 of_check check settings program (Ok trace) = record {
   no_image = λ number is. elim is [
     | inl told ↦ absurd (image_is_told number told.1)
+    | inr refused ↦ refused
+  ];
+  no_harts = λ is. elim is [
+    | inl told ↦ absurd (harts_is_told told.1)
     | inr refused ↦ refused
   ];
   unfit = λ accepted is. elim is [
@@ -181,6 +191,7 @@ of_check check settings program (Ok trace) = record {
 }
 of_check check settings program (Err why) = record {
   no_image = λ number is. no_unread_image number why is;
+  no_harts = λ is. no_unread_harts why is;
   unfit = λ accepted is. no_unread_config why is;
   output = λ Traced old new status is. absurd is;
   flushed = λ Traced old mid new status flushed is. absurd is;
@@ -191,6 +202,7 @@ of_plain : (plain : PlainCommand) (settings : Settings) (program : ProgramImage)
     → IsSound (commands.Plain plain) settings program second
 of_plain plain settings program (Ok order) = record {
   no_image = λ number is. from_rounds (rounds_of plain) _ _ ⊥ (λ rounds of. of) (λ of. of) is;
+  no_harts = λ is. from_rounds (rounds_of plain) _ _ ⊥ (λ rounds of. of) (λ of. of) is;
   unfit = λ accepted is.
       from_rounds (rounds_of plain) _ _ ⊥ (λ rounds of. never_without_harts settings accepted of)
       (λ of. never_without_harts settings accepted of.1) is;
@@ -223,6 +235,8 @@ of_plain plain settings program (Ok order) = record {
 of_plain plain settings program (Err why) = record {
   no_image = λ number is.
       from_rounds (rounds_of plain) _ _ ⊥ (λ rounds of. of) (λ of. no_unread_image number why of) is;
+  no_harts = λ is.
+      from_rounds (rounds_of plain) _ _ ⊥ (λ rounds of. of) (λ of. no_unread_harts why of) is;
   unfit = λ accepted is.
       from_rounds (rounds_of plain) _ _ ⊥ (λ rounds of. never_without_harts settings accepted of)
       (λ of. no_unread_config why of) is;
@@ -250,6 +264,7 @@ of_schedule : (schedule : ScheduleCommand) (settings : Settings) (program : Prog
     → IsSound (commands.Schedule schedule) settings program second
 of_schedule schedule settings program (Ok order) = record {
   no_image = λ number is. is;
+  no_harts = λ is. is;
   unfit = λ accepted is. never_refused settings accepted (λ image. is.2);
   output = λ Traced old new status is. (is.printed.0, is.printed.1);
   flushed = λ Traced old mid new status flushed is.
@@ -258,6 +273,7 @@ of_schedule schedule settings program (Ok order) = record {
 }
 of_schedule schedule settings program (Err why) = record {
   no_image = λ number is. no_unread_image number why is;
+  no_harts = λ is. no_unread_harts why is;
   unfit = λ accepted is. no_unread_config why is;
   output = λ Traced old new status is. absurd is;
   flushed = λ Traced old mid new status flushed is. absurd is;
@@ -268,6 +284,7 @@ of_script : (script : ScriptCommand) (settings : Settings) (program : ProgramIma
     → IsSound (commands.Script script) settings program second
 of_script script settings program (Ok trace) = record {
   no_image = λ number is. is;
+  no_harts = λ is. is;
   unfit = λ accepted is. is;
   output = λ Traced old new status is. (is.printed.0, is.printed.1);
   flushed = λ Traced old mid new status flushed is.
@@ -276,6 +293,7 @@ of_script script settings program (Ok trace) = record {
 }
 of_script script settings program (Err why) = record {
   no_image = λ number is. no_unread_image number why is;
+  no_harts = λ is. no_unread_harts why is;
   unfit = λ accepted is. no_unread_config why is;
   output = λ Traced old new status is. absurd is;
   flushed = λ Traced old mid new status flushed is. absurd is;
@@ -286,6 +304,7 @@ of_list : (list : ListCommand) (settings : Settings) (program : ProgramImage) (s
     → IsSound (commands.List list) settings program second
 of_list list settings program second = record {
   no_image = λ number is. is;
+  no_harts = λ is. is;
   unfit = λ accepted is. is;
   output = λ Traced old new status is. tt;
   flushed = λ Traced old mid new status flushed is.
@@ -297,6 +316,7 @@ of_chart : (chart : ChartCommand) (settings : Settings) (program : ProgramImage)
     → IsSound (commands.Chart chart) settings program second
 of_chart chart settings program (Ok trace) = record {
   no_image = λ number is. is;
+  no_harts = λ is. is;
   unfit = λ accepted is. is;
   output = λ Traced old new status is. (is.history.0, is.history.1, is.history.2.0);
   flushed = λ Traced old mid new status flushed is. is;
@@ -304,6 +324,7 @@ of_chart chart settings program (Ok trace) = record {
 }
 of_chart chart settings program (Err why) = record {
   no_image = λ number is. no_unread_image number why is;
+  no_harts = λ is. no_unread_harts why is;
   unfit = λ accepted is. no_unread_config why is;
   output = λ Traced old new status is. absurd is;
   flushed = λ Traced old mid new status flushed is. absurd is;
@@ -314,6 +335,7 @@ of_outcomes : (outcomes : OutcomesCommand) (settings : Settings) (program : Prog
     → IsSound (commands.Outcomes outcomes) settings program second
 of_outcomes outcomes settings program second = record {
   no_image = λ number is. is;
+  no_harts = λ is. is;
   unfit = λ accepted is. elim is [
     | inl few ↦ absurd (never_without_harts settings accepted few)
     | inr lacks ↦ absurd (true≢false (sym (accepted program) ∙ lacks.2))

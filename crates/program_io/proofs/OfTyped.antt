@@ -42,7 +42,7 @@ pub typed_performed : (at_terminal : Bool) (line : Line) (step : StepCommand) (s
     → typed_step at_terminal line.command ≡ Some step
     → IsReadAs (files_of line).config config → IsReadAs (files_of line).program image
     → (says_harts status ≡ false → (reason : Refused) × (exit_status_of reason ≡ status)
-    × IsRefusal (commands.OfProgram (program.Step step)) config image (Ok []) reason)
+    × IsRefusal line.harts (commands.OfProgram (program.Step step)) config image (Ok []) reason)
     → HasPerformed at_terminal line status
 typed_performed at_terminal line step status config image typed has_config has_program refused = record {
   config = config;
@@ -54,7 +54,7 @@ typed_performed at_terminal line step status config image typed has_config has_p
   refused = λ none.
       let why = refused none in
       let same = typed_command at_terminal line.command step typed in
-      (why.0, why.1, subst (λ c. IsRefusal c config image (uncommented_for c (Ok [])) why.0) (sym same) why.2);
+      (why.0, why.1, subst (λ c. IsRefusal line.harts c config image (uncommented_for c (Ok [])) why.0) (sym same) why.2);
 }
 
 -- Where no script is typed, a line is performed with all its files as they were read, a script or an order without
@@ -64,7 +64,7 @@ pub read_performed : (at_terminal : Bool) (line : Line) (typed : Option StepComm
     → IsReadAs (files_of line).config config → IsReadAs (files_of line).program image
     → IsReadAs (files_of line).second second → text ≡ uncommented_for line.command second
     → (says_harts status ≡ false → (reason : Refused) × (exit_status_of reason ≡ status)
-    × IsRefusal line.command config image text reason)
+    × IsRefusal line.harts line.command config image text reason)
     → HasPerformed at_terminal line status
 read_performed at_terminal line typed status config image second text found none has_config has_program has_second blanked refused =
     record {
@@ -76,5 +76,5 @@ read_performed at_terminal line typed status config image second text found none
       has_second = rw (sym found ∙ none) has_second;
       refused = λ harts.
           let why = refused harts in
-          (why.0, why.1, subst (λ (r : Read). IsRefusal line.command config image r why.0) blanked why.2);
+          (why.0, why.1, subst (λ (r : Read). IsRefusal line.harts line.command config image r why.0) blanked why.2);
     }

@@ -13,7 +13,7 @@ pub returns-in-Ok : goal.returns-in-Ok
 returns-in-Ok g c =
     let has = c.in-Ok.ensures in
     let inputs = c.args.inputs.now in
-    let says = typed_says g.P.Predict.predicts c.args.context.now.predict (as_read inputs.config) (as_read inputs.program) _
+    let says = typed_says g.P.Predict.predicts c.args.context.now.predict c.args.harts (as_read inputs.config) (as_read inputs.program) _
     (step_wants c.args.step.now) _ _ _ _ has.ended in
     record {
       known = inl says;
