@@ -24,8 +24,8 @@ impl Settings {
     /// These settings, with so many harts in place of their own where that is given. A core that may be made of these
     /// may be made of those.
     pub fn with_harts(self, harts: Option<HartCount>) -> Settings
-        ensures value { result ≡ with_harts harts self.entry }
-        ensures in_range { AreInRange self.entry → AreInRange result }
+        ensures value { result ≡ with_harts harts self }
+        ensures in_range { AreInRange self → AreInRange result }
     {
         let mut settings = self;
         if let Some(harts) = harts {
