@@ -1,7 +1,7 @@
 """What the program prints and how it ends, for the words of a command line, as
 docs/FORMATS.md says it.
 
-    python3 tools/expected/program.py step IMAGE SCRIPT [--config FILE] [--records] [--show] [--looks]
+    python3 tools/expected/program.py step IMAGE SCRIPT [--config FILE] [--harts N] [--records] [--show] [--looks]
     python3 tools/expected/program.py plain IMAGE ORDER [--config FILE] [--records]
     python3 tools/expected/program.py plain IMAGE --rounds K [--steps N] [--seed S] [--config FILE] [--records]
     python3 tools/expected/program.py list IMAGE [--config FILE]
@@ -220,6 +220,7 @@ def bare_run(words):
         if config is None:
             raise Refused("file", 5)
         settings = inputs.read_config(config)
+        settings["harts"] = line["harts"] or settings["harts"]
         made = loaded(line["files"][0], settings)
         if line["command"] == "explain":
             return *explained(line, settings, made), None

@@ -8,7 +8,7 @@ use Rattle.core_state.specs.Setup.{setup_of}
 use Rattle.smt_model.specs.Setup.{is_accepted}
 use Rattle.sim_inputs.specs.{declared.settings.Settings.Settings}
 use Rattle.command_parts.specs.{declared.refused.Refused.Refused, declared.refused.Unread.Unread}
-use Rattle.command_parts.specs.declared.refused.Refused.TheVariants.{Image, Config, Script, Order}
+use Rattle.command_parts.specs.declared.refused.Refused.TheVariants.{Image, Config, Harts, Script, Order}
 use Rattle.command_parts.specs.declared.refused.Refused.TheVariants.{Step, Trace, Version, Event, Prediction}
 use Rattle.command_parts.specs.declared.refused.Refused.TheVariants.{Register, NoUnit, Limit, NoHart}
 use Rattle.command_parts.specs.declared.refused.Refused.TheVariants.{Picture, Memory, Thread, File, Output}
@@ -22,6 +22,7 @@ use Rattle.command_parts.specs.declared.refused.Unread.TheVariants as unread
 abbrev pub exit_status_of : Refused → ℕ
 exit_status_of (Image number) = 2
 exit_status_of Config = 2
+exit_status_of Harts = 2
 exit_status_of (Script number) = 2
 exit_status_of (Order index) = 2
 exit_status_of (Step index why) = 2

@@ -23,6 +23,9 @@ pub enum Refused {
     /// The configuration isn't one of a core.
     #[error("config refused")]
     Config,
+    /// Harts were asked for of a core that its trace names itself.
+    #[error("harts refused")]
+    Harts,
     /// This word of the script, from 1, is the first that says nothing.
     #[error("script word {0} refused")]
     Script(usize),
@@ -125,7 +128,7 @@ impl Refused {
         ensures apart { says_harts result ≡ false }
     {
         match self {
-            Refused::Image(_) | Refused::Config => 2,
+            Refused::Image(_) | Refused::Config | Refused::Harts => 2,
             Refused::Script(_) | Refused::Order(_) | Refused::Step { .. } => 2,
             Refused::NoUnit(_) | Refused::Limit(_) => 2,
             Refused::NoHart(_) | Refused::Picture(_) => 2,

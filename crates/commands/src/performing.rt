@@ -1,30 +1,29 @@
 //! All that the program does with a line once its files are read.
 
-ghost use Rattle.std.specs.Prelude.{◌≡◌, ◌⊎◌, IsTrue, IfOk, IfErr, OnOk, Ok, Err, is_some, true, false};
-ghost use Rattle.std.specs.Prelude.{Some, IsSomeAnd};
+ghost use Rattle.std.specs.Prelude.{◌≡◌, ◌⊎◌, IsTrue, IfOk, IfErr, OnOk, Err, is_some, true, false};
+ghost use Rattle.std.specs.Prelude.{IsSomeAnd};
 ghost use Rattle.command_parts.specs.declared.refused.Refused.TheVariants.{Output};
 ghost use Rattle.report_lines.specs.Statuses.{says_harts};
 ghost use Rattle.command_parts.specs.declared.refused.Refused.{Refused as AnyRefused};
 ghost use Rattle.command_parts.specs.Refused.{exit_status_of, refusal_of};
 ghost use Rattle.sim_inputs.specs.Files.{written_for_test};
-ghost use Rattle.command_parts.specs.Inputs.{as_read, OfProgram};
+ghost use Rattle.command_parts.specs.Inputs.{as_read};
 ghost use Rattle.symbols.specs.Tables.{table_of};
 ghost use Rattle.address_labels.specs.Labels.{lines_in};
 ghost use Rattle.commands.specs.Commands.{IsProgramUnreported, program_writes_file};
 ghost use Rattle.commands.specs.Perform.{IsRefusal, LineComesTo, IsLeft, IsUnreported, writes_file};
 ghost use Rattle.commands.specs.Perform.{IsProgramRefusal, ProgramComesTo, IsPerformed};
-ghost use Rattle.commands.specs.Perform.{IsExplainLineRefusal, ExplainLineComesTo, HasToldBeside};
 ghost use Rattle.commands.specs.Perform.{IsLitmusLineRefusal, LitmusLineComesTo};
 ghost use Rattle.commands.specs.Perform.{IsMigrateLineRefusal, MigrationComesTo};
 ghost use Rattle.event_text.specs.Sinking.{HasPut};
 ghost use Rattle.commands.specs.Written.{IsWritten};
 
 use crate::about::About;
-use crate::explain::perform_explain;
-use crate::explain_beside::tell_beside;
+use crate::explain_line::read_and_explain;
 use crate::list::perform_list;
 use crate::naming::{names_where, wants_names};
 use crate::runs::perform_runs;
+use crate::two_cores::are_two_cores;
 use actors::Gate;
 use command_parts::{Context, Inputs, Refused, Unread, image_of, lines_where, refuse, settings_of};
 use core_commands::{
@@ -34,7 +33,7 @@ use elf_image::Image;
 use plain_commands::{
     perform_litmus, perform_outcomes, perform_plain, perform_rounds, perform_schedule, rounds_of,
 };
-use sim_inputs::{Beside, Command, ExplainCommand, Line, LitmusCommand, ProgramCommand, Settings};
+use sim_inputs::{Command, HartCount, Line, LitmusCommand, ProgramCommand, Settings};
 use smt_core::Predict;
 use std::alloc::Global;
 use std::io::Write;
@@ -45,10 +44,10 @@ use stress_runs::EndFiles;
 /// Does all that the program does once its files are read, and answers its exit status: how the harts
 /// stand, 0 for a listing, a schedule, a script, a chart, a litmus test and a migration, 2 for a refused
 /// input, 4 for a refused trace, 5 where memory, a thread or a file failed. A refusal is one line on `err`.
-/// The configuration is looked at first, then the image, the lines of its sources, and then the script, the order or the
-/// trace; a file
-/// that couldn't be read is refused where it is looked at. All that is printed is flushed. The context keeps
-/// why the line was refused, if it was.
+/// The configuration is looked at first, then the image, then of a trace whether it names its core beside harts of the
+/// line, then the lines of the image's sources, and then the script, the order or the trace; a file that couldn't be
+/// read is refused where it is looked at. All that is printed is flushed. The context keeps why the line was refused,
+/// if it was.
 ///
 /// The trace of a core goes into `files`, a sink that hasn't failed, where the line names a file for it:
 /// behind the last ask, and before the tables and the report, and its file is finished. Where the sink fails,
@@ -69,14 +68,14 @@ pub fn perform<
     ensures known { IsTrue (says_harts result) ⊎ (result ≡ 2) ⊎ (result ≡ 4) ⊎ (result ≡ 5) }
     ensures unset { IfErr inputs.now.config (λ why. result ≡ 5) }
     ensures refused { says_harts result ≡ false → (reason : AnyRefused)
-        × (exit_status_of reason ≡ result) × IsRefusal line.now.command
+        × (exit_status_of reason ≡ result) × IsRefusal line.now.harts line.now.command
         (as_read inputs.now.config) (as_read inputs.now.program) (as_read inputs.now.second) (as_read inputs.now.lines) reason }
-    ensures ended { IsTrue (says_harts result) → LineComesTo line.now.command
+    ensures ended { IsTrue (says_harts result) → LineComesTo line.now.harts line.now.command
         (as_read inputs.now.config) (as_read inputs.now.program) (as_read inputs.now.second) (as_read inputs.now.lines)
         (IsWritten S.begins S.written S.has_failed context.old.files context.new.files) (W.contents context.old.out)
         (W.contents context.new.out) result }
     ensures left { says_harts result ≡ false → (reason : AnyRefused)
-        × (exit_status_of reason ≡ result) × IsRefusal line.now.command (as_read inputs.now.config)
+        × (exit_status_of reason ≡ result) × IsRefusal line.now.harts line.now.command (as_read inputs.now.config)
         (as_read inputs.now.program) (as_read inputs.now.second) (as_read inputs.now.lines) reason
         × IsLeft line.now.command context.old.files context.new.files reason }
     ensures finished { IsTrue (says_harts result) → S.is_finished context.new.files ≡ true }
@@ -118,9 +117,9 @@ fn perform_line<
     requires works { S.has_failed context.old.files ≡ false }
     requires finished { S.is_finished context.old.files ≡ true }
     ensures unset { IfErr inputs.now.config (λ why. result ≡ Err (refusal_of why)) }
-    ensures refused { IfErr result (IsRefusal line.now.command (as_read inputs.now.config)
+    ensures refused { IfErr result (IsRefusal line.now.harts line.now.command (as_read inputs.now.config)
         (as_read inputs.now.program) (as_read inputs.now.second) (as_read inputs.now.lines)) }
-    ensures ended { IfOk result (LineComesTo line.now.command (as_read inputs.now.config)
+    ensures ended { IfOk result (LineComesTo line.now.harts line.now.command (as_read inputs.now.config)
         (as_read inputs.now.program) (as_read inputs.now.second) (as_read inputs.now.lines)
         (IsWritten S.begins S.written S.has_failed context.old.files context.new.files) (W.contents context.old.out)
         (W.contents context.new.out)) }
@@ -132,9 +131,10 @@ fn perform_line<
 {
     let alloc = context.alloc;
     match &line.command {
-        Command::OfProgram(command) => read_and_perform(context, command, inputs),
+        Command::OfProgram(command) => read_and_perform(context, command, line.harts, inputs),
         Command::Explain(explain) => read_and_explain(
             explain,
+            line.harts,
             inputs,
             &mut context.predict,
             &mut context.out,
@@ -149,61 +149,6 @@ fn perform_line<
             alloc,
         ),
         Command::Migrate(_) => read_and_migrate(inputs, &mut context.files, alloc),
-    }
-}
-
-/// The exit status of a line that explains its files, with all flushed that it prints of them. Configuration and
-/// image are taken before they are refused. What is explained beside them is looked at where both are accepted.
-fn read_and_explain<P: Predict, W: Write>(
-    explain: &ExplainCommand<'_>,
-    inputs: &Inputs<'_>,
-    predict: &mut P,
-    out: &mut W,
-    alloc: Global,
-) -> Result<u8, Refused>
-    ensures unset { IfErr inputs.now.config (λ why. result ≡ Err (refusal_of why)) }
-    ensures refused { IfErr result (IsExplainLineRefusal explain.now.beside (as_read inputs.now.config)
-        (as_read inputs.now.program) (as_read inputs.now.second)) }
-    ensures ended { IfOk result (ExplainLineComesTo explain.now.beside (as_read inputs.now.config)
-        (as_read inputs.now.program) (as_read inputs.now.second) (W.contents out.old) (W.contents out.new)) }
-{
-    let text = inputs.config?;
-    // Handed on as it is: a `?` would leave the prover to find what the refusal becomes.
-    let status = match perform_explain(text, inputs.program, out, alloc) {
-        Ok(status) => status,
-        Err(refused) => return Err(refused),
-    };
-    match explain.beside {
-        None => Ok(status),
-        Some(beside) => {
-            read_and_tell(beside, text, inputs, predict, out, alloc)?;
-            Ok(status)
-        }
-    }
-}
-
-/// Says what there is to say of the text beside an image and the text of a configuration.
-fn read_and_tell<P: Predict, W: Write>(
-    beside: Beside<'_>,
-    config: &[u8],
-    inputs: &Inputs<'_>,
-    predict: &mut P,
-    out: &mut W,
-    alloc: Global,
-) -> Result<(), Refused>
-    ensures refused { IfErr result (IsExplainLineRefusal (Some beside.entry) (Ok config.now)
-        (as_read inputs.now.program) (as_read inputs.now.second)) }
-    ensures told { OnOk result (OfProgram (Ok config.now) (as_read inputs.now.program)
-        (λ settings program. HasToldBeside (Some beside.entry) settings program (as_read inputs.now.second)
-        (W.contents out.old) (W.contents out.new))) }
-{
-    let settings = settings_of(config, alloc)?;
-    let bytes = inputs.program?;
-    let image = image_of(bytes, settings.ram, alloc)?;
-    let text = inputs.second?;
-    match tell_beside(beside, text, &settings, &image, predict, out, alloc) {
-        Ok(()) => Ok(()),
-        Err(refused) => Err(refused),
     }
 }
 
@@ -276,14 +221,15 @@ fn read_and_perform<
 >(
     context: &mut Context<'_, R, G, P, S, W>,
     command: &ProgramCommand<'_>,
+    harts: Option<HartCount>,
     inputs: &Inputs<'_>,
 ) -> Result<u8, Refused>
     requires works { S.has_failed context.old.files ≡ false }
     requires finished { S.is_finished context.old.files ≡ true }
     ensures unset { IfErr inputs.now.config (λ why. result ≡ Err (refusal_of why)) }
-    ensures refused { IfErr result (IsProgramRefusal command.now (as_read inputs.now.config)
+    ensures refused { IfErr result (IsProgramRefusal harts command.now (as_read inputs.now.config)
         (as_read inputs.now.program) (as_read inputs.now.second) (as_read inputs.now.lines)) }
-    ensures ended { IfOk result (ProgramComesTo command.now (as_read inputs.now.config)
+    ensures ended { IfOk result (ProgramComesTo harts command.now (as_read inputs.now.config)
         (as_read inputs.now.program) (as_read inputs.now.second) (as_read inputs.now.lines)
         (IsWritten S.begins S.written S.has_failed context.old.files context.new.files) (W.contents context.old.out)
         (W.contents context.new.out)) }
@@ -293,9 +239,13 @@ fn read_and_perform<
         (as_read inputs.now.second) (W.contents context.old.out) (W.contents context.new.out) }
 {
     let config = inputs.config?;
-    let settings = settings_of(config, context.alloc)?;
+    let own = settings_of(config, context.alloc)?;
     let file = inputs.program?;
-    let image = image_of(file, settings.ram, context.alloc)?;
+    let image = image_of(file, own.ram, context.alloc)?;
+    let settings = own.with_harts(harts);
+    if command.reads_trace() && are_two_cores(harts, inputs.second) {
+        return Err(Refused::Harts);
+    }
     let names = names_where(wants_names(command), file, context.alloc)?;
     let wants_lines = command.lines().is_some();
     let lines = lines_where(wants_lines, inputs.lines, &image, context.alloc)?;

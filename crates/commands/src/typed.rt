@@ -18,17 +18,18 @@ use crate::performing::refuse_line;
 use address_labels::Labels;
 use command_parts::{Context, Inputs, Refused, image_of, lines_where, settings_of};
 use core_commands::{Wanted, perform_prompt};
-use sim_inputs::StepCommand;
+use sim_inputs::{HartCount, StepCommand};
 use smt_core::Predict;
 use std::io::{BufRead, Write};
 use stress_runs::EndFiles;
 
 /// Does all that the program does with a line of `step` whose script is typed, once its other files
-/// are read: as `perform` does, but each line of `reader` is asked as it comes. It is refused as an
-/// empty script is.
+/// are read, with so many harts where that is given: as `perform` does, but each line of `reader` is asked as it comes.
+/// It is refused as an empty script is.
 pub fn perform_typed<R, G, P: Predict + Copy, B: BufRead, S: EndFiles, W: Write, E: Write>(
     context: &mut Context<'_, R, G, P, S, W>,
     step: &StepCommand<'_>,
+    harts: Option<HartCount>,
     inputs: &Inputs<'_>,
     reader: &mut B,
     err: &mut E,
@@ -40,9 +41,9 @@ pub fn perform_typed<R, G, P: Predict + Copy, B: BufRead, S: EndFiles, W: Write,
     ensures known { IsTrue (says_harts result) ⊎ (result ≡ 2) ⊎ (result ≡ 4) ⊎ (result ≡ 5) }
     ensures unset { IfErr inputs.now.config (λ why. result ≡ 5) }
     ensures refused { says_harts result ≡ false → (reason : AnyRefused)
-        × (exit_status_of reason ≡ result) × IsRefusal (OfProgram (Step step.now))
+        × (exit_status_of reason ≡ result) × IsRefusal harts (OfProgram (Step step.now))
         (as_read inputs.now.config) (as_read inputs.now.program) (Ok []) (as_read inputs.now.lines) reason }
-    ensures ended { IsTrue (says_harts result) → TypedComesTo P.predicts context.old.predict step.now
+    ensures ended { IsTrue (says_harts result) → TypedComesTo P.predicts context.old.predict harts step.now
         (as_read inputs.now.config) (as_read inputs.now.program) (as_read inputs.now.lines) (B.remaining reader.old)
         (step_wants step.now)
         (IsTraceWritten S.written S.has_failed context.old.files context.new.files (is_some step.now.trace))
@@ -50,7 +51,7 @@ pub fn perform_typed<R, G, P: Predict + Copy, B: BufRead, S: EndFiles, W: Write,
     ensures finished { IsTrue (says_harts result) → S.is_finished context.new.files ≡ true }
     ensures unwanted { is_some step.now.trace ≡ false → context.new.files ≡ context.old.files }
 {
-    match read_and_prompt(context, step, inputs, reader) {
+    match read_and_prompt(context, step, harts, inputs, reader) {
         Ok(status) => status,
         Err(refused) => refuse_line(refused, context, err),
     }
@@ -60,15 +61,16 @@ pub fn perform_typed<R, G, P: Predict + Copy, B: BufRead, S: EndFiles, W: Write,
 fn read_and_prompt<R, G, P: Predict + Copy, B: BufRead, S: EndFiles, W: Write>(
     context: &mut Context<'_, R, G, P, S, W>,
     step: &StepCommand<'_>,
+    harts: Option<HartCount>,
     inputs: &Inputs<'_>,
     reader: &mut B,
 ) -> Result<u8, Refused>
     requires works { S.has_failed context.old.files ≡ false }
     requires finished { S.is_finished context.old.files ≡ true }
     ensures unset { IfErr inputs.now.config (λ why. result ≡ Err (refusal_of why)) }
-    ensures refused { IfErr result (IsRefusal (OfProgram (Step step.now)) (as_read inputs.now.config)
+    ensures refused { IfErr result (IsRefusal harts (OfProgram (Step step.now)) (as_read inputs.now.config)
         (as_read inputs.now.program) (Ok []) (as_read inputs.now.lines)) }
-    ensures ended { IfOk result (TypedComesTo P.predicts context.old.predict step.now (as_read inputs.now.config)
+    ensures ended { IfOk result (TypedComesTo P.predicts context.old.predict harts step.now (as_read inputs.now.config)
         (as_read inputs.now.program) (as_read inputs.now.lines) (B.remaining reader.old) (step_wants step.now)
         (IsTraceWritten S.written S.has_failed context.old.files context.new.files (is_some step.now.trace))
         (W.contents context.old.out) (W.contents context.new.out)) }
@@ -76,9 +78,10 @@ fn read_and_prompt<R, G, P: Predict + Copy, B: BufRead, S: EndFiles, W: Write>(
     ensures unwanted { is_some step.now.trace ≡ false → context.new.files ≡ context.old.files }
 {
     let config = inputs.config?;
-    let settings = settings_of(config, context.alloc)?;
+    let own = settings_of(config, context.alloc)?;
     let file = inputs.program?;
-    let image = image_of(file, settings.ram, context.alloc)?;
+    let image = image_of(file, own.ram, context.alloc)?;
+    let settings = own.with_harts(harts);
     let names = names_where(step.names, file, context.alloc)?;
     let lines = lines_where(step.lines.is_some(), inputs.lines, &image, context.alloc)?;
     let labels = Labels {

@@ -29,6 +29,10 @@ Gives head events result =
 abbrev pub IsNewest : List ℕ → Type 0
 IsNewest text = field 10 text ≡ later_header Third
 
+-- the first line of the text names a version whose traces say of what core they are, whether or not a newline ends it
+abbrev pub NamesCore : List ℕ → Type 0
+NamesCore text = (version : LaterVersion) × (field 10 text ≡ later_header version)
+
 -- it is a trace, which says of its core or not
 pub record IsTelling (text : List ℕ) (told : Bool) : Type 0 where
   pub head : TraceHead

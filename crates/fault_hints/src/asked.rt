@@ -3,7 +3,7 @@
 use crate::inside_text::add_line;
 use crate::line_fault::LineFault;
 use crate::named::add_named;
-use crate::named_files::{add_config, add_program};
+use crate::named_files::{add_config, add_program, add_second};
 use crate::order_words::add_harts;
 use elf_image::RAM_START;
 use hints::{Hint, Part};
@@ -65,6 +65,20 @@ pub(crate) fn add_hart(
         return add_harts(fault, hint, alloc);
     }
     hint.add(Part::Cause, b"the core of the trace has no such hart")
+}
+
+/// Adds that harts were asked for of a core that the trace names itself.
+pub(crate) fn add_two_cores(
+    fault: &LineFault<'_>,
+    hint: &mut Hint,
+    alloc: Global,
+) -> Result<(), AllocError> {
+    add_second(fault, hint, alloc)?;
+    hint.add(Part::Cause, b"the trace names its core, with its harts")?;
+    hint.add(
+        Part::Expected,
+        b"no --harts beside a trace of version 2 or 3",
+    )
 }
 
 /// Adds that a picture would have too many instructions.

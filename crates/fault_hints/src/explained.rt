@@ -19,7 +19,7 @@ pub(crate) fn add_config_fault(
     let Ok(text) = fault.inputs.config else {
         return Ok(());
     };
-    let said = explain_config(text, alloc)?;
+    let said = explain_config(text, fault.line.harts, alloc)?;
     if said.settings.is_some() {
         return add_unfit_config(fault, hint, alloc);
     }

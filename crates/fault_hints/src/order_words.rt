@@ -49,15 +49,21 @@ pub(crate) fn add_harts(
     alloc: Global,
 ) -> Result<(), AllocError> {
     hint.add(Part::Cause, b"there is no such hart")?;
+    if let Some(harts) = fault.line.harts {
+        let count = harts.count();
+        let expected = format!(in alloc; "a number below {count}, as --harts says")?;
+        return hint.add(Part::Expected, expected.as_bytes());
+    }
     let Ok(text) = fault.inputs.config else {
         return Ok(());
     };
     let Ok(settings) = read_config(text, alloc) else {
         return Ok(());
     };
-    let harts = settings.config.harts;
-    let expected = format!(in alloc; "a number below {harts}, the harts of the configuration")?;
-    hint.add(Part::Expected, expected.as_bytes())
+    let count = settings.config.harts;
+    let expected = format!(in alloc; "a number below {count}, the harts of the configuration")?;
+    hint.add(Part::Expected, expected.as_bytes())?;
+    hint.add(Part::Usually, b"too few harts: --harts N makes more")
 }
 
 /// Adds the order and a word of it, and answers the word.

@@ -2,7 +2,7 @@
 
 use crate::asked::{
     add_absent_outcome, add_absent_word, add_condition, add_hart, add_limit, add_litmus,
-    add_picture, add_unit, add_watch,
+    add_picture, add_two_cores, add_unit, add_watch,
 };
 use crate::chart_names::{
     add_never_fetched, add_nothing_named, add_several_named, add_source_line, add_turned,
@@ -75,6 +75,7 @@ fn add_asked_fault(
         Refused::NoUnit(kind) => add_unit(kind, fault, hint, alloc),
         Refused::Limit(least) => add_limit(least, fault, hint, alloc),
         Refused::NoHart(hart) => add_hart(hart, fault, hint, alloc),
+        Refused::Harts => add_two_cores(fault, hint, alloc),
         Refused::Picture(last) => add_picture(last, hint, alloc),
         Refused::Lines { line, fault: why } => add_source_line(line, why, fault, hint, alloc),
         Refused::NamesNothing(option) => add_nothing_named(option, fault, hint, alloc),

@@ -27,6 +27,7 @@ module _ (settings : Settings) (image : ProgramImage) (names : Table) (command :
       → IsOutcomesRefusal settings image names command why
   search_refused (reason.Image number) is = absurd is
   search_refused reason.Config is = inl is
+  search_refused reason.Harts is = absurd is
   search_refused (reason.Script number) is = absurd is
   search_refused (reason.Order index) is = absurd is
   search_refused (reason.Step index stopped) is = absurd is
@@ -48,6 +49,11 @@ module _ (settings : Settings) (image : ProgramImage) (names : Table) (command :
     is = is.3;
     absent = is.2;
   })
+  search_refused (reason.Lines number fault) is = absurd is
+  search_refused (reason.NamesNothing option) is = absurd is
+  search_refused (reason.NamesSeveral option) is = absurd is
+  search_refused (reason.NeverFetched option) is = absurd is
+  search_refused (reason.Turned from to) is = absurd is
   search_refused (reason.Picture last) is = absurd is
   search_refused (reason.Watch why) is = absurd is
   search_refused (reason.Condition why) is = absurd is
@@ -69,6 +75,7 @@ pub hart_refused : (settings : Settings) (image : ProgramImage) (names : Table) 
     → IsOutcomesRefusal settings image names command why
 hart_refused settings image names command terms condition (reason.Image number) is = absurd is
 hart_refused settings image names command terms condition reason.Config is = absurd is
+hart_refused settings image names command terms condition reason.Harts is = absurd is
 hart_refused settings image names command terms condition (reason.Script number) is = absurd is
 hart_refused settings image names command terms condition (reason.Order index) is = absurd is
 hart_refused settings image names command terms condition (reason.Step index stopped) is = absurd is
@@ -81,6 +88,11 @@ hart_refused settings image names command terms condition (reason.NoUnit kind) i
 hart_refused settings image names command terms condition (reason.Limit least) is = absurd is
 hart_refused settings image names command terms condition (reason.NoHart hart) is =
     inl (record { terms = terms; condition = condition; first = is })
+hart_refused settings image names command terms condition (reason.Lines number fault) is = absurd is
+hart_refused settings image names command terms condition (reason.NamesNothing option) is = absurd is
+hart_refused settings image names command terms condition (reason.NamesSeveral option) is = absurd is
+hart_refused settings image names command terms condition (reason.NeverFetched option) is = absurd is
+hart_refused settings image names command terms condition (reason.Turned from to) is = absurd is
 hart_refused settings image names command terms condition (reason.Picture last) is = absurd is
 hart_refused settings image names command terms condition (reason.Watch why) is = absurd is
 hart_refused settings image names command terms condition (reason.Condition why) is = absurd is

@@ -43,7 +43,7 @@ pub typed_performed : (at_terminal : Bool) (line : Line) (step : StepCommand) (s
     → IsReadAs (files_of line).config config → IsReadAs (files_of line).program image
     → IsReadAs (files_of line).lines lines
     → (says_harts status ≡ false → (reason : Refused) × (exit_status_of reason ≡ status)
-    × IsRefusal (commands.OfProgram (program.Step step)) config image (Ok []) lines reason)
+    × IsRefusal line.harts (commands.OfProgram (program.Step step)) config image (Ok []) lines reason)
     → HasPerformed at_terminal line status
 typed_performed at_terminal line step status config image lines typed has_config has_program has_lines refused = record {
   config = config;
@@ -57,7 +57,7 @@ typed_performed at_terminal line step status config image lines typed has_config
   refused = λ none.
       let why = refused none in
       let same = typed_command at_terminal line.command step typed in
-      (why.0, why.1, subst (λ c. IsRefusal c config image (uncommented_for c (Ok [])) lines why.0) (sym same) why.2);
+      (why.0, why.1, subst (λ c. IsRefusal line.harts c config image (uncommented_for c (Ok [])) lines why.0) (sym same) why.2);
 }
 
 -- Where no script is typed, a line is performed with all its files as they were read, a script or an order without
@@ -67,7 +67,7 @@ pub read_performed : (at_terminal : Bool) (line : Line) (typed : Option StepComm
     → IsReadAs (files_of line).config config → IsReadAs (files_of line).program image
     → IsReadAs (files_of line).second second → IsReadAs (files_of line).lines lines → text ≡ uncommented_for line.command second
     → (says_harts status ≡ false → (reason : Refused) × (exit_status_of reason ≡ status)
-    × IsRefusal line.command config image text lines reason)
+    × IsRefusal line.harts line.command config image text lines reason)
     → HasPerformed at_terminal line status
 read_performed at_terminal line typed status config image second lines text found none has_config has_program has_second has_lines blanked refused =
     record {
@@ -81,5 +81,5 @@ read_performed at_terminal line typed status config image second lines text foun
       has_lines = has_lines;
       refused = λ harts.
           let why = refused harts in
-          (why.0, why.1, subst (λ (r : Read). IsRefusal line.command config image r lines why.0) blanked why.2);
+          (why.0, why.1, subst (λ (r : Read). IsRefusal line.harts line.command config image r lines why.0) blanked why.2);
     }

@@ -55,7 +55,7 @@ pub record HasPerformed (at_terminal : Bool) (line : Line) (status : ℕ) : Type
   pub has_lines : IsReadAs (files_of line).lines lines
   pub refused : says_harts status ≡ false → (reason : Refused)
       × (exit_status_of reason ≡ status)
-      × IsRefusal line.command config program (uncommented_for line.command second) lines reason
+      × IsRefusal line.harts line.command config program (uncommented_for line.command second) lines reason
 
 -- Words asked for a line, and it was performed with this exit status.
 pub record HavePerformed (at_terminal : Bool) (words : List (List ℕ)) (status : ℕ) : Type 0 where

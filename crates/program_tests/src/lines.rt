@@ -10,6 +10,7 @@ macro_rules! line {
     ($command:expr) => {
         Line {
             config: None,
+            harts: None,
             hints: HintsWanted::Auto,
             command: $command,
         }

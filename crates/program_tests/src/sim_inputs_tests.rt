@@ -1,7 +1,8 @@
 //! The words of a line: what they ask for; and in the modules beside it words that are refused, the
-//! configuration and the help.
+//! configuration, harts and the help.
 
 mod configuration;
+mod harts;
 mod help;
 mod refused_words;
 
@@ -28,6 +29,7 @@ static LINES: [(&str, Line<'_>); 41] = [
         "smtsim chart a t",
         Line {
             config: None,
+            harts: None,
             hints: HintsWanted::Auto,
             command: Command::OfProgram(ProgramCommand::Chart(ChartCommand {
                 image: "a",
@@ -46,6 +48,7 @@ static LINES: [(&str, Line<'_>); 41] = [
         "smtsim chart --from 7 a --to 7 --hart=7 t --width 1 --svg p --config c",
         Line {
             config: Some("c"),
+            harts: None,
             hints: HintsWanted::Auto,
             command: Command::OfProgram(ProgramCommand::Chart(ChartCommand {
                 image: "a",
@@ -64,6 +67,7 @@ static LINES: [(&str, Line<'_>); 41] = [
         "smtsim step first.elf first.script",
         Line {
             config: None,
+            harts: None,
             hints: HintsWanted::Auto,
             command: Command::OfProgram(ProgramCommand::Step(StepCommand {
                 image: "first.elf",
@@ -84,6 +88,7 @@ static LINES: [(&str, Line<'_>); 41] = [
         "smtsim step a b --config c",
         Line {
             config: Some("c"),
+            harts: None,
             hints: HintsWanted::Auto,
             command: Command::OfProgram(ProgramCommand::Step(StepCommand {
                 image: "a",
@@ -104,6 +109,7 @@ static LINES: [(&str, Line<'_>); 41] = [
         "smtsim step --config=c a b",
         Line {
             config: Some("c"),
+            harts: None,
             hints: HintsWanted::Auto,
             command: Command::OfProgram(ProgramCommand::Step(StepCommand {
                 image: "a",
@@ -124,6 +130,7 @@ static LINES: [(&str, Line<'_>); 41] = [
         "smtsim step a --records b",
         Line {
             config: None,
+            harts: None,
             hints: HintsWanted::Auto,
             command: Command::OfProgram(ProgramCommand::Step(StepCommand {
                 image: "a",
@@ -144,6 +151,7 @@ static LINES: [(&str, Line<'_>); 41] = [
         "smtsim step --show a b",
         Line {
             config: None,
+            harts: None,
             hints: HintsWanted::Auto,
             command: Command::OfProgram(ProgramCommand::Step(StepCommand {
                 image: "a",
@@ -164,6 +172,7 @@ static LINES: [(&str, Line<'_>); 41] = [
         "smtsim step a b --trace t",
         Line {
             config: None,
+            harts: None,
             hints: HintsWanted::Auto,
             command: Command::OfProgram(ProgramCommand::Step(StepCommand {
                 image: "a",
@@ -184,6 +193,7 @@ static LINES: [(&str, Line<'_>); 41] = [
         "smtsim step --show a --config c --trace=t b --records",
         Line {
             config: Some("c"),
+            harts: None,
             hints: HintsWanted::Auto,
             command: Command::OfProgram(ProgramCommand::Step(StepCommand {
                 image: "a",
@@ -204,6 +214,7 @@ static LINES: [(&str, Line<'_>); 41] = [
         "smtsim step a --looks b",
         Line {
             config: None,
+            harts: None,
             hints: HintsWanted::Auto,
             command: Command::OfProgram(ProgramCommand::Step(StepCommand {
                 image: "a",
@@ -224,6 +235,7 @@ static LINES: [(&str, Line<'_>); 41] = [
         "smtsim run a",
         Line {
             config: None,
+            harts: None,
             hints: HintsWanted::Auto,
             command: Command::OfProgram(ProgramCommand::Run(RunCommand {
                 image: "a",
@@ -243,6 +255,7 @@ static LINES: [(&str, Line<'_>); 41] = [
         "smtsim run --records --config c a",
         Line {
             config: Some("c"),
+            harts: None,
             hints: HintsWanted::Auto,
             command: Command::OfProgram(ProgramCommand::Run(RunCommand {
                 image: "a",
@@ -262,6 +275,7 @@ static LINES: [(&str, Line<'_>); 41] = [
         "smtsim run --trace t a",
         Line {
             config: None,
+            harts: None,
             hints: HintsWanted::Auto,
             command: Command::OfProgram(ProgramCommand::Run(RunCommand {
                 image: "a",
@@ -281,6 +295,7 @@ static LINES: [(&str, Line<'_>); 41] = [
         "smtsim check a t",
         Line {
             config: None,
+            harts: None,
             hints: HintsWanted::Auto,
             command: Command::OfProgram(ProgramCommand::Check(CheckCommand {
                 image: "a",
@@ -298,6 +313,7 @@ static LINES: [(&str, Line<'_>); 41] = [
         "smtsim check --records a --config c t",
         Line {
             config: Some("c"),
+            harts: None,
             hints: HintsWanted::Auto,
             command: Command::OfProgram(ProgramCommand::Check(CheckCommand {
                 image: "a",
@@ -315,6 +331,7 @@ static LINES: [(&str, Line<'_>); 41] = [
         "smtsim plain a b",
         Line {
             config: None,
+            harts: None,
             hints: HintsWanted::Auto,
             command: Command::OfProgram(ProgramCommand::Plain(PlainCommand {
                 image: "a",
@@ -332,6 +349,7 @@ static LINES: [(&str, Line<'_>); 41] = [
         "smtsim plain --config c a --records b",
         Line {
             config: Some("c"),
+            harts: None,
             hints: HintsWanted::Auto,
             command: Command::OfProgram(ProgramCommand::Plain(PlainCommand {
                 image: "a",
@@ -349,6 +367,7 @@ static LINES: [(&str, Line<'_>); 41] = [
         "smtsim schedule a b",
         Line {
             config: None,
+            harts: None,
             hints: HintsWanted::Auto,
             command: Command::OfProgram(ProgramCommand::Schedule(ScheduleCommand {
                 image: "a",
@@ -360,6 +379,7 @@ static LINES: [(&str, Line<'_>); 41] = [
         "smtsim schedule a --config c b",
         Line {
             config: Some("c"),
+            harts: None,
             hints: HintsWanted::Auto,
             command: Command::OfProgram(ProgramCommand::Schedule(ScheduleCommand {
                 image: "a",
@@ -371,6 +391,7 @@ static LINES: [(&str, Line<'_>); 41] = [
         "smtsim script a t",
         Line {
             config: None,
+            harts: None,
             hints: HintsWanted::Auto,
             command: Command::OfProgram(ProgramCommand::Script(ScriptCommand {
                 image: "a",
@@ -382,6 +403,7 @@ static LINES: [(&str, Line<'_>); 41] = [
         "smtsim script a --config c t",
         Line {
             config: Some("c"),
+            harts: None,
             hints: HintsWanted::Auto,
             command: Command::OfProgram(ProgramCommand::Script(ScriptCommand {
                 image: "a",
@@ -393,6 +415,7 @@ static LINES: [(&str, Line<'_>); 41] = [
         "smtsim list list.elf",
         Line {
             config: None,
+            harts: None,
             hints: HintsWanted::Auto,
             command: Command::OfProgram(ProgramCommand::List(ListCommand {
                 image: "list.elf",
@@ -405,6 +428,7 @@ static LINES: [(&str, Line<'_>); 41] = [
         "smtsim list --config c.toml list.elf",
         Line {
             config: Some("c.toml"),
+            harts: None,
             hints: HintsWanted::Auto,
             command: Command::OfProgram(ProgramCommand::List(ListCommand {
                 image: "list.elf",
@@ -417,6 +441,7 @@ static LINES: [(&str, Line<'_>); 41] = [
         "smtsim run --times 1000000 a --keep=f",
         Line {
             config: None,
+            harts: None,
             hints: HintsWanted::Auto,
             command: Command::OfProgram(ProgramCommand::Run(RunCommand {
                 image: "a",
@@ -436,6 +461,7 @@ static LINES: [(&str, Line<'_>); 41] = [
         "smtsim run --why --counts --json a",
         Line {
             config: None,
+            harts: None,
             hints: HintsWanted::Auto,
             command: Command::OfProgram(ProgramCommand::Run(RunCommand {
                 image: "a",
@@ -455,6 +481,7 @@ static LINES: [(&str, Line<'_>); 41] = [
         "smtsim check --counts a --why - --json",
         Line {
             config: None,
+            harts: None,
             hints: HintsWanted::Auto,
             command: Command::OfProgram(ProgramCommand::Check(CheckCommand {
                 image: "a",
@@ -472,6 +499,7 @@ static LINES: [(&str, Line<'_>); 41] = [
         "smtsim step - b --json --counts",
         Line {
             config: None,
+            harts: None,
             hints: HintsWanted::Auto,
             command: Command::OfProgram(ProgramCommand::Step(StepCommand {
                 image: "-",
@@ -492,6 +520,7 @@ static LINES: [(&str, Line<'_>); 41] = [
         "smtsim plain a --rounds 4294967295 --steps 0 --seed 7 --config -",
         Line {
             config: Some("-"),
+            harts: None,
             hints: HintsWanted::Auto,
             command: Command::OfProgram(ProgramCommand::Plain(PlainCommand {
                 image: "a",
@@ -509,6 +538,7 @@ static LINES: [(&str, Line<'_>); 41] = [
         "smtsim plain --rounds=1 a --records",
         Line {
             config: None,
+            harts: None,
             hints: HintsWanted::Auto,
             command: Command::OfProgram(ProgramCommand::Plain(PlainCommand {
                 image: "a",
@@ -526,6 +556,7 @@ static LINES: [(&str, Line<'_>); 41] = [
         "smtsim explain --config c a",
         Line {
             config: Some("c"),
+            harts: None,
             hints: HintsWanted::Auto,
             command: Command::Explain(ExplainCommand {
                 image: "a",
@@ -537,6 +568,7 @@ static LINES: [(&str, Line<'_>); 41] = [
         "smtsim explain a --script s",
         Line {
             config: None,
+            harts: None,
             hints: HintsWanted::Auto,
             command: Command::Explain(ExplainCommand {
                 image: "a",
@@ -548,6 +580,7 @@ static LINES: [(&str, Line<'_>); 41] = [
         "smtsim explain --order=- a",
         Line {
             config: None,
+            harts: None,
             hints: HintsWanted::Auto,
             command: Command::Explain(ExplainCommand {
                 image: "a",
@@ -559,6 +592,7 @@ static LINES: [(&str, Line<'_>); 41] = [
         "smtsim explain a --trace t",
         Line {
             config: None,
+            harts: None,
             hints: HintsWanted::Auto,
             command: Command::Explain(ExplainCommand {
                 image: "a",
@@ -570,6 +604,7 @@ static LINES: [(&str, Line<'_>); 41] = [
         "smtsim outcomes a",
         Line {
             config: None,
+            harts: None,
             hints: HintsWanted::Auto,
             command: Command::OfProgram(ProgramCommand::Outcomes(OutcomesCommand {
                 image: "a",
@@ -587,6 +622,7 @@ static LINES: [(&str, Line<'_>); 41] = [
         "smtsim outcomes --states 4294967295 a --config c --watch a0@1 --exists=h0=1 --outcome 2 --witness w",
         Line {
             config: Some("c"),
+            harts: None,
             hints: HintsWanted::Auto,
             command: Command::OfProgram(ProgramCommand::Outcomes(OutcomesCommand {
                 image: "a",
@@ -604,6 +640,7 @@ static LINES: [(&str, Line<'_>); 41] = [
         "smtsim outcomes --stuck - --script s --states 1",
         Line {
             config: None,
+            harts: None,
             hints: HintsWanted::Auto,
             command: Command::OfProgram(ProgramCommand::Outcomes(OutcomesCommand {
                 image: "-",
@@ -621,6 +658,7 @@ static LINES: [(&str, Line<'_>); 41] = [
         "smtsim litmus a",
         Line {
             config: None,
+            harts: None,
             hints: HintsWanted::Auto,
             command: Command::Litmus(LitmusCommand {
                 test: "a",
@@ -635,6 +673,7 @@ static LINES: [(&str, Line<'_>); 41] = [
         "smtsim litmus --why a --config c --states 5 --svg s",
         Line {
             config: Some("c"),
+            harts: None,
             hints: HintsWanted::Auto,
             command: Command::Litmus(LitmusCommand {
                 test: "a",
@@ -649,6 +688,7 @@ static LINES: [(&str, Line<'_>); 41] = [
         "smtsim litmus --image i -",
         Line {
             config: None,
+            harts: None,
             hints: HintsWanted::Auto,
             command: Command::Litmus(LitmusCommand {
                 test: "-",
@@ -663,6 +703,7 @@ static LINES: [(&str, Line<'_>); 41] = [
         "smtsim migrate t o",
         Line {
             config: None,
+            harts: None,
             hints: HintsWanted::Auto,
             command: Command::Migrate(MigrateCommand {
                 trace: "t",
@@ -674,6 +715,7 @@ static LINES: [(&str, Line<'_>); 41] = [
         "smtsim migrate - --config c o",
         Line {
             config: Some("c"),
+            harts: None,
             hints: HintsWanted::Auto,
             command: Command::Migrate(MigrateCommand {
                 trace: "-",
@@ -844,6 +886,7 @@ static NAMED: [(Line<'_>, Named<'_>); 14] = [
     (
         Line {
             config: Some("c"),
+            harts: None,
             hints: HintsWanted::Auto,
             command: Command::OfProgram(ProgramCommand::Chart(ChartCommand {
                 image: "a",
@@ -862,6 +905,7 @@ static NAMED: [(Line<'_>, Named<'_>); 14] = [
     (
         Line {
             config: Some("c"),
+            harts: None,
             hints: HintsWanted::Auto,
             command: Command::OfProgram(ProgramCommand::Step(StepCommand {
                 image: "a",
@@ -882,6 +926,7 @@ static NAMED: [(Line<'_>, Named<'_>); 14] = [
     (
         Line {
             config: Some("c"),
+            harts: None,
             hints: HintsWanted::Auto,
             command: Command::OfProgram(ProgramCommand::Run(RunCommand {
                 image: "a",
@@ -901,6 +946,7 @@ static NAMED: [(Line<'_>, Named<'_>); 14] = [
     (
         Line {
             config: Some("c"),
+            harts: None,
             hints: HintsWanted::Auto,
             command: Command::OfProgram(ProgramCommand::Check(CheckCommand {
                 image: "a",
@@ -918,6 +964,7 @@ static NAMED: [(Line<'_>, Named<'_>); 14] = [
     (
         Line {
             config: Some("c"),
+            harts: None,
             hints: HintsWanted::Auto,
             command: Command::OfProgram(ProgramCommand::Plain(PlainCommand {
                 image: "a",
@@ -935,6 +982,7 @@ static NAMED: [(Line<'_>, Named<'_>); 14] = [
     (
         Line {
             config: Some("c"),
+            harts: None,
             hints: HintsWanted::Auto,
             command: Command::OfProgram(ProgramCommand::Schedule(ScheduleCommand {
                 image: "a",
@@ -946,6 +994,7 @@ static NAMED: [(Line<'_>, Named<'_>); 14] = [
     (
         Line {
             config: Some("c"),
+            harts: None,
             hints: HintsWanted::Auto,
             command: Command::OfProgram(ProgramCommand::Script(ScriptCommand {
                 image: "a",
@@ -957,6 +1006,7 @@ static NAMED: [(Line<'_>, Named<'_>); 14] = [
     (
         Line {
             config: Some("c"),
+            harts: None,
             hints: HintsWanted::Auto,
             command: Command::OfProgram(ProgramCommand::List(ListCommand {
                 image: "a",
@@ -969,6 +1019,7 @@ static NAMED: [(Line<'_>, Named<'_>); 14] = [
     (
         Line {
             config: None,
+            harts: None,
             hints: HintsWanted::Auto,
             command: Command::Explain(ExplainCommand {
                 image: "a",
@@ -980,6 +1031,7 @@ static NAMED: [(Line<'_>, Named<'_>); 14] = [
     (
         Line {
             config: None,
+            harts: None,
             hints: HintsWanted::Auto,
             command: Command::OfProgram(ProgramCommand::Outcomes(OutcomesCommand {
                 image: "a",
@@ -997,6 +1049,7 @@ static NAMED: [(Line<'_>, Named<'_>); 14] = [
     (
         Line {
             config: Some("c"),
+            harts: None,
             hints: HintsWanted::Auto,
             command: Command::OfProgram(ProgramCommand::Outcomes(OutcomesCommand {
                 image: "a",
@@ -1014,6 +1067,7 @@ static NAMED: [(Line<'_>, Named<'_>); 14] = [
     (
         Line {
             config: None,
+            harts: None,
             hints: HintsWanted::Auto,
             command: Command::Litmus(LitmusCommand {
                 test: "a",
@@ -1028,6 +1082,7 @@ static NAMED: [(Line<'_>, Named<'_>); 14] = [
     (
         Line {
             config: Some("c"),
+            harts: None,
             hints: HintsWanted::Auto,
             command: Command::Litmus(LitmusCommand {
                 test: "a",
@@ -1042,6 +1097,7 @@ static NAMED: [(Line<'_>, Named<'_>); 14] = [
     (
         Line {
             config: Some("c"),
+            harts: None,
             hints: HintsWanted::Auto,
             command: Command::Migrate(MigrateCommand {
                 trace: "t",

@@ -7,6 +7,7 @@ use Rattle.clap.specs.Words.{subcommand_rows_of}
 use Rattle.clap.specs.{declared.error.Error.Error, declared.parser.matches.ArgMatches.ArgMatches}
 use Rattle.sim_inputs.specs.{declared.line.Line.Line, declared.line.WordsRefused.WordsRefused}
 use Rattle.sim_inputs.specs.{declared.line.WordsRefused.TheVariants.Help}
+use Rattle.sim_inputs.specs.{declared.line.WordsRefused.TheVariants.Version}
 use Rattle.sim_inputs.specs.{declared.line.WordsRefused.TheVariants.Refused}
 use Rattle.sim_inputs.specs.{declared.line.WordsRefused.TheVariants.Memory}
 use Rattle.sim_inputs.specs.Rules.{smtsim}
@@ -45,6 +46,7 @@ not_asked words a m (Some line) r is same has none finds = rw is tt
 not_asked words a m None r is same has none finds = rw is (record {
   no_line = λ line asks. finds line (rw (matched a words m same has) asks.holds);
   no_help = λ alone. let no_fault = faultless a words same none in cc;
+  no_version = λ alone. let no_fault = faultless a words same none in cc;
 })
 
 -- the kinds of the command that was described
@@ -59,9 +61,12 @@ pub refused_for : (words : List Text) (e : Error) (r : WordsRefused) → HasKind
     AreWordsRefusedFor words r
 refused_for words e (Help text) (inl memory) help = cc
 refused_for words e (Help text) (inr among) help = rw help at among
-refused_for words e Refused (inl memory) other = absurd (other.1 memory)
+refused_for words e (Version text) (inl memory) version = cc
+refused_for words e (Version text) (inr among) version = rw version at among
+refused_for words e Refused (inl memory) other = absurd (other.2 memory)
 refused_for words e Refused (inr among) other = record {
   no_line = λ line asks. rw asks.taken at among;
   no_help = λ alone. elim (rw alone at among) [ inl help ↦ other.0 help | inr none ↦ none ];
+  no_version = λ alone. elim (rw alone at among) [ inl version ↦ other.1 version | inr none ↦ none ];
 }
 refused_for words e Memory has says = tt

@@ -12,6 +12,7 @@ use Rattle.clap.specs.{declared.builder.command.Command.TheViews.out-Command}
 use Rattle.clap.specs.{declared.builder.action.ArgAction.TheVariants.SetTrue}
 use Rattle.clap.specs.{declared.error.kind.ErrorKind.ErrorKind}
 use Rattle.clap.specs.{declared.error.kind.ErrorKind.TheVariants.DisplayHelp}
+use Rattle.clap.specs.{declared.error.kind.ErrorKind.TheVariants.DisplayVersion}
 use Rattle.clap.specs.{declared.error.kind.ErrorKind.TheVariants.OutOfMemory}
 use Rattle.sim_inputs.specs.{declared.line.Line.Line, declared.line.WordsRefused.WordsRefused}
 use Rattle.sim_inputs.specs.declared.line.Command.{Command as LineCommand}
@@ -24,6 +25,7 @@ use Rattle.sim_inputs.specs.declared.line.{ScheduleCommand.ScheduleCommand}
 use Rattle.sim_inputs.specs.declared.line.{ScriptCommand.ScriptCommand, ListCommand.ListCommand}
 use Rattle.sim_inputs.specs.declared.line.{ChartCommand.ChartCommand, ExplainCommand.ExplainCommand}
 use Rattle.sim_inputs.specs.{declared.line.WordsRefused.TheVariants.Help}
+use Rattle.sim_inputs.specs.{declared.line.WordsRefused.TheVariants.Version}
 use Rattle.sim_inputs.specs.{declared.line.WordsRefused.TheVariants.Refused}
 use Rattle.sim_inputs.specs.{declared.line.WordsRefused.TheVariants.Memory}
 use Rattle.sim_inputs.specs.declared.line.OutcomesCommand.{OutcomesCommand}
@@ -111,6 +113,11 @@ number_in greatest (Some text) = option_map (λ number. Some number) (result_ok 
 
 abbrev IsNumberOption : List Row → Text → ℕ → Option ℕ → Type 0
 IsNumberOption rows name greatest number = number_in greatest (first_of name rows) ≡ Some number
+
+-- So many harts are asked for, where that was found.
+pub record AreHarts (rows : List Row) (harts : Option ℕ) : Type 0 where
+  pub found : IsNumberOption rows (codes "harts") most_harts harts
+  pub some : option_map_or (λ count. nat_le 1 count) harts true ≡ true
 
 -- What was found for a subcommand's arguments and options is the command.
 pub record IsStep (rows : List Row) (step : StepCommand) : Type 0 where
@@ -303,10 +310,11 @@ IsCommandOf name rows (commands.Litmus litmus) = (name ≡ codes "litmus") × Is
 IsCommandOf name rows (commands.Migrate migrate) = (name ≡ codes "migrate") × IsMigrate rows migrate
 
 -- A subcommand of this name, with what was found for it, is the line: its command, and the
--- configuration and the word of `--hints`, which every command may have. One of its files at most is standard input,
+-- configuration and the word of `--hints`, which every command may have, and the harts that most may have. One of its files at most is standard input,
 -- and none that is written is named by a dash.
 pub record IsLineOf (name : Text) (rows : List Row) (line : Line) : Type 0 where
   pub config : IsFileOption rows (codes "config") line.config
+  pub harts : AreHarts rows line.harts
   pub command : IsCommandOf name rows line.command
   pub hints : hints_in (first_of (codes "hints") rows) ≡ Some line.hints
   pub once : reads_input_once line ≡ true
@@ -322,19 +330,22 @@ pub record Asks (words : List Text) (line : Line) : Type 0 where
   pub taken : fault_of smtsim words ≡ []
   pub holds : Names (subcommand_of smtsim words) line
 
--- The words ask for nothing: for no line, and not just for help.
+-- The words ask for nothing: for no line, and not just for help or the version.
 pub record AsksNothing (words : List Text) : Type 0 where
   pub no_line : (line : Line) → Asks words line → ⊥
   pub no_help : fault_of smtsim words ≢ DisplayHelp ∷ []
+  pub no_version : fault_of smtsim words ≢ DisplayVersion ∷ []
 
 -- When each refusal comes.
 abbrev pub AreWordsRefusedFor : List Text → WordsRefused → Type 0
 AreWordsRefusedFor words (Help text) = IsAmong DisplayHelp (fault_of smtsim words)
+AreWordsRefusedFor words (Version text) = IsAmong DisplayVersion (fault_of smtsim words)
 AreWordsRefusedFor words Refused = AsksNothing words
 AreWordsRefusedFor words Memory = Unit {0}
 
 -- What is made of an error of this kind.
 abbrev pub IsRefusalOf : ErrorKind → WordsRefused → Type 0
 IsRefusalOf kind (Help text) = kind ≡ DisplayHelp
-IsRefusalOf kind Refused = (kind ≢ DisplayHelp) × (kind ≢ OutOfMemory)
+IsRefusalOf kind (Version text) = kind ≡ DisplayVersion
+IsRefusalOf kind Refused = (kind ≢ DisplayHelp) × (kind ≢ DisplayVersion) × (kind ≢ OutOfMemory)
 IsRefusalOf kind Memory = Unit {0}

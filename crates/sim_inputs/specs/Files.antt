@@ -154,6 +154,17 @@ reads_words (commands.Explain explain) = option_map_or is_of_words explain.besid
 reads_words (commands.Litmus litmus) = false
 reads_words (commands.Migrate migrate) = false
 
+-- The second file of a command of a program is a trace; so is what is explained.
+abbrev pub reads_trace : ProgramCommand → Bool
+reads_trace (program.Check check) = true
+reads_trace (program.Script script) = true
+reads_trace (program.Chart chart) = true
+reads_trace _ = false
+
+abbrev pub is_trace : Beside → Bool
+is_trace (beside.Trace trace) = true
+is_trace _ = false
+
 -- This names standard input in place of a file.
 abbrev pub is_standard_input : List ℕ → Bool
 is_standard_input name = bytes_eq name (codes "-")

@@ -67,6 +67,19 @@ pub(crate) const CONFIG: Argument = Argument {
     help: "The configuration, a TOML file: see smtsim --help",
 };
 
+pub(crate) const HARTS: Argument = Argument {
+    kind: Kind::Number,
+    name: "harts",
+    help: "How many harts, over those of the configuration",
+};
+
+/// So it is beside a trace that may be of a core of its own.
+pub(crate) const HARTS_BESIDE_TRACE: Argument = Argument {
+    kind: Kind::Number,
+    name: "harts",
+    help: "How many harts; not where the trace names its core",
+};
+
 pub(crate) const COUNTS: Argument = Argument {
     kind: Kind::Flag,
     name: "counts",

@@ -7,15 +7,16 @@ ghost use Rattle.sim_inputs.specs.Table.{own_arguments_in, rule_in, subcommand_i
 
 use crate::arguments::{
     Argument, CONFIG, COUNTS, EXISTS, EXPLAINED_ORDER, EXPLAINED_SCRIPT, EXPLAINED_TRACE, FROM,
-    HART, HINTS, IMAGE, JSON, KANATA, KEEP, Kind, LINES, LOOKS, NAMES, ORDER, ORDER_OR_ROUNDS,
-    OUTCOME, RECORDS, ROUNDS, SCRIPT, SEED, SHOW, STATES, STEPS, STUCK, SVG, SVG_OF_WHY, TEST,
-    TIMES, TO, TRACE, WATCH, WHY, WHY_ENDS, WHY_NEVER, WHY_REFUSED, WIDTH, WITNESS, WRITTEN_IMAGE,
-    WRITTEN_OUT, WRITTEN_SCRIPT, WRITTEN_TRACE,
+    HART, HARTS, HARTS_BESIDE_TRACE, HINTS, IMAGE, JSON, KANATA, KEEP, Kind, LINES, LOOKS, NAMES,
+    ORDER, ORDER_OR_ROUNDS, OUTCOME, RECORDS, ROUNDS, SCRIPT, SEED, SHOW, STATES, STEPS, STUCK,
+    SVG, SVG_OF_WHY, TEST, TIMES, TO, TRACE, WATCH, WHY, WHY_ENDS, WHY_NEVER, WHY_REFUSED, WIDTH,
+    WITNESS, WRITTEN_IMAGE, WRITTEN_OUT, WRITTEN_SCRIPT, WRITTEN_TRACE,
 };
 use crate::forms::{
     CHART_FORM, CONFIGURATION_FORM, LITMUS_FORM, MIGRATE_FORM, ORDER_FORM, OUTCOMES_FORM,
     SCRIPT_FORM, TRACE_FORM,
 };
+use crate::version::VERSION;
 use clap::{Arg, ArgAction, Command};
 use std::alloc::{AllocError, Global};
 
@@ -37,6 +38,7 @@ static OF_IMAGES: [Subcommand; 10] = [
             IMAGE,
             SCRIPT,
             CONFIG,
+            HARTS,
             COUNTS,
             JSON,
             LINES,
@@ -55,6 +57,7 @@ static OF_IMAGES: [Subcommand; 10] = [
         arguments: &[
             IMAGE,
             CONFIG,
+            HARTS,
             COUNTS,
             JSON,
             LINES,
@@ -74,6 +77,7 @@ static OF_IMAGES: [Subcommand; 10] = [
             IMAGE,
             TRACE,
             CONFIG,
+            HARTS_BESIDE_TRACE,
             COUNTS,
             JSON,
             LINES,
@@ -90,6 +94,7 @@ static OF_IMAGES: [Subcommand; 10] = [
             IMAGE,
             ORDER_OR_ROUNDS,
             CONFIG,
+            HARTS,
             LINES,
             NAMES,
             RECORDS,
@@ -102,13 +107,13 @@ static OF_IMAGES: [Subcommand; 10] = [
     Subcommand {
         name: "schedule",
         about: "Print the script that makes the core retire in an order of harts",
-        arguments: &[IMAGE, ORDER, CONFIG],
+        arguments: &[IMAGE, ORDER, CONFIG, HARTS],
         form: ORDER_FORM,
     },
     Subcommand {
         name: "script",
         about: "Print the script that makes the core have a trace's history again",
-        arguments: &[IMAGE, TRACE, CONFIG],
+        arguments: &[IMAGE, TRACE, CONFIG, HARTS_BESIDE_TRACE],
         form: TRACE_FORM,
     },
     Subcommand {
@@ -121,7 +126,17 @@ static OF_IMAGES: [Subcommand; 10] = [
         name: "chart",
         about: "Draw a trace's pipeline: a row an instruction, a column an event",
         arguments: &[
-            IMAGE, TRACE, CONFIG, FROM, TO, HART, NAMES, WIDTH, SVG, KANATA,
+            IMAGE,
+            TRACE,
+            CONFIG,
+            HARTS_BESIDE_TRACE,
+            FROM,
+            TO,
+            HART,
+            NAMES,
+            WIDTH,
+            SVG,
+            KANATA,
         ],
         form: CHART_FORM,
     },
@@ -131,6 +146,7 @@ static OF_IMAGES: [Subcommand; 10] = [
         arguments: &[
             IMAGE,
             CONFIG,
+            HARTS_BESIDE_TRACE,
             EXPLAINED_SCRIPT,
             EXPLAINED_ORDER,
             EXPLAINED_TRACE,
@@ -143,6 +159,7 @@ static OF_IMAGES: [Subcommand; 10] = [
         arguments: &[
             IMAGE,
             CONFIG,
+            HARTS,
             STATES,
             WATCH,
             EXISTS,
@@ -177,6 +194,7 @@ pub fn describe<'a>(alloc: Global) -> Result<Command<'a>, AllocError>
 {
     let command = Command::new(alloc, "smtsim")
         .about("Simulate a simultaneous multithreading core whose harts run one RV32IMA program")
+        .version(VERSION)
         .after_help(CONFIGURATION_FORM)
         .subcommand_required(true);
     let of_images = add_subcommands(command, &OF_IMAGES, alloc)?;

@@ -1,7 +1,7 @@
 ghost use Rattle.std.specs.Prelude.{◌≡◌, ◌≤◌, option_map};
 ghost use Rattle.sim_inputs.specs.Files.{files_of, lines_of, program_files, shows_names};
 ghost use Rattle.sim_inputs.specs.Files.{written_chart, written_order, written_for_test};
-ghost use Rattle.sim_inputs.specs.Files.{explained_beside, reads_words};
+ghost use Rattle.sim_inputs.specs.Files.{explained_beside, reads_words, reads_trace, is_trace};
 ghost use Rattle.sim_inputs.specs.Files.{is_standard_input, input_count, reads_input_once, writes_no_dash};
 
 use crate::line::{
@@ -129,6 +129,27 @@ impl<'a> ProgramCommand<'a> {
             ProgramCommand::Schedule(_) | ProgramCommand::Script(_) => false,
             ProgramCommand::Outcomes(_) => false,
         }
+    }
+}
+
+impl<'a> ProgramCommand<'a> {
+    /// Whether its second file is a trace.
+    pub fn reads_trace(&self) -> bool
+        ensures { result ≡ reads_trace self.now }
+    {
+        matches!(
+            self,
+            ProgramCommand::Check(_) | ProgramCommand::Script(_) | ProgramCommand::Chart(_)
+        )
+    }
+}
+
+impl<'a> Beside<'a> {
+    /// Whether it is a trace.
+    pub fn is_trace(&self) -> bool
+        ensures { result ≡ is_trace self.now }
+    {
+        matches!(self, Beside::Trace(_))
     }
 }
 

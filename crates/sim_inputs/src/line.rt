@@ -1,11 +1,15 @@
+use crate::hart_count::HartCount;
 use crate::hints_wanted::HintsWanted;
 use thiserror::Error;
 
-/// What the program is asked to do: a command, beside the options that every command has.
+/// What the program is asked to do: a command, beside the options that most commands have.
 #[derive(Clone, Copy, Drop)]
 pub struct Line<'a> {
     /// `--config FILE`: the file of the configuration.
     pub config: Option<&'a str>,
+    /// `--harts N`: how many harts there are, whatever the configuration says. There is none with `list`, `litmus`
+    /// and `migrate`.
+    pub harts: Option<HartCount>,
     /// `--hints WHEN`: when a hint is told behind a fault.
     pub hints: HintsWanted,
     pub command: Command<'a>,
@@ -260,6 +264,9 @@ pub enum WordsRefused {
     /// The words ask for help, and this is its text.
     #[error("{0}")]
     Help(String),
+    /// The words ask for the version, and this is its line.
+    #[error("{0}")]
+    Version(String),
     #[error("command line")]
     Refused,
     #[error("memory")]

@@ -28,7 +28,8 @@ macro_rules! number_option {
 }
 
 /// The options that have a number, in the order in which they are looked at.
-static NUMBERS: [NumberOption; 8] = [
+static NUMBERS: [NumberOption; 9] = [
+    number_option!("harts", 1, MOST_HARTS as u32),
     number_option!("hart", 0, MOST_HARTS as u32 - 1),
     number_option!("width", 1, 10_000),
     number_option!("times", 1, 1_000_000),

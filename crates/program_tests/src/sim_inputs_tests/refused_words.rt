@@ -20,6 +20,20 @@ smtsim step a b --config
 smtsim step a b --trace
 smtsim step --trace t --trace t a b
 smtsim --config c step a b
+smtsim step a s --harts
+smtsim run a --harts 0
+smtsim run a --harts 17
+smtsim run a --harts 01
+smtsim run a --harts -1
+smtsim run a --harts four
+smtsim run a --harts 2 --harts 2
+smtsim list a --harts 2
+smtsim litmus a --harts 2
+smtsim migrate t o --harts 2
+smtsim --harts 2 run a
+smtsim run a --version
+smtsim run a -V
+smtsim --version=1
 smtsim run
 smtsim run a b
 smtsim run --show a

@@ -9,6 +9,7 @@ returns c =
     record {
       config = sym c.value_of-config.ensures;
       command = c.in_ok-command.ensures;
+      harts = c.in_ok-harts.ensures;
       hints = ap hints_in (sym c.value_of.ensures) ∙ sym c.of.ensures ∙ c.in_ok-hints.was;
       once = cc;
       undashed = cc;
