@@ -61,7 +61,7 @@ fn write_name_field<W: Write>(
     out: &mut W,
 ) -> io::Result<()>
     ensures { OnOk result (Appends (W.contents out.old) (W.contents out.new)
-        (name_field form (option_map (λ names. table_of names.now) names) address)) }
+        (name_field form (option_map (λ names. table_of names.now) names.entry) address)) }
 {
     match names {
         Some(names) => write_place_field(name_at(names, address), form, out),
@@ -71,7 +71,7 @@ fn write_name_field<W: Write>(
 
 fn write_place_field<W: Write>(place: Option<Place<'_>>, form: Form, out: &mut W) -> io::Result<()>
     ensures { OnOk result (Appends (W.contents out.old) (W.contents out.new)
-        (place_field form (option_map (λ place. record { name = place.name.now; behind = place.behind }) place))) }
+        (place_field form (option_map (λ place. record { name = place.name.now; behind = place.behind }) place.entry))) }
 {
     let Some(place) = place else {
         return out.write_all(b" -");
@@ -131,7 +131,7 @@ fn write_line_field<W: Write>(
     out: &mut W,
 ) -> io::Result<()>
     ensures { OnOk result (Appends (W.contents out.old) (W.contents out.new)
-        (line_field form (option_map (λ lines. origins_of lines.now.lines.items) lines) address)) }
+        (line_field form (option_map (λ lines. origins_of lines.now.lines.items) lines.entry) address)) }
 {
     match lines {
         Some(lines) => write_origin_field(lines.line_at(address), form, out),
@@ -145,7 +145,7 @@ fn write_origin_field<W: Write>(
     out: &mut W,
 ) -> io::Result<()>
     ensures { OnOk result (Appends (W.contents out.old) (W.contents out.new)
-        (origin_field form (option_map origin_of line))) }
+        (origin_field form (option_map origin_of line.entry))) }
 {
     let Some(line) = line else {
         return out.write_all(b" -");

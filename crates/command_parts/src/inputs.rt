@@ -73,9 +73,9 @@ pub fn lines_where<'a>(
     image: &Image,
     alloc: Global,
 ) -> Result<Option<SourceLines<'a>>, Refused>
-    ensures lines { IfOk result (λ lines. AreLinesFor is_wanted (as_read text) image.now
+    ensures lines { IfOk result (λ lines. AreLinesFor is_wanted (as_read text.entry) image.now
         (option_map (λ lines. origins_of lines.lines.items) lines)) }
-    ensures refused { IfErr result (IsLinesFault is_wanted (as_read text) image.now) }
+    ensures refused { IfErr result (IsLinesFault is_wanted (as_read text.entry) image.now) }
 {
     if !is_wanted {
         return Ok(None);

@@ -31,7 +31,7 @@ pub(crate) fn wants_names(command: &ProgramCommand<'_>) -> bool
 
 /// Whether a chart begins or ends at a function.
 fn is_function(end: ChartEnd<'_>) -> bool
-    ensures { result ≡ is_function end }
+    ensures { result ≡ is_function end.entry }
 {
     matches!(end, ChartEnd::Function(_))
 }

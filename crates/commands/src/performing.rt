@@ -29,11 +29,10 @@ use command_parts::{Context, Inputs, Refused, Unread, image_of, lines_where, ref
 use core_commands::{
     Wanted, perform_chart, perform_check, perform_migrate, perform_script, perform_step,
 };
-use elf_image::Image;
 use plain_commands::{
     perform_litmus, perform_outcomes, perform_plain, perform_rounds, perform_schedule, rounds_of,
 };
-use sim_inputs::{Command, HartCount, Line, LitmusCommand, ProgramCommand, Settings};
+use sim_inputs::{Command, HartCount, Line, LitmusCommand, ProgramCommand};
 use smt_core::Predict;
 use std::alloc::Global;
 use std::io::Write;

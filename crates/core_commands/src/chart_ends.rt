@@ -51,8 +51,8 @@ pub(crate) fn ends_of(chart: &ChartCommand<'_>, drawn: &Drawn<'_>) -> Result<(u3
 
 /// The event at which a chart begins.
 fn first_event(end: ChartEnd<'_>, drawn: &Drawn<'_>) -> Result<u32, Refused>
-    ensures first { IfOk result (IsFirst end drawn.now) }
-    ensures refused { IfErr result (IsEndFault From end drawn.now) }
+    ensures first { IfOk result (IsFirst end.entry drawn.now) }
+    ensures refused { IfErr result (IsEndFault From end.entry drawn.now) }
 {
     let name = match end {
         ChartEnd::Event(place) => return Ok(place),
@@ -67,8 +67,8 @@ fn first_event(end: ChartEnd<'_>, drawn: &Drawn<'_>) -> Result<u32, Refused>
 
 /// The event at which a chart ends.
 fn last_event(end: ChartEnd<'_>, drawn: &Drawn<'_>) -> Result<u32, Refused>
-    ensures last { IfOk result (IsLast end drawn.now) }
-    ensures refused { IfErr result (IsEndFault To end drawn.now) }
+    ensures last { IfOk result (IsLast end.entry drawn.now) }
+    ensures refused { IfErr result (IsEndFault To end.entry drawn.now) }
 {
     let name = match end {
         ChartEnd::Event(place) => return Ok(place),

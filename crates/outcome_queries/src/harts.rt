@@ -19,7 +19,7 @@ pub fn absent_hart(terms: &[Term<'_>], harts: u8) -> Option<u8>
 
 /// The hart that a term names; none where it names a place in memory.
 fn hart_named(term: Term<'_>) -> Option<u8>
-    ensures { result ≡ hart_named term }
+    ensures { result ≡ hart_named term.entry }
 {
     match term {
         Term::Ended { hart, .. } | Term::Stopped { hart, .. } => Some(hart),

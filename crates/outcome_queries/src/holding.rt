@@ -19,7 +19,7 @@ pub fn holds(terms: &[Term<'_>], watch: &Watch, outcome: &Outcome) -> bool
 }
 
 fn term_holds(term: Term<'_>, watch: &Watch, outcome: &Outcome) -> bool
-    ensures { result ≡ term_holds watch.now outcome.now term }
+    ensures { result ≡ term_holds watch.now outcome.now term.entry }
 {
     match term {
         Term::Ended { hart, number } => has_ended(outcome, hart, number),

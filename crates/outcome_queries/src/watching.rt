@@ -34,8 +34,8 @@ pub fn with_terms<'a>(list: &[Asked<'a>], terms: &[Term<'a>]) -> Option<WatchLis
 /// Adds what a term names, unless it is there. Answers whether there was room.
 fn add_term<'a>(all: &mut WatchList<'a>, term: Term<'a>) -> bool
     ensures extends { Extends all.old.items all.new.items }
-    ensures once { result ≡ true → IsOnceBehind all.old.items (asked_of term) all.new.items }
-    ensures watched { result ≡ true → IsWatchedFor all.new.items term }
+    ensures once { result ≡ true → IsOnceBehind all.old.items (asked_of term.entry) all.new.items }
+    ensures watched { result ≡ true → IsWatchedFor all.new.items term.entry }
 {
     match term {
         Term::Holds { asked, .. } => add(all, asked),
@@ -46,8 +46,8 @@ fn add_term<'a>(all: &mut WatchList<'a>, term: Term<'a>) -> bool
 /// Adds what is asked for, unless it is watched already. Answers whether there was room.
 fn add<'a>(all: &mut WatchList<'a>, asked: Asked<'a>) -> bool
     ensures extends { Extends all.old.items all.new.items }
-    ensures once { result ≡ true → IsOnceBehind all.old.items (asked ∷ []) all.new.items }
-    ensures contained { result ≡ true → IsWatchedIn all.new.items asked.watched }
+    ensures once { result ≡ true → IsOnceBehind all.old.items (asked.entry ∷ []) all.new.items }
+    ensures contained { result ≡ true → IsWatchedIn all.new.items asked.entry.watched }
 {
     if is_watched(all.as_slice(), asked.watched) {
         return true;

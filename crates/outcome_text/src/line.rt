@@ -121,7 +121,7 @@ fn write_column<W: Write>(
     out: &mut W,
 ) -> io::Result<()>
     ensures { OnOk result (Appends (W.contents out.old) (W.contents out.new)
-        (column_text before index asked number)) }
+        (column_text before index asked.entry number)) }
 {
     out.write_all(column_lead(before, index).as_bytes())?;
     write_shown(asked.spelled, out)?;

@@ -50,7 +50,7 @@ pub(crate) fn read_end(word: &str, greatest: u32) -> Option<ChartEnd<'_>>
 
 /// Whether the first event isn't behind the last one, where both are numbers.
 pub(crate) fn do_ends_rise(from: ChartEnd<'_>, to: ChartEnd<'_>) -> bool
-    ensures { result ≡ do_ends_rise from to }
+    ensures { result ≡ do_ends_rise from.entry to.entry }
 {
     match (from, to) {
         (ChartEnd::Event(first), ChartEnd::Event(last)) => first <= last,

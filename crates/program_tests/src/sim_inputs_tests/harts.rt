@@ -74,7 +74,12 @@ fn a_script_is_made_of_a_trace_and_a_listing_of_none(rt: HostRuntime) {
         trace: "t",
     });
     assert!(rt; script.reads_trace());
-    assert!(rt; !ProgramCommand::List(ListCommand { image: "a" }).reads_trace());
+    let list = ProgramCommand::List(ListCommand {
+        image: "a",
+        lines: None,
+        names: false,
+    });
+    assert!(rt; !list.reads_trace());
     assert!(rt; Beside::Trace("t").is_trace());
     assert!(rt; !Beside::Order("o").is_trace());
 }

@@ -20,24 +20,24 @@ explain|outcomes|litmus|migrate|--version|harts|extra|queue|ram|limit|turns|acto
     ),
     (
         "smtsim step --help",
-        "Usage: smtsim step [OPTIONS] <IMAGE> <SCRIPT>|--config <FILE>|--harts <N>|--counts|--json|--looks|\
---records|--show|--why|--trace <FILE>",
+        "Usage: smtsim step [OPTIONS] <IMAGE> <SCRIPT>|--config <FILE>|--harts <N>|--counts|--json|--lines <FILE>|--looks|\
+--names|--records|--show|--why|--trace <FILE>",
     ),
     (
         "smtsim run --help",
-        "Usage: smtsim run [OPTIONS] <IMAGE>|--config <FILE>|--harts <N>|--counts|--json|--records|--why|\
---times <N>|--keep <FOLDER>|--trace <FILE>",
+        "Usage: smtsim run [OPTIONS] <IMAGE>|--config <FILE>|--harts <N>|--counts|--json|--lines <FILE>|\
+--names|--records|--why|--times <N>|--keep <FOLDER>|--trace <FILE>",
     ),
     (
         "smtsim check --help",
-        "Usage: smtsim check [OPTIONS] <IMAGE> <TRACE>|--config <FILE>|--harts <N>|--counts|--json|--records|\
---why|smt-trace 3|config harts extra queue role role ..|smt-trace 2|smt-trace 1|\
+        "Usage: smtsim check [OPTIONS] <IMAGE> <TRACE>|--config <FILE>|--harts <N>|--counts|--json|\
+--lines <FILE>|--names|--records|--why|smt-trace 3|config harts extra queue role role ..|smt-trace 2|smt-trace 1|\
 F actor hart number pc word predicted|T actor number value next address data out",
     ),
     (
         "smtsim plain --help",
-        "Usage: smtsim plain [OPTIONS] <IMAGE> [ORDER]|--config <FILE>|--harts <N>|--records|--rounds <N>|\
---steps <N>|--seed <N>|0 to 255",
+        "Usage: smtsim plain [OPTIONS] <IMAGE> [ORDER]|--config <FILE>|--harts <N>|--lines <FILE>|\
+--names|--records|--rounds <N>|--steps <N>|--seed <N>|0 to 255",
     ),
     (
         "smtsim schedule --help",
@@ -64,12 +64,12 @@ h0=1 & a0@1=2",
     ),
     (
         "smtsim list --help",
-        "Usage: smtsim list [OPTIONS] <IMAGE>|--config <FILE>",
+        "Usage: smtsim list [OPTIONS] <IMAGE>|--config <FILE>|--lines <FILE>|--names",
     ),
     (
         "smtsim chart --help",
-        "Usage: smtsim chart [OPTIONS] <IMAGE> <TRACE>|--config <FILE>|--harts <N>|--from <N>|--to <N>|--hart <N>|\
---width <N>|--svg <FILE>|--kanata <FILE>",
+        "Usage: smtsim chart [OPTIONS] <IMAGE> <TRACE>|--config <FILE>|--harts <N>|--from <PLACE>|--to <PLACE>|\
+--hart <N>|--names|--width <N>|--svg <FILE>|--kanata <FILE>",
     ),
     (
         "smtsim migrate --help",
