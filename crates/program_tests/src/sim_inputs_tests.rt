@@ -24,7 +24,7 @@ fn words_of(text: &str, alloc: Global) -> Result<Vec<&str>, AllocError> {
 }
 
 /// Words, and what they ask for.
-static LINES: [(&str, Line<'_>); 41] = [
+const LINES: [(&str, Line<'_>); 41] = [
     (
         "smtsim chart a t",
         Line {
@@ -822,7 +822,7 @@ fn event_of(end: ChartEnd<'_>) -> u32 {
 }
 
 /// Where a chart of these words begins and ends, as functions.
-fn functions_of<'a>(words: &[&'a str], alloc: Global) -> Option<(&'a str, &'a str)> {
+fn functions_of<'a>(words: &'a [&'a str], alloc: Global) -> Option<(&'a str, &'a str)> {
     let Ok(line) = read_words(words, alloc) else {
         return None;
     };
@@ -882,7 +882,7 @@ fn each_line_is_read_with_its_files_and_options(rt: HostRuntime) {
 }
 
 /// A line of each command, and its files.
-static NAMED: [(Line<'_>, Named<'_>); 14] = [
+const NAMED: [(Line<'_>, Named<'_>); 14] = [
     (
         Line {
             config: Some("c"),
