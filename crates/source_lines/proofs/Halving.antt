@@ -1,6 +1,7 @@
 -- Halving finds the line of an address, or that none has it.
 use Rattle.std.proofs.Common.{◌≡◌, ◌≢◌, ℕ, zero, suc, ◌+◌, ◌<◌, ◌≤◌, ◌==◌, nat_lt, Bool, true, false, List, [], ◌∷◌, length, get_or}
-use Rattle.std.proofs.Common.{Some, None, refl, sym, ap, ◌∙◌, arith}
+use Rattle.std.proofs.Common.{Some, None, refl, ap, subst, arith}
+use Rattle.std.proofs.lemmas.List.{get_or_default}
 use Rattle.std.proofs.lemmas.Bool.Decides.{nat_tests}
 use Rattle.source_lines.specs.Lines.{AreRising, Origin, line_for, origin_of, origins_of}
 use Rattle.source_lines.specs.declared.line.SourceLine.{SourceLine}
@@ -77,32 +78,35 @@ up_to lines k middle d rising low inside = by_order (k == middle) refl
         let under = rises lines k middle d rising less inside in
         omega (arith, under)
 
-pub goes_up : (lines : List SourceLine) (address low high middle : ℕ) → AreRising (origins_of lines)
-    → LiesBetween lines address low high → low ≤ middle → middle < high
-    → ((d : SourceLine) → (get_or lines middle d).address < address) → LiesBetween lines address (middle + 1) high
-goes_up lines address low high middle rising lies from until less =
+pub goes_up : (lines : List SourceLine) (address low high middle : ℕ) (d : SourceLine) → AreRising (origins_of lines)
+    → LiesBetween lines address low high → low ≤ middle → middle < high → (get_or lines middle d).address < address
+    → LiesBetween lines address (middle + 1) high
+goes_up lines address low high middle d rising lies from until less =
     let end = lies.end in
+    let inside : middle < length lines = omega (arith, end, until) in
     record {
       order = omega arith;
       end = end;
-      below = λ k d under.
-          let here = less d in
-          let most = up_to lines k middle d rising (omega arith) (omega (arith, end)) in omega (arith, here, most);
+      below = λ k e under.
+          let here = subst (λ (line : SourceLine). line.address < address) (get_or_default lines middle d e inside) less in
+          let most = up_to lines k middle e rising (omega arith) inside in omega (arith, here, most);
       above = lies.above;
     }
 
-pub goes_down : (lines : List SourceLine) (address low high middle : ℕ) → AreRising (origins_of lines)
-    → LiesBetween lines address low high → low ≤ middle → middle < high
-    → ((d : SourceLine) → address < (get_or lines middle d).address) → LiesBetween lines address low middle
-goes_down lines address low high middle rising lies from until more =
+pub goes_down : (lines : List SourceLine) (address low high middle : ℕ) (d : SourceLine) → AreRising (origins_of lines)
+    → LiesBetween lines address low high → low ≤ middle → middle < high → (get_or lines middle d).address ≢ address
+    → address ≤ (get_or lines middle d).address → LiesBetween lines address low middle
+goes_down lines address low high middle d rising lies from until apart least =
     let end = lies.end in
+    let inside : middle < length lines = omega (arith, end, until) in
+    let more : address < (get_or lines middle d).address = omega (arith, apart, least) in
     record {
       order = from;
       end = omega (arith, end);
       below = lies.below;
-      above = λ k d over inside.
-          let here = more d in
-          let least = up_to lines middle k d rising over inside in omega (arith, here, least);
+      above = λ k e over within.
+          let here = subst (λ (line : SourceLine). address < line.address) (get_or_default lines middle d e inside) more in
+          let next = up_to lines middle k e rising over within in omega (arith, here, next);
     }
 
 pub none_left : (lines : List SourceLine) (address low high : ℕ) → LiesBetween lines address low high → high ≤ low
