@@ -1,5 +1,5 @@
 -- A line is cut at its first space and at its last, and its parts are spelled as it is.
-use Rattle.std.proofs.Common.{◌≡◌, ◌≢◌, ℕ, suc, ◌+◌, ◌-◌, ◌^◌, ◌<◌, Bool, true, false, not, ◌==◌, ◌&&◌, ◌≤◌, List, [], ◌∷◌, ◌++◌}
+use Rattle.std.proofs.Common.{◌≡◌, ◌≢◌, ℕ, ◌+◌, ◌-◌, ◌^◌, ◌<◌, Bool, true, false, not, ◌==◌, ◌&&◌, ◌≤◌, List, [], ◌∷◌, ◌++◌}
 use Rattle.std.proofs.Common.{length, get_or, take, drop, reverse, Ok, refl, sym, ap, subst, ◌∙◌, append_assoc, arith, lit<}
 use Rattle.std.proofs.lemmas.List.{reverse-append, reverse-reverse, drop_more, take-append-drop}
 use Rattle.std.proofs.lemmas.Grind.{reverse_onto}
@@ -45,9 +45,10 @@ last_cut s text before behind is lacks =
 pub last_alone : (s : ℕ) (text : List ℕ) → Lacks s text
     → ([] ≡ reverse (rest s (reverse text))) × (text ≡ reverse (field s (reverse text)))
 last_alone s text lacks =
-    let turned = Lacks-reverse s text lacks in
-    (sym (ap reverse (rest-alone s (reverse text) turned)),
-    sym (ap reverse (field-alone s (reverse text) turned) ∙ reverse-reverse text))
+    let turned = Lacks-reverse s text lacks in (
+      sym (ap reverse (rest-alone s (reverse text) turned)),
+      sym (ap reverse (field-alone s (reverse text) turned) ∙ reverse-reverse text),
+    )
 
 -- the search from the end: none of the last bytes is the separator
 pub lacks_none : (s : ℕ) (text : List ℕ) → Lacks s (drop (length text) text)
@@ -79,7 +80,7 @@ last_at s text back inside is lacks =
     let next : length text - back ≡ place + 1 = omega arith in
     let behind : Lacks s (drop (place + 1) text) = rw next at lacks in
     let whole : text ≡ take place text ++ s ∷ drop (place + 1) text =
-        cut_at text place (omega arith) ∙ ap (λ b. take place text ++ b ∷ drop (place + 1) text) is in
+    cut_at text place (omega arith) ∙ ap (λ b. take place text ++ b ∷ drop (place + 1) text) is in
     last_cut s text (take place text) (drop (place + 1) text) whole behind
 
 -- a text of which something stands before its last separator

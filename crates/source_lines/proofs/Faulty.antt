@@ -1,5 +1,5 @@
 -- What is wrong with a line, by the tests of its reader.
-use Rattle.std.proofs.Common.{◌≡◌, ℕ, Bool, true, false, not, ◌==◌, if◌then◌else◌, List, Option, Some, None, refl, sym, ap, ◌∙◌}
+use Rattle.std.proofs.Common.{◌≡◌, ℕ, Bool, true, false, not, ◌==◌, if◌then◌else◌, List, Option, Some, None, sym, ap, ◌∙◌}
 use Rattle.std.specs.Option.{is_some}
 use Rattle.text_fields.specs.Splitting.{field, field_count}
 use Rattle.elf_image.specs.Image.{ProgramImage, byte_in, code_word, has_code_word, word_now, word_of}

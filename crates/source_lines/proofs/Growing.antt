@@ -1,18 +1,17 @@
 -- One more line behind those that were read.
-use Rattle.std.proofs.Common.{◌≡◌, ℕ, zero, suc, ◌+◌, ◌<◌, nat_lt, true, List, [], ◌∷◌, ◌++◌, length, get_or, flat_map, map, false, ◌==◌}
+use Rattle.std.proofs.Common.{◌≡◌, ℕ, suc, ◌+◌, ◌<◌, true, List, [], ◌∷◌, ◌++◌, length, false, ◌==◌}
 use Rattle.std.proofs.Common.{Some, None, refl, sym, ap, subst, ◌∙◌, append_assoc, append-nil, arith}
 use Rattle.std.proofs.lemmas.Bool.Decides.{nat_tests}
 use Rattle.std.proofs.lemmas.List.{flat_map_more}
 use Rattle.std.proofs.lemmas.List.Elements.{All-nil, All-cons, All-push}
 use Rattle.std.proofs.lemmas.List.Quantifiers.{all_pairs_push}
 use Rattle.std.proofs.lemmas.List.{map-append, length-map}
-use Rattle.std.specs.List.{All, AllPairs}
+use Rattle.std.specs.List.{All}
 use Rattle.source_lines.specs.declared.line.SourceLine.{SourceLine}
 use Rattle.source_lines.specs.declared.line.LineFault.{LineFault}
 use Rattle.elf_image.specs.Image.{ProgramImage}
 use Rattle.source_lines.specs.Lines.{AreLinesOf, AreRising, IsOriginIn, Origin, line_text, lines_text, origin_of, origins_of}
 use Rattle.source_lines.specs.Faults.{IsFirstRefused, fault_of, is_behind, last_address}
-
 
 tail_rises : (o : Origin) (os : List Origin) → AreRising (o ∷ os) → AreRising os
 tail_rises o os rising i j d less inside = rising (suc i) (suc j) d (omega arith) (omega arith)

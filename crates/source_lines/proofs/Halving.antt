@@ -3,7 +3,7 @@ use Rattle.std.proofs.Common.{◌≡◌, ◌≢◌, ℕ, zero, suc, ◌+◌, ◌
 use Rattle.std.proofs.Common.{Some, None, refl, ap, subst, arith}
 use Rattle.std.proofs.lemmas.List.{get_or_default}
 use Rattle.std.proofs.lemmas.Bool.Decides.{nat_tests}
-use Rattle.source_lines.specs.Lines.{AreRising, Origin, line_for, origin_of, origins_of}
+use Rattle.source_lines.specs.Lines.{AreRising, line_for, origin_of, origins_of}
 use Rattle.source_lines.specs.declared.line.SourceLine.{SourceLine}
 
 other : (a b : ℕ) → a ≢ b → (a == b) ≡ false

@@ -1,4 +1,4 @@
-use Rattle.std.proofs.Common.{◌≡◌, ◌-◌, ◌<◌, ℕ, List, length, drop, sym, subst, arith}
+use Rattle.std.proofs.Common.{◌≡◌, ◌-◌, ℕ, length, drop, sym, subst, arith}
 use Rattle.std.proofs.lemmas.Grind.{common_steps}
 use Rattle.text_fields.specs.Splitting.{Lacks}
 use Rattle.source_lines.proofs.Cutting.{lacks_none, last_at, last_alone}

@@ -1,7 +1,7 @@
-use Rattle.std.proofs.Common.{◌≡◌, ◌==◌, ◌∷◌, ◌++◌, not, true, false, List, ℕ, sym, ap, ◌∙◌, arith}
+use Rattle.std.proofs.Common.{◌≡◌, ◌==◌, not, true, false, sym, ap, ◌∙◌, arith}
 use Rattle.std.proofs.lemmas.Bool.Decides.{nat_tests}
 use Rattle.std.specs.Option.{is_some}
-use Rattle.text_fields.specs.Splitting.{field, field_count, rest}
+use Rattle.text_fields.specs.Splitting.{field_count}
 use Rattle.source_lines.specs.Faults.{is_behind}
 use Rattle.source_lines.specs.Lines.{line_text, origin_of}
 use Rattle.source_lines.proofs.Cutting.{cut_line, file_lacks}
