@@ -1,5 +1,5 @@
 -- The lines of an image's sources, as a text has them. (This project's own choice.)
-use Rattle.std.specs.Prelude.{◌≡◌, ◌≢◌, ℕ, ◌<◌, ◌≤◌, ◌==◌, true, List, [], ◌∷◌, ◌++◌, All, find, flat_map, map, Option}
+use Rattle.std.specs.Prelude.{◌≡◌, ◌≢◌, ℕ, ◌<◌, ◌≤◌, ◌==◌, true, List, [], ◌∷◌, ◌++◌, All, AllPairs, find, flat_map, map, Option}
 use Rattle.std.specs.{Fmt.decimal}
 use Rattle.text_fields.specs.{Spelling.hex, Splitting.Lacks}
 use Rattle.elf_image.specs.Image.{ProgramImage, has_code_word}
@@ -32,13 +32,8 @@ pub record IsOriginIn (image : ProgramImage) (origin : Origin) : Type 0 where
   pub from_one : 1 ≤ origin.number
 
 -- The addresses rise.
-abbrev pub IsBefore : Origin → List Origin → Type 0
-IsBefore first [] = Unit {0}
-IsBefore first (next ∷ others) = first.address < next.address
-
 abbrev pub AreRising : List Origin → Type 0
-AreRising [] = Unit {0}
-AreRising (first ∷ others) = IsBefore first others × AreRising others
+AreRising origins = AllPairs (λ (one : Origin) (other : Origin). one.address < other.address) origins
 
 -- A text has these lines, each of the image, by rising address.
 pub record AreLinesOf (image : ProgramImage) (text : List ℕ) (origins : List Origin) : Type 0 where

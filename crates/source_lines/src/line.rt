@@ -1,9 +1,9 @@
 //! A line, as its text has it.
 
-ghost use Rattle.std.specs.Prelude.{◌≡◌, IfOk, IfErr, Some, None, reverse};
+ghost use Rattle.std.specs.Prelude.{◌≡◌, ◌≢◌, ◌≤◌, IfOk, IfErr, Some, None, [], reverse};
 ghost use Rattle.text_fields.specs.Splitting.{rest};
 ghost use Rattle.source_lines.specs.Lines.{line_text, origin_of};
-ghost use Rattle.source_lines.specs.Faults.{number_in, spelling_fault};
+ghost use Rattle.source_lines.specs.Faults.{address_in, number_in, spelling_fault};
 
 use std::fmt;
 use text_fields::{read_decimal, read_hex, split_field};
@@ -52,6 +52,9 @@ impl fmt::Display for LineFault {
 /// The line that a text is, without its newline: an address, a file and a number, with one space between two of them.
 pub(crate) fn read_line(text: &[u8]) -> Result<SourceLine<'_>, LineFault>
     ensures read { IfOk result (λ line. line_text (origin_of line) ≡ text.now) }
+    ensures address { IfOk result (λ line. address_in text.now ≡ line.address) }
+    ensures named { IfOk result (λ line. line.file.now ≢ []) }
+    ensures from_one { IfOk result (λ line. 1 ≤ line.number) }
     ensures fits { IfOk result (λ line. spelling_fault text.now ≡ None) }
     ensures refused { IfErr result (λ fault. spelling_fault text.now ≡ Some fault) }
 {

@@ -1,8 +1,9 @@
 //! The lines of a text.
 
-ghost use Rattle.std.specs.Prelude.{◌≡◌, IfOk, IfErr, Some, None};
-ghost use Rattle.source_lines.specs.Lines.{AreLinesOf, AreRising, origins_of};
-ghost use Rattle.source_lines.specs.Faults.{IsLinesRefusal, fault_of};
+ghost use Rattle.std.specs.Prelude.{◌≡◌, ◌∷◌, ◌++◌, true, IfOk, IfErr, Some, None};
+ghost use Rattle.text_fields.specs.Splitting.{rest};
+ghost use Rattle.source_lines.specs.Lines.{AreLinesOf, AreRising, IsOriginIn, line_text, origin_of, origins_of};
+ghost use Rattle.source_lines.specs.Faults.{IsLinesRefusal, fault_of, is_behind};
 
 use crate::line::{LineFault, SourceLine, read_line};
 use elf_image::Image;
@@ -60,6 +61,10 @@ fn next_line<'a>(
     last: Option<u32>,
     image: &Image,
 ) -> Result<SourceLine<'a>, LineFault>
+    ensures cut { IfOk result
+        (λ line. text.now ≡ line_text (origin_of line) ++ 10 ∷ rest 10 text.now) }
+    ensures one { IfOk result (λ line. IsOriginIn image.now (origin_of line)) }
+    ensures behind { IfOk result (λ line. is_behind last line.address ≡ true) }
     ensures fits { IfOk result (λ line. fault_of image.now last text.now ≡ None) }
     ensures refused { IfErr result (λ fault. fault_of image.now last text.now ≡ Some fault) }
 {
@@ -70,8 +75,18 @@ fn next_line<'a>(
     if image.code_word(line.address).is_none() {
         return Err(LineFault::Outside);
     }
+    if !is_behind(last, line.address) {
+        return Err(LineFault::Order);
+    }
+    Ok(line)
+}
+
+/// Whether an address is behind the last one, if there is one.
+fn is_behind(last: Option<u32>, address: u32) -> bool
+    ensures { result ≡ is_behind last address }
+{
     match last {
-        Some(before) if line.address <= before => Err(LineFault::Order),
-        _ => Ok(line),
+        None => true,
+        Some(last) => last < address,
     }
 }
