@@ -2,6 +2,7 @@
 
 ghost use Rattle.std.specs.Prelude.{◌≡◌, ◌⊎◌, [], IsTrue, IfErr, IfOk, Ok, Some, false, is_some, not, true};
 ghost use Rattle.std.specs.Prelude.{map, string_bytes};
+ghost use Rattle.std.specs.IoError.{error_kind};
 ghost use Rattle.std.specs.Vec.Iter.{into_iter_items};
 ghost use Rattle.sim_inputs.specs.CommandLine.{AreWordsRefusedFor};
 ghost use Rattle.sim_inputs.specs.declared.line.Command.TheVariants.{OfProgram};
