@@ -37,6 +37,7 @@ RUNS = {
     "plain_rounds": f"plain {PASSING} --rounds 1 {TWO} --records",
     "schedule": f"schedule {PASSING} ORDER {TWO}",
     "check": f"check {OVERTAKEN} TRACE --config overtaken/two.toml --records",
+    "check_why": "check first/first.elf TRACE --config overtaken/two.toml --why",
     "script": f"script {OVERTAKEN} TRACE --config overtaken/two.toml",
     "migrate": "migrate traces/overtaken_version_1.trace OUT --config overtaken/two.toml",
     "chart": f"chart {OVERTAKEN} TRACE --config overtaken/two.toml",
@@ -45,7 +46,10 @@ RUNS = {
     "list": "list first/first.elf",
     "list_input": "list -",
     "explain": "explain first/first.elf --config first/first.toml",
+    "explain_trace": "explain first/first.elf --config first/first.toml --trace TRACE",
     "explain_refused": "explain first/first.script --config first/first.elf",
+    "explain_script": "explain first/first.elf --config first/first.toml --script first/first.script",
+    "explain_order": f"explain {PASSING} --order ORDER {TWO}",
     "outcomes": "outcomes locks/swap.elf --config locks/two.toml --watch 80001004:4 --exists h0=16",
     "outcomes_witness": f"outcomes {PASSING} {TWO} --outcome 2 --witness OUT",
     "outcomes_script": f"outcomes {PASSING} {TWO} --outcome 3 --script OUT",
@@ -55,9 +59,15 @@ RUNS = {
     "litmus_image": "litmus litmus/SB.litmus --image OUT",
     "refused_words": "step",
     "refused_image": "list first/first.script",
+    "refused_words_hint": "step --hints always",
+    "refused_image_hint": "list first/first.script --hints json",
+    "refused_script_hint": "step first/first.elf first/first.toml --hints always",
+    "refused_file_hint": "list nowhere --hints always",
     "help": "--help",
 }
 INPUTS = {"step_input": "first/first.script", "list_input": "first/first.elf"}
+# Those that tell more beside a refusal, where there is memory for it.
+TELLING = ("check_why", "explain_trace")
 WITH_THREADS = ("run", "run_trace", "run_times")
 
 
@@ -126,7 +136,9 @@ class Kind:
         places = {"OUT": self.out, "TRACE": os.path.join(folder, "trace"), "ORDER": os.path.join(folder, "order")}
         self.words = [places.get(word, word) for word in RUNS[name].split()]
         self.has_threads = name in WITH_THREADS
+        self.tells = name in TELLING
         self.input = INPUTS.get(name)
+        self.hints = self.words[-1] if "--hints" in self.words else None
 
     def run(self, closed=(), **settings):
         """What it does with these streams closed, and with these settings of its environment."""
@@ -144,7 +156,9 @@ class Kind:
         return Done(done.returncode, done.stdout, done.stderr, written_at(self.out))
 
     def is_same(self, found, wanted):
-        """Whether both did the same; of a run with threads, each of which has another history, up to that."""
+        """Whether both did the same; of a run with threads, each of which has another history, up to that; a hint may be left out."""
+        if self.hints and found.err == wanted.err.partition(b"\n")[0] + b"\n":
+            found = found._replace(err=wanted.err)
         if not self.has_threads:
             return found == wanted
         return (found.status, found.err) == (wanted.status, wanted.err) and bool(found.out) == bool(wanted.out)

@@ -3,8 +3,9 @@
 
 The k-th allocation is refused, k = 1, 2, .., until a run makes fewer. What each run has to do then: end with status 5 and the line
 `smtsim: memory` (a run with threads also `smtsim: thread`), having printed no more than a beginning of what it prints otherwise, and no
-trace, picture or log but a whole one or one whose fault was told; or do just what it does otherwise, where it can do without. With
-`--closed` each run is made so with standard input, output and error closed, alone and together, and first with nothing refused. The
+trace, picture or log but a whole one or one whose fault was told; or do just what it does otherwise, where it can do without, but for
+a hint, or what it tells beside the refusal of a trace, which may be left out. With `--closed` each run is made so with standard input,
+output and error closed, alone and together, and first with nothing refused. The
 runs, of every command, are those of tools/every_command.py. Prints what differs, and a line for each kind of run: how many allocations
 were refused. Ends with 1 where one differed.
 
@@ -17,6 +18,9 @@ import subprocess
 import sys
 import tempfile
 
+sys.path.insert(0, os.path.join(os.path.dirname(os.path.abspath(__file__)), "expected"))
+
+from hints import without_hint
 from every_command import ROOT, RUNS, STREAMS, Kind, is_whole_or_none, prepared, told, without_a_run
 
 MEMORY, THREAD = b"smtsim: memory\n", b"smtsim: thread\n"
@@ -51,10 +55,16 @@ class Refusing:
         if 2 in self.closed:
             said = [b""]
         is_part = self.kind.has_threads or self.open.out.startswith(found.out) and is_whole_or_none(found.written, self.open.written)
-        return found.status == 5 and found.err in said and is_part
+        err = without_hint(found.err, found.status, self.kind.hints) if self.kind.hints else found.err
+        return found.status == 5 and err in said and is_part
+
+    def tells_less(self, found):
+        """Whether it did what it does, and left out what it tells beside a refusal."""
+        err = b"" if 2 in self.closed else self.open.err
+        return self.kind.tells and (found.status, found.err) == (self.open.status, err) and self.open.out.startswith(found.out)
 
     def is_as_it_should(self, found):
-        return self.lacks_memory(found) or self.kind.is_as_it_should(found, self.open, self.closed)
+        return self.lacks_memory(found) or self.tells_less(found) or self.kind.is_as_it_should(found, self.open, self.closed)
 
     def differs(self, found, when):
         words = " ".join(self.kind.words)

@@ -18,6 +18,7 @@ import history_script
 import inputs
 import judge
 import judge_inputs
+import judge_why
 import migrate
 import program
 import schedule
@@ -71,6 +72,9 @@ def by_chart(words):
 
 
 def by_judge(words):
+    """What `check` says; with `--why` of traces that are refused alone."""
+    if "--why" in words:
+        return judge_why.main([word for word in words if word not in ("--why", "--json", "--records", "--counts")])
     if "--counts" in words:
         return counts.main([word for word in words if word != "--counts"])
     return judge.main(words)

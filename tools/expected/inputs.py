@@ -13,7 +13,10 @@ DEFAULTS = {
 # How many files each command has, and which options beside `--config`.
 COMMANDS = {
     "step": (2, ("--records", "--show", "--looks")), "plain": (2, ("--records",)), "list": (1, ()),
+    "explain": (1, ()),
 }
+# The options with a file that a command has, of which one at most is given.
+BESIDE = {"explain": ("--script", "--order")}
 # The options with a number, and what it may be. With `--rounds` a command has no second file, and the
 # others come with it alone.
 NUMBERS = {
@@ -36,7 +39,7 @@ def read_line(words):
     command, rest = words[0], list(words[1:])
     count, flags = COMMANDS[command]
     numbers = NUMBERS.get(command, {})
-    line = {"command": command, "files": [], "config": None}
+    line = {"command": command, "files": [], "config": None, "beside": None}
     line |= dict.fromkeys((option[2:] for option in numbers), None)
     line |= {"records": False, "show": False, "looks": False}
     seen = set()
@@ -45,6 +48,8 @@ def read_line(words):
         name, has_value, value = word.partition("=")
         if name == "--config" and name not in seen and (has_value or rest):
             line["config"] = value if has_value else rest.pop(0)
+        elif name in BESIDE.get(command, ()) and not seen & set(BESIDE[command]) and (has_value or rest):
+            line["beside"] = name[2:], value if has_value else rest.pop(0)
         elif name in numbers and name not in seen and (has_value or rest):
             line[name[2:]] = read_number(value if has_value else rest.pop(0), *numbers[name])
         elif word in flags and word not in seen:
@@ -96,9 +101,17 @@ WORD = re.compile(rf"(?:([FICU]){SMALL}|([DRT]){SMALL}\.{SMALL}){TIMES}\Z")
 NUMBER = re.compile(r"(?:0|[1-9][0-9]{0,2})\Z")
 
 
+COMMENT = re.compile(r"(?<![^ \n])#[^\n]*")
+
+
+def uncommented(data):
+    """The text of a script or an order, a character for each byte, with blanks for its comments."""
+    return COMMENT.sub(lambda found: " " * len(found.group()), data.decode("latin-1"))
+
+
 def words_of(data):
-    """The words of a script or an order: apart by spaces or newlines."""
-    return [word for word in re.split(r"[ \n]+", data.decode("latin-1")) if word]
+    """The words of a script or an order: apart by spaces or newlines, and not of a comment."""
+    return [word for word in re.split(r"[ \n]+", uncommented(data)) if word]
 
 
 def read_order(data):

@@ -5,11 +5,13 @@ docs/FORMATS.md says it.
     python3 tools/expected/program.py plain IMAGE ORDER [--config FILE] [--records]
     python3 tools/expected/program.py plain IMAGE --rounds K [--steps N] [--seed S] [--config FILE] [--records]
     python3 tools/expected/program.py list IMAGE [--config FILE]
+    python3 tools/expected/program.py explain IMAGE [--script FILE | --order FILE] [--config FILE]
 """
 
 import sys
 
 import core
+import explanation
 import image
 import inputs
 import looks
@@ -175,6 +177,20 @@ def in_rounds(made, settings, line):
     return list(plain_report(machine, records, line["records"])), exit_status(machine.statuses)
 
 
+def explained(line, settings, made):
+    """What is said of a configuration and an image that are accepted, and of what stands beside them."""
+    out = [*explanation.of_config(settings), *explanation.of_image(made, read_file(line["files"][0]))]
+    if line["beside"] is None:
+        return out, [], 0
+    kind, name = line["beside"]
+    data = read_file(name)
+    if data is None:
+        return out, ["smtsim: file"], 5
+    of_kind = {"script": explanation.of_script, "order": explanation.of_order}[kind]
+    lines, why = of_kind(data, made, settings)
+    return out + lines, [] if why is None else [f"smtsim: {why}"], 0 if why is None else 2
+
+
 def run(words):
     """The lines on standard output, those on standard error, and the exit status."""
     try:
@@ -186,6 +202,8 @@ def run(words):
         made = loaded(line["files"][0], settings)
         if line["command"] == "list":
             return list(listing(made)), [], 0
+        if line["command"] == "explain":
+            return explained(line, settings, made)
         if line.get("rounds") is not None:
             out, status = in_rounds(made, settings, line)
             return out, [], status

@@ -15,6 +15,7 @@ import image
 import inputs
 import judge
 import judge_inputs
+import judge_why
 import litmus
 import litmus_tests
 import migrate
@@ -94,8 +95,28 @@ def by_model(line):
     return "".join(f"{t}\n" for t in out), "".join(f"{t}\n" for t in err), status
 
 
+def by_explanation(line):
+    """What is said of words, where the configuration and the image are accepted; of others there is no model."""
+    out, err, status = program.run(line)
+    if not out:
+        raise TooLong
+    text = "".join(f"{t}\n" for t in out).encode("utf-8", "surrogateescape")
+    return text.decode("latin-1"), "".join(f"{t}\n" for t in err), status
+
+
 def by_judge(line):
     return captured(judge.main, line[1:])
+
+
+def by_why(line):
+    """What is told of a trace that is refused; of another one the model doesn't know what `--why` says."""
+    try:
+        told, refused = judge_why.why_of(line[1], line[2], line[4])
+    except judge_inputs.Refused as early:
+        told, refused = b"", early
+    if refused is None:
+        raise TooLong
+    return told.decode("latin-1"), f"smtsim: {refused.said}\n", refused.status
 
 
 def by_schedule(line):
@@ -150,7 +171,33 @@ def some_kind(r):
     return "code" if r.random() < 0.35 else None
 
 
+COMMENTS = (b" #", b"#", b"# ", b"\n#", b" # F0 #\n", b"\n# 0 1\n", b" #\xc3\xa9\n", b"#\n", b"\t# ")
+
+
+def with_comments(r, files):
+    """The files, where one of words now and then has comments, or what is almost one."""
+    for name in {"script", "order"} & files.keys():
+        while r.random() < 0.4:
+            at = r.randrange(len(files[name]) + 1)
+            at = files[name].find(b" ", at) if r.random() < 0.7 and b" " in files[name][at:] else at
+            files[name] = files[name][:at] + r.choice(COMMENTS) + files[name][at:]
+    return files
+
+
 def some_asks(r):
+    files, line = some_plain_asks(r)
+    return with_comments(r, files), line
+
+
+def some_words(r):
+    """A script or an order that is explained."""
+    while True:
+        files, line = some_asks(r)
+        for name in {"script", "order"} & files.keys():
+            return files, ["explain", "image.elf", f"--{name}", name, "--config", "config.toml"]
+
+
+def some_plain_asks(r):
     """A script, an order or a listing, as random_runs makes them; now and then rounds."""
     files, line = random_runs.inputs_of(r.getrandbits(64), 0, some_kind(r))
     if line[0] == "step" and r.random() < 0.2:
@@ -200,6 +247,11 @@ def some_check(r):
     return some_trace(r), ["check", "image.elf", "trace", "--config", "config.toml", "--records"][: r.choice((5, 6))]
 
 
+def some_why(r):
+    """A trace, mostly one that is refused."""
+    return some_trace(r), ["check", "image.elf", "trace", "--config", "config.toml", "--why"]
+
+
 def some_history(r):
     return some_trace(r), ["script", "image.elf", "trace", "--config", "config.toml"]
 
@@ -223,7 +275,7 @@ def some_schedule(r):
     made = image.load(files["image.elf"], settings["ram"])
     del files["script"]
     files["order"] = random_runs.some_order(r, made, settings["harts"]).encode()
-    return files, ["schedule", "image.elf", "order", "--config", "config.toml"]
+    return with_comments(r, files), ["schedule", "image.elf", "order", "--config", "config.toml"]
 
 
 def some_outcomes(r):
@@ -261,7 +313,9 @@ KINDS = {
     kind.name: kind
     for kind in (
         Kind("asks", some_asks, by_model),
+        Kind("words", some_words, by_explanation),
         Kind("check", some_check, by_judge),
+        Kind("why", some_why, by_why),
         Kind("schedule", some_schedule, by_schedule),
         Kind("script", some_history, by_history_script),
         Kind("chart", some_chart, by_chart),

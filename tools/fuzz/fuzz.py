@@ -6,8 +6,9 @@ Each case is files and a command line of one kind (cases.py); in every second on
 Output, standard error and exit status have to be the model's. A case that differs is made smaller (smaller.py)
 and left in FOLDER with what the two said; the exit status is then 1. Case K of a seed and kind is always the
 same. With --closed it is made with standard streams closed, of input, output and error each set in turn, and has to
-do what is wanted there (tools/every_command.py). It ends after N seconds, 60 where nothing is said, and prints how
-many cases of each kind there were, and how many the model had no time for.
+do what is wanted there (tools/every_command.py). Three of four cases ask for hints too (`never`, `always`, `json`): the fault's line and the
+status stay the model's, and what stands behind the line has the form of a hint (tools/expected/hints.py). It ends after N seconds,
+60 where nothing is said, and prints how many cases of each kind there were, and how many the model had no time for.
 """
 
 import argparse
@@ -23,6 +24,7 @@ sys.path[:0] = [os.path.join(HERE, "..", "expected"), os.path.join(HERE, "..")]
 import cases
 import smaller
 from cases import TooLong
+from hints import without_hint
 from every_command import STREAMS, Done, expected, is_whole_or_none, told as told_streams
 
 
@@ -34,17 +36,25 @@ def put(folder, files):
             file.write(data)
 
 
-def by_program(program, folder, line, closed):
+def hints_of(case):
+    """What a case asks of hints: in three of four something, whatever the model knows of them."""
+    return (None, "never", "always", "json")[case.number % 4]
+
+
+def by_program(program, folder, line, closed, hints=None):
+    """What the program says of a line: of a fault its line, where what stands behind is the hint that was asked for, or none."""
     def close():
         for stream in closed:
             os.close(stream)
 
     how = {"preexec_fn": close} if closed else {}
+    asked = ["--hints", hints] if hints else []
     try:
-        done = subprocess.run([program, *line], cwd=folder, capture_output=True, check=False, timeout=120, **how)
+        done = subprocess.run([program, *line, *asked], cwd=folder, capture_output=True, check=False, timeout=120, **how)
     except subprocess.TimeoutExpired:
         return "", "no answer within 120 seconds", -1
-    return done.stdout.decode("latin-1"), done.stderr.decode("latin-1"), done.returncode
+    err = without_hint(done.stderr, done.returncode, hints) if hints else done.stderr
+    return done.stdout.decode("latin-1"), err.decode("latin-1"), done.returncode
 
 
 def written(folder, name):
@@ -61,7 +71,7 @@ def both(program, folder, case, closed):
     """What the program says of a case and writes, and what it has to, by the model."""
     kind = case.kind
     put(folder, case.files)
-    found = (*by_program(program, folder, case.line, closed), written(folder, kind.writes))
+    found = (*by_program(program, folder, case.line, closed, hints_of(case)), written(folder, kind.writes))
     by_model = by_program(program, folder, case.line, ()) if kind.model is None else kind.said(folder, case.line)
     wanted = where_closed((*by_model, written(folder, kind.writes)), closed, found[3])
     if kind.varies:

@@ -1,5 +1,6 @@
 //! What a command is performed with.
 
+use crate::refused::Refused;
 use std::alloc::Global;
 
 /// What a command is performed with: who is asked, and who is told and written to.
@@ -15,7 +16,7 @@ pub struct Context<'a, R, G, P, S, W> {
     pub files: S,
     /// What is printed.
     pub out: W,
-    /// Whether refusals are told on a terminal.
-    pub on_terminal: bool,
+    /// Why the line is refused, once it is: what a hint behind the fault's line is of.
+    pub refused: Option<Refused>,
     pub alloc: Global,
 }

@@ -6,10 +6,11 @@ use Rattle.std.proofs.lemmas.List.{append-nil}
 use mathlib.Core.Logic.{inl, inr}
 use Rattle.std.specs.Io.KnownBytes.{Appends}
 use Rattle.text_fields.specs.{Printing.Prints}
-use Rattle.elf_image.specs.{declared.refusal.LoadRefused.LoadRefused, Refusal.reason_number}
+use Rattle.elf_image.specs.{declared.refusal.LoadRefused.LoadRefused, Refusal.reason_number, Loaded.IsImageOf}
+use Rattle.elf_image.specs.Image.{ProgramImage}
 use Rattle.explanations.specs.Explained.{Begins, IsRefusedBy, IsAccepted, refused_line, config_head, image_head}
 use Rattle.sim_inputs.specs.{declared.settings.Settings.Settings}
-use Rattle.sim_inputs.specs.{Configuration.IsConfiguration}
+use Rattle.sim_inputs.specs.{Configuration.IsConfiguration, declared.line.Beside.Beside}
 use Rattle.command_parts.specs.declared.refused.Refused.{Refused}
 use Rattle.command_parts.specs.declared.refused.Refused.TheVariants.{Image, Config, Script, Order, Step, Memory, File}
 use Rattle.command_parts.specs.declared.refused.Refused.TheVariants.{Output, Thread, Trace, Version, Event, NoUnit, Limit, NoHart}
@@ -18,11 +19,12 @@ use Rattle.command_parts.specs.declared.refused.Refused.TheVariants.{Watch, Cond
 use Rattle.command_parts.specs.declared.refused.Refused.TheVariants.{NoOutcome, NotStuck, Litmus, NothingToDraw}
 use Rattle.command_parts.specs.declared.refused.Unread.{Unread}
 use Rattle.command_parts.specs.declared.refused.Unread.TheVariants as unread
-use Rattle.command_parts.specs.Refused.{refusal_of, IsFirstFailed, AreAccepted}
-use Rattle.command_parts.specs.Inputs.{Read, OfProgram}
+use Rattle.command_parts.specs.Refused.{refusal_of, IsFirstFailed, AreAccepted, IsImageRefusal, PassesAll}
+use Rattle.command_parts.specs.Inputs.{Read, OfProgram, BehindFile, IsConfigRefusal}
 use Rattle.commands.specs.Explain.{IsExplainRefusal, IsExplanationOf, IsWritingRefusal, ExplainComesTo}
 use Rattle.commands.specs.Explain.{Tells, PrintsSome}
-use Rattle.commands.specs.{Perform.ExplainLineComesTo}
+use Rattle.commands.specs.Explain.{IsBesideFault}
+use Rattle.commands.specs.Perform.{ExplainLineComesTo, IsExplainLineRefusal, HasToldBeside}
 use Rattle.commands.proofs.OfLine.{accepted_of}
 
 -- ---- What is printed
@@ -165,19 +167,93 @@ both_accepted config settings file old new status is accepted told =
 
 -- ---- Of a line
 
--- Both are accepted, and so the settings are a core's.
-line_comes_to : (config : List ℕ) (image : Read) (old new : Option (List ℕ)) (status : ℕ)
+-- What a configuration is refused for, where its settings are made again.
+pub config_refusal : (config : List ℕ) (image : Read) (reason : Refused) → IsConfigRefusal config reason
+    → IsExplainRefusal config image reason
+config_refusal config image (Image number) is = absurd is
+config_refusal config image Config is = is
+config_refusal config image (Script number) is = absurd is
+config_refusal config image (Order index) is = absurd is
+config_refusal config image (Step index why) is = absurd is
+config_refusal config image (Trace line rule) is = absurd is
+config_refusal config image Version is = absurd is
+config_refusal config image (Event index rule) is = absurd is
+config_refusal config image (Prediction index) is = absurd is
+config_refusal config image (Register index) is = absurd is
+config_refusal config image (NoUnit kind) is = absurd is
+config_refusal config image (Limit least) is = absurd is
+config_refusal config image (NoHart hart) is = absurd is
+config_refusal config image (Picture last) is = absurd is
+config_refusal config image (Watch why) is = absurd is
+config_refusal config image (Litmus place fault) is = absurd is
+config_refusal config image NothingToDraw is = absurd is
+config_refusal config image (Condition why) is = absurd is
+config_refusal config image ManyWatched is = absurd is
+config_refusal config image (NoWord address) is = absurd is
+config_refusal config image (NoOutcome number) is = absurd is
+config_refusal config image NotStuck is = absurd is
+config_refusal config image Memory is = tt
+config_refusal config image Thread is = absurd is
+config_refusal config image File is = absurd is
+config_refusal config image Output is = absurd is
+
+-- And an image, behind it.
+pub loaded_refusal : (config : List ℕ) (settings : Settings) (file : List ℕ) (reason : Refused)
+    → IsConfiguration config settings → IsImageRefusal file settings.ram reason
+    → IsExplainRefusal config (Ok file) reason
+loaded_refusal config settings file (Image number) configured is = (settings, configured, is)
+loaded_refusal config settings file Config configured is = absurd is
+loaded_refusal config settings file (Script number) configured is = absurd is
+loaded_refusal config settings file (Order index) configured is = absurd is
+loaded_refusal config settings file (Step index why) configured is = absurd is
+loaded_refusal config settings file (Trace line rule) configured is = absurd is
+loaded_refusal config settings file Version configured is = absurd is
+loaded_refusal config settings file (Event index rule) configured is = absurd is
+loaded_refusal config settings file (Prediction index) configured is = absurd is
+loaded_refusal config settings file (Register index) configured is = absurd is
+loaded_refusal config settings file (NoUnit kind) configured is = absurd is
+loaded_refusal config settings file (Limit least) configured is = absurd is
+loaded_refusal config settings file (NoHart hart) configured is = absurd is
+loaded_refusal config settings file (Picture last) configured is = absurd is
+loaded_refusal config settings file (Watch why) configured is = absurd is
+loaded_refusal config settings file (Litmus place fault) configured is = absurd is
+loaded_refusal config settings file NothingToDraw configured is = absurd is
+loaded_refusal config settings file (Condition why) configured is = absurd is
+loaded_refusal config settings file ManyWatched configured is = absurd is
+loaded_refusal config settings file (NoWord address) configured is = absurd is
+loaded_refusal config settings file (NoOutcome number) configured is = absurd is
+loaded_refusal config settings file NotStuck configured is = absurd is
+loaded_refusal config settings file Memory configured is = tt
+loaded_refusal config settings file Thread configured is = absurd is
+loaded_refusal config settings file File configured is = absurd is
+loaded_refusal config settings file Output configured is = absurd is
+
+-- The text beside an image that is accepted.
+pub beside_refusal : (told : Beside) (config : List ℕ) (settings : Settings) (file : List ℕ) (program : ProgramImage)
+    (second : Read) (reason : Refused) → IsConfiguration config settings → PassesAll file settings.ram
+    → IsImageOf file settings.ram program → BehindFile second (IsBesideFault told settings program) reason
+    → IsExplainLineRefusal (Some told) (Ok config) (Ok file) second reason
+beside_refusal told config settings file program second reason configured passes loaded is =
+    inr (settings, configured, (passes, program, loaded, is))
+
+-- Nothing is told beside it; or something is.
+pub alone_comes_to : (config : List ℕ) (image second : Read) (old new : Option (List ℕ)) (status : ℕ)
     → OfProgram (Ok config) image (λ settings program. ExplainComesTo old new status)
-    → ExplainLineComesTo (Ok config) image old new status
-line_comes_to config (Ok file) old new status told = (
+    → ExplainLineComesTo None (Ok config) image second old new status
+alone_comes_to config (Ok file) second old new status told = (
   told.0,
   told.1,
-  (told.2.0, told.2.1, told.2.2, (accepted_of config told.0 told.1, told.2.3)),
+  (told.2.0, told.2.1, told.2.2, (accepted_of config told.0 told.1, (new, told.2.3, refl))),
 )
-line_comes_to config (Err why) old new status told = absurd told.2
+alone_comes_to config (Err why) second old new status told = absurd told.2
 
-pub line_ended : (answer : Result ℕ Refused) (config : List ℕ) (image : Read) (old new : Option (List ℕ))
-    → IfOk answer (λ status. OfProgram (Ok config) image (λ settings program. ExplainComesTo old new status))
-    → IfOk answer (ExplainLineComesTo (Ok config) image old new)
-line_ended (Ok status) config image old new told = line_comes_to config image old new status told
-line_ended (Err why) config image old new told = tt
+pub both_come_to : (told : Beside) (config : List ℕ) (image second : Read) (old mid new : Option (List ℕ))
+    (status : ℕ) → OfProgram (Ok config) image (λ settings program. ExplainComesTo old mid status)
+    → OfProgram (Ok config) image (λ settings program. HasToldBeside (Some told) settings program second mid new)
+    → ExplainLineComesTo (Some told) (Ok config) image second old new status
+both_come_to told config (Ok file) second old mid new status first then = (
+  then.0,
+  then.1,
+  (then.2.0, then.2.1, then.2.2, (accepted_of config then.0 then.1, (mid, first.2.3, then.2.3))),
+)
+both_come_to told config (Err why) second old mid new status first then = absurd then.2

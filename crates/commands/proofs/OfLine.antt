@@ -27,6 +27,7 @@ use Rattle.commands.specs.Perform.{ExplainLineComesTo, MigrateLineComesTo}
 use Rattle.sim_inputs.specs.declared.line.Command.TheVariants as commands
 use Rattle.sim_inputs.specs.declared.line.ProgramCommand.{ProgramCommand}
 use Rattle.sim_inputs.specs.declared.line.LitmusCommand.{LitmusCommand}
+use Rattle.sim_inputs.specs.declared.line.Beside.{Beside}
 use Rattle.commands.proofs.Sound.{zero_says}
 use Rattle.commands.proofs.SoundCommands.{sound}
 
@@ -120,11 +121,11 @@ migration_says (Ok text) (Ok file) Traced old new status is = zero_says status i
 migration_says (Ok text) (Err why) Traced old new status is = absurd is.1.2
 migration_says (Err why) trace Traced old new status is = absurd is.1
 
-explain_says : (config image : Read) (old new : Option (List ℕ)) (status : ℕ)
-    → ExplainLineComesTo config image old new status → IsTrue (says_harts status)
-explain_says (Ok text) (Ok file) old new status is = zero_says status is.2.3.1.zero
-explain_says (Ok text) (Err why) old new status is = absurd is.2
-explain_says (Err why) image old new status is = absurd is
+explain_says : (beside : Option Beside) (config image second : Read) (old new : Option (List ℕ)) (status : ℕ)
+    → ExplainLineComesTo beside config image second old new status → IsTrue (says_harts status)
+explain_says beside (Ok text) (Ok file) second old new status is = zero_says status is.2.3.1.1.zero
+explain_says beside (Ok text) (Err why) second old new status is = absurd is.2
+explain_says beside (Err why) image second old new status is = absurd is
 
 pub status_says : (command : Command) (config image second : Read) (Traced : ToWrite → Type 0)
     (old new : Option (List ℕ)) (status : ℕ) → LineComesTo command config image second Traced old new status
@@ -132,7 +133,7 @@ pub status_says : (command : Command) (config image second : Read) (Traced : ToW
 status_says (commands.OfProgram command) config image second Traced old new status is =
     program_says command config image second Traced old new status is
 status_says (commands.Explain explain) config image second Traced old new status is =
-    explain_says config image old new status is
+    explain_says explain.beside config image second old new status is
 status_says (commands.Litmus litmus) config test second Traced old new status is =
     litmus_says litmus config test old new status is
 status_says (commands.Migrate migrate) config none trace Traced old new status is =

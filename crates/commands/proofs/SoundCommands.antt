@@ -28,7 +28,7 @@ use Rattle.core_commands.specs.{Run.LackARole}
 use Rattle.command_parts.specs.Inputs.{Read}
 use Rattle.core_commands.specs.{Account.statuses_of}
 use Rattle.plain_commands.specs.{Plain.standing}
-use Rattle.command_parts.specs.declared.refused.Refused.TheVariants.{Output}
+use Rattle.command_parts.specs.declared.refused.Refused.TheVariants.{Config, Image, Output}
 use Rattle.plain_commands.specs.PlainRounds.{rounds_of, IsRoundsRefusal, RoundsComeTo}
 use Rattle.plain_commands.proofs.OfRounds.{from_rounds, in_rounds}
 use Rattle.commands.proofs.Sound.{IsSound, no_unread_image, no_unread_config, kept, prints_kept, status_says, zero_says}
@@ -137,12 +137,25 @@ of_run run settings program second = record {
   says = λ Traced old new status is. run_says run settings program Traced old status run.times new is;
 }
 
+-- What is told of a trace is refused by the output alone.
+image_is_told : (number : ℕ) → Image number ≡ Output → ⊥
+image_is_told number same = cc
+
+config_is_told : Config ≡ Output → ⊥
+config_is_told same = cc
+
 of_check : (check : CheckCommand) (settings : Settings) (program : ProgramImage) (second : Read)
     → IsSound (commands.Check check) settings program second
 of_check check settings program (Ok trace) = record {
-  no_image = λ number is. is;
-  unfit = λ accepted is. is;
-  output = λ Traced old new status is. (
+  no_image = λ number is. elim is [
+    | inl told ↦ absurd (image_is_told number told.1)
+    | inr refused ↦ refused
+  ];
+  unfit = λ accepted is. elim is [
+    | inl told ↦ absurd (config_is_told told.1)
+    | inr refused ↦ refused
+  ];
+  output = λ Traced old new status is. inr (
     is.read,
     is.is_trace,
     (

@@ -16,7 +16,8 @@ use Rattle.sim_inputs.specs.declared.line.RunCommand.{RunCommand}
 use Rattle.core_commands.specs.Run.{IsRunRefusal, RunComesTo, LackARole}
 use Rattle.core_commands.specs.{Stress.StressComesTo}
 use Rattle.commands.specs.{Written.ToWrite, Written.TraceOf, Written.EndsOf}
-use Rattle.core_commands.specs.Check.{IsCheckRefusal, CheckComesTo, OfEvents, AreTooMany}
+use Rattle.core_commands.specs.Check.{CheckComesTo, OfEvents, AreTooMany}
+use Rattle.core_commands.specs.Told.{IsCheckRefusalWith}
 use Rattle.core_commands.specs.Chart.{IsChartRefusal, ChartComesTo}
 use Rattle.plain_commands.specs.Plain.{IsPlainRefusal, PlainComesTo}
 use Rattle.plain_commands.specs.PlainRounds.{rounds_of, InRounds, IsRoundsRefusal, RoundsComeTo}
@@ -32,7 +33,7 @@ IsCommandRefusal (commands.Step step) settings image second reason =
     BehindFile second (IsStepRefusal settings) reason
 IsCommandRefusal (commands.Run run) settings image second reason = IsRunRefusal settings reason
 IsCommandRefusal (commands.Check check) settings image second reason =
-    BehindFile second (IsCheckRefusal settings image) reason
+    BehindFile second (IsCheckRefusalWith (is_some (check_wants check).ends) settings image) reason
 IsCommandRefusal (commands.Plain plain) settings image second reason =
     InRounds (rounds_of plain) (λ rounds. IsRoundsRefusal settings reason)
     (BehindFile second (IsPlainRefusal settings image) reason)

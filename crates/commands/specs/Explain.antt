@@ -1,11 +1,19 @@
 -- The command `explain`: why a configuration or an image is refused, or what is in it. (This
 -- project's own choice.)
-use Rattle.std.specs.Prelude.{◌≡◌, ℕ, List, ◌++◌, Option, Ok, Err, codes}
+use Rattle.std.specs.Prelude.{◌≡◌, ℕ, List, ◌++◌, Option, None, Ok, Err, codes}
 use Rattle.elf_image.specs.{declared.refusal.LoadRefused.LoadRefused, Refusal.reason_number}
 use Rattle.text_fields.specs.{Printing.Prints}
+use Rattle.elf_image.specs.Image.{ProgramImage}
+use Rattle.scripts.specs.{declared.actions.ScriptWord.ScriptWord}
+use Rattle.scripts.specs.Script.{IsScript, IsFirstMisspelled}
+use Rattle.sim_inputs.specs.{declared.settings.Settings.Settings, declared.line.Beside.Beside}
+use Rattle.sim_inputs.specs.declared.line.Beside.TheVariants as beside
 use Rattle.explanations.specs.Explained.{Begins, refused_line}
+use Rattle.core_commands.specs.{Check.AreHistory, Check.OfEvents, Judgement.IsJudgementRefusal}
+use Rattle.explained_words.specs.Explained.{IsOrderFault, IsFollowed, script_head, order_head}
+use Rattle.explained_words.specs.declared.order.OrderFault.TheVariants as fault
 use Rattle.command_parts.specs.{declared.refused.Refused.Refused}
-use Rattle.command_parts.specs.declared.refused.Refused.TheVariants.{Image, Config, Memory, File, Output}
+use Rattle.command_parts.specs.declared.refused.Refused.TheVariants.{Image, Config, Script, Order, Step, Memory, File, Output}
 use Rattle.command_parts.specs.declared.refused.Unread.TheVariants as unread
 use Rattle.command_parts.specs.Refused.{IsFirstFailed}
 use Rattle.command_parts.specs.Inputs.{Read, OfFile, OfSettings, IsNoConfiguration}
@@ -49,3 +57,47 @@ IsExplanationOf reason old new = Unit {0}
 pub record ExplainComesTo (old new : Option (List ℕ)) (exit_status : ℕ) : Type 0 where
   pub printed : Prints old new (Tells (codes "config accepted\n") (codes "image accepted\n"))
   pub zero : exit_status ≡ 0
+
+-- ---- Beside them
+
+-- When each refusal comes of a text beside an image that is accepted: of a script its first word that says
+-- nothing, of an order its first word that the plain machine doesn't follow, of a trace as by `check`. Of memory and
+-- of the output nothing is said.
+abbrev pub IsScriptFault : List ℕ → Refused → Type 0
+IsScriptFault script (Script number) = IsFirstMisspelled script number
+IsScriptFault script Memory = Unit {0}
+IsScriptFault script Output = Unit {0}
+IsScriptFault script _ = ⊥
+
+abbrev pub IsFaultOfOrder : Settings → ProgramImage → List ℕ → Refused → Type 0
+IsFaultOfOrder settings image order (Order index) =
+    IsOrderFault image settings.config.harts order (fault.Word index)
+IsFaultOfOrder settings image order (Step index why) =
+    IsOrderFault image settings.config.harts order (fault.Step index why)
+IsFaultOfOrder settings image order Memory = Unit {0}
+IsFaultOfOrder settings image order Output = Unit {0}
+IsFaultOfOrder settings image order _ = ⊥
+
+abbrev pub IsBesideFault : Beside → Settings → ProgramImage → List ℕ → Refused → Type 0
+IsBesideFault (beside.Script name) settings image text reason = IsScriptFault text reason
+IsBesideFault (beside.Order name) settings image text reason = IsFaultOfOrder settings image text reason
+IsBesideFault (beside.Trace name) settings image text reason = IsJudgementRefusal settings image text reason
+
+-- The text is accepted: all words of a script say something; the plain machine follows an order; the events of a
+-- trace are a history of the core that it is of.
+abbrev pub IsTextAccepted : Beside → Settings → ProgramImage → List ℕ → Type 0
+IsTextAccepted (beside.Script name) settings image text = (words : List ScriptWord) × IsScript text words
+IsTextAccepted (beside.Order name) settings image text = IsFollowed image settings.config.harts text
+IsTextAccepted (beside.Trace name) settings image text = OfEvents settings image text AreHistory
+
+-- The line that says so.
+abbrev pub accepted_line : Beside → List ℕ
+accepted_line (beside.Script name) = script_head None
+accepted_line (beside.Order name) = order_head None
+accepted_line (beside.Trace name) = codes "trace accepted\n"
+
+-- Of a text that is accepted: it was told behind all else that was printed.
+pub record TellsBeside (told : Beside) (settings : Settings) (image : ProgramImage) (text : List ℕ)
+    (old new : Option (List ℕ)) : Type 0 where
+  pub accepted : IsTextAccepted told settings image text
+  pub printed : Prints old new (Begins (accepted_line told))

@@ -1,6 +1,6 @@
 -- What the program owes on a line with its files as they were read: when each refusal comes, and
 -- what the line comes to. (This project's own choice.)
-use Rattle.std.specs.Prelude.{◌≡◌, ◌⊎◌, ℕ, Bool, true, false, List, Option, is_some, Result, Err}
+use Rattle.std.specs.Prelude.{◌≡◌, ◌⊎◌, ℕ, Bool, true, false, List, Option, Some, None, is_some, Result, Err}
 use Rattle.std.specs.Prelude.{OnOk, IfOk, IfErr}
 use Rattle.elf_image.specs.Image.{ProgramImage}
 use Rattle.sim_inputs.specs.{declared.line.Command.Command, declared.settings.Settings.Settings}
@@ -14,7 +14,8 @@ use Rattle.commands.specs.Written.{ToWrite, TextOf, IsWritten}
 use Rattle.core_commands.specs.Migrate.{IsMigrateRefusal, MigrateComesTo}
 use Rattle.commands.specs.Commands.{IsCommandRefusal, CommandComesTo, AreUnfit, IsProgramUnreported}
 use Rattle.commands.specs.Commands.{program_writes_file}
-use Rattle.commands.specs.Explain.{IsExplainRefusal, ExplainComesTo}
+use Rattle.commands.specs.Explain.{IsExplainRefusal, ExplainComesTo, IsBesideFault, TellsBeside}
+use Rattle.sim_inputs.specs.declared.line.Beside.{Beside}
 use Rattle.sim_inputs.specs.Files.{written_for_test}
 use Rattle.sim_inputs.specs.declared.line.LitmusCommand.{LitmusCommand}
 use Rattle.sim_inputs.specs.declared.line.ProgramCommand.{ProgramCommand}
@@ -44,14 +45,30 @@ ProgramComesTo command config image second Traced old new status = OfProgram con
     (λ settings program. AreAccepted settings
     × CommandComesTo command settings program second Traced old new status)
 
--- When each refusal comes of what explains a configuration and an image, and what it comes to: both are
--- accepted, and it has said so.
-abbrev pub IsExplainLineRefusal : Read → Read → Refused → Type 0
-IsExplainLineRefusal config image reason = BehindFile config (λ text. IsExplainRefusal text image) reason
+-- When each refusal comes of what explains a configuration and an image: theirs, and behind them that of the
+-- text beside them.
+abbrev pub IsBesideRefusal : Option Beside → Read → Read → Read → Refused → Type 0
+IsBesideRefusal None config image second reason = ⊥
+IsBesideRefusal (Some beside) config image second reason = OfProgram config image
+    (λ settings program. BehindFile second (IsBesideFault beside settings program) reason)
 
-abbrev pub ExplainLineComesTo : Read → Read → Option (List ℕ) → Option (List ℕ) → ℕ → Type 0
-ExplainLineComesTo config image old new status =
-    OfProgram config image (λ settings program. AreAccepted settings × ExplainComesTo old new status)
+abbrev pub IsExplainLineRefusal : Option Beside → Read → Read → Read → Refused → Type 0
+IsExplainLineRefusal beside config image second reason =
+    BehindFile config (λ text. IsExplainRefusal text image) reason
+    ⊎ IsBesideRefusal beside config image second reason
+
+-- What it comes to: both are accepted, and it has said so; and so is the text beside them.
+abbrev pub HasToldBeside : Option Beside → Settings → ProgramImage → Read → Option (List ℕ) → Option (List ℕ)
+    → Type 0
+HasToldBeside None settings program second old new = new ≡ old
+HasToldBeside (Some beside) settings program second old new =
+    OfFile second (λ text. TellsBeside beside settings program text old new)
+
+abbrev pub ExplainLineComesTo : Option Beside → Read → Read → Read → Option (List ℕ) → Option (List ℕ) → ℕ
+    → Type 0
+ExplainLineComesTo beside config image second old new status = OfProgram config image
+    (λ settings program. AreAccepted settings × ((mid : Option (List ℕ)) × ExplainComesTo old mid status
+    × HasToldBeside beside settings program second mid new))
 
 -- When each refusal comes of a litmus test: the configuration is looked at first, then the test. A file
 -- that can't be read is refused where it is looked at.
@@ -94,7 +111,8 @@ MigrateLineComesTo config trace Traced old new status =
 abbrev pub IsRefusal : Command → Read → Read → Read → Refused → Type 0
 IsRefusal (commands.OfProgram command) config image second reason =
     IsProgramRefusal command config image second reason
-IsRefusal (commands.Explain explain) config image second reason = IsExplainLineRefusal config image reason
+IsRefusal (commands.Explain explain) config image second reason =
+    IsExplainLineRefusal explain.beside config image second reason
 IsRefusal (commands.Litmus litmus) config test second reason = IsLitmusLineRefusal litmus config test reason
 IsRefusal (commands.Migrate migrate) config none trace reason = IsMigrateLineRefusal config trace reason
 
@@ -103,7 +121,7 @@ abbrev pub LineComesTo : Command → Read → Read → Read → (ToWrite → Typ
 LineComesTo (commands.OfProgram command) config image second Traced old new status =
     ProgramComesTo command config image second Traced old new status
 LineComesTo (commands.Explain explain) config image second Traced old new status =
-    ExplainLineComesTo config image old new status
+    ExplainLineComesTo explain.beside config image second old new status
 LineComesTo (commands.Litmus litmus) config test second Traced old new status =
     LitmusLineComesTo litmus config test old new status
 LineComesTo (commands.Migrate migrate) config none trace Traced old new status =

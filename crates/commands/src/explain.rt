@@ -15,8 +15,7 @@ ghost use Rattle.commands.specs.Explain.{IsWritingRefusal, PrintsSome};
 use command_parts::{Refused, Unread};
 use elf_image::{LoadRefused, RamSize};
 use explanations::{explain_config, explain_image};
-use shown_text::write_file_name;
-use sim_inputs::{Command, Line, Settings};
+use sim_inputs::Settings;
 use std::alloc::Global;
 use std::io;
 use std::io::Write;
@@ -117,36 +116,8 @@ fn tell_without_config<W: Write>(
     Ok(())
 }
 
-/// Says on a line of `err` which command explains a refused configuration or image; nothing of any
-/// other refusal, nor of one that is explained already.
-pub(crate) fn point_to_explain<E: Write>(refused: Refused, line: &Line<'_>, err: &mut E) {
-    if !matches!(refused, Refused::Config | Refused::Image(_)) {
-        return;
-    }
-    let files = line.files();
-    let image = match line.command {
-        Command::Explain(_) => return,
-        // What is refused is its configuration, and its file is no image.
-        Command::Litmus(_) => "IMAGE",
-        Command::OfProgram(_) | Command::Migrate(_) => files.program.unwrap_or("IMAGE"),
-    };
-    // A terminal that takes no line is no reason for another status.
-    let _ = write_pointer(image, files.config, err);
-}
-
-/// Writes the command that explains these files, as it is to be typed.
-fn write_pointer<E: Write>(image: &str, config: Option<&str>, err: &mut E) -> io::Result<()> {
-    err.write_all(b"smtsim: smtsim explain ")?;
-    write_file_name(image, err)?;
-    if let Some(config) = config {
-        err.write_all(b" --config ")?;
-        write_file_name(config, err)?;
-    }
-    err.write_all(b" says why\n")
-}
-
 /// Writes a text, and flushes it.
-fn put<W: Write>(text: &[u8], out: &mut W) -> Result<(), Refused>
+pub(crate) fn put<W: Write>(text: &[u8], out: &mut W) -> Result<(), Refused>
     ensures refused { IfErr result (λ reason. reason ≡ Output) }
     ensures printed { OnOk result (Appends (W.contents out.old) (W.contents out.new) text.now) }
 {

@@ -1,12 +1,14 @@
 //! The simulator as its program uses it: what a line asks for, done once its files are read.
 //!
-//! Read in this order: `explain` and `list` (the commands that run nothing), `performing` (all of it: the files
+//! Read in this order: `explain` and `list` (the commands that run nothing), `explain_beside` (what `explain` says
+//! of a script or an order), `performing` (all of it: the files
 //! taken in their order, the command, the exit status), and `typed` (the same of a script that is typed). What a
 //! line comes to, and when each of its refusals comes, stands in `specs/Perform`; what a command of a program
 //! does, in `specs/Commands`. The commands themselves are in `core_commands` and `plain_commands`.
 #![tactic(auto)]
 
 mod explain;
+mod explain_beside;
 mod list;
 mod performing;
 mod typed;

@@ -1,23 +1,25 @@
 //! All that the program does with a line once its files are read.
 
-ghost use Rattle.std.specs.Prelude.{◌≡◌, ◌⊎◌, IsTrue, IfOk, IfErr, OnOk, Err, is_some, true, false};
+ghost use Rattle.std.specs.Prelude.{◌≡◌, ◌⊎◌, IsTrue, IfOk, IfErr, OnOk, Ok, Err, is_some, true, false};
+ghost use Rattle.std.specs.Prelude.{Some, IsSomeAnd};
 ghost use Rattle.command_parts.specs.declared.refused.Refused.TheVariants.{Output};
 ghost use Rattle.report_lines.specs.Statuses.{says_harts};
 ghost use Rattle.command_parts.specs.declared.refused.Refused.{Refused as AnyRefused};
 ghost use Rattle.command_parts.specs.Refused.{exit_status_of, refusal_of};
 ghost use Rattle.sim_inputs.specs.declared.line.ProgramCommand.TheVariants.{Run};
 ghost use Rattle.sim_inputs.specs.Files.{written_for_test};
-ghost use Rattle.command_parts.specs.Inputs.{as_read, Read};
+ghost use Rattle.command_parts.specs.Inputs.{as_read, Read, OfProgram};
 ghost use Rattle.commands.specs.Commands.{IsProgramUnreported, program_writes_file};
 ghost use Rattle.commands.specs.Perform.{IsRefusal, LineComesTo, IsLeft, IsUnreported, writes_file};
 ghost use Rattle.commands.specs.Perform.{IsProgramRefusal, ProgramComesTo, IsPerformed};
-ghost use Rattle.commands.specs.Perform.{IsExplainLineRefusal, ExplainLineComesTo};
+ghost use Rattle.commands.specs.Perform.{IsExplainLineRefusal, ExplainLineComesTo, HasToldBeside};
 ghost use Rattle.commands.specs.Perform.{IsLitmusLineRefusal, LitmusLineComesTo};
 ghost use Rattle.commands.specs.Perform.{IsMigrateLineRefusal, MigrationComesTo};
 ghost use Rattle.event_text.specs.Sinking.{HasPut};
 ghost use Rattle.commands.specs.Written.{IsWritten};
 
-use crate::explain::{perform_explain, point_to_explain};
+use crate::explain::perform_explain;
+use crate::explain_beside::tell_beside;
 use crate::list::perform_list;
 use actors::Gate;
 use command_parts::{Context, Inputs, Refused, Unread, image_of, refuse, settings_of};
@@ -29,7 +31,9 @@ use elf_image::Image;
 use plain_commands::{
     perform_litmus, perform_outcomes, perform_plain, perform_rounds, perform_schedule, rounds_of,
 };
-use sim_inputs::{Command, Line, LitmusCommand, ProgramCommand, RunCommand, Settings};
+use sim_inputs::{
+    Beside, Command, ExplainCommand, Line, LitmusCommand, ProgramCommand, RunCommand, Settings,
+};
 use smt_core::Predict;
 use std::alloc::Global;
 use std::io::Write;
@@ -41,8 +45,8 @@ use stress_runs::EndFiles;
 /// stand, 0 for a listing, a schedule, a script, a chart, a litmus test and a migration, 2 for a refused
 /// input, 4 for a refused trace, 5 where memory, a thread or a file failed. A refusal is one line on `err`.
 /// The configuration is looked at first, then the image, then the script, the order or the trace; a file
-/// that couldn't be read is refused where it is looked at. Where `err` is a terminal, a second line says
-/// which command explains a refused configuration or image. All that is printed is flushed.
+/// that couldn't be read is refused where it is looked at. All that is printed is flushed. The context keeps
+/// why the line was refused, if it was.
 ///
 /// The trace of a core goes into `files`, a sink that hasn't failed, where the line names a file for it:
 /// behind the last ask, and before the tables and the report, and its file is finished. Where the sink fails,
@@ -58,6 +62,8 @@ pub fn perform<
 >(context: &mut Context<'_, R, G, P, S, W>, line: &Line<'_>, inputs: &Inputs<'_>, err: &mut E) -> u8
     requires works { S.has_failed context.old.files ≡ false }
     requires finished { S.is_finished context.old.files ≡ true }
+    ensures kept { says_harts result ≡ false
+        → IsSomeAnd context.new.refused (λ reason. exit_status_of reason ≡ result) }
     ensures known { IsTrue (says_harts result) ⊎ (result ≡ 2) ⊎ (result ≡ 4) ⊎ (result ≡ 5) }
     ensures unset { IfErr inputs.now.config (λ why. result ≡ 5) }
     ensures refused { says_harts result ≡ false → (reason : AnyRefused)
@@ -78,25 +84,21 @@ pub fn perform<
 {
     match perform_line(context, line, inputs) {
         Ok(status) => status,
-        Err(refused) => refuse_line(refused, line, context.on_terminal, err),
+        Err(refused) => refuse_line(refused, context, err),
     }
 }
 
-/// Says why a line is refused, and on a terminal which command says more of it. Answers the exit
-/// status.
-pub(crate) fn refuse_line<E: Write>(
+/// Says why a line is refused, and keeps it for a hint. Answers the exit status.
+pub(crate) fn refuse_line<R, G, P, S, W, E: Write>(
     refused: Refused,
-    line: &Line<'_>,
-    on_terminal: bool,
+    context: &mut Context<'_, R, G, P, S, W>,
     err: &mut E,
 ) -> u8
-    ensures { result ≡ exit_status_of refused }
+    ensures status { result ≡ exit_status_of refused }
+    ensures kept { context.new ≡ record context.old { refused = Some refused } }
 {
-    let status = refuse(refused, err);
-    if on_terminal {
-        point_to_explain(refused, line, err);
-    }
-    status
+    context.refused = Some(refused);
+    refuse(refused, err)
 }
 
 /// The exit status of a line whose inputs are accepted, with all flushed that it prints.
@@ -129,7 +131,13 @@ fn perform_line<
     let alloc = context.alloc;
     match &line.command {
         Command::OfProgram(command) => read_and_perform(context, command, inputs),
-        Command::Explain(_) => read_and_explain(inputs, &mut context.out, alloc),
+        Command::Explain(explain) => read_and_explain(
+            explain,
+            inputs,
+            &mut context.predict,
+            &mut context.out,
+            alloc,
+        ),
         Command::Litmus(litmus) => read_and_test(
             litmus,
             inputs,
@@ -142,21 +150,59 @@ fn perform_line<
     }
 }
 
-/// The exit status of a line that explains its files, with all flushed that it prints of them. They are
-/// taken before they are refused.
-fn read_and_explain<W: Write>(
+/// The exit status of a line that explains its files, with all flushed that it prints of them. Configuration and
+/// image are taken before they are refused. What is explained beside them is looked at where both are accepted.
+fn read_and_explain<P: Predict, W: Write>(
+    explain: &ExplainCommand<'_>,
     inputs: &Inputs<'_>,
+    predict: &mut P,
     out: &mut W,
     alloc: Global,
 ) -> Result<u8, Refused>
     ensures unset { IfErr inputs.now.config (λ why. result ≡ Err (refusal_of why)) }
-    ensures refused { IfErr result (IsExplainLineRefusal (as_read inputs.now.config)
-        (as_read inputs.now.program)) }
-    ensures ended { IfOk result (ExplainLineComesTo (as_read inputs.now.config)
-        (as_read inputs.now.program) (W.contents out.old) (W.contents out.new)) }
+    ensures refused { IfErr result (IsExplainLineRefusal explain.now.beside (as_read inputs.now.config)
+        (as_read inputs.now.program) (as_read inputs.now.second)) }
+    ensures ended { IfOk result (ExplainLineComesTo explain.now.beside (as_read inputs.now.config)
+        (as_read inputs.now.program) (as_read inputs.now.second) (W.contents out.old) (W.contents out.new)) }
 {
     let text = inputs.config?;
-    perform_explain(text, inputs.program, out, alloc)
+    // Handed on as it is: a `?` would leave the prover to find what the refusal becomes.
+    let status = match perform_explain(text, inputs.program, out, alloc) {
+        Ok(status) => status,
+        Err(refused) => return Err(refused),
+    };
+    match explain.beside {
+        None => Ok(status),
+        Some(beside) => {
+            read_and_tell(beside, text, inputs, predict, out, alloc)?;
+            Ok(status)
+        }
+    }
+}
+
+/// Says what there is to say of the text beside an image and the text of a configuration.
+fn read_and_tell<P: Predict, W: Write>(
+    beside: Beside<'_>,
+    config: &[u8],
+    inputs: &Inputs<'_>,
+    predict: &mut P,
+    out: &mut W,
+    alloc: Global,
+) -> Result<(), Refused>
+    ensures refused { IfErr result (IsExplainLineRefusal (Some beside.entry) (Ok config.now)
+        (as_read inputs.now.program) (as_read inputs.now.second)) }
+    ensures told { OnOk result (OfProgram (Ok config.now) (as_read inputs.now.program)
+        (λ settings program. HasToldBeside (Some beside.entry) settings program (as_read inputs.now.second)
+        (W.contents out.old) (W.contents out.new))) }
+{
+    let settings = settings_of(config, alloc)?;
+    let bytes = inputs.program?;
+    let image = image_of(bytes, settings.ram, alloc)?;
+    let text = inputs.second?;
+    match tell_beside(beside, text, &settings, &image, predict, out, alloc) {
+        Ok(()) => Ok(()),
+        Err(refused) => Err(refused),
+    }
 }
 
 /// The exit status of a litmus test, with all flushed that is printed of it.

@@ -1,7 +1,7 @@
 //! All that the program does with a line of `step` whose script is typed, once its other files are read.
 
 ghost use Rattle.std.specs.Prelude.{◌≡◌, ◌⊎◌, [], IsTrue, IfOk, IfErr, OnOk, Ok, Err, true, false};
-ghost use Rattle.std.specs.Prelude.{is_some};
+ghost use Rattle.std.specs.Prelude.{is_some, Some, IsSomeAnd};
 ghost use Rattle.report_lines.specs.Statuses.{says_harts};
 ghost use Rattle.sim_inputs.specs.declared.line.Command.TheVariants.{OfProgram};
 ghost use Rattle.sim_inputs.specs.declared.line.ProgramCommand.TheVariants.{Step};
@@ -16,7 +16,7 @@ ghost use Rattle.core_commands.specs.Wanted.{step_wants};
 use crate::performing::refuse_line;
 use command_parts::{Context, Inputs, Refused, image_of, settings_of};
 use core_commands::{Wanted, perform_prompt};
-use sim_inputs::{Line, StepCommand};
+use sim_inputs::StepCommand;
 use smt_core::Predict;
 use std::io::{BufRead, Write};
 use stress_runs::EndFiles;
@@ -26,7 +26,6 @@ use stress_runs::EndFiles;
 /// empty script is.
 pub fn perform_typed<R, G, P: Predict + Copy, B: BufRead, S: EndFiles, W: Write, E: Write>(
     context: &mut Context<'_, R, G, P, S, W>,
-    line: &Line<'_>,
     step: &StepCommand<'_>,
     inputs: &Inputs<'_>,
     reader: &mut B,
@@ -34,6 +33,8 @@ pub fn perform_typed<R, G, P: Predict + Copy, B: BufRead, S: EndFiles, W: Write,
 ) -> u8
     requires works { S.has_failed context.old.files ≡ false }
     requires finished { S.is_finished context.old.files ≡ true }
+    ensures kept { says_harts result ≡ false
+        → IsSomeAnd context.new.refused (λ reason. exit_status_of reason ≡ result) }
     ensures known { IsTrue (says_harts result) ⊎ (result ≡ 2) ⊎ (result ≡ 4) ⊎ (result ≡ 5) }
     ensures unset { IfErr inputs.now.config (λ why. result ≡ 5) }
     ensures refused { says_harts result ≡ false → (reason : AnyRefused)
@@ -49,7 +50,7 @@ pub fn perform_typed<R, G, P: Predict + Copy, B: BufRead, S: EndFiles, W: Write,
 {
     match read_and_prompt(context, step, inputs, reader) {
         Ok(status) => status,
-        Err(refused) => refuse_line(refused, line, context.on_terminal, err),
+        Err(refused) => refuse_line(refused, context, err),
     }
 }
 

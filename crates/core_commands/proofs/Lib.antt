@@ -7,3 +7,4 @@ pub mod OfStress
 pub mod OfCheck
 pub mod OfScript
 pub mod OfChart
+mod OfTold

@@ -13,6 +13,7 @@ use Rattle.command_parts.specs.declared.refused.Refused.TheVariants.{Memory, Out
 use Rattle.core_commands.specs.{Account.IsReported, declared.wanted.Wanted.Wanted}
 use Rattle.core_commands.specs.Check.{IsCheckRefusal, IsTraceOf, setup_by}
 use Rattle.core_commands.specs.Check.{CheckComesTo}
+use Rattle.core_commands.specs.Told.{IsOfTrace}
 
 -- The core that has followed the events of a trace, as the definitions have it.
 abbrev pub following : Settings → ProgramImage → TraceContent → CoreView
@@ -45,6 +46,11 @@ report_refusal settings image trace read core reason is_trace is accepted shown 
     subst (IsCheckRefusal settings image trace) (sym memory) tt
 report_refusal settings image trace read core reason is_trace is accepted shown (inr output) =
     output_refusal settings image trace read core reason is_trace is accepted shown output
+
+-- It is none of a trace, of which more would be told.
+pub report_untold : (reason : Refused) → (reason ≡ Memory) ⊎ (reason ≡ Output) → IsOfTrace reason → ⊥
+report_untold reason (inl memory) of = subst IsOfTrace memory of
+report_untold reason (inr output) of = subst IsOfTrace output of
 
 pub comes_to : (settings : Settings) (image : ProgramImage) (trace : List ℕ) (wanted : Wanted)
     (read : TraceContent) (core : CoreView) (old new : Option (List ℕ)) (exit_status : ℕ)

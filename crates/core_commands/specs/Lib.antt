@@ -8,3 +8,5 @@ pub mod Check
 pub mod Script
 pub mod Chart
 pub mod Migrate
+pub mod Told
+pub mod Judgement

@@ -1,7 +1,7 @@
 //! The command `check`: whether a trace is a history of the core.
 
 ghost use Rattle.std.specs.Prelude.{◌≡◌, ◌≤◌, IfOk, IfErr, length, reverse};
-ghost use Rattle.std.specs.Prelude.{true, false};
+ghost use Rattle.std.specs.Prelude.{is_some, true};
 ghost use Rattle.elf_image.specs.Image.{ProgramImage};
 ghost use Rattle.smt_core.specs.Shown.{Shown};
 ghost use Rattle.smt_model.specs.Setup.{is_accepted};
@@ -9,9 +9,11 @@ ghost use Rattle.core_state.specs.Setup.{setup_of};
 ghost use Rattle.command_parts.specs.declared.refused.Refused.TheVariants.{Output};
 ghost use Rattle.core_commands.specs.Check.{IsCheckRefusal, CheckComesTo, IsTraceOf};
 ghost use Rattle.core_commands.specs.Check.{IsTraceRefusal, IsHistoryRefusal, setup_by};
+ghost use Rattle.core_commands.specs.Told.{IsCheckRefusalWith, IsJudged, IsToldOn};
 
 use crate::account::report_core;
 use crate::wanted::Wanted;
+use crate::why::refuse_trace;
 use command_parts::Refused;
 use elf_image::Image;
 use event_text::{Trace, TraceHead, TraceRefused, read_trace};
@@ -27,8 +29,8 @@ use std::io::Write;
 /// stand.
 ///
 /// Refused are, in this order, the first line of the trace that breaks a rule, sizes of no core or
-/// too many events, and the first event that isn't allowed; then nothing is printed. `Output` is
-/// answered where `out` failed.
+/// too many events, and the first event that isn't allowed; then nothing is printed but why the trace is
+/// refused, where it is wanted why harts stand where they do. `Output` is answered where `out` failed.
 #[inline(never)]
 pub fn perform_check<W: Write>(
     image: &Image,
@@ -38,13 +40,35 @@ pub fn perform_check<W: Write>(
     out: &mut W,
     alloc: Global,
 ) -> Result<u8, Refused>
-    ensures refused { IfErr result (IsCheckRefusal settings.now image.now trace.now) }
+    ensures refused { IfErr result
+        (IsCheckRefusalWith (is_some wanted.ends) settings.now image.now trace.now) }
+    ensures told { IfErr result (IsToldOn (is_some wanted.ends) settings.now image.now trace.now
+        (W.contents out.old) (W.contents out.new)) }
     ensures ended { IfOk result (CheckComesTo settings.now image.now trace.now wanted
         (W.contents out.old) (W.contents out.new)) }
 {
-    let trace = read_events(trace, alloc)?;
-    let checked = follow_all(image, settings, &trace, alloc)?;
+    let checked = match judge(image, settings, trace, alloc) {
+        Ok(checked) => checked,
+        Err(refused) => {
+            let why = wanted.ends.is_some();
+            return Err(refuse_trace(image, settings, trace, refused, why, out, alloc));
+        }
+    };
     report_core(checked.core(), &[], wanted, out, alloc)
+}
+
+/// The core that has followed the events of a trace's text.
+pub(crate) fn judge(
+    image: &Image,
+    settings: &Settings,
+    trace: &[u8],
+    alloc: Global,
+) -> Result<Checked, Refused>
+    ensures refused { IfErr result (IsCheckRefusal settings.now image.now trace.now) }
+    ensures accepted { IfOk result (IsJudged settings.now image.now trace.now) }
+{
+    let trace = read_events(trace, alloc)?;
+    follow_all(image, settings, &trace, alloc)
 }
 
 /// The trace that a text is.

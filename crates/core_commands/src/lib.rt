@@ -9,6 +9,7 @@
 mod account;
 mod chart;
 mod check;
+mod judgement;
 mod migrate;
 mod prompt;
 mod run;
@@ -16,9 +17,11 @@ mod script;
 mod step;
 mod stress;
 mod wanted;
+mod why;
 
 pub use chart::perform_chart;
 pub use check::perform_check;
+pub use judgement::perform_judgement;
 pub use migrate::perform_migrate;
 pub use prompt::perform_prompt;
 pub use run::{perform_run, run_bytes};

@@ -6,7 +6,7 @@ use crate::first_program::{ended_core, first_image};
 use crate::first_trace::{ROWS, Row, trace_with};
 use crate::plain_run_tests::has_record;
 use crate::rows::holds;
-use history_check::{CheckRefused, check, run_again};
+use history_check::{CheckRefused, Stopped, Unfollowed, check, follow_until, run_again};
 use smt_core::Status;
 use std::alloc::Global;
 
@@ -33,6 +33,33 @@ fn checked(row: &Row, alloc: Global) -> Option<Option<(u32, u8)>> {
 fn a_check_names_the_first_event_and_rule(rt: HostRuntime) {
     for row in &ROWS {
         let came = checked(row, rt.alloc());
+        holds(&rt, row.lines[0], came == Some(row.refused));
+    }
+}
+
+/// The place and the rule of a stop, where its core has followed just the events before.
+fn place_of(stopped: &Stopped) -> Option<(u32, u8)> {
+    if stopped.core.history().len() == stopped.index as usize {
+        return Some((stopped.index, stopped.rule));
+    }
+    None
+}
+
+/// The place and the rule at which a core stops that follows a row's events, if it does.
+fn followed(row: &Row, alloc: Global) -> Option<Option<(u32, u8)>> {
+    let events = trace_with(row, alloc)?;
+    let image = first_image(alloc)?;
+    match follow_until(&image, config(1, 64, 16, 1), events.as_slice(), alloc) {
+        Ok(_) => Some(None),
+        Err(Unfollowed::Event(stopped)) => Some(Some(place_of(&stopped)?)),
+        Err(Unfollowed::BadConfig | Unfollowed::Memory) => None,
+    }
+}
+
+#[test]
+fn a_core_stops_behind_the_events_before_the_refused_one(rt: HostRuntime) {
+    for row in &ROWS {
+        let came = followed(row, rt.alloc());
         holds(&rt, row.lines[0], came == Some(row.refused));
     }
 }

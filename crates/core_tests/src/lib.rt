@@ -1,5 +1,5 @@
-//! The tests of the core's calls, of the lock and the board, of the actors, of the checker, and of the
-//! plain machine's runs. They stand in one crate, since a crate with tests of its own is proved twice
+//! The tests of the core's calls, of the lock and the board, of the actors, of the checker, of why
+//! traces are refused, and of the plain machine's runs. They stand in one crate, since a crate with tests of its own is proved twice
 //! by the gate. Each module whose name ends in `_tests` has the tests of the crate that it is named
 //! after, through its public calls alone.
 #![tactic(auto)]
@@ -32,6 +32,8 @@ mod outcomes_tests;
 mod plain_run_tests;
 #[cfg(test)]
 mod reasons_tests;
+#[cfg(test)]
+mod refused_traces_tests;
 #[cfg(test)]
 mod rows;
 #[cfg(test)]

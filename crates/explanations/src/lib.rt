@@ -21,3 +21,4 @@ mod segments;
 
 pub use config::{ConfigExplained, explain_config};
 pub use image::{ImageExplained, explain_image};
+pub use lines::{joined, no_memory};

@@ -8,7 +8,7 @@ use std::io;
 use std::io::{ErrorKind, Write};
 
 /// A head, and what comes behind it.
-pub(crate) fn joined(head: &[u8], rest: &[u8], alloc: Global) -> Result<Vec<u8>, AllocError>
+pub fn joined(head: &[u8], rest: &[u8], alloc: Global) -> Result<Vec<u8>, AllocError>
     ensures { IfOk result (λ text. Begins head.now text.items) }
 {
     let mut text = Vec::with_capacity(alloc, head.len().saturating_add(rest.len()))?;
@@ -18,6 +18,6 @@ pub(crate) fn joined(head: &[u8], rest: &[u8], alloc: Global) -> Result<Vec<u8>,
 }
 
 /// Want of memory, as writing answers it.
-pub(crate) fn no_memory() -> io::Error {
+pub fn no_memory() -> io::Error {
     io::Error::from(ErrorKind::OutOfMemory)
 }

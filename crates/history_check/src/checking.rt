@@ -1,7 +1,8 @@
 ghost use Rattle.std.specs.Prelude.{◌≡◌, ◌≤◌, ◌↔◌, ℕ, [], length, reverse, map, IfOk, IfSome, IfNone, Err};
 ghost use Rattle.std.specs.Prelude.{true, false};
 ghost use Rattle.core_state.specs.Setup.{setup_of};
-ghost use Rattle.history_check.specs.Checking.{IsFirstBroken};
+ghost use Rattle.history_check.specs.Checking.{IsFirstBroken, IsStoppedAt, past_at};
+ghost use Rattle.history_check.specs.declared.checking.Stopped.{Stopped as AnyStopped};
 ghost use Rattle.numbers.specs.Sizes.{most_events};
 ghost use Rattle.smt_core.specs.Headline.{IsPlainRun};
 ghost use Rattle.smt_core.specs.Shown.{HasParts};
@@ -44,6 +45,25 @@ impl Model for Checked {
     ghost view = { λ a. a.core };
 }
 
+/// Why a core hasn't followed a whole list of events.
+#[derive(Drop)]
+pub enum Unfollowed {
+    /// The configuration isn't one of a core, or there are more than `MOST_EVENTS` events.
+    BadConfig,
+    /// There isn't enough memory.
+    Memory,
+    Event(Stopped),
+}
+
+/// A core that has followed the events before the one at this place, the first being at 0, which isn't
+/// allowed there: it breaks this rule, and none of a lower number.
+#[derive(Drop)]
+pub struct Stopped {
+    pub core: Core,
+    pub index: u32,
+    pub rule: u8,
+}
+
 /// Checks that the events, the oldest first, are a history of the core of this image and this
 /// configuration. Refused is the first event that isn't allowed.
 pub fn check(
@@ -70,16 +90,52 @@ pub fn check(
     ensures illegal { (index rule : ℕ) → result ≡ Err (CheckRefused.Event index rule)
         → is_legal (setup_of image.now config) (reverse events.now) → ⊥ }
 {
+    match follow_until(image, config, events, alloc) {
+        Ok(checked) => Ok(checked),
+        Err(Unfollowed::BadConfig) => Err(CheckRefused::BadConfig),
+        Err(Unfollowed::Memory) => Err(CheckRefused::Memory),
+        Err(Unfollowed::Event(stopped)) => Err(CheckRefused::Event {
+            index: stopped.index,
+            rule: stopped.rule,
+        }),
+    }
+}
+
+/// The same, and where an event is refused the core that has followed those before it.
+pub fn follow_until(
+    image: &Image,
+    config: Config,
+    events: &[Event],
+    alloc: Global,
+) -> Result<Checked, Unfollowed>
+    ensures whole { IfOk result
+        (λ checked. checked ≡ record {
+          setup = setup_of image.now config;
+          limit = length events.now;
+          past = reverse events.now;
+        }) }
+    ensures legal { IfOk result (λ checked. is_legal checked.setup checked.past) }
+    ensures agrees { IfOk result HasParts }
+    ensures sequential { IfOk result (λ checked. IsSequential checked.setup checked.past) }
+    ensures accepted { IfOk result
+        (λ checked. is_accepted checked.setup (length events.now) ≡ true) }
+    ensures config { (result ≡ Err Unfollowed.BadConfig)
+        ↔ (is_accepted (setup_of image.now config) (length events.now) ≡ false) }
+    ensures stopped { (stopped : AnyStopped) → result ≡ Err (Unfollowed.Event stopped)
+        → IsStoppedAt (setup_of image.now config) events.now stopped }
+    ensures illegal { (stopped : AnyStopped) → result ≡ Err (Unfollowed.Event stopped)
+        → is_legal (setup_of image.now config) (reverse events.now) → ⊥ }
+{
     let Ok(limit) = u32::try_from(events.len()) else {
-        return Err(CheckRefused::BadConfig);
+        return Err(Unfollowed::BadConfig);
     };
     let mut core = match Core::new(image, config, limit, alloc) {
         Ok(core) => core,
-        Err(CoreRefused::Config) => return Err(CheckRefused::BadConfig),
-        Err(CoreRefused::Memory) => return Err(CheckRefused::Memory),
+        Err(CoreRefused::Config) => return Err(Unfollowed::BadConfig),
+        Err(CoreRefused::Memory) => return Err(Unfollowed::Memory),
     };
     match first_broken(&mut core, events) {
-        Some((index, rule)) => Err(CheckRefused::Event { index, rule }),
+        Some((index, rule)) => Err(Unfollowed::Event(Stopped { core, index, rule })),
         None => {
             show(&core);
             Ok(Checked { core })
@@ -94,6 +150,8 @@ fn first_broken(core: &mut Core, events: &[Event]) -> Option<(u32, u8)>
     requires room { length events.now ≤ core.old.limit }
     requires few { length events.now ≤ most_events }
     ensures some { IfSome result (λ b. IsFirstBroken core.old.setup events.now b.0 b.1) }
+    ensures stopped { IfSome result
+        (λ b. core.new ≡ record core.old { past = past_at events.now b.0 }) }
     ensures illegal { IfSome result
         (λ b. is_legal core.old.setup (reverse events.now) → ⊥) }
     ensures none { IfNone result

@@ -8,5 +8,5 @@
 pub mod checking;
 mod rerun;
 
-pub use checking::{CheckRefused, Checked, check};
+pub use checking::{CheckRefused, Checked, Stopped, Unfollowed, check, follow_until};
 pub use rerun::run_again;

@@ -13,7 +13,7 @@ use Rattle.report_lines.specs.Statuses.{says_harts}
 use Rattle.command_parts.specs.declared.refused.Refused.{Refused}
 use Rattle.command_parts.specs.{Inputs.Read, Refused.exit_status_of}
 use Rattle.commands.specs.{Perform.IsRefusal}
-use Rattle.program_io.specs.Performed.{typed_step, IsReadAs, HasPerformed}
+use Rattle.program_io.specs.Performed.{typed_step, IsReadAs, HasPerformed, uncommented_for}
 
 typed_command : (at_terminal : Bool) (command : Command) (step : StepCommand)
     → typed_step at_terminal command ≡ Some step → command ≡ commands.OfProgram (program.Step step)
@@ -54,18 +54,19 @@ typed_performed at_terminal line step status config image typed has_config has_p
   refused = λ none.
       let why = refused none in
       let same = typed_command at_terminal line.command step typed in
-      (why.0, why.1, subst (λ c. IsRefusal c config image (Ok []) why.0) (sym same) why.2);
+      (why.0, why.1, subst (λ c. IsRefusal c config image (uncommented_for c (Ok [])) why.0) (sym same) why.2);
 }
 
--- Where no script is typed, a line is performed with all its files as they were read.
+-- Where no script is typed, a line is performed with all its files as they were read, a script or an order without
+-- its comments.
 pub read_performed : (at_terminal : Bool) (line : Line) (typed : Option StepCommand) (status : ℕ)
-    (config image second : Read) → typed ≡ typed_step at_terminal line.command → typed ≡ None
+    (config image second text : Read) → typed ≡ typed_step at_terminal line.command → typed ≡ None
     → IsReadAs (files_of line).config config → IsReadAs (files_of line).program image
-    → IsReadAs (files_of line).second second
+    → IsReadAs (files_of line).second second → text ≡ uncommented_for line.command second
     → (says_harts status ≡ false → (reason : Refused) × (exit_status_of reason ≡ status)
-    × IsRefusal line.command config image second reason)
+    × IsRefusal line.command config image text reason)
     → HasPerformed at_terminal line status
-read_performed at_terminal line typed status config image second found none has_config has_program has_second refused =
+read_performed at_terminal line typed status config image second text found none has_config has_program has_second blanked refused =
     record {
       config = config;
       program = image;
@@ -73,5 +74,7 @@ read_performed at_terminal line typed status config image second found none has_
       has_config = has_config;
       has_program = has_program;
       has_second = rw (sym found ∙ none) has_second;
-      refused = refused;
+      refused = λ harts.
+          let why = refused harts in
+          (why.0, why.1, subst (λ (r : Read). IsRefusal line.command config image r why.0) blanked why.2);
     }

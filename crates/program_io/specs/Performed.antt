@@ -8,17 +8,19 @@ use Rattle.sim_inputs.specs.declared.line.Command.{Command}
 use Rattle.sim_inputs.specs.declared.line.Command.TheVariants.{OfProgram}
 use Rattle.sim_inputs.specs.declared.line.ProgramCommand.TheVariants.{Step}
 use Rattle.sim_inputs.specs.declared.line.StepCommand.{StepCommand}
-use Rattle.sim_inputs.specs.Files.{files_of, is_standard_input}
+use Rattle.sim_inputs.specs.Files.{files_of, is_standard_input, reads_words}
+use Rattle.scripts.specs.Comments.{uncommented}
 use Rattle.report_lines.specs.Statuses.{says_harts}
-use Rattle.command_parts.specs.{declared.refused.Refused.Refused, declared.refused.Unread.Unread}
+use Rattle.command_parts.specs.{declared.refused.Refused.Refused}
 use Rattle.command_parts.specs.{Inputs.Read, Refused.exit_status_of}
 use Rattle.commands.specs.{Perform.IsRefusal}
+use Rattle.program_io.specs.{declared.files.ReadRefused.ReadRefused, Files.unread_for}
 use Rattle.program_io.specs.Words.{IsWordsStatus}
 
 -- A file as it was read, of the vector that holds its bytes.
-abbrev pub read_of : {A : Type 0} → Result (Vec ℕ A) Unread → Read
+abbrev pub read_of : {A : Type 0} → Result (Vec ℕ A) ReadRefused → Read
 read_of (Ok bytes) = Ok bytes.items
-read_of (Err why) = Err why
+read_of (Err why) = Err (unread_for why)
 
 -- A file that isn't named is read as an empty one.
 abbrev pub IsReadAs : Option (Bor (List ℕ)) → Read → Type 0
@@ -35,8 +37,13 @@ abbrev pub second_of : Bool → Line → Option (Bor (List ℕ))
 second_of at_terminal line =
     if is_some (typed_step at_terminal line.command) then None else (files_of line).second
 
+-- The second file of a command as its text is taken: without comments, where it has words.
+abbrev pub uncommented_for : Command → Read → Read
+uncommented_for command (Ok text) = Ok (if reads_words command then uncommented text else text)
+uncommented_for command (Err why) = Err why
+
 -- A line was performed with this exit status: where that says that there is no report, the reason is
--- one of this line, with its files as they were read.
+-- one of this line, with its files as they were read, a script or an order without its comments.
 pub record HasPerformed (at_terminal : Bool) (line : Line) (status : ℕ) : Type 0 where
   pub config : Read
   pub program : Read
@@ -45,7 +52,8 @@ pub record HasPerformed (at_terminal : Bool) (line : Line) (status : ℕ) : Type
   pub has_program : IsReadAs (files_of line).program program
   pub has_second : IsReadAs (second_of at_terminal line) second
   pub refused : says_harts status ≡ false → (reason : Refused)
-      × (exit_status_of reason ≡ status) × IsRefusal line.command config program second reason
+      × (exit_status_of reason ≡ status)
+      × IsRefusal line.command config program (uncommented_for line.command second) reason
 
 -- Words asked for a line, and it was performed with this exit status.
 pub record HavePerformed (at_terminal : Bool) (words : List (List ℕ)) (status : ℕ) : Type 0 where

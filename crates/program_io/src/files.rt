@@ -2,7 +2,7 @@ ghost use Rattle.std.specs.Prelude.{◌≡◌, ◌≢◌, ◌≤◌, ◌<◌, �
 ghost use Rattle.std.specs.Prelude.{vec_len};
 ghost use Rattle.std.specs.IoError.{error_kind};
 ghost use Rattle.std.specs.declared.io.ErrorKind.TheVariants.{Interrupted};
-ghost use Rattle.program_io.specs.Files.{why_unread, why_refused, unread_for, IsRefusedFor};
+ghost use Rattle.program_io.specs.Files.{why_refused, unread_for, IsRefusedFor};
 
 use command_parts::Unread;
 use sim_inputs::is_standard_input;
@@ -22,19 +22,19 @@ const PIECE: usize = 2048;
 pub enum ReadRefused {
     /// It has more of them than it may.
     TooLong,
-    /// A read failed.
-    Failed,
+    /// It couldn't be opened, or a read failed, for a reason of this kind.
+    Failed(ErrorKind),
     /// There isn't enough memory for them.
     Memory,
 }
 
 impl ReadRefused {
     /// What is said of the file that was read.
-    fn unread(self) -> Unread
+    pub(crate) fn unread(self) -> Unread
         ensures { result ≡ unread_for self }
     {
         match self {
-            ReadRefused::TooLong | ReadRefused::Failed => Unread::File,
+            ReadRefused::TooLong | ReadRefused::Failed(_) => Unread::File,
             ReadRefused::Memory => Unread::Memory,
         }
     }
@@ -42,25 +42,19 @@ impl ReadRefused {
 
 /// The bytes of a file, or those of standard input where its name is a dash. One that is longer than
 /// 1 GiB, or has no end, isn't read to its end.
-pub fn read_file<S: Files + Input>(system: &S, name: &str, alloc: Global) -> Result<Vec<u8>, Unread>
+pub fn read_file<S: Files + Input>(
+    system: &S,
+    name: &str,
+    alloc: Global,
+) -> Result<Vec<u8>, ReadRefused>
     ensures { IfOk result (λ bytes. vec_len bytes ≤ 2 ^ 30) }
 {
     if is_standard_input(name) {
-        return read_whole(system.reader(), alloc);
+        return read_to_end(system.reader(), MOST_BYTES, alloc);
     }
     match fs::open(system, name) {
-        Ok(file) => read_whole(file, alloc),
-        Err(error) => Err(unread_for(&error)),
-    }
-}
-
-/// All bytes of a reader that has no more than a file may have.
-fn read_whole<R: Read + Drop>(reader: R, alloc: Global) -> Result<Vec<u8>, Unread>
-    ensures { IfOk result (λ bytes. vec_len bytes ≤ 2 ^ 30) }
-{
-    match read_to_end(reader, MOST_BYTES, alloc) {
-        Ok(bytes) => Ok(bytes),
-        Err(refused) => Err(refused.unread()),
+        Ok(file) => read_to_end(file, MOST_BYTES, alloc),
+        Err(error) => Err(unopened(&error)),
     }
 }
 
@@ -91,7 +85,7 @@ pub fn read_to_end<R: Read + Drop>(
             Err(error) => retry(&error)?,
         }
     }
-    Err(ReadRefused::Failed)
+    Err(ReadRefused::Failed(ErrorKind::Other))
 }
 
 /// Appends what was read, where there are no more than `most` bytes then.
@@ -119,16 +113,16 @@ fn retry(error: &Error) -> Result<(), ReadRefused>
     match error.kind() {
         ErrorKind::Interrupted => Ok(()),
         ErrorKind::OutOfMemory => Err(ReadRefused::Memory),
-        _ => Err(ReadRefused::Failed),
+        kind => Err(ReadRefused::Failed(kind)),
     }
 }
 
-/// Why a file whose opening failed is unread.
-fn unread_for(error: &Error) -> Unread
-    ensures { result ≡ why_unread (error_kind error.now) }
+/// Why there are no bytes of a file whose opening failed.
+fn unopened(error: &Error) -> ReadRefused
+    ensures { result ≡ why_refused (error_kind error.now) }
 {
     match error.kind() {
-        ErrorKind::OutOfMemory => Unread::Memory,
-        _ => Unread::File,
+        ErrorKind::OutOfMemory => ReadRefused::Memory,
+        kind => ReadRefused::Failed(kind),
     }
 }

@@ -4,18 +4,22 @@
 //!
 //! Read in this order: `streams` (what stands in place of closed standard streams), `words` (how the words
 //! are taken, and what is said of those that are refused), `files` (what is read, whole and no longer than
-//! a file may be), `read_files` (which files are spared), `output_name` and `output_file` (how one file is
-//! written), `output_files` (all that a line writes, as a sink), `performing` (all that the program does
-//! with its words), `progress` (the gate of the program's runs).
+//! a file may be), `read_files` (which files are spared), `read_inputs` (what those hold that a line names),
+//! `output_name` and `output_file` (how one file is written), `output_files` (all that a line writes, as a
+//! sink), `noting` (a writer that keeps its failure), `hinting` (the hint behind a fault), `performing` (all
+//! that the program does with its words), `progress` (the gate of the program's runs).
 #![tactic(auto)]
 
 mod files;
+mod hinting;
+mod noting;
 mod output_file;
 mod output_files;
 mod output_name;
 mod performing;
 mod progress;
 mod read_files;
+mod read_inputs;
 mod streams;
 mod words;
 

@@ -4,8 +4,12 @@
 //! A device, a pipe and a symbolic link are written themselves, and so is a file in a folder that takes no
 //! other.
 
+ghost use Rattle.std.specs.Prelude.{◌≢◌, ◌≤◌, [], length, IfOk};
+
+use crate::noting::Noting;
 use crate::output_name::{OutputName, path_beside};
-use event_text::{Broken, Over};
+use event_text::{Over, Sink};
+use fault_hints::FileFault;
 use std::fs;
 use std::fs::{Metadata, OpenFile, OpenOptions};
 use std::io::ErrorKind;
@@ -23,28 +27,30 @@ pub(crate) struct OutputFile<'a, S: Files> {
     /// The number of the file beside it; none where it is written itself.
     beside: Option<u32>,
     /// Takes its bytes.
-    pub(crate) sink: Over<S::File>,
+    sink: Over<Noting<S::File>>,
 }
 
 impl<'a, S: Files> OutputFile<'a, S> {
-    /// Begins a file of this name. None where it can't be made, or may not be written.
-    pub(crate) fn begin(files: &'a S, name: OutputName<'a>) -> Option<Self> {
-        let path = name.path()?;
+    /// Begins a file of this name, or answers why it can't be made, or may not be written.
+    pub(crate) fn begin(files: &'a S, name: OutputName<'a>) -> Result<Self, FileFault> {
+        let Some(path) = name.path() else {
+            return Err(FileFault::LongName);
+        };
         let path = path.as_str();
         let made = match what_is_there(files, path) {
             There::Nothing => make_beside(files, path, None),
-            There::File(old) if may_be_written(files, path) => {
+            There::File(old) => {
+                refuse_unwritable(files, path)?;
                 make_beside(files, path, Some(&old))
             }
-            There::File(_) => return None,
             There::Other => None,
         };
         let (beside, file) = match made {
             Some((number, file)) => (Some(number), file),
-            None => (None, fs::create(files, path).ok()?),
+            None => (None, create(files, path)?),
         };
-        let sink = Over::new(file);
-        Some(OutputFile {
+        let sink = Over::new(Noting::new(file));
+        Ok(OutputFile {
             files,
             name,
             beside,
@@ -52,21 +58,46 @@ impl<'a, S: Files> OutputFile<'a, S> {
         })
     }
 
-    /// Gives the file its name, behind the last put. `Broken` where that can't be done; then what was there
+    /// Puts a beginning of these bytes into the file, and answers how many; or gives it up, and answers why it takes
+    /// none.
+    pub(crate) fn put(mut self, bytes: &[u8]) -> Result<(usize, Self), FileFault>
+        ensures { IfOk result (λ put. (put.0 ≤ length bytes.now) × (bytes.now ≢ [] → put.0 ≢ 0)) }
+    {
+        match self.sink.put(bytes) {
+            Ok(count) => Ok((count, self)),
+            Err(_) => Err(self.give_up()),
+        }
+    }
+
+    /// Removes what was put, and answers why the file takes no more.
+    fn give_up(self) -> FileFault {
+        let OutputFile {
+            files,
+            name,
+            beside,
+            sink,
+        } = self;
+        if let Some(number) = beside {
+            let _ = remove_beside(files, &name, number);
+        }
+        match sink.into_inner().failure() {
+            Some(kind) => FileFault::System(kind),
+            None => FileFault::System(ErrorKind::WriteZero),
+        }
+    }
+
+    /// Gives the file its name, behind the last put, or answers why that can't be done; then what was there
     /// stays.
-    pub(crate) fn finish(self) -> Result<(), Broken> {
+    pub(crate) fn finish(self) -> Result<(), FileFault> {
         let OutputFile {
             files,
             name,
             beside,
             sink: _,
         } = self;
-        let Some(number) = beside else {
-            return Ok(());
-        };
-        match rename_beside(files, &name, number) {
-            Some(()) => Ok(()),
-            None => Err(Broken),
+        match beside {
+            Some(number) => rename_beside(files, &name, number),
+            None => Ok(()),
         }
     }
 
@@ -85,20 +116,30 @@ impl<'a, S: Files> OutputFile<'a, S> {
 }
 
 /// Gives the file beside this one its name. Where that isn't done, the file beside is removed.
-fn rename_beside<S: Files>(files: &S, name: &OutputName<'_>, number: u32) -> Option<()> {
-    let path = name.path()?;
-    let beside = path_beside(path.as_str(), number)?;
+fn rename_beside<S: Files>(files: &S, name: &OutputName<'_>, number: u32) -> Result<(), FileFault> {
+    let Some(path) = name.path() else {
+        return Err(FileFault::LongName);
+    };
+    let Some(beside) = path_beside(path.as_str(), number) else {
+        return Err(FileFault::LongName);
+    };
     let (path, beside) = (path.as_str(), beside.as_str());
-    let is_done = match fs::rename(files, beside, path) {
-        Ok(()) => return Some(()),
+    let failed = match fs::rename(files, beside, path) {
+        Ok(()) => return Ok(()),
         // Another file system is mounted on the file, as a container's may be: it can't be replaced.
-        Err(error) if error.kind() == ErrorKind::ResourceBusy => {
-            fs::copy(files, beside, path).is_ok()
-        }
-        Err(_) => false,
+        Err(error) if error.kind() == ErrorKind::ResourceBusy => copy_over(files, beside, path),
+        Err(error) => Err(FileFault::System(error.kind())),
     };
     let _ = fs::remove_file(files, beside);
-    if is_done { Some(()) } else { None }
+    failed
+}
+
+/// Copies the file beside over the one that can't be replaced.
+fn copy_over<S: Files>(files: &S, beside: &str, path: &str) -> Result<(), FileFault> {
+    match fs::copy(files, beside, path) {
+        Ok(_) => Ok(()),
+        Err(error) => Err(FileFault::System(error.kind())),
+    }
 }
 
 fn remove_beside<S: Files>(files: &S, name: &OutputName<'_>, number: u32) -> Option<()> {
@@ -126,9 +167,20 @@ fn what_is_there<S: Files>(files: &S, path: &str) -> There {
     }
 }
 
-/// Whether a file that is there may be written. Nothing of it changes.
-fn may_be_written<S: Files>(files: &S, path: &str) -> bool {
-    OpenOptions::new().write(true).open(files, path).is_ok()
+/// Refuses a file that is there and may not be written. Nothing of it changes.
+fn refuse_unwritable<S: Files>(files: &S, path: &str) -> Result<(), FileFault> {
+    match OpenOptions::new().write(true).open(files, path) {
+        Ok(_) => Ok(()),
+        Err(error) => Err(FileFault::System(error.kind())),
+    }
+}
+
+/// Makes the file at this path itself.
+fn create<S: Files>(files: &S, path: &str) -> Result<S::File, FileFault> {
+    match fs::create(files, path) {
+        Ok(file) => Ok(file),
+        Err(error) => Err(FileFault::System(error.kind())),
+    }
 }
 
 /// Makes a file beside the one at this path, with the owner and the permissions of the old one, where there

@@ -1,12 +1,14 @@
 //! The files that a line writes, as a sink.
 
-ghost use Rattle.std.specs.Prelude.{◌≡◌, None, false, is_some, not, true};
+ghost use Rattle.std.specs.Prelude.{◌≡◌, None, Some, false, is_some, not, true};
 
 use crate::output_file::OutputFile;
 use crate::output_name::OutputName;
 use crate::read_files::{ReadFiles, is_read};
 use event_text::{Broken, Sink};
+use fault_hints::FileFault;
 use std::fs;
+use std::io::ErrorKind;
 use std::rt::Files;
 use stress_runs::{EndFiles, Part};
 
@@ -29,21 +31,22 @@ pub struct OutputFiles<'a, S: Files> {
     places: Places<'a>,
     /// The file that isn't finished yet.
     current: Option<OutputFile<'a, S>>,
-    failed: bool,
+    /// Why one of them can't be written, once that has come up.
+    fault: Option<FileFault>,
 }
 
 impl<'a, S: Files> OutputFiles<'a, S> {
     /// A sink that hasn't failed, and has begun no file. Without a name its first put fails, and without a
     /// folder each beginning of a file; so does the beginning of a file that the line reads.
     pub fn new(files: &'a S, places: Places<'a>) -> Self
-        ensures works { result.failed ≡ false }
+        ensures works { is_some result.fault ≡ false }
         ensures finished { not (is_some result.current) ≡ true }
     {
         OutputFiles {
             files,
             places,
             current: None,
-            failed: false,
+            fault: None,
         }
     }
 
@@ -54,32 +57,43 @@ impl<'a, S: Files> OutputFiles<'a, S> {
         }
     }
 
-    /// From now on it has failed.
-    fn fail(&mut self) -> Broken
-        ensures { self.new.failed ≡ true }
+    /// Why one of the files can't be written, once that has come up.
+    pub fn fault(&self) -> Option<FileFault>
+        ensures { result ≡ self.now.fault }
+    {
+        self.fault
+    }
+
+    /// From now on it has failed, for this.
+    fn fail(&mut self, fault: FileFault) -> Broken
+        ensures { self.new.fault ≡ Some fault }
     {
         self.discard();
-        self.failed = true;
+        self.fault = Some(fault);
         Broken
     }
 
-    /// Begins the file that the line names, where that can be done and no file is begun.
-    fn open(&mut self)
-        ensures { self.new.failed ≡ self.old.failed }
+    /// The file that isn't finished yet, or else the one that the line names, begun. Answers why there is none.
+    fn opened(&mut self) -> Result<OutputFile<'a, S>, FileFault>
+        ensures works { self.new.fault ≡ self.old.fault }
+        ensures taken { is_some self.new.current ≡ false }
     {
-        if self.current.is_some() {
-            return;
+        if let Some(file) = self.current.take() {
+            return Ok(file);
         }
-        if let Some(name) = self.places.file {
-            self.current = self.begun(OutputName::Given(name));
+        match self.places.file {
+            Some(name) => self.begun(OutputName::Given(name)),
+            None => Err(FileFault::System(ErrorKind::NotFound)),
         }
     }
 
-    /// A file of this name, begun; none where it can't be, or is one that the line reads.
-    fn begun(&self, name: OutputName<'a>) -> Option<OutputFile<'a, S>> {
-        let path = name.path()?;
+    /// A file of this name, begun, or why it can't be, also since the line reads it.
+    fn begun(&self, name: OutputName<'a>) -> Result<OutputFile<'a, S>, FileFault> {
+        let Some(path) = name.path() else {
+            return Err(FileFault::LongName);
+        };
         if is_read(self.files, &self.places.read, path.as_str()) {
-            return None;
+            return Err(FileFault::IsRead);
         }
         OutputFile::begin(self.files, name)
     }
@@ -89,18 +103,22 @@ impl<'a, S: Files> Sink for OutputFiles<'a, S> {
     // Of what a file takes nothing is known.
     ghost written = { λ sink. None };
 
-    ghost has_failed = { λ sink. sink.failed };
+    ghost has_failed = { λ sink. is_some sink.fault };
 
     ghost puts = { λ sink bytes answer after. Unit {0} };
 
     fn put(&mut self, bytes: &[u8]) -> Result<usize, Broken> {
-        self.open();
-        if let Some(file) = &mut self.current {
-            if let Ok(count) = file.sink.put(bytes) {
-                return Ok(count);
+        let file = match self.opened() {
+            Ok(file) => file,
+            Err(fault) => return Err(self.fail(fault)),
+        };
+        match file.put(bytes) {
+            Ok((count, file)) => {
+                self.current = Some(file);
+                Ok(count)
             }
+            Err(fault) => Err(self.fail(fault)),
         }
-        Err(self.fail())
     }
 }
 
@@ -112,24 +130,27 @@ impl<'a, S: Files> EndFiles for OutputFiles<'a, S> {
 
     fn begin(&mut self, end: u64, part: Part) -> Result<(), Broken> {
         let Some(folder) = self.places.folder else {
-            return Err(self.fail());
+            return Err(self.fail(FileFault::System(ErrorKind::NotFound)));
         };
         // A folder that is there already is none that can be made. Where it isn't there, no file is.
         let _ = fs::create_dir(self.files, folder);
-        self.current = self.begun(OutputName::OfEnd { folder, end, part });
-        if self.current.is_none() {
-            return Err(self.fail());
+        match self.begun(OutputName::OfEnd { folder, end, part }) {
+            Ok(file) => {
+                self.current = Some(file);
+                Ok(())
+            }
+            Err(fault) => Err(self.fail(fault)),
         }
-        Ok(())
     }
 
     fn finish(&mut self) -> Result<(), Broken> {
-        self.open();
-        if let Some(file) = self.current.take() {
-            if file.finish().is_ok() {
-                return Ok(());
-            }
+        let file = match self.opened() {
+            Ok(file) => file,
+            Err(fault) => return Err(self.fail(fault)),
+        };
+        match file.finish() {
+            Ok(()) => Ok(()),
+            Err(fault) => Err(self.fail(fault)),
         }
-        Err(self.fail())
     }
 }

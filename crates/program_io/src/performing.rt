@@ -1,24 +1,32 @@
-ghost use Rattle.std.specs.Prelude.{◌≡◌, ◌⊎◌, ◌≤◌, ◌^◌, IsTrue, IfOk, IfErr};
-ghost use Rattle.std.specs.Prelude.{map, string_bytes, vec_len};
+//! All that the program does with its words.
+
+ghost use Rattle.std.specs.Prelude.{◌≡◌, ◌⊎◌, [], IsTrue, IfErr, IfOk, Ok, Some, false, is_some, not, true};
+ghost use Rattle.std.specs.Prelude.{map, string_bytes};
 ghost use Rattle.std.specs.IoError.{error_kind};
 ghost use Rattle.std.specs.Vec.Iter.{into_iter_items};
 ghost use Rattle.sim_inputs.specs.CommandLine.{AreWordsRefusedFor};
+ghost use Rattle.sim_inputs.specs.declared.line.Command.TheVariants.{OfProgram};
+ghost use Rattle.sim_inputs.specs.declared.line.ProgramCommand.TheVariants.{Step};
 ghost use Rattle.command_parts.specs.Inputs.{as_read};
+ghost use Rattle.command_parts.specs.Refused.{exit_status_of};
+ghost use Rattle.command_parts.specs.declared.refused.Refused.{Refused as AnyRefused};
+ghost use Rattle.commands.specs.Perform.{IsRefusal};
 ghost use Rattle.report_lines.specs.Statuses.{says_harts};
-ghost use Rattle.program_io.specs.Performed.{read_of, IsReadAs, HasPerformed, HavePerformed, HaveEnded};
-ghost use Rattle.program_io.specs.Performed.{typed_step};
+ghost use Rattle.program_io.specs.Performed.{HasPerformed, HavePerformed, HaveEnded, read_of, typed_step};
 ghost use Rattle.program_io.specs.Words.{words_refused, IsWordsStatus};
 
-use crate::files::read_file;
+use crate::hinting::Hinting;
+use crate::noting::Noting;
 use crate::output_files::{OutputFiles, Places};
 use crate::read_files::ReadFiles;
-use crate::words::{refuse_words, take_words, texts};
+use crate::read_inputs::ReadInputs;
+use crate::words::{fault_of, refuse_words, take_words, texts};
 use actors::Gate;
-use command_parts::{Context, Inputs, Refused, Unread, refuse};
+use command_parts::{Context, Inputs, Refused, refuse};
 use commands::{perform, perform_typed};
+use fault_hints::{FileFault, FileFaults, LineFault, WordsFault};
 use sim_inputs::{
-    Command, Files as NamedFiles, Line, ProgramCommand, StepCommand, WordsRefused,
-    is_standard_input, read_words,
+    Command, Line, ProgramCommand, StepCommand, WordsRefused, is_standard_input, read_words,
 };
 use smt_core::Predict;
 use std::alloc::{AllocError, Global};
@@ -48,8 +56,8 @@ pub struct Program<'a, S, G, P> {
 /// command line, 5 for want of memory and where `out` fails; else that of the command that is
 /// performed. Words that are no text are a wrong command line. A trace is written to the file that the
 /// words name. The file named by a dash is standard input; a script is typed there, and asked as it comes,
-/// where that is a terminal. Where `err` is a terminal, a refused configuration or image is told of on two
-/// lines.
+/// where that is a terminal. Behind the line of a fault a hint stands, where `--hints` asks for one, and where
+/// it says nothing of them if `err` is a terminal.
 pub fn perform_words<
     S: Files + Input + Threads + Wait + Sync,
     G: Gate + Sync,
@@ -91,11 +99,48 @@ impl<S: Files + Input + Threads + Wait + Sync, G: Gate + Sync, P: Predict + Copy
     {
         let words = match take_words(words, self.alloc) {
             Ok(words) => words,
-            Err(refused) => return refuse_words(refused, out, err),
+            Err(refused) => {
+                let fault = fault_of(&refused, false);
+                return self.refuse_and_hint(refused, fault, &[], out, err);
+            }
         };
         match self.answer_texts(words.as_slice(), out, err) {
             Ok(status) => status,
-            Err(refused) => refuse_words(refused, out, err),
+            Err(refused) => {
+                let fault = fault_of(&refused, true);
+                self.refuse_and_hint(refused, fault, words.as_slice(), out, err)
+            }
+        }
+    }
+
+    /// Prints help, or says why words are refused, with the hint behind it that they ask for.
+    fn refuse_and_hint<W: Write, E: Write>(
+        &self,
+        refused: WordsRefused,
+        fault: WordsFault,
+        words: &[String],
+        out: &mut W,
+        err: &mut E,
+    ) -> u8
+        ensures known { IsTrue (says_harts result) ⊎ (result ≡ 2) ⊎ (result ≡ 4) ⊎ (result ≡ 5) }
+        ensures status { IsWordsStatus refused result }
+    {
+        let mut out = Noting::new(out);
+        let status = refuse_words(refused, &mut out, err);
+        let fault = match fault {
+            WordsFault::Output(_) => WordsFault::Output(out.failure()),
+            other => other,
+        };
+        if status != 0 {
+            self.hinting().tell_words(fault, words, err);
+        }
+        status
+    }
+
+    fn hinting(&self) -> Hinting {
+        Hinting {
+            on_terminal: self.on_terminal,
+            alloc: self.alloc,
         }
     }
 
@@ -117,13 +162,18 @@ impl<S: Files + Input + Threads + Wait + Sync, G: Gate + Sync, P: Predict + Copy
             Err(AllocError) => return Err(WordsRefused::Memory),
         };
         match read_words(texts.as_slice(), self.alloc) {
-            Ok(line) => Ok(self.read_and_perform(&line, out, err)),
+            Ok(line) => Ok(self.read_and_perform(&line, &mut Noting::new(out), err)),
             Err(refused) => Err(refused),
         }
     }
 
     /// Reads the files that a line names, and performs its command.
-    fn read_and_perform<W: Write, E: Write>(&self, line: &Line<'_>, out: &mut W, err: &mut E) -> u8
+    fn read_and_perform<W: Write, E: Write>(
+        &self,
+        line: &Line<'_>,
+        out: &mut Noting<W>,
+        err: &mut E,
+    ) -> u8
         ensures known { IsTrue (says_harts result) ⊎ (result ≡ 2) ⊎ (result ≡ 4) ⊎ (result ≡ 5) }
         ensures performed { HasPerformed self.now.at_terminal line.now result }
     {
@@ -131,7 +181,8 @@ impl<S: Files + Input + Threads + Wait + Sync, G: Gate + Sync, P: Predict + Copy
             return self.read_and_prompt(line, &step, out, err);
         }
         let files = line.files();
-        let read = ReadInputs::of(self.system, &files, self.alloc);
+        let mut read = ReadInputs::of(self.system, &files, self.alloc);
+        read.blank_comments(&line.command);
         let places = Places {
             file: files.written,
             folder: folder_of(line),
@@ -143,12 +194,53 @@ impl<S: Files + Input + Threads + Wait + Sync, G: Gate + Sync, P: Predict + Copy
             predict: self.predict,
             files: OutputFiles::new(self.system, places),
             out,
-            on_terminal: self.on_terminal,
+            refused: None,
             alloc: self.alloc,
         };
-        let status = perform(&mut context, line, &read.lent(), err);
+        self.perform_and_hint(line, &read, &mut context, err)
+    }
+
+    /// Performs the command of a line whose files are read, with the hint of its fault behind it.
+    fn perform_and_hint<W: Write, E: Write>(
+        &self,
+        line: &Line<'_>,
+        read: &ReadInputs,
+        context: &mut Context<'_, S, G, P, OutputFiles<'_, S>, &mut Noting<W>>,
+        err: &mut E,
+    ) -> u8
+        requires works { is_some context.old.files.fault ≡ false }
+        requires finished { not (is_some context.old.files.current) ≡ true }
+        ensures known { IsTrue (says_harts result) ⊎ (result ≡ 2) ⊎ (result ≡ 4) ⊎ (result ≡ 5) }
+        ensures refused { says_harts result ≡ false → (reason : AnyRefused)
+            × (exit_status_of reason ≡ result) × IsRefusal line.now.command (read_of read.now.config)
+            (read_of read.now.program) (read_of read.now.second) reason }
+    {
+        let inputs = read.lent();
+        let status = perform(context, line, &inputs, err);
         context.files.discard();
+        if let Some(refused) = context.refused {
+            let files = read.faults_with(context.files.fault(), context.out.failure());
+            self.hint_of_line(refused, line, inputs, files, err);
+        }
         status
+    }
+
+    /// Writes the hint of a fault of a line, where one is wanted.
+    fn hint_of_line<E: Write>(
+        &self,
+        refused: Refused,
+        line: &Line<'_>,
+        inputs: Inputs<'_>,
+        files: FileFaults,
+        err: &mut E,
+    ) {
+        let fault = LineFault {
+            refused,
+            line: *line,
+            inputs,
+            files,
+        };
+        self.hinting().tell_line(&fault, err);
     }
 
     /// Reads the files that a line of `step` names but its script, which is typed, and performs it.
@@ -156,7 +248,7 @@ impl<S: Files + Input + Threads + Wait + Sync, G: Gate + Sync, P: Predict + Copy
         &self,
         line: &Line<'_>,
         step: &StepCommand<'_>,
-        out: &mut W,
+        out: &mut Noting<W>,
         err: &mut E,
     ) -> u8
         requires { typed_step self.now.at_terminal line.now.command ≡ Some step.now }
@@ -177,12 +269,36 @@ impl<S: Files + Input + Threads + Wait + Sync, G: Gate + Sync, P: Predict + Copy
             predict: self.predict,
             files: OutputFiles::new(self.system, places),
             out,
-            on_terminal: self.on_terminal,
+            refused: None,
             alloc: self.alloc,
         };
+        self.prompt_and_hint(line, step, &read, &mut context, err)
+    }
+
+    /// Performs `step` with a script that is typed, whose other files are read, with the hint of its fault behind it.
+    fn prompt_and_hint<W: Write, E: Write>(
+        &self,
+        line: &Line<'_>,
+        step: &StepCommand<'_>,
+        read: &ReadInputs,
+        context: &mut Context<'_, S, G, P, OutputFiles<'_, S>, &mut Noting<W>>,
+        err: &mut E,
+    ) -> u8
+        requires works { is_some context.old.files.fault ≡ false }
+        requires finished { not (is_some context.old.files.current) ≡ true }
+        ensures known { IsTrue (says_harts result) ⊎ (result ≡ 2) ⊎ (result ≡ 4) ⊎ (result ≡ 5) }
+        ensures refused { says_harts result ≡ false → (reason : AnyRefused)
+            × (exit_status_of reason ≡ result) × IsRefusal (OfProgram (Step step.now))
+            (read_of read.now.config) (read_of read.now.program) (Ok []) reason }
+    {
         let mut reader = self.system.reader();
-        let status = perform_typed(&mut context, line, step, &read.lent(), &mut reader, err);
+        let inputs = read.lent();
+        let status = perform_typed(context, step, &inputs, &mut reader, err);
         context.files.discard();
+        if let Some(refused) = context.refused {
+            let files = read.faults_with(context.files.fault(), context.out.failure());
+            self.hint_of_line(refused, line, inputs, files, err);
+        }
         status
     }
 }
@@ -204,66 +320,5 @@ fn folder_of<'a>(line: &Line<'a>) -> Option<&'a str> {
     match line.command {
         Command::OfProgram(ProgramCommand::Run(run)) => run.keep,
         _ => None,
-    }
-}
-
-/// What the files hold that a line names, or why they couldn't be read.
-#[derive(Drop)]
-struct ReadInputs {
-    config: Result<Vec<u8>, Unread>,
-    program: Result<Vec<u8>, Unread>,
-    second: Result<Vec<u8>, Unread>,
-}
-
-impl ReadInputs {
-    /// Reads the files, in their order.
-    fn of<S: Files + Input>(system: &S, files: &NamedFiles<'_>, alloc: Global) -> ReadInputs
-        ensures config { IsReadAs files.now.config (read_of result.config) }
-        ensures program { IsReadAs files.now.program (read_of result.program) }
-        ensures second { IsReadAs files.now.second (read_of result.second) }
-    {
-        ReadInputs {
-            config: read_named(system, files.config, alloc),
-            program: read_named(system, files.program, alloc),
-            second: read_named(system, files.second, alloc),
-        }
-    }
-
-    /// The bytes that were read, lent.
-    fn lent(&self) -> Inputs<'_>
-        ensures config { as_read result.config ≡ read_of self.now.config }
-        ensures program { as_read result.program ≡ read_of self.now.program }
-        ensures second { as_read result.second ≡ read_of self.now.second }
-    {
-        Inputs {
-            config: lent(&self.config),
-            program: lent(&self.program),
-            second: lent(&self.second),
-        }
-    }
-}
-
-/// The bytes of a file that the line names; none where it names none.
-fn read_named<S: Files + Input>(
-    system: &S,
-    name: Option<&str>,
-    alloc: Global,
-) -> Result<Vec<u8>, Unread>
-    ensures few { IfOk result (λ bytes. vec_len bytes ≤ 2 ^ 30) }
-    ensures unnamed { IsReadAs name.entry (read_of result) }
-{
-    match name {
-        Some(name) => read_file(system, name, alloc),
-        None => Ok(Vec::new(alloc)),
-    }
-}
-
-/// The bytes of a file, lent, or why there are none.
-fn lent(file: &Result<Vec<u8>, Unread>) -> Result<&[u8], Unread>
-    ensures { as_read result ≡ read_of file.now }
-{
-    match file {
-        Ok(bytes) => Ok(bytes.as_slice()),
-        Err(why) => Err(*why),
     }
 }

@@ -7,6 +7,7 @@ ghost use Rattle.report_lines.specs.Statuses.{says_harts};
 ghost use Rattle.program_io.specs.Words.{words_refused, IsWordsStatus};
 
 use command_parts::{Refused, refuse};
+use fault_hints::WordsFault;
 use sim_inputs::WordsRefused;
 use std::alloc::{AllocError, Global};
 use std::env::Args;
@@ -60,6 +61,16 @@ pub fn texts<'a>(words: &'a [String], alloc: Global) -> Result<Vec<&'a str>, All
         texts.push(word.as_str())?;
     }
     Ok(texts)
+}
+
+/// What a hint is of where words are refused for this, which were read or not, and their help isn't printed.
+pub(crate) fn fault_of(refused: &WordsRefused, are_read: bool) -> WordsFault {
+    match refused {
+        WordsRefused::Help(_) => WordsFault::Output(None),
+        WordsRefused::Refused if are_read => WordsFault::Refused,
+        WordsRefused::Refused => WordsFault::Unread,
+        WordsRefused::Memory => WordsFault::Memory,
+    }
 }
 
 /// Prints the help that was asked for, or says on one line why nothing is done. Answers the exit

@@ -62,5 +62,5 @@ fn a_read_that_is_interrupted_is_made_again(rt: HostRuntime) {
 #[test]
 fn a_reader_is_refused_for_its_length_and_where_it_fails(rt: HostRuntime) {
     assert!(rt; refused(18, false, rt.alloc()) == Some(ReadRefused::TooLong));
-    assert!(rt; refused(19, true, rt.alloc()) == Some(ReadRefused::Failed));
+    assert!(rt; refused(19, true, rt.alloc()) == Some(ReadRefused::Failed(ErrorKind::Other)));
 }

@@ -15,6 +15,8 @@ mod failing;
 #[cfg(test)]
 mod files_tests;
 #[cfg(test)]
+mod hints_tests;
+#[cfg(test)]
 mod history_counts_tests;
 #[cfg(test)]
 mod history_scripts_tests;

@@ -1,15 +1,16 @@
 //! Lines of the program, as their words are read. None names a configuration.
 
 use sim_inputs::{
-    ChartCommand, CheckCommand, Command, ExplainCommand, Line, ListCommand, LitmusCommand,
-    MigrateCommand, OutcomesCommand, PlainCommand, ProgramCommand, RunCommand, ScheduleCommand,
-    ScriptCommand, StepCommand,
+    Beside, ChartCommand, CheckCommand, Command, ExplainCommand, HintsWanted, Line, ListCommand,
+    LitmusCommand, MigrateCommand, OutcomesCommand, PlainCommand, ProgramCommand, RunCommand,
+    ScheduleCommand, ScriptCommand, StepCommand,
 };
 
 macro_rules! line {
     ($command:expr) => {
         Line {
             config: None,
+            hints: HintsWanted::Auto,
             command: $command,
         }
     };
@@ -141,7 +142,20 @@ pub fn chart_line(svg: Option<&'static str>, kanata: Option<&'static str>) -> Li
 pub const LIST: Line<'static> = program_line!(ProgramCommand::List(ListCommand { image: "image" }));
 
 /// What is said of a configuration and of an image.
-pub const EXPLAIN: Line<'static> = line!(Command::Explain(ExplainCommand { image: "image" }));
+pub const EXPLAIN: Line<'static> = line!(Command::Explain(ExplainCommand {
+    image: "image",
+    beside: None,
+}));
+
+pub const EXPLAIN_SCRIPT: Line<'static> = line!(Command::Explain(ExplainCommand {
+    image: "image",
+    beside: Some(Beside::Script("script")),
+}));
+
+pub const EXPLAIN_ORDER: Line<'static> = line!(Command::Explain(ExplainCommand {
+    image: "image",
+    beside: Some(Beside::Order("order")),
+}));
 
 /// The outcomes of an image, of so many states at the most.
 pub fn outcomes_line(states: u32) -> Line<'static> {

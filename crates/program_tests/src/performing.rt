@@ -37,7 +37,7 @@ pub fn context_of<'a, P, S, W, R>(
         predict,
         files,
         out,
-        on_terminal: false,
+        refused: None,
         alloc,
     }
 }

@@ -1,7 +1,9 @@
 //! The words of scripts and of orders.
 
 use crate::rows::{holds, says};
-use scripts::{Action, OrderRefused, ScriptRefused, ScriptWord, read_order, read_script};
+use scripts::{
+    Action, OrderRefused, ScriptRefused, ScriptWord, blank_comments, read_order, read_script,
+};
 use std::alloc::Global;
 use std::test::Fail;
 
@@ -108,6 +110,36 @@ fn nothing_else_is_a_word(rt: HostRuntime) {
 fn a_refusal_says_its_word(rt: HostRuntime) {
     assert!(rt; says(&ScriptRefused::Word(2), "script word 2 refused", rt.alloc()));
     assert!(rt; says(&ScriptRefused::Memory, "memory", rt.alloc()));
+}
+
+/// Texts, and what is left of them without their comments.
+static COMMENTED: [(&str, &str); 9] = [
+    ("F0 # F0", "F0     "),
+    ("#F0\nF0", "   \nF0"),
+    ("F0#x", "F0#x"),
+    ("F0 ## F1\n F2 #", "F0      \n F2  "),
+    ("\n#\n#\n", "\n \n \n"),
+    ("F0\t# x", "F0\t# x"),
+    ("F0 \t#x", "F0 \t#x"),
+    ("# \u{e4}\r\n0", "     \n0"),
+    ("", ""),
+];
+
+/// Whether this is left of a text.
+fn leaves(text: &str, left: &str, alloc: Global) -> bool {
+    let mut bytes = Vec::new(alloc);
+    if bytes.extend_from_slice(text.as_bytes()).is_err() {
+        return false;
+    }
+    blank_comments(bytes.as_mut_slice());
+    bytes.as_slice() == left.as_bytes()
+}
+
+#[test]
+fn comments_are_blanked_and_nothing_else(rt: HostRuntime) {
+    for (text, left) in &COMMENTED {
+        holds(&rt, text, leaves(text, left, rt.alloc()));
+    }
 }
 
 /// Orders, and the harts that they say or the first word that is none.

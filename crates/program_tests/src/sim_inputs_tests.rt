@@ -7,9 +7,9 @@ mod refused_words;
 
 use crate::rows::holds;
 use sim_inputs::{
-    ChartCommand, CheckCommand, Command, ExplainCommand, Line, ListCommand, LitmusCommand,
-    MigrateCommand, OutcomesCommand, PlainCommand, ProgramCommand, RunCommand, ScheduleCommand,
-    ScriptCommand, StepCommand, read_words,
+    Beside, ChartCommand, CheckCommand, Command, ExplainCommand, HintsWanted, Line, ListCommand,
+    LitmusCommand, MigrateCommand, OutcomesCommand, PlainCommand, ProgramCommand, RunCommand,
+    ScheduleCommand, ScriptCommand, StepCommand, read_words,
 };
 use std::alloc::{AllocError, Global};
 
@@ -23,11 +23,12 @@ fn words_of(text: &str, alloc: Global) -> Result<Vec<&str>, AllocError> {
 }
 
 /// Words, and what they ask for.
-static LINES: [(&str, Line<'_>); 38] = [
+static LINES: [(&str, Line<'_>); 41] = [
     (
         "smtsim chart a t",
         Line {
             config: None,
+            hints: HintsWanted::Auto,
             command: Command::OfProgram(ProgramCommand::Chart(ChartCommand {
                 image: "a",
                 trace: "t",
@@ -44,6 +45,7 @@ static LINES: [(&str, Line<'_>); 38] = [
         "smtsim chart --from 7 a --to 7 --hart=7 t --width 1 --svg p --config c",
         Line {
             config: Some("c"),
+            hints: HintsWanted::Auto,
             command: Command::OfProgram(ProgramCommand::Chart(ChartCommand {
                 image: "a",
                 trace: "t",
@@ -60,6 +62,7 @@ static LINES: [(&str, Line<'_>); 38] = [
         "smtsim step first.elf first.script",
         Line {
             config: None,
+            hints: HintsWanted::Auto,
             command: Command::OfProgram(ProgramCommand::Step(StepCommand {
                 image: "first.elf",
                 script: "first.script",
@@ -77,6 +80,7 @@ static LINES: [(&str, Line<'_>); 38] = [
         "smtsim step a b --config c",
         Line {
             config: Some("c"),
+            hints: HintsWanted::Auto,
             command: Command::OfProgram(ProgramCommand::Step(StepCommand {
                 image: "a",
                 script: "b",
@@ -94,6 +98,7 @@ static LINES: [(&str, Line<'_>); 38] = [
         "smtsim step --config=c a b",
         Line {
             config: Some("c"),
+            hints: HintsWanted::Auto,
             command: Command::OfProgram(ProgramCommand::Step(StepCommand {
                 image: "a",
                 script: "b",
@@ -111,6 +116,7 @@ static LINES: [(&str, Line<'_>); 38] = [
         "smtsim step a --records b",
         Line {
             config: None,
+            hints: HintsWanted::Auto,
             command: Command::OfProgram(ProgramCommand::Step(StepCommand {
                 image: "a",
                 script: "b",
@@ -128,6 +134,7 @@ static LINES: [(&str, Line<'_>); 38] = [
         "smtsim step --show a b",
         Line {
             config: None,
+            hints: HintsWanted::Auto,
             command: Command::OfProgram(ProgramCommand::Step(StepCommand {
                 image: "a",
                 script: "b",
@@ -145,6 +152,7 @@ static LINES: [(&str, Line<'_>); 38] = [
         "smtsim step a b --trace t",
         Line {
             config: None,
+            hints: HintsWanted::Auto,
             command: Command::OfProgram(ProgramCommand::Step(StepCommand {
                 image: "a",
                 script: "b",
@@ -162,6 +170,7 @@ static LINES: [(&str, Line<'_>); 38] = [
         "smtsim step --show a --config c --trace=t b --records",
         Line {
             config: Some("c"),
+            hints: HintsWanted::Auto,
             command: Command::OfProgram(ProgramCommand::Step(StepCommand {
                 image: "a",
                 script: "b",
@@ -179,6 +188,7 @@ static LINES: [(&str, Line<'_>); 38] = [
         "smtsim step a --looks b",
         Line {
             config: None,
+            hints: HintsWanted::Auto,
             command: Command::OfProgram(ProgramCommand::Step(StepCommand {
                 image: "a",
                 script: "b",
@@ -196,6 +206,7 @@ static LINES: [(&str, Line<'_>); 38] = [
         "smtsim run a",
         Line {
             config: None,
+            hints: HintsWanted::Auto,
             command: Command::OfProgram(ProgramCommand::Run(RunCommand {
                 image: "a",
                 trace: None,
@@ -212,6 +223,7 @@ static LINES: [(&str, Line<'_>); 38] = [
         "smtsim run --records --config c a",
         Line {
             config: Some("c"),
+            hints: HintsWanted::Auto,
             command: Command::OfProgram(ProgramCommand::Run(RunCommand {
                 image: "a",
                 trace: None,
@@ -228,6 +240,7 @@ static LINES: [(&str, Line<'_>); 38] = [
         "smtsim run --trace t a",
         Line {
             config: None,
+            hints: HintsWanted::Auto,
             command: Command::OfProgram(ProgramCommand::Run(RunCommand {
                 image: "a",
                 trace: Some("t"),
@@ -244,6 +257,7 @@ static LINES: [(&str, Line<'_>); 38] = [
         "smtsim check a t",
         Line {
             config: None,
+            hints: HintsWanted::Auto,
             command: Command::OfProgram(ProgramCommand::Check(CheckCommand {
                 image: "a",
                 trace: "t",
@@ -258,6 +272,7 @@ static LINES: [(&str, Line<'_>); 38] = [
         "smtsim check --records a --config c t",
         Line {
             config: Some("c"),
+            hints: HintsWanted::Auto,
             command: Command::OfProgram(ProgramCommand::Check(CheckCommand {
                 image: "a",
                 trace: "t",
@@ -272,6 +287,7 @@ static LINES: [(&str, Line<'_>); 38] = [
         "smtsim plain a b",
         Line {
             config: None,
+            hints: HintsWanted::Auto,
             command: Command::OfProgram(ProgramCommand::Plain(PlainCommand {
                 image: "a",
                 order: Some("b"),
@@ -286,6 +302,7 @@ static LINES: [(&str, Line<'_>); 38] = [
         "smtsim plain --config c a --records b",
         Line {
             config: Some("c"),
+            hints: HintsWanted::Auto,
             command: Command::OfProgram(ProgramCommand::Plain(PlainCommand {
                 image: "a",
                 order: Some("b"),
@@ -300,6 +317,7 @@ static LINES: [(&str, Line<'_>); 38] = [
         "smtsim schedule a b",
         Line {
             config: None,
+            hints: HintsWanted::Auto,
             command: Command::OfProgram(ProgramCommand::Schedule(ScheduleCommand {
                 image: "a",
                 order: "b",
@@ -310,6 +328,7 @@ static LINES: [(&str, Line<'_>); 38] = [
         "smtsim schedule a --config c b",
         Line {
             config: Some("c"),
+            hints: HintsWanted::Auto,
             command: Command::OfProgram(ProgramCommand::Schedule(ScheduleCommand {
                 image: "a",
                 order: "b",
@@ -320,6 +339,7 @@ static LINES: [(&str, Line<'_>); 38] = [
         "smtsim script a t",
         Line {
             config: None,
+            hints: HintsWanted::Auto,
             command: Command::OfProgram(ProgramCommand::Script(ScriptCommand {
                 image: "a",
                 trace: "t",
@@ -330,6 +350,7 @@ static LINES: [(&str, Line<'_>); 38] = [
         "smtsim script a --config c t",
         Line {
             config: Some("c"),
+            hints: HintsWanted::Auto,
             command: Command::OfProgram(ProgramCommand::Script(ScriptCommand {
                 image: "a",
                 trace: "t",
@@ -340,6 +361,7 @@ static LINES: [(&str, Line<'_>); 38] = [
         "smtsim list list.elf",
         Line {
             config: None,
+            hints: HintsWanted::Auto,
             command: Command::OfProgram(ProgramCommand::List(ListCommand { image: "list.elf" })),
         },
     ),
@@ -347,6 +369,7 @@ static LINES: [(&str, Line<'_>); 38] = [
         "smtsim list --config c.toml list.elf",
         Line {
             config: Some("c.toml"),
+            hints: HintsWanted::Auto,
             command: Command::OfProgram(ProgramCommand::List(ListCommand { image: "list.elf" })),
         },
     ),
@@ -354,6 +377,7 @@ static LINES: [(&str, Line<'_>); 38] = [
         "smtsim run --times 1000000 a --keep=f",
         Line {
             config: None,
+            hints: HintsWanted::Auto,
             command: Command::OfProgram(ProgramCommand::Run(RunCommand {
                 image: "a",
                 trace: None,
@@ -370,6 +394,7 @@ static LINES: [(&str, Line<'_>); 38] = [
         "smtsim run --why --counts --json a",
         Line {
             config: None,
+            hints: HintsWanted::Auto,
             command: Command::OfProgram(ProgramCommand::Run(RunCommand {
                 image: "a",
                 trace: None,
@@ -386,6 +411,7 @@ static LINES: [(&str, Line<'_>); 38] = [
         "smtsim check --counts a --why - --json",
         Line {
             config: None,
+            hints: HintsWanted::Auto,
             command: Command::OfProgram(ProgramCommand::Check(CheckCommand {
                 image: "a",
                 trace: "-",
@@ -400,6 +426,7 @@ static LINES: [(&str, Line<'_>); 38] = [
         "smtsim step - b --json --counts",
         Line {
             config: None,
+            hints: HintsWanted::Auto,
             command: Command::OfProgram(ProgramCommand::Step(StepCommand {
                 image: "-",
                 script: "b",
@@ -417,6 +444,7 @@ static LINES: [(&str, Line<'_>); 38] = [
         "smtsim plain a --rounds 4294967295 --steps 0 --seed 7 --config -",
         Line {
             config: Some("-"),
+            hints: HintsWanted::Auto,
             command: Command::OfProgram(ProgramCommand::Plain(PlainCommand {
                 image: "a",
                 order: None,
@@ -431,6 +459,7 @@ static LINES: [(&str, Line<'_>); 38] = [
         "smtsim plain --rounds=1 a --records",
         Line {
             config: None,
+            hints: HintsWanted::Auto,
             command: Command::OfProgram(ProgramCommand::Plain(PlainCommand {
                 image: "a",
                 order: None,
@@ -445,13 +474,51 @@ static LINES: [(&str, Line<'_>); 38] = [
         "smtsim explain --config c a",
         Line {
             config: Some("c"),
-            command: Command::Explain(ExplainCommand { image: "a" }),
+            hints: HintsWanted::Auto,
+            command: Command::Explain(ExplainCommand {
+                image: "a",
+                beside: None,
+            }),
+        },
+    ),
+    (
+        "smtsim explain a --script s",
+        Line {
+            config: None,
+            hints: HintsWanted::Auto,
+            command: Command::Explain(ExplainCommand {
+                image: "a",
+                beside: Some(Beside::Script("s")),
+            }),
+        },
+    ),
+    (
+        "smtsim explain --order=- a",
+        Line {
+            config: None,
+            hints: HintsWanted::Auto,
+            command: Command::Explain(ExplainCommand {
+                image: "a",
+                beside: Some(Beside::Order("-")),
+            }),
+        },
+    ),
+    (
+        "smtsim explain a --trace t",
+        Line {
+            config: None,
+            hints: HintsWanted::Auto,
+            command: Command::Explain(ExplainCommand {
+                image: "a",
+                beside: Some(Beside::Trace("t")),
+            }),
         },
     ),
     (
         "smtsim outcomes a",
         Line {
             config: None,
+            hints: HintsWanted::Auto,
             command: Command::OfProgram(ProgramCommand::Outcomes(OutcomesCommand {
                 image: "a",
                 states: 1_000_000,
@@ -468,6 +535,7 @@ static LINES: [(&str, Line<'_>); 38] = [
         "smtsim outcomes --states 4294967295 a --config c --watch a0@1 --exists=h0=1 --outcome 2 --witness w",
         Line {
             config: Some("c"),
+            hints: HintsWanted::Auto,
             command: Command::OfProgram(ProgramCommand::Outcomes(OutcomesCommand {
                 image: "a",
                 states: 4_294_967_295,
@@ -484,6 +552,7 @@ static LINES: [(&str, Line<'_>); 38] = [
         "smtsim outcomes --stuck - --script s --states 1",
         Line {
             config: None,
+            hints: HintsWanted::Auto,
             command: Command::OfProgram(ProgramCommand::Outcomes(OutcomesCommand {
                 image: "-",
                 states: 1,
@@ -500,6 +569,7 @@ static LINES: [(&str, Line<'_>); 38] = [
         "smtsim litmus a",
         Line {
             config: None,
+            hints: HintsWanted::Auto,
             command: Command::Litmus(LitmusCommand {
                 test: "a",
                 states: 1_000_000,
@@ -513,6 +583,7 @@ static LINES: [(&str, Line<'_>); 38] = [
         "smtsim litmus --why a --config c --states 5 --svg s",
         Line {
             config: Some("c"),
+            hints: HintsWanted::Auto,
             command: Command::Litmus(LitmusCommand {
                 test: "a",
                 states: 5,
@@ -526,6 +597,7 @@ static LINES: [(&str, Line<'_>); 38] = [
         "smtsim litmus --image i -",
         Line {
             config: None,
+            hints: HintsWanted::Auto,
             command: Command::Litmus(LitmusCommand {
                 test: "-",
                 states: 1_000_000,
@@ -539,6 +611,7 @@ static LINES: [(&str, Line<'_>); 38] = [
         "smtsim migrate t o",
         Line {
             config: None,
+            hints: HintsWanted::Auto,
             command: Command::Migrate(MigrateCommand {
                 trace: "t",
                 out: "o",
@@ -549,6 +622,7 @@ static LINES: [(&str, Line<'_>); 38] = [
         "smtsim migrate - --config c o",
         Line {
             config: Some("c"),
+            hints: HintsWanted::Auto,
             command: Command::Migrate(MigrateCommand {
                 trace: "-",
                 out: "o",
@@ -686,6 +760,7 @@ static NAMED: [(Line<'_>, Named<'_>); 14] = [
     (
         Line {
             config: Some("c"),
+            hints: HintsWanted::Auto,
             command: Command::OfProgram(ProgramCommand::Chart(ChartCommand {
                 image: "a",
                 trace: "t",
@@ -702,6 +777,7 @@ static NAMED: [(Line<'_>, Named<'_>); 14] = [
     (
         Line {
             config: Some("c"),
+            hints: HintsWanted::Auto,
             command: Command::OfProgram(ProgramCommand::Step(StepCommand {
                 image: "a",
                 script: "b",
@@ -719,6 +795,7 @@ static NAMED: [(Line<'_>, Named<'_>); 14] = [
     (
         Line {
             config: Some("c"),
+            hints: HintsWanted::Auto,
             command: Command::OfProgram(ProgramCommand::Run(RunCommand {
                 image: "a",
                 trace: Some("t"),
@@ -735,6 +812,7 @@ static NAMED: [(Line<'_>, Named<'_>); 14] = [
     (
         Line {
             config: Some("c"),
+            hints: HintsWanted::Auto,
             command: Command::OfProgram(ProgramCommand::Check(CheckCommand {
                 image: "a",
                 trace: "t",
@@ -749,6 +827,7 @@ static NAMED: [(Line<'_>, Named<'_>); 14] = [
     (
         Line {
             config: Some("c"),
+            hints: HintsWanted::Auto,
             command: Command::OfProgram(ProgramCommand::Plain(PlainCommand {
                 image: "a",
                 order: Some("b"),
@@ -763,6 +842,7 @@ static NAMED: [(Line<'_>, Named<'_>); 14] = [
     (
         Line {
             config: Some("c"),
+            hints: HintsWanted::Auto,
             command: Command::OfProgram(ProgramCommand::Schedule(ScheduleCommand {
                 image: "a",
                 order: "b",
@@ -773,6 +853,7 @@ static NAMED: [(Line<'_>, Named<'_>); 14] = [
     (
         Line {
             config: Some("c"),
+            hints: HintsWanted::Auto,
             command: Command::OfProgram(ProgramCommand::Script(ScriptCommand {
                 image: "a",
                 trace: "t",
@@ -783,6 +864,7 @@ static NAMED: [(Line<'_>, Named<'_>); 14] = [
     (
         Line {
             config: Some("c"),
+            hints: HintsWanted::Auto,
             command: Command::OfProgram(ProgramCommand::List(ListCommand { image: "a" })),
         },
         (Some("c"), Some("a"), None, None),
@@ -790,13 +872,18 @@ static NAMED: [(Line<'_>, Named<'_>); 14] = [
     (
         Line {
             config: None,
-            command: Command::Explain(ExplainCommand { image: "a" }),
+            hints: HintsWanted::Auto,
+            command: Command::Explain(ExplainCommand {
+                image: "a",
+                beside: None,
+            }),
         },
         (None, Some("a"), None, None),
     ),
     (
         Line {
             config: None,
+            hints: HintsWanted::Auto,
             command: Command::OfProgram(ProgramCommand::Outcomes(OutcomesCommand {
                 image: "a",
                 states: 1,
@@ -813,6 +900,7 @@ static NAMED: [(Line<'_>, Named<'_>); 14] = [
     (
         Line {
             config: Some("c"),
+            hints: HintsWanted::Auto,
             command: Command::OfProgram(ProgramCommand::Outcomes(OutcomesCommand {
                 image: "a",
                 states: 1,
@@ -829,6 +917,7 @@ static NAMED: [(Line<'_>, Named<'_>); 14] = [
     (
         Line {
             config: None,
+            hints: HintsWanted::Auto,
             command: Command::Litmus(LitmusCommand {
                 test: "a",
                 states: 1,
@@ -842,6 +931,7 @@ static NAMED: [(Line<'_>, Named<'_>); 14] = [
     (
         Line {
             config: Some("c"),
+            hints: HintsWanted::Auto,
             command: Command::Litmus(LitmusCommand {
                 test: "a",
                 states: 1,
@@ -855,6 +945,7 @@ static NAMED: [(Line<'_>, Named<'_>); 14] = [
     (
         Line {
             config: Some("c"),
+            hints: HintsWanted::Auto,
             command: Command::Migrate(MigrateCommand {
                 trace: "t",
                 out: "o",

@@ -9,7 +9,7 @@ use Rattle.prompts.specs.declared.prompting.Ended.{Ended}
 use Rattle.prompts.specs.declared.prompting.Ended.TheVariants as ended
 use Rattle.prompts.specs.{Typed.IsRead, Typed.IsNextLine, Kept.Kept, Kept.IsAnswered, Kept.IsAskedAll}
 
--- A line that was typed, and the complaint that it was answered.
+-- A line that was typed, without its comments, and the complaint that it was answered.
 pub record Typed : Type 0 where
   pub line : List ℕ
   pub complaint : Option Complaint

@@ -2,6 +2,7 @@
 use Rattle.std.specs.Prelude.{◌≡◌, ℕ, ◌<◌, List, length, codes, Option, Some, None, IfSome}
 use Rattle.std.specs.{Str.IsTrimAscii, Io.StopsAt}
 use Rattle.std.specs.Io.{KnownBytes.Consumes, BufRead.take_through}
+use Rattle.scripts.specs.Comments.{uncommented}
 use Rattle.prompts.specs.declared.command.Command.{Command}
 use Rattle.prompts.specs.declared.command.Command.TheVariants as command
 
@@ -25,8 +26,14 @@ IsRead line said = (word : List ℕ) × IsTrimAscii line word × Names word said
 
 -- A line, with its newline, is what comes next of an input, of which this is left behind it. Only the
 -- last line of an input may have no newline.
-pub record IsNextLine (old : Option (List ℕ)) (line : List ℕ) (new : Option (List ℕ)) : Type 0 where
+pub record IsTypedLine (old : Option (List ℕ)) (line : List ℕ) (new : Option (List ℕ)) : Type 0 where
   pub some : 0 < length line
   pub ends : StopsAt line 10
   pub next : IfSome old (λ bytes. line ≡ take_through 10 bytes)
   pub consumed : Consumes old new line
+
+-- It is read without its comments.
+pub record IsNextLine (old : Option (List ℕ)) (line : List ℕ) (new : Option (List ℕ)) : Type 0 where
+  pub typed : List ℕ
+  pub comes : IsTypedLine old typed new
+  pub read : line ≡ uncommented typed

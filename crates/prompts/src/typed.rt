@@ -5,10 +5,12 @@ ghost use Rattle.std.specs.Prelude.{IfOk, IfSome, MatchOption};
 ghost use Rattle.std.specs.Io.KnownBytes.{IsAtEnd};
 
 use crate::session::Complaint;
+use scripts::blank_comments;
 use std::alloc::Global;
 use std::io::{BufRead, Error, ErrorKind};
 
-/// The next line of a reader, with its newline where it has one; none at the end of its bytes.
+/// The next line of a reader, with its newline where it has one, and with spaces for its comments; none at the end of
+/// the reader's bytes.
 pub(crate) fn next_line<R: BufRead>(
     reader: &mut R,
     alloc: Global,
@@ -19,7 +21,10 @@ pub(crate) fn next_line<R: BufRead>(
     let mut line = Vec::new(alloc);
     match reader.read_until(b'\n', &mut line) {
         Ok(0) => Ok(None),
-        Ok(_) => Ok(Some(line)),
+        Ok(_) => {
+            blank_comments(line.as_mut_slice());
+            Ok(Some(line))
+        }
         Err(error) => Err(why_unread(&error)),
     }
 }

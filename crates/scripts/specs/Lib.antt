@@ -4,3 +4,4 @@ pub mod Lines
 pub mod Unambiguous
 pub mod Session
 pub mod Run
+pub mod Comments

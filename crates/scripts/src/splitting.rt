@@ -79,7 +79,8 @@ fn piece_end(text: &[u8]) -> Option<usize>
     text.iter().position(|byte| is_separator(*byte))
 }
 
-fn is_separator(byte: u8) -> bool
+/// Whether a byte separates words.
+pub fn is_separator(byte: u8) -> bool
     ensures { result ≡ is_separator byte }
 {
     byte == b' ' || byte == b'\n'

@@ -6,7 +6,7 @@ use Rattle.clap.specs.Words.{AddsArg, AddsSubcommand, App, Rule, app_of, with_ru
 use Rattle.clap.specs.{declared.builder.arg.Arg.Arg, declared.builder.command.Command.Command}
 use Rattle.sim_inputs.specs.CommandLine.{IsArgument, IsCommand}
 use Rattle.sim_inputs.specs.Table.{rule_in, with_argument, with_row}
-use Rattle.sim_inputs.specs.{declared.description.Argument.Argument, declared.description.Subcommand.Subcommand}
+use Rattle.sim_inputs.specs.{declared.arguments.Argument.Argument, declared.description.Subcommand.Subcommand}
 
 -- with one more argument
 pub one_more : (app : App) (rule : Rule) (old new : Command) (argument : Arg) → IsCommand app old

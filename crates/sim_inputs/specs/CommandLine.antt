@@ -28,8 +28,11 @@ use Rattle.sim_inputs.specs.{declared.line.WordsRefused.TheVariants.Refused}
 use Rattle.sim_inputs.specs.{declared.line.WordsRefused.TheVariants.Memory}
 use Rattle.sim_inputs.specs.declared.line.OutcomesCommand.{OutcomesCommand}
 use Rattle.sim_inputs.specs.declared.line.{LitmusCommand.LitmusCommand, MigrateCommand.MigrateCommand}
+use Rattle.sim_inputs.specs.declared.line.{Beside.Beside}
+use Rattle.sim_inputs.specs.declared.line.Beside.TheVariants as beside
 use Rattle.sim_inputs.specs.Rules.{smtsim}
-use Rattle.sim_inputs.specs.Files.{reads_input_once}
+use Rattle.sim_inputs.specs.Files.{is_standard_input, reads_input_once, writes_no_dash}
+use Rattle.sim_inputs.specs.HintsWanted.{hints_in}
 
 -- The last event that a history may have; the last hart that a core may have; how often a program is
 -- run at the most; the most instructions of a turn and of all rounds, and the last seed; and how many
@@ -118,13 +121,14 @@ pub record IsStep (rows : List Row) (step : StepCommand) : Type 0 where
   pub show : IsFlag rows (codes "show") step.show
   pub why : IsFlag rows (codes "why") step.why
 
--- A run has an option of its report. Many runs have none, and a folder of theirs has a name; there is one at
--- least, and one alone has no folder.
+-- A run has an option of its report. Many runs have none, and a folder of theirs has a name, which is no dash; there
+-- is one at least, and one alone has no folder.
 abbrev pub is_reported : RunCommand → Bool
 is_reported run = is_some run.trace || run.counts || run.json || run.records || run.why
 
 abbrev pub has_named_folder : RunCommand → Bool
-has_named_folder run = option_map_or (λ folder. not (length folder.now == 0)) run.keep true
+has_named_folder run =
+    option_map_or (λ folder. not (length folder.now == 0) && not (is_standard_input folder.now)) run.keep true
 
 abbrev pub can_be_run : RunCommand → Bool
 can_be_run run = let once = not (is_some run.keep) in
@@ -193,8 +197,20 @@ pub record IsChart (rows : List Row) (chart : ChartCommand) : Type 0 where
   pub kanata : IsFileOption rows (codes "kanata") chart.kanata
   pub together : can_be_drawn chart ≡ true
 
+-- What is explained beside an image: a script, an order, a trace, or nothing.
+abbrev pub IsBeside : List Row → Option Beside → Type 0
+IsBeside rows (Some (beside.Script script)) =
+    IsFile rows (codes "script") script × (first_of (codes "order") rows ≡ None) × (first_of (codes "trace") rows ≡ None)
+IsBeside rows (Some (beside.Order order)) =
+    IsFile rows (codes "order") order × (first_of (codes "script") rows ≡ None) × (first_of (codes "trace") rows ≡ None)
+IsBeside rows (Some (beside.Trace trace)) =
+    IsFile rows (codes "trace") trace × (first_of (codes "script") rows ≡ None) × (first_of (codes "order") rows ≡ None)
+IsBeside rows None = (first_of (codes "script") rows ≡ None) × (first_of (codes "order") rows ≡ None)
+    × (first_of (codes "trace") rows ≡ None)
+
 pub record IsExplain (rows : List Row) (explain : ExplainCommand) : Type 0 where
   pub image : IsFile rows (codes "IMAGE") explain.image
+  pub beside : IsBeside rows explain.beside
 
 -- An order has one file, as it is or as its script; or it has none.
 abbrev pub has_one_file : OutcomesCommand → Bool
@@ -264,11 +280,14 @@ IsCommandOf name rows (commands.Litmus litmus) = (name ≡ codes "litmus") × Is
 IsCommandOf name rows (commands.Migrate migrate) = (name ≡ codes "migrate") × IsMigrate rows migrate
 
 -- A subcommand of this name, with what was found for it, is the line: its command, and the
--- configuration, which every command may have. One of its files at most is standard input.
+-- configuration and the word of `--hints`, which every command may have. One of its files at most is standard input,
+-- and none that is written is named by a dash.
 pub record IsLineOf (name : Text) (rows : List Row) (line : Line) : Type 0 where
   pub config : IsFileOption rows (codes "config") line.config
   pub command : IsCommandOf name rows line.command
+  pub hints : hints_in (first_of (codes "hints") rows) ≡ Some line.hints
   pub once : reads_input_once line ≡ true
+  pub undashed : writes_no_dash line ≡ true
 
 -- A subcommand was found, and it is the line.
 abbrev pub Names : Option (Text × List Row) → Line → Type 0

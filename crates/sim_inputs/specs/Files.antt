@@ -1,13 +1,15 @@
 -- The files that a line names. (This project's own choice.)
-use Rattle.std.specs.Prelude.{List, ℕ, ◌+◌, nat_le, Bool, Option, None, Some, is_some, option_map}
+use Rattle.std.specs.Prelude.{List, ℕ, ◌+◌, nat_le, Bool, true, false, Option, None, Some, is_some, option_map, not}
 use Rattle.std.specs.Prelude.{codes, if◌then◌else◌}
-use Rattle.std.specs.{Borrow.Bor, Str.bytes_eq}
+use Rattle.std.specs.{Borrow.Bor, Option.option_map_or, Str.bytes_eq}
 use Rattle.sim_inputs.specs.{declared.files.Files.Files}
 use Rattle.sim_inputs.specs.{declared.line.Line.Line, declared.line.Command.Command}
 use Rattle.sim_inputs.specs.{declared.line.ProgramCommand.ProgramCommand}
 use Rattle.sim_inputs.specs.{declared.line.ChartCommand.ChartCommand}
 use Rattle.sim_inputs.specs.{declared.line.OutcomesCommand.OutcomesCommand}
 use Rattle.sim_inputs.specs.{declared.line.LitmusCommand.LitmusCommand}
+use Rattle.sim_inputs.specs.{declared.line.ExplainCommand.ExplainCommand, declared.line.Beside.Beside}
+use Rattle.sim_inputs.specs.declared.line.Beside.TheVariants as beside
 use Rattle.sim_inputs.specs.declared.line.Command.TheVariants as commands
 use Rattle.sim_inputs.specs.declared.line.ProgramCommand.TheVariants as program
 
@@ -22,6 +24,15 @@ written_order outcomes = if is_some outcomes.witness then outcomes.witness else 
 -- The file that a test's image is written to, or the picture of why it can't end so.
 abbrev pub written_for_test : LitmusCommand → Option (Bor (List ℕ))
 written_for_test litmus = if is_some litmus.image then litmus.image else litmus.svg
+
+-- The file that is explained beside an image.
+abbrev pub beside_name : Beside → Bor (List ℕ)
+beside_name (beside.Script script) = script
+beside_name (beside.Order order) = order
+beside_name (beside.Trace trace) = trace
+
+abbrev pub explained_beside : ExplainCommand → Option (Bor (List ℕ))
+explained_beside explain = option_map beside_name explain.beside
 
 -- The image of a program's command, and the file that it reads beside image and configuration: a script, a
 -- trace, or an order.
@@ -73,7 +84,7 @@ files_with config (commands.OfProgram command) = program_files config command
 files_with config (commands.Explain explain) = record {
   config = config;
   program = Some explain.image;
-  second = None;
+  second = explained_beside explain;
   written = None;
 }
 files_with config (commands.Litmus litmus) = record {
@@ -95,6 +106,27 @@ files_with config (commands.Migrate migrate) = record {
 abbrev pub files_of : Line → Files
 files_of line = files_with line.config line.command
 
+-- The second file of a command has words, those of a script or of an order: its comments are blanked before
+-- it is read.
+abbrev is_of_words : Beside → Bool
+is_of_words (beside.Script script) = true
+is_of_words (beside.Order order) = true
+is_of_words (beside.Trace trace) = false
+
+abbrev pub reads_words : Command → Bool
+reads_words (commands.OfProgram (program.Step step)) = true
+reads_words (commands.OfProgram (program.Run run)) = false
+reads_words (commands.OfProgram (program.Check check)) = false
+reads_words (commands.OfProgram (program.Plain plain)) = true
+reads_words (commands.OfProgram (program.Schedule schedule)) = true
+reads_words (commands.OfProgram (program.Script script)) = false
+reads_words (commands.OfProgram (program.List list)) = false
+reads_words (commands.OfProgram (program.Chart chart)) = false
+reads_words (commands.OfProgram (program.Outcomes outcomes)) = false
+reads_words (commands.Explain explain) = option_map_or is_of_words explain.beside false
+reads_words (commands.Litmus litmus) = false
+reads_words (commands.Migrate migrate) = false
+
 -- This names standard input in place of a file.
 abbrev pub is_standard_input : List ℕ → Bool
 is_standard_input name = bytes_eq name (codes "-")
@@ -111,3 +143,7 @@ input_count_of file = input_count (option_map (λ name. name.now) file)
 abbrev pub reads_input_once : Line → Bool
 reads_input_once line = let files = files_of line in
     nat_le (input_count_of files.config + input_count_of files.program + input_count_of files.second) 1
+
+-- No dash stands in place of the file that is written.
+abbrev pub writes_no_dash : Line → Bool
+writes_no_dash line = option_map_or (λ name. not (is_standard_input name.now)) (files_of line).written true

@@ -2,5 +2,6 @@ pub mod CommandLine
 pub mod Configuration
 pub mod Explained
 pub mod Files
+pub mod HintsWanted
 pub mod Rules
 pub mod Table

@@ -122,6 +122,12 @@ witness_rule = file_option_rule (codes "witness")
 abbrev pub written_script_rule : Rule
 written_script_rule = file_option_rule (codes "script")
 
+abbrev pub explained_script_rule : Rule
+explained_script_rule = file_option_rule (codes "script")
+
+abbrev pub explained_order_rule : Rule
+explained_order_rule = file_option_rule (codes "order")
+
 abbrev pub test_rule : Rule
 test_rule = file_rule (codes "TEST")
 
@@ -131,9 +137,13 @@ written_image_rule = file_option_rule (codes "image")
 abbrev pub written_out_rule : Rule
 written_out_rule = file_rule (codes "OUT")
 
--- A subcommand of this name, with its arguments in order.
+-- The option of all subcommands.
+abbrev pub hints_rule : Rule
+hints_rule = text_option_rule (codes "hints")
+
+-- A subcommand of this name, with its arguments in order, and `--hints WHEN` behind them.
 abbrev pub subcommand : Text → List Rule → App
-subcommand name rules = fold with_rule (new_app name) rules
+subcommand name rules = with_rule (fold with_rule (new_app name) rules) hints_rule
 
 -- `step IMAGE SCRIPT`, with `--config FILE`, `--counts`, `--json`, `--looks`, `--records`, `--show`,
 -- `--why` and `--trace FILE`.
@@ -176,9 +186,10 @@ abbrev pub chart_command : App
 chart_command = subcommand (codes "chart") (image_rule ∷ trace_rule ∷ config_rule ∷ from_rule ∷ to_rule
     ∷ hart_rule ∷ width_rule ∷ svg_rule ∷ kanata_rule ∷ [])
 
--- `explain IMAGE`, with `--config FILE`.
+-- `explain IMAGE`, with `--config FILE`, `--script FILE`, `--order FILE` and `--trace FILE`, each of which is read.
 abbrev pub explain_command : App
-explain_command = subcommand (codes "explain") (image_rule ∷ config_rule ∷ [])
+explain_command = subcommand (codes "explain") (image_rule ∷ config_rule ∷ explained_script_rule
+    ∷ explained_order_rule ∷ written_trace_rule ∷ [])
 
 -- `outcomes IMAGE`, with `--config FILE`, `--states N`, `--watch LIST`, `--exists CONDITION`,
 -- `--outcome N`, `--stuck`, `--witness FILE` and `--script FILE`.

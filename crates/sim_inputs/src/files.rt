@@ -1,9 +1,13 @@
 ghost use Rattle.std.specs.Prelude.{◌≡◌, ◌≤◌, option_map};
 ghost use Rattle.sim_inputs.specs.Files.{files_of, program_files};
 ghost use Rattle.sim_inputs.specs.Files.{written_chart, written_order, written_for_test};
-ghost use Rattle.sim_inputs.specs.Files.{is_standard_input, input_count, reads_input_once};
+ghost use Rattle.sim_inputs.specs.Files.{explained_beside, reads_words};
+ghost use Rattle.sim_inputs.specs.Files.{is_standard_input, input_count, reads_input_once, writes_no_dash};
 
-use crate::line::{ChartCommand, Command, Line, LitmusCommand, OutcomesCommand, ProgramCommand};
+use crate::line::{
+    Beside, ChartCommand, Command, ExplainCommand, Line, LitmusCommand, OutcomesCommand,
+    ProgramCommand,
+};
 
 /// The files that a line names: three that are read, in this order, and one that is written.
 #[derive(Clone, Copy, Drop)]
@@ -55,6 +59,20 @@ impl<'a> LitmusCommand<'a> {
     }
 }
 
+impl<'a> ExplainCommand<'a> {
+    /// The file that is explained beside the image, if there is one.
+    fn second(&self) -> Option<&'a str>
+        ensures { result ≡ explained_beside self.now }
+    {
+        match self.beside {
+            Some(Beside::Script(script)) => Some(script),
+            Some(Beside::Order(order)) => Some(order),
+            Some(Beside::Trace(trace)) => Some(trace),
+            None => None,
+        }
+    }
+}
+
 impl<'a> ProgramCommand<'a> {
     /// The files that the command names, beside this configuration.
     fn files_with(&self, config: Option<&'a str>) -> Files<'a>
@@ -80,6 +98,24 @@ impl<'a> ProgramCommand<'a> {
     }
 }
 
+impl<'a> Command<'a> {
+    /// Whether its second file has words, those of a script or of an order.
+    pub fn reads_words(&self) -> bool
+        ensures { result ≡ reads_words self.now }
+    {
+        match self {
+            Command::OfProgram(ProgramCommand::Step(_)) => true,
+            Command::OfProgram(ProgramCommand::Plain(_)) => true,
+            Command::OfProgram(ProgramCommand::Schedule(_)) => true,
+            Command::Explain(explain) => matches!(
+                explain.beside,
+                Some(Beside::Script(_) | Beside::Order(_))
+            ),
+            _ => false,
+        }
+    }
+}
+
 impl<'a> Line<'a> {
     /// The files that the line names.
     pub fn files(&self) -> Files<'a>
@@ -87,7 +123,7 @@ impl<'a> Line<'a> {
     {
         let (program, second, written) = match self.command {
             Command::OfProgram(command) => return command.files_with(self.config),
-            Command::Explain(explain) => (Some(explain.image), None, None),
+            Command::Explain(explain) => (Some(explain.image), explain.second(), None),
             Command::Litmus(litmus) => (Some(litmus.test), None, litmus.written()),
             Command::Migrate(migrate) => (None, Some(migrate.trace), Some(migrate.out)),
         };
@@ -113,6 +149,16 @@ pub(crate) fn reads_input_once(line: &Line<'_>) -> bool
 {
     let files = line.files();
     input_count(files.config) + input_count(files.program) + input_count(files.second) <= 1
+}
+
+/// Whether no dash stands in place of the file that the line writes.
+pub(crate) fn writes_no_dash(line: &Line<'_>) -> bool
+    ensures { result ≡ writes_no_dash line.now }
+{
+    match line.files().written {
+        Some(name) => !is_standard_input(name),
+        None => true,
+    }
 }
 
 /// How often standard input stands in place of this file: once or never.

@@ -1,22 +1,31 @@
 //! What the program is asked to do, and with which settings: its words, read by `clap`, and its
 //! configuration, read by `toml`. No other crate sees `clap` or `toml`.
 //!
-//! Read in this order: `line` (what the words may ask for), `files` (the files that they name),
-//! `words` (how they are read), `clap_errors` (what is made of an error of `clap`), `description` (the command
-//! line as it is described to `clap`), `forms` (what stands behind it of files), `limits` (what stands in its
-//! texts for the limits of a core); then `settings`, `configuration` (how they are read), `roles` and `ranges`
+//! Read in this order: `line` (what the words may ask for), `hints_wanted` (when hints are told), `files` (the
+//! files that they name), `words` (how they are read), `found_commands` (what was found for each command), `found_values`
+//! (what for one option), `clap_errors` (what is made of an error of `clap`), `refused_words`, `refused_options` and
+//! `refused_together` (why words are refused, for a person), `description` (the command line as it is described to
+//! `clap`), `arguments` (its arguments and options), `forms` (what stands behind it of files), `limits` (what stands in
+//! its texts for the limits of a core); then `settings`, `configuration` (how they are read), `roles` and `ranges`
 //! (its parts), `explained` (which fault a refused configuration has).
 #![tactic(auto)]
 
+mod arguments;
 mod clap_errors;
 mod configuration;
 mod description;
 mod explained;
 mod files;
 mod forms;
+mod found_commands;
+mod found_values;
+mod hints_wanted;
 mod limits;
 mod line;
 mod ranges;
+mod refused_options;
+mod refused_together;
+mod refused_words;
 mod roles;
 mod settings;
 mod words;
@@ -26,10 +35,12 @@ pub use explained::{
     ActorsFault, ConfigFault, KNOWN_KEYS, NumberKey, ROLE_NAMES, read_config_or_fault,
 };
 pub use files::{Files, is_standard_input};
+pub use hints_wanted::{HintsWanted, hints_asked};
 pub use line::{
-    ChartCommand, CheckCommand, Command, ExplainCommand, Line, ListCommand, LitmusCommand,
+    Beside, ChartCommand, CheckCommand, Command, ExplainCommand, Line, ListCommand, LitmusCommand,
     MigrateCommand, OutcomesCommand, PlainCommand, ProgramCommand, RunCommand, ScheduleCommand,
     ScriptCommand, StepCommand, WordsRefused,
 };
+pub use refused_words::add_refused_words;
 pub use settings::Settings;
 pub use words::read_words;

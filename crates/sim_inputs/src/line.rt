@@ -1,10 +1,13 @@
+use crate::hints_wanted::HintsWanted;
 use thiserror::Error;
 
-/// What the program is asked to do: a command, beside the option that every command has.
+/// What the program is asked to do: a command, beside the options that every command has.
 #[derive(Clone, Copy, Drop)]
 pub struct Line<'a> {
     /// `--config FILE`: the file of the configuration.
     pub config: Option<&'a str>,
+    /// `--hints WHEN`: when a hint is told behind a fault.
+    pub hints: HintsWanted,
     pub command: Command<'a>,
 }
 
@@ -158,6 +161,19 @@ pub struct ChartCommand<'a> {
 #[derive(Clone, Copy, Drop)]
 pub struct ExplainCommand<'a> {
     pub image: &'a str,
+    /// What is explained beside them.
+    pub beside: Option<Beside<'a>>,
+}
+
+/// A file that is explained beside an image and a configuration.
+#[derive(Clone, Copy, Drop)]
+pub enum Beside<'a> {
+    /// `--script FILE`: a script that is made of the core.
+    Script(&'a str),
+    /// `--order FILE`: an order that the plain machine runs in.
+    Order(&'a str),
+    /// `--trace FILE`: a trace that is judged, and of which is told why it is refused.
+    Trace(&'a str),
 }
 
 /// `outcomes IMAGE`: every end that the program has on the plain machine is listed.

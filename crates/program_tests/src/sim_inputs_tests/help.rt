@@ -49,7 +49,7 @@ F actor hart number pc word predicted|T actor number value next address data out
     ),
     (
         "smtsim explain --help",
-        "Usage: smtsim explain [OPTIONS] <IMAGE>|--config <FILE>",
+        "Usage: smtsim explain [OPTIONS] <IMAGE>|--config <FILE>|--script <FILE>|--order <FILE>",
     ),
     (
         "smtsim outcomes --help",

@@ -66,6 +66,10 @@ smtsim check - t --config -
 smtsim explain
 smtsim explain a b
 smtsim explain --why a
+smtsim explain a --script s --order o
+smtsim explain a --script s --script s
+smtsim explain a --order -  --config -
+smtsim explain a --script
 smtsim outcomes
 smtsim outcomes a b
 smtsim outcomes --states 0 a
@@ -125,6 +129,6 @@ fn other_words_are_refused(rt: HostRuntime) {
         holds(&rt, text, are_refused(text, rt.alloc()) == Ok(true));
         rows = rows.wrapping_add(1);
     }
-    assert!(rt; rows == 101);
+    assert!(rt; rows == 104);
     assert!(rt; is_refusal(read_words(&[], rt.alloc())));
 }

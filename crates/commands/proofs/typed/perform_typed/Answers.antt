@@ -16,6 +16,7 @@ returns-in-Ok g c =
     let says = typed_says g.P.Predict.predicts c.args.context.now.predict (as_read inputs.config) (as_read inputs.program) _
     (step_wants c.args.step.now) _ _ _ _ has.ended in
     record {
+      kept = λ none. absurd (true≢false (sym says ∙ none));
       known = inl says;
       unset = was_read inputs.config _ _ _ has.unset;
       refused = λ none. absurd (true≢false (sym says ∙ none));
@@ -27,11 +28,13 @@ returns-in-Ok g c =
 pub returns-in-Err : goal.returns-in-Err
 returns-in-Err g c =
     let has = c.in-Err.ensures in
+    let told = c.refuse_line.ensures in
     record {
-      known = known_refusal c.in-Err.refused _ c.refuse_line.ensures;
-      unset = unset_refusal c.args.inputs.now.config _ c.in-Err.refused _ c.refuse_line.ensures has.unset;
-      refused = λ none. (c.in-Err.refused, sym c.refuse_line.ensures, has.refused);
-      ended = λ harts. absurd (refused_harts c.in-Err.refused _ c.refuse_line.ensures harts);
-      finished = λ harts. absurd (refused_harts c.in-Err.refused _ c.refuse_line.ensures harts);
-      unwanted = has.unwanted;
+      kept = λ none. rw told.kept (sym told.status);
+      known = known_refusal c.in-Err.refused _ told.status;
+      unset = unset_refusal c.args.inputs.now.config _ c.in-Err.refused _ told.status has.unset;
+      refused = λ none. (c.in-Err.refused, sym told.status, has.refused);
+      ended = λ harts. absurd (refused_harts c.in-Err.refused _ told.status harts);
+      finished = λ harts. absurd (refused_harts c.in-Err.refused _ told.status harts);
+      unwanted = rw told.kept has.unwanted;
     }

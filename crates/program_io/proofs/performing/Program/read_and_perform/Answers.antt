@@ -1,6 +1,6 @@
-use Rattle.std.proofs.Common.{sym, subst}
+use Rattle.std.proofs.Common.{sym, subst, ap}
 use Rattle.sim_inputs.specs.{declared.files.Files.Files, Files.files_of}
-use Rattle.command_parts.specs.Inputs.{Read, as_read}
+use Rattle.command_parts.specs.Inputs.{Read}
 use Rattle.program_io.specs.Performed.{read_of, IsReadAs}
 use Rattle.program_io.proofs.OfTyped.{read_performed}
 use Rattle.program_io.proofs.performing.Program.read_and_perform.Goals as goal
@@ -8,15 +8,15 @@ use Rattle.program_io.proofs.performing.Program.read_and_perform.Goals as goal
 pub returns-clause-performed : goal.returns-clause-performed
 returns-clause-performed g c =
     let files = files_of c.args.line.now in
-    read_performed c.args.self.now.at_terminal c.args.line.now c.typed_step.result _ (as_read c.lent.result.config)
-    (as_read c.lent.result.program) (as_read c.lent.result.second) c.typed_step.ensures c.in_default.is
-    (subst (λ (r : Read). IsReadAs files.config r) (sym c.lent.ensures.config)
+    let read = c.blank_comments.new.self in
+    read_performed c.args.self.now.at_terminal c.args.line.now c.typed_step.result _ (read_of read.config)
+    (read_of read.program) (read_of c.of-read.result.second) (read_of read.second) c.typed_step.ensures c.in_default.is
+    (subst (λ (r : Read). IsReadAs files.config r) (sym (ap read_of c.blank_comments.ensures.config))
     (subst (λ (f : Files). IsReadAs f.config (read_of c.of-read.result.config)) c.files-files.ensures
     c.of-read.ensures.config))
-    (subst (λ (r : Read). IsReadAs files.program r) (sym c.lent.ensures.program)
+    (subst (λ (r : Read). IsReadAs files.program r) (sym (ap read_of c.blank_comments.ensures.program))
     (subst (λ (f : Files). IsReadAs f.program (read_of c.of-read.result.program)) c.files-files.ensures
     c.of-read.ensures.program))
-    (subst (λ (r : Read). IsReadAs files.second r) (sym c.lent.ensures.second)
     (subst (λ (f : Files). IsReadAs f.second (read_of c.of-read.result.second)) c.files-files.ensures
-    c.of-read.ensures.second))
-    c.perform-status.ensures.refused
+    c.of-read.ensures.second)
+    c.blank_comments.ensures.second c.perform_and_hint.ensures.refused

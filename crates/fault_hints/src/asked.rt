@@ -1,0 +1,174 @@
+//! What the options of a command ask for, and isn't there.
+
+use crate::inside_text::add_line;
+use crate::line_fault::LineFault;
+use crate::named_files::{add_config, add_program};
+use crate::order_words::add_harts;
+use elf_image::RAM_START;
+use hints::{Hint, Part};
+use litmus_reading::{Fault, Place};
+use outcome_queries::QueryRefused;
+use rv_instr::{UnitKind, unit_name};
+use sim_inputs::{Command, ProgramCommand, read_config};
+use std::alloc::{AllocError, Global};
+
+/// Adds the unit that a schedule needs.
+pub(crate) fn add_unit(
+    kind: UnitKind,
+    fault: &LineFault<'_>,
+    hint: &mut Hint,
+    alloc: Global,
+) -> Result<(), AllocError> {
+    let name = unit_name(&kind);
+    add_config(fault, hint, alloc)?;
+    hint.add(
+        Part::Cause,
+        b"an instruction of the order is for such a unit",
+    )?;
+    let expected = format!(in alloc; "{name} among the actors of the configuration")?;
+    hint.add(Part::Expected, expected.as_bytes())
+}
+
+/// Adds the limit that a schedule needs.
+pub(crate) fn add_limit(
+    least: u64,
+    fault: &LineFault<'_>,
+    hint: &mut Hint,
+    alloc: Global,
+) -> Result<(), AllocError> {
+    add_config(fault, hint, alloc)?;
+    hint.add(
+        Part::Cause,
+        b"the history of the order has more events than the limit",
+    )?;
+    let expected = format!(in alloc; "limit = {least} in the configuration, or more")?;
+    hint.add(Part::Expected, expected.as_bytes())
+}
+
+/// Adds the hart that an option names.
+pub(crate) fn add_hart(
+    hart: u32,
+    fault: &LineFault<'_>,
+    hint: &mut Hint,
+    alloc: Global,
+) -> Result<(), AllocError> {
+    let word = match fault.line.command {
+        Command::OfProgram(ProgramCommand::Outcomes(_)) => {
+            format!(in alloc; "hart {hart} in --exists or --watch")?
+        }
+        _ => format!(in alloc; "--hart {hart}")?,
+    };
+    hint.add(Part::Word, word.as_bytes())?;
+    if let Command::OfProgram(ProgramCommand::Outcomes(_)) = fault.line.command {
+        return add_harts(fault, hint, alloc);
+    }
+    hint.add(Part::Cause, b"the core of the trace has no such hart")
+}
+
+/// Adds that a picture would have too many instructions.
+pub(crate) fn add_picture(last: u32, hint: &mut Hint, alloc: Global) -> Result<(), AllocError> {
+    hint.add(
+        Part::Cause,
+        b"more than 4000 instructions are no picture any more",
+    )?;
+    let expected = format!(in alloc; "--to {last} or less, or another --from")?;
+    hint.add(Part::Expected, expected.as_bytes())
+}
+
+/// Adds where a list of what is watched is misspelled.
+pub(crate) fn add_watch(
+    why: QueryRefused,
+    fault: &LineFault<'_>,
+    hint: &mut Hint,
+    alloc: Global,
+) -> Result<(), AllocError> {
+    if let Command::OfProgram(ProgramCommand::Outcomes(asked)) = fault.line.command {
+        return add_query("--watch", asked.watch, why, hint, alloc);
+    }
+    Ok(())
+}
+
+/// Adds where a condition is misspelled.
+pub(crate) fn add_condition(
+    why: QueryRefused,
+    fault: &LineFault<'_>,
+    hint: &mut Hint,
+    alloc: Global,
+) -> Result<(), AllocError> {
+    if let Command::OfProgram(ProgramCommand::Outcomes(asked)) = fault.line.command {
+        return add_query("--exists", asked.exists, why, hint, alloc);
+    }
+    Ok(())
+}
+
+/// Adds where the text of an option is misspelled: the rest from there on.
+fn add_query(
+    option: &str,
+    text: Option<&str>,
+    why: QueryRefused,
+    hint: &mut Hint,
+    alloc: Global,
+) -> Result<(), AllocError> {
+    let QueryRefused { column, expected } = why;
+    let place = format!(in alloc; "column {column} of {option}")?;
+    hint.add(Part::Place, place.as_bytes())?;
+    let text = text.unwrap_or("").as_bytes();
+    let rest = text.get(column.saturating_sub(1)..).unwrap_or(b"");
+    hint.add(Part::Word, rest)?;
+    let expected = expected.to_string(alloc)?;
+    hint.add(Part::Expected, expected.as_bytes())
+}
+
+/// Adds that a word that is watched isn't there.
+pub(crate) fn add_absent_word(
+    address: u32,
+    fault: &LineFault<'_>,
+    hint: &mut Hint,
+    alloc: Global,
+) -> Result<(), AllocError> {
+    let word = format!(in alloc; "{address:08x} in --exists or --watch")?;
+    hint.add(Part::Word, word.as_bytes())?;
+    let Ok(text) = fault.inputs.config else {
+        return Ok(());
+    };
+    let Ok(settings) = read_config(text, alloc) else {
+        return Ok(());
+    };
+    let last = RAM_START.wrapping_add(settings.ram.bytes()).wrapping_sub(4);
+    let expected = format!(in alloc; "a multiple of 4 from {RAM_START:08x} to {last:08x}")?;
+    hint.add(Part::Expected, expected.as_bytes())
+}
+
+/// Adds that there is no outcome of this number.
+pub(crate) fn add_absent_outcome(
+    number: u32,
+    hint: &mut Hint,
+    alloc: Global,
+) -> Result<(), AllocError> {
+    let word = format!(in alloc; "--outcome {number}")?;
+    hint.add(Part::Word, word.as_bytes())?;
+    hint.add(Part::Cause, b"there are fewer outcomes")?;
+    hint.add(
+        Part::Expected,
+        b"the number of a line that is printed without --outcome",
+    )
+}
+
+/// Adds where a litmus test is refused.
+pub(crate) fn add_litmus(
+    place: Place,
+    why: Fault,
+    fault: &LineFault<'_>,
+    hint: &mut Hint,
+    alloc: Global,
+) -> Result<(), AllocError> {
+    add_program(fault, hint, alloc)?;
+    let Ok(text) = fault.inputs.program else {
+        return Ok(());
+    };
+    let (line, column) = (place.line, place.column);
+    add_line(text, line, hint, alloc)?;
+    let cause = format!(in alloc; "column {column}: {why}")?;
+    hint.add(Part::Cause, cause.as_bytes())?;
+    hint.add(Part::More, b"docs/FORMATS.md, \"Litmus tests\"")
+}

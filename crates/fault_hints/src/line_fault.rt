@@ -1,0 +1,24 @@
+use crate::file_fault::FileFault;
+use command_parts::{Inputs, Refused};
+use sim_inputs::Line;
+
+/// Why files of a line can't be read or written, as far as that has come up.
+#[derive(Clone, Copy, Drop)]
+pub struct FileFaults {
+    pub config: Option<FileFault>,
+    pub program: Option<FileFault>,
+    pub second: Option<FileFault>,
+    /// The file that is written, or one of those of ends.
+    pub written: Option<FileFault>,
+    /// Standard output.
+    pub output: Option<FileFault>,
+}
+
+/// A fault of a line, and all that its hint is made of.
+#[derive(Clone, Copy, Drop)]
+pub struct LineFault<'a> {
+    pub refused: Refused,
+    pub line: Line<'a>,
+    pub inputs: Inputs<'a>,
+    pub files: FileFaults,
+}

@@ -1,0 +1,2 @@
+mod AllShown
+mod Together

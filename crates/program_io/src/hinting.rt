@@ -1,0 +1,64 @@
+//! The hint behind a fault, made and written. One that can't be made, since there isn't enough memory for it,
+//! is left out, and so is one that can't be written.
+
+use crate::words::texts;
+use fault_hints::{LineFault, WordsFault, add_line_fault, add_words_fault};
+use hints::{Form, Hint};
+use sim_inputs::hints_asked;
+use std::alloc::{AllocError, Global};
+use std::io::Write;
+
+/// How hints are made.
+#[derive(Clone, Copy, Drop)]
+pub(crate) struct Hinting {
+    /// Whether standard error is a terminal.
+    pub on_terminal: bool,
+    pub alloc: Global,
+}
+
+impl Hinting {
+    /// Writes the hint of a fault of a line, where one is wanted.
+    pub(crate) fn tell_line<E: Write>(&self, fault: &LineFault<'_>, err: &mut E) {
+        let Some(form) = fault.line.hints.form(self.on_terminal) else {
+            return;
+        };
+        if let Ok(text) = line_hint(form, fault, self.alloc) {
+            let _ = err.write_all(text.as_slice());
+        }
+    }
+
+    /// Writes the hint of words that are refused, where they ask for one. Of words that couldn't be read there
+    /// are none.
+    pub(crate) fn tell_words<E: Write>(&self, fault: WordsFault, words: &[String], err: &mut E) {
+        let Ok(texts) = texts(words, self.alloc) else {
+            return;
+        };
+        let Some(form) = hints_asked(texts.as_slice()).form(self.on_terminal) else {
+            return;
+        };
+        if let Ok(text) = words_hint(form, fault, texts.as_slice(), self.alloc) {
+            let _ = err.write_all(text.as_slice());
+        }
+    }
+}
+
+/// The text of the hint of a fault of a line.
+fn line_hint(form: Form, fault: &LineFault<'_>, alloc: Global) -> Result<Vec<u8>, AllocError> {
+    let said = fault.refused.to_string(alloc)?;
+    let status = fault.refused.exit_status();
+    let mut hint = Hint::new(form, said.as_str(), status, alloc)?;
+    add_line_fault(fault, &mut hint, alloc)?;
+    hint.finish()
+}
+
+/// The text of the hint of words that are refused.
+fn words_hint(
+    form: Form,
+    fault: WordsFault,
+    words: &[&str],
+    alloc: Global,
+) -> Result<Vec<u8>, AllocError> {
+    let mut hint = Hint::new(form, fault.text(), fault.exit_status(), alloc)?;
+    add_words_fault(fault, words, &mut hint, alloc)?;
+    hint.finish()
+}

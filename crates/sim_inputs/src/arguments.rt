@@ -1,0 +1,283 @@
+//! The arguments and options of the commands, as help describes them.
+
+/// How an argument is given.
+pub(crate) enum Kind {
+    /// The name of a file, which must be there.
+    File,
+    /// The name of a file, which may be there.
+    OptionalFile,
+    /// `--name FILE`, which may be there.
+    Option,
+    /// `--name`, which may be there.
+    Flag,
+    /// `--name FOLDER`, which may be there.
+    Folder,
+    /// `--name N`, which may be there.
+    Number,
+    /// `--name LIST`, which may be there.
+    List,
+    /// `--name CONDITION`, which may be there.
+    Condition,
+    /// `--name WHEN`, which may be there.
+    When,
+}
+
+/// An argument of a subcommand, as help describes it.
+pub(crate) struct Argument {
+    pub(crate) kind: Kind,
+    pub(crate) name: &'static str,
+    pub(crate) help: &'static str,
+}
+
+pub(crate) const IMAGE: Argument = Argument {
+    kind: Kind::File,
+    name: "IMAGE",
+    help: "The program: an ELF file of RV32IMA",
+};
+
+pub(crate) const SCRIPT: Argument = Argument {
+    kind: Kind::File,
+    name: "SCRIPT",
+    help: "The script: what the actors are asked to do",
+};
+
+pub(crate) const TRACE: Argument = Argument {
+    kind: Kind::File,
+    name: "TRACE",
+    help: "The trace: the events of a history",
+};
+
+pub(crate) const ORDER: Argument = Argument {
+    kind: Kind::File,
+    name: "ORDER",
+    help: "The order: which hart makes each step",
+};
+
+pub(crate) const ORDER_OR_ROUNDS: Argument = Argument {
+    kind: Kind::OptionalFile,
+    name: "ORDER",
+    help: "The order: which hart makes each step; none with --rounds",
+};
+
+pub(crate) const CONFIG: Argument = Argument {
+    kind: Kind::Option,
+    name: "config",
+    help: "The configuration, a TOML file: see smtsim --help",
+};
+
+pub(crate) const COUNTS: Argument = Argument {
+    kind: Kind::Flag,
+    name: "counts",
+    help: "Print how often each kind of event came, after the report",
+};
+
+pub(crate) const JSON: Argument = Argument {
+    kind: Kind::Flag,
+    name: "json",
+    help: "Print the report as one JSON object",
+};
+
+pub(crate) const LOOKS: Argument = Argument {
+    kind: Kind::Flag,
+    name: "looks",
+    help: "Print how many loads looked again, after the tables",
+};
+
+pub(crate) const RECORDS: Argument = Argument {
+    kind: Kind::Flag,
+    name: "records",
+    help: "Print a record of each retirement, before the report",
+};
+
+pub(crate) const SHOW: Argument = Argument {
+    kind: Kind::Flag,
+    name: "show",
+    help: "Print the core's tables, after the asks",
+};
+
+pub(crate) const WHY: Argument = Argument {
+    kind: Kind::Flag,
+    name: "why",
+    help: "Tell why an ask made no step, and what it squashed",
+};
+
+pub(crate) const WHY_ENDS: Argument = Argument {
+    kind: Kind::Flag,
+    name: "why",
+    help: "Tell why each hart that hasn't ended stands where it does",
+};
+
+pub(crate) const WHY_REFUSED: Argument = Argument {
+    kind: Kind::Flag,
+    name: "why",
+    help: "Tell why the trace is refused, or where each hart stands",
+};
+
+pub(crate) const TIMES: Argument = Argument {
+    kind: Kind::Number,
+    name: "times",
+    help: "Run that often, and print a table of the ends",
+};
+
+pub(crate) const KEEP: Argument = Argument {
+    kind: Kind::Folder,
+    name: "keep",
+    help: "The folder for a trace and an order of each end",
+};
+
+pub(crate) const ROUNDS: Argument = Argument {
+    kind: Kind::Number,
+    name: "rounds",
+    help: "Without an order: each hart makes so many steps in turn",
+};
+
+pub(crate) const STEPS: Argument = Argument {
+    kind: Kind::Number,
+    name: "steps",
+    help: "The most steps of all harts, with --rounds",
+};
+
+pub(crate) const SEED: Argument = Argument {
+    kind: Kind::Number,
+    name: "seed",
+    help: "Draw the turns, from this number on, with --rounds",
+};
+
+pub(crate) const WRITTEN_TRACE: Argument = Argument {
+    kind: Kind::Option,
+    name: "trace",
+    help: "The file that the history is written to",
+};
+
+pub(crate) const EXPLAINED_TRACE: Argument = Argument {
+    kind: Kind::Option,
+    name: "trace",
+    help: "A trace to judge beside them",
+};
+
+pub(crate) const FROM: Argument = Argument {
+    kind: Kind::Number,
+    name: "from",
+    help: "The first event that is drawn; 0 is the first of all",
+};
+
+pub(crate) const TO: Argument = Argument {
+    kind: Kind::Number,
+    name: "to",
+    help: "The last event that is drawn",
+};
+
+pub(crate) const HART: Argument = Argument {
+    kind: Kind::Number,
+    name: "hart",
+    help: "The one hart whose instructions are drawn",
+};
+
+pub(crate) const WIDTH: Argument = Argument {
+    kind: Kind::Number,
+    name: "width",
+    help: "Characters of a line, or events of a picture's band: 120",
+};
+
+pub(crate) const SVG: Argument = Argument {
+    kind: Kind::Option,
+    name: "svg",
+    help: "The file for a picture, in place of text",
+};
+
+pub(crate) const KANATA: Argument = Argument {
+    kind: Kind::Option,
+    name: "kanata",
+    help: "The file for a log that Konata reads, in place of text",
+};
+
+pub(crate) const STATES: Argument = Argument {
+    kind: Kind::Number,
+    name: "states",
+    help: "The most states, some 150 bytes each: 1000000",
+};
+
+pub(crate) const WATCH: Argument = Argument {
+    kind: Kind::List,
+    name: "watch",
+    help: "Registers and words that tell outcomes apart",
+};
+
+pub(crate) const EXISTS: Argument = Argument {
+    kind: Kind::Condition,
+    name: "exists",
+    help: "Tell of which outcomes this holds",
+};
+
+pub(crate) const OUTCOME: Argument = Argument {
+    kind: Kind::Number,
+    name: "outcome",
+    help: "The outcome whose order is written, from 1",
+};
+
+pub(crate) const STUCK: Argument = Argument {
+    kind: Kind::Flag,
+    name: "stuck",
+    help: "In its place a state from which nothing can end",
+};
+
+pub(crate) const WITNESS: Argument = Argument {
+    kind: Kind::Option,
+    name: "witness",
+    help: "The file for an order that leads there",
+};
+
+pub(crate) const WRITTEN_SCRIPT: Argument = Argument {
+    kind: Kind::Option,
+    name: "script",
+    help: "The file for the script of that order",
+};
+
+pub(crate) const TEST: Argument = Argument {
+    kind: Kind::File,
+    name: "TEST",
+    help: "The litmus test, in herd's RISC-V format",
+};
+
+pub(crate) const WRITTEN_IMAGE: Argument = Argument {
+    kind: Kind::Option,
+    name: "image",
+    help: "The file for the test's program: an ELF file",
+};
+
+pub(crate) const WHY_NEVER: Argument = Argument {
+    kind: Kind::Flag,
+    name: "why",
+    help: "Tell why the condition holds of no state",
+};
+
+pub(crate) const SVG_OF_WHY: Argument = Argument {
+    kind: Kind::Option,
+    name: "svg",
+    help: "The file for a picture of that",
+};
+
+pub(crate) const WRITTEN_OUT: Argument = Argument {
+    kind: Kind::File,
+    name: "OUT",
+    help: "The file for the trace of version 3",
+};
+
+pub(crate) const EXPLAINED_SCRIPT: Argument = Argument {
+    kind: Kind::Option,
+    name: "script",
+    help: "A script to explain beside them",
+};
+
+pub(crate) const EXPLAINED_ORDER: Argument = Argument {
+    kind: Kind::Option,
+    name: "order",
+    help: "An order to explain beside them",
+};
+
+/// The option of all subcommands, which help lists last.
+pub(crate) const HINTS: Argument = Argument {
+    kind: Kind::When,
+    name: "hints",
+    help: "Hints behind a fault: auto, always, never or json",
+};

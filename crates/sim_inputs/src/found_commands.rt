@@ -1,0 +1,297 @@
+//! What was found for the arguments and options of each command.
+
+ghost use Rattle.std.specs.Prelude.{◌≡◌};
+ghost use Rattle.clap.specs.Words.{found_of, rows_of};
+ghost use Rattle.sim_inputs.specs.CommandLine.{Finds, IsBeside, IsChart, IsCheck, IsExplain, IsList};
+ghost use Rattle.sim_inputs.specs.CommandLine.{IsLitmus, IsMigrate, IsOutcomes, IsPlain, IsRun, IsSchedule};
+ghost use Rattle.sim_inputs.specs.CommandLine.{IsScript, IsStep, are_orders_together, can_be_drawn};
+ghost use Rattle.sim_inputs.specs.CommandLine.{can_be_plain, can_be_run, can_be_searched, can_be_tested};
+ghost use Rattle.sim_inputs.specs.CommandLine.{has_named_folder, has_one_file, is_reported};
+
+use crate::files::is_standard_input;
+use crate::found_values::{is_set, number, number_or, value_of};
+use crate::line::{
+    Beside, ChartCommand, CheckCommand, ExplainCommand, ListCommand, LitmusCommand, MigrateCommand,
+    OutcomesCommand, PlainCommand, RunCommand, ScheduleCommand, ScriptCommand, StepCommand,
+};
+use clap::ArgMatches;
+use numbers::sizes::{MOST_EVENTS, MOST_HARTS};
+
+/// The place of the last event that a history may have.
+const LAST_PLACE: u32 = MOST_EVENTS - 1;
+
+/// The last hart that a core may have.
+const LAST_HART: u32 = MOST_HARTS as u32 - 1;
+
+/// How often a program is run at the most.
+const MOST_TIMES: u32 = 1_000_000;
+
+/// How many characters a line of a chart has, or how many events a band of a picture, where nothing
+/// else is said, and how many at the most.
+const USUAL_COLUMNS: u32 = 120;
+
+const MOST_COLUMNS: u32 = 10_000;
+
+/// How many states are looked at the most where nothing else is said.
+const USUAL_STATES: u32 = 1_000_000;
+
+/// The command `step` of what was found; none where a file is missing that it must have. The eleven
+/// below answer for their commands; five of them have options that don't go together.
+pub(crate) fn step_in<'a>(found: &ArgMatches<'a>) -> Option<StepCommand<'a>>
+    ensures { Finds (IsStep (rows_of (found_of found.now))) result }
+{
+    Some(StepCommand {
+        image: value_of(found, "IMAGE")?,
+        script: value_of(found, "SCRIPT")?,
+        trace: value_of(found, "trace"),
+        counts: is_set(found, "counts"),
+        json: is_set(found, "json"),
+        looks: is_set(found, "looks"),
+        records: is_set(found, "records"),
+        show: is_set(found, "show"),
+        why: is_set(found, "why"),
+    })
+}
+
+pub(crate) fn run_in<'a>(found: &ArgMatches<'a>) -> Option<RunCommand<'a>>
+    ensures { Finds (IsRun (rows_of (found_of found.now))) result }
+{
+    let run = RunCommand {
+        image: value_of(found, "IMAGE")?,
+        trace: value_of(found, "trace"),
+        counts: is_set(found, "counts"),
+        json: is_set(found, "json"),
+        records: is_set(found, "records"),
+        why: is_set(found, "why"),
+        times: number(found, "times", MOST_TIMES)?,
+        keep: value_of(found, "keep"),
+    };
+    if !can_be_run(&run) {
+        return None;
+    }
+    Some(run)
+}
+
+/// Whether the options of a run go together: there is one run at least, only many have a folder, which has
+/// a name, and only one has a report.
+fn can_be_run(run: &RunCommand<'_>) -> bool
+    ensures { result ≡ can_be_run run.now }
+{
+    match run.times {
+        Some(times) => times >= 1 && !is_reported(run) && has_named_folder(run),
+        None => run.keep.is_none(),
+    }
+}
+
+/// Whether the folder for the files of ends has a name, where there is one, and that is no dash.
+fn has_named_folder(run: &RunCommand<'_>) -> bool
+    ensures { result ≡ has_named_folder run.now }
+{
+    match run.keep {
+        Some(folder) => !folder.is_empty() && !is_standard_input(folder),
+        None => true,
+    }
+}
+
+/// Whether a run has an option of its report.
+fn is_reported(run: &RunCommand<'_>) -> bool
+    ensures { result ≡ is_reported run.now }
+{
+    run.trace.is_some() || run.counts || run.json || run.records || run.why
+}
+
+pub(crate) fn check_in<'a>(found: &ArgMatches<'a>) -> Option<CheckCommand<'a>>
+    ensures { Finds (IsCheck (rows_of (found_of found.now))) result }
+{
+    Some(CheckCommand {
+        image: value_of(found, "IMAGE")?,
+        trace: value_of(found, "TRACE")?,
+        counts: is_set(found, "counts"),
+        json: is_set(found, "json"),
+        records: is_set(found, "records"),
+        why: is_set(found, "why"),
+    })
+}
+
+pub(crate) fn plain_in<'a>(found: &ArgMatches<'a>) -> Option<PlainCommand<'a>>
+    ensures { Finds (IsPlain (rows_of (found_of found.now))) result }
+{
+    let plain = PlainCommand {
+        image: value_of(found, "IMAGE")?,
+        order: value_of(found, "ORDER"),
+        rounds: number(found, "rounds", u32::MAX)?,
+        steps: number(found, "steps", u32::MAX)?,
+        seed: number(found, "seed", u32::MAX)?,
+        records: is_set(found, "records"),
+    };
+    if !can_be_plain(&plain) {
+        return None;
+    }
+    Some(plain)
+}
+
+/// Whether there is either an order or rounds, of an instruction at least, and whether what says more
+/// of rounds has some.
+fn can_be_plain(plain: &PlainCommand<'_>) -> bool
+    ensures { result ≡ can_be_plain plain.now }
+{
+    match plain.rounds {
+        Some(rounds) => rounds >= 1 && plain.order.is_none(),
+        None => plain.order.is_some() && plain.steps.is_none() && plain.seed.is_none(),
+    }
+}
+
+pub(crate) fn schedule_in<'a>(found: &ArgMatches<'a>) -> Option<ScheduleCommand<'a>>
+    ensures { Finds (IsSchedule (rows_of (found_of found.now))) result }
+{
+    Some(ScheduleCommand {
+        image: value_of(found, "IMAGE")?,
+        order: value_of(found, "ORDER")?,
+    })
+}
+
+pub(crate) fn script_in<'a>(found: &ArgMatches<'a>) -> Option<ScriptCommand<'a>>
+    ensures { Finds (IsScript (rows_of (found_of found.now))) result }
+{
+    Some(ScriptCommand {
+        image: value_of(found, "IMAGE")?,
+        trace: value_of(found, "TRACE")?,
+    })
+}
+
+pub(crate) fn list_in<'a>(found: &ArgMatches<'a>) -> Option<ListCommand<'a>>
+    ensures { Finds (IsList (rows_of (found_of found.now))) result }
+{
+    Some(ListCommand {
+        image: value_of(found, "IMAGE")?,
+    })
+}
+
+pub(crate) fn explain_in<'a>(found: &ArgMatches<'a>) -> Option<ExplainCommand<'a>>
+    ensures { Finds (IsExplain (rows_of (found_of found.now))) result }
+{
+    Some(ExplainCommand {
+        image: value_of(found, "IMAGE")?,
+        beside: beside_in(found)?,
+    })
+}
+
+/// What is explained beside an image, if anything is; none where it would be two files.
+fn beside_in<'a>(found: &ArgMatches<'a>) -> Option<Option<Beside<'a>>>
+    ensures { Finds (IsBeside (rows_of (found_of found.now))) result }
+{
+    let trace = value_of(found, "trace");
+    match (value_of(found, "script"), value_of(found, "order"), trace) {
+        (None, None, None) => Some(None),
+        (Some(script), None, None) => Some(Some(Beside::Script(script))),
+        (None, Some(order), None) => Some(Some(Beside::Order(order))),
+        (None, None, Some(trace)) => Some(Some(Beside::Trace(trace))),
+        _ => None,
+    }
+}
+
+pub(crate) fn chart_in<'a>(found: &ArgMatches<'a>) -> Option<ChartCommand<'a>>
+    ensures { Finds (IsChart (rows_of (found_of found.now))) result }
+{
+    let chart = ChartCommand {
+        image: value_of(found, "IMAGE")?,
+        trace: value_of(found, "TRACE")?,
+        from: number_or(found, "from", 0, LAST_PLACE)?,
+        to: number_or(found, "to", LAST_PLACE, LAST_PLACE)?,
+        hart: number(found, "hart", LAST_HART)?,
+        width: number_or(found, "width", USUAL_COLUMNS, MOST_COLUMNS)?,
+        svg: value_of(found, "svg"),
+        kanata: value_of(found, "kanata"),
+    };
+    if !can_be_drawn(&chart) {
+        return None;
+    }
+    Some(chart)
+}
+
+/// Whether the options of a chart go together: its events rise, a line has room, and there's one file
+/// at most.
+fn can_be_drawn(chart: &ChartCommand<'_>) -> bool
+    ensures { result ≡ can_be_drawn chart.now }
+{
+    chart.from <= chart.to && chart.width >= 1 && !(chart.svg.is_some() && chart.kanata.is_some())
+}
+
+pub(crate) fn outcomes_in<'a>(found: &ArgMatches<'a>) -> Option<OutcomesCommand<'a>>
+    ensures { Finds (IsOutcomes (rows_of (found_of found.now))) result }
+{
+    let outcomes = OutcomesCommand {
+        image: value_of(found, "IMAGE")?,
+        states: number_or(found, "states", USUAL_STATES, u32::MAX)?,
+        watch: value_of(found, "watch"),
+        exists: value_of(found, "exists"),
+        outcome: number(found, "outcome", u32::MAX)?,
+        stuck: is_set(found, "stuck"),
+        witness: value_of(found, "witness"),
+        script: value_of(found, "script"),
+    };
+    if !can_be_searched(&outcomes) {
+        return None;
+    }
+    Some(outcomes)
+}
+
+/// Whether some state is looked at, and the options of orders go together.
+fn can_be_searched(outcomes: &OutcomesCommand<'_>) -> bool
+    ensures { result ≡ can_be_searched outcomes.now }
+{
+    outcomes.states >= 1 && are_orders_together(outcomes)
+}
+
+/// Whether an order is written of one end alone, and into one file; or none is.
+fn are_orders_together(outcomes: &OutcomesCommand<'_>) -> bool
+    ensures { result ≡ are_orders_together outcomes.now }
+{
+    match outcomes.outcome {
+        Some(number) => number >= 1 && !outcomes.stuck && has_one_file(outcomes),
+        None if outcomes.stuck => has_one_file(outcomes),
+        None => outcomes.witness.is_none() && outcomes.script.is_none(),
+    }
+}
+
+/// Whether an order is written, as it is or as its script, and not both.
+fn has_one_file(outcomes: &OutcomesCommand<'_>) -> bool
+    ensures { result ≡ has_one_file outcomes.now }
+{
+    if outcomes.witness.is_some() {
+        return outcomes.script.is_none();
+    }
+    outcomes.script.is_some()
+}
+
+pub(crate) fn litmus_in<'a>(found: &ArgMatches<'a>) -> Option<LitmusCommand<'a>>
+    ensures { Finds (IsLitmus (rows_of (found_of found.now))) result }
+{
+    let litmus = LitmusCommand {
+        test: value_of(found, "TEST")?,
+        states: number_or(found, "states", USUAL_STATES, u32::MAX)?,
+        why: is_set(found, "why"),
+        image: value_of(found, "image"),
+        svg: value_of(found, "svg"),
+    };
+    if !can_be_tested(&litmus) {
+        return None;
+    }
+    Some(litmus)
+}
+
+/// Whether some state is looked at, and one file at most is written.
+fn can_be_tested(litmus: &LitmusCommand<'_>) -> bool
+    ensures { result ≡ can_be_tested litmus.now }
+{
+    litmus.states >= 1 && !(litmus.image.is_some() && litmus.svg.is_some())
+}
+
+pub(crate) fn migrate_in<'a>(found: &ArgMatches<'a>) -> Option<MigrateCommand<'a>>
+    ensures { Finds (IsMigrate (rows_of (found_of found.now))) result }
+{
+    Some(MigrateCommand {
+        trace: value_of(found, "TRACE")?,
+        out: value_of(found, "OUT")?,
+    })
+}
