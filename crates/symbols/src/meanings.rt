@@ -107,7 +107,7 @@ fn has_name(symbols: &Symbols<'_>, name: &Name<'_>, symbol: &Symbol) -> bool
 
 /// Whether a symbol is of this file, where one is named.
 fn has_file(wanted: Option<&[u8]>, symbols: &Symbols<'_>, symbol: &Symbol) -> bool
-    ensures { result ≡ has_file wanted (file_of (table_of symbols.now) symbol.now) }
+    ensures { result ≡ has_file wanted.entry (file_of (table_of symbols.now) symbol.now) }
 {
     let Some(wanted) = wanted else {
         return true;
