@@ -8,7 +8,7 @@ use Rattle.symbols.specs.Parts.{last_file}
 
 from_last : (file : List ℕ) (start k n : ℕ) → n ≡ k + 1
     → last_file file start n
-      ≡ find is_file (symbol_at file (start + 16 * k) ∷ map (λ j. symbol_at file (start + 16 * j)) (reverse (below k)))
+    ≡ find is_file (symbol_at file (start + 16 * k) ∷ map (λ j. symbol_at file (start + 16 * j)) (reverse (below k)))
 from_last file start k n is =
     let on : n ≡ suc k = omega (arith, is) in
     ap (λ m. last_file file start m) on

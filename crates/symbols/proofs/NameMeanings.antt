@@ -121,9 +121,9 @@ pub is_one : (table : Table) (name : Name) (alone : Bool) (first : Symbol) → a
 is_one table name alone first known found none =
     let p = is_namesake table name in
     let first_is : find p table.symbols ≡ Some first =
-        ap (λ b. find (stands table name b) table.symbols) (sym known) ∙ found in
+    ap (λ b. find (stands table name b) table.symbols) (sym known) ∙ found in
     let none_is : list_any (is_apart p first.address) table.symbols ≡ false =
-        ap (λ b. list_any (is_apart (stands table name b) first.address) table.symbols) (sym known) ∙ none in
+    ap (λ b. list_any (is_apart (stands table name b) first.address) table.symbols) (sym known) ∙ none in
     (found_is_kept p table.symbols first first_is, none_apart p first.address table.symbols none_is)
 
 pub are_several : (table : Table) (name : Name) (alone : Bool) (first : Symbol) → alone ≡ is_known table name
@@ -133,15 +133,19 @@ pub are_several : (table : Table) (name : Name) (alone : Bool) (first : Symbol) 
 are_several table name alone first known found some =
     let p = is_namesake table name in
     let first_is : find p table.symbols ≡ Some first =
-        ap (λ b. find (stands table name b) table.symbols) (sym known) ∙ found in
+    ap (λ b. find (stands table name b) table.symbols) (sym known) ∙ found in
     let some_is : list_any (is_apart p first.address) table.symbols ≡ true =
-        ap (λ b. list_any (is_apart (stands table name b) first.address) table.symbols) (sym known) ∙ some in
+    ap (λ b. list_any (is_apart (stands table name b) first.address) table.symbols) (sym known) ∙ some in
     let other = Any-from_list_any (is_apart p first.address) table.symbols some_is in
     let both = both_true (p other.1) (not (other.1.address == first.address)) other.4 in
     let differ : (other.1.address == first.address) ≡ false = not_true (other.1.address == first.address) both.1 in
-    let apart : first.address ≢ other.1.address = λ same. absurd (grind (arith, nat_tests, differ, same)) in
-    (first, other.1, found_is_kept p table.symbols first first_is,
-    kept_at p table.symbols other.0 other.1 other.2 other.3 both.0, apart)
+    let apart : first.address ≢ other.1.address = λ same. absurd (grind (arith, nat_tests, differ, same)) in (
+      first,
+      other.1,
+      found_is_kept p table.symbols first first_is,
+      kept_at p table.symbols other.0 other.1 other.2 other.3 both.0,
+      apart,
+    )
 
 no_one_named : (table : Table) (name : Name) (alone : Bool) → alone ≡ is_known table name
     → All (λ symbol. stands table name alone symbol ≡ false) table.symbols
@@ -149,9 +153,9 @@ no_one_named : (table : Table) (name : Name) (alone : Bool) → alone ≡ is_kno
 no_one_named table name true known all =
     let one = Any-from_list_any (λ symbol. is_global symbol && has_name table name symbol) table.symbols (sym known) in
     let stays : stands table name true one.1 ≡ true =
-        stands_if_known (has_name table name one.1) (is_global one.1) true one.4 in
+    stands_if_known (has_name table name one.1) (is_global one.1) true one.4 in
     let fails : stands table name true one.1 ≡ false =
-        All-contains (λ symbol. stands table name true symbol ≡ false) table.symbols one.1 all (one.0, one.2, one.3) in
+    All-contains (λ symbol. stands table name true symbol ≡ false) table.symbols one.1 all (one.0, one.2, one.3) in
     absurd (true≢false (sym stays ∙ fails))
 no_one_named table name false known all =
     All-weaker (λ symbol. stands table name false symbol ≡ false) (λ symbol. has_name table name symbol ≡ false)

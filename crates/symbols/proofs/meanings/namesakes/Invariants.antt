@@ -8,4 +8,4 @@ use Rattle.symbols.proofs.meanings.namesakes.Given as goal
 abbrev pub invariant-loop-symbol : goal.invariant-loop-symbol
 invariant-loop-symbol l =
     l.them.items ≡ filter (λ symbol. has_name (table_of l.symbols) l.name symbol
-        && (is_global symbol || not l.global_alone)) (take l.symbol-index l.symbol-items)
+    && (is_global symbol || not l.global_alone)) (take l.symbol-index l.symbol-items)

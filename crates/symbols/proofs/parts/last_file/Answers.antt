@@ -8,5 +8,5 @@ loop-left-preserved c = record {
   same =
       c.loop-left.invariant.same
       ∙ goes_on c.args.file.now c.args.start (c.loop-left.left - 1) c.loop-left.left c.symbol_at-entry.result
-        (omega (arith, c.loop-left-test.true)) c.symbol_at-entry.ensures (sym c.is_file.ensures ∙ c.if-is_file.false);
+      (omega (arith, c.loop-left-test.true)) c.symbol_at-entry.ensures (sym c.is_file.ensures ∙ c.if-is_file.false);
 }
