@@ -1,20 +1,16 @@
 -- The terms of a condition, read where their text is cut.
 use Rattle.std.proofs.Common.{◌≡◌, ◌≢◌, ℕ, ◌-◌, ◌^◌, ◌≤◌, ◌<◌, ◌⊎◌, true, false, ◌&&◌, nat_le, List, [], ◌∷◌, ◌++◌, length}
 use Rattle.std.proofs.Common.{Option, Some, None, IfSome, IfNone, Result, Ok, Err, inl, inr, refl, sym, ap, subst, ◌∙◌, arith, codes}
-use Rattle.std.proofs.{lemmas.Bool.Decides.nat_tests}
 use Rattle.std.specs.Fmt.{decimal}
-use Rattle.text_fields.specs.{Reading.decimal_field, Reading.hex_field, Spelling.hex}
-use Rattle.text_fields.specs.Splitting.{field, rest, Lacks}
+use Rattle.text_fields.specs.Reading.{decimal_field}
+use Rattle.text_fields.specs.Splitting.{field, rest}
 use Rattle.text_fields.specs.declared.read.FieldError.{FieldError}
-use Rattle.text_fields.proofs.{SplittingLaws.cut_where, SplittingLaws.parts_at, ValueLaws.value_some}
-use Rattle.text_fields.proofs.{LacksLaws.Lacks-decimal, LacksLaws.Lacks-hex, LacksLaws.Lacks-append}
-use Rattle.outcome_queries.specs.{declared.term.Term.Term, Watched.Spells}
-use Rattle.outcome_queries.specs.declared.term.Term.TheVariants as terms
-use Rattle.outcome_queries.specs.declared.watched.Watched.TheVariants as watched
-use Rattle.text_fields.specs.Values.{SpellsValue}
+use Rattle.text_fields.proofs.SplittingLaws.{parts_at}
+use Rattle.outcome_queries.specs.declared.term.Term.{Term}
 use Rattle.outcome_queries.specs.Terms.{SpellsHart, SpellsCause, Means}
-use Rattle.outcome_queries.specs.Terms.{IsOfEnd, IsOfWatched, SpellsTerm, trimmed}
-use Rattle.outcome_queries.proofs.Reading.{number_found, number_none, either_lacks, equals_mark}
+use Rattle.outcome_queries.specs.Terms.{SaysTerm, trimmed}
+use Rattle.symbols.specs.Tables.{Table}
+use Rattle.outcome_queries.proofs.Reading.{number_found, number_none}
 
 -- ---- the hart, and the cause
 
@@ -51,75 +47,11 @@ cause_none text digits error behind read c is =
 
 -- ---- the whole term
 
-cause_some : (c : ℕ) → SpellsCause [] c → ⊥
-cause_some c is = let never = is.spelled in cc
-
-means_some : (left right : List ℕ) (term : Term) → Means left right term → right ≢ []
-means_some left right (terms.Ended h n) is none = value_some n (rw none at is.1)
-means_some left right (terms.Stopped h c) is none = cause_some c (rw none at is.1)
-means_some left right (terms.Holds w v) is none = value_some v (rw none at is.1)
-
-hart_lacks : (text : List ℕ) (h : ℕ) → SpellsHart text h → Lacks 61 text
-hart_lacks text h is = let small = is.in_range in rw is.spelled (Lacks-decimal 61 h refl (grind arith))
-
-means_lacks : (left right : List ℕ) (term : Term) → Means left right term → Lacks 61 left
-means_lacks left right (terms.Ended h n) is = hart_lacks left h is.0
-means_lacks left right (terms.Stopped h c) is = hart_lacks left h is.0
-means_lacks left right (terms.Holds (watched.Register h r) v) is =
-    let names = is.0.names in
-    let small = is.0.in_range in
-    rw is.0.spelled (Lacks-append 61 is.0.name (64 ∷ decimal h) (either_lacks 61 r is.0.name equals_mark names.last names.name)
-    (Lacks-decimal 61 h refl (grind arith)))
-means_lacks left right (terms.Holds (watched.Word a) v) is =
-    rw is.0.spelled (Lacks-append 61 (hex 8 a) (codes ":4") (Lacks-hex 61 8 a refl) refl)
-
-pub term_found : (text inner left right : List ℕ) (term : Term) → inner ≡ trimmed text → left ≡ field 61 inner
-    → right ≡ rest 61 inner → Means left right term → SpellsTerm text term
-term_found text inner left right term is first behind means =
-    let some : rest 61 inner ≢ [] = λ none. means_some left right term means (behind ∙ none) in
-    record {
-      left = left;
-      right = right;
-      spelled = sym is ∙ rw (first, behind) (cut_where 61 inner some);
-      means = means;
-    }
-
-pub term_none : (text inner left right : List ℕ) → inner ≡ trimmed text → left ≡ field 61 inner → right ≡ rest 61 inner
-    → ((term : Term) → IsOfEnd term → Means left right term → ⊥)
-    → ((term : Term) → IsOfWatched term → Means left right term → ⊥) → (term : Term) → SpellsTerm text term → ⊥
-term_none text inner left right is first behind no_end no_watched term spells = by_kind term means
-  where
-    lacks : Lacks 61 spells.left
-    lacks = means_lacks spells.left spells.right term spells.means
-
-    parts : (field 61 inner ≡ spells.left) × (rest 61 inner ≡ spells.right)
-    parts = parts_at 61 inner spells.left spells.right (is ∙ spells.spelled) lacks
-
-    means : Means left right term
-    means = rw (first ∙ parts.0, behind ∙ parts.1) spells.means
-
-    by_kind : (t : Term) → Means left right t → ⊥
-    by_kind (terms.Ended h n) m = no_end (terms.Ended h n) tt m
-    by_kind (terms.Stopped h c) m = no_end (terms.Stopped h c) tt m
-    by_kind (terms.Holds w v) m = no_watched (terms.Holds w v) tt m
-
-pub term_found_of : (text inner left right : List ℕ) (found : Option Term) → inner ≡ trimmed text
-    → left ≡ field 61 inner → right ≡ rest 61 inner → IfSome found (λ term. IsOfWatched term × Means left right term)
-    → IfSome found (SpellsTerm text)
-term_found_of text inner left right (Some term) is first behind means =
-    term_found text inner left right term is first behind means.1
-term_found_of text inner left right None is first behind means = tt
-
-pub term_none_of : (text inner left right : List ℕ) (found : Option Term) → inner ≡ trimmed text
-    → left ≡ field 61 inner → right ≡ rest 61 inner → ((term : Term) → IsOfEnd term → Means left right term → ⊥)
-    → IfNone found ((term : Term) → IsOfWatched term → Means left right term → ⊥)
-    → IfNone found ((term : Term) → SpellsTerm text term → ⊥)
-term_none_of text inner left right (Some term) is first behind no_end no_watched = tt
-term_none_of text inner left right None is first behind no_end no_watched =
-    term_none text inner left right is first behind no_end no_watched
-
-pub holds_none : (left right : List ℕ) → ((v : ℕ) → SpellsValue right v → ⊥) → (term : Term) → IsOfWatched term
-    → Means left right term → ⊥
-holds_none left right none (terms.Ended h n) is means = absurd is
-holds_none left right none (terms.Stopped h c) is means = absurd is
-holds_none left right none (terms.Holds w v) is means = none v means.1
+pub term_found : (names : Table) (text inner left right : List ℕ) (term : Term) → inner ≡ trimmed text
+    → inner ≡ left ++ 61 ∷ right → Means names left right term → SaysTerm names text term
+term_found names text inner left right term is cut means = record {
+  left = left;
+  right = right;
+  spelled = sym is ∙ cut;
+  means = means;
+}

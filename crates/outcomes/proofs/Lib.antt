@@ -2,6 +2,7 @@ mod Graph
 mod Listing
 mod Endings
 mod Watching
+mod Sizes
 mod Growing
 mod Collected
 mod Telling

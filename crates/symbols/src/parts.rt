@@ -1,6 +1,6 @@
 //! The file of which a local symbol is.
 
-ghost use Rattle.std.specs.Prelude.{◌≡◌, ◌+◌, ◌*◌, ◌≤◌, option_map, length};
+ghost use Rattle.std.specs.Prelude.{◌≡◌, ◌+◌, ◌*◌, ◌<◌, ◌≤◌, option_map, length};
 ghost use Rattle.symbols.specs.Parts.{entries_before, file_of, last_file};
 ghost use Rattle.symbols.specs.Tables.{table_of};
 
@@ -25,7 +25,7 @@ pub fn file_of<'a>(symbols: &Symbols<'a>, symbol: &Symbol) -> Option<&'a [u8]>
 /// How many entries of the table stand before that of a symbol.
 fn entries_before(symbols: &Symbols<'_>, symbol: &Symbol) -> usize
     ensures count { result ≡ entries_before (table_of symbols.now) symbol.now }
-    ensures inside { symbols.now.start + 16 * result ≤ length symbols.now.file.now }
+    ensures inside { 0 < result → symbols.now.start + 16 * result ≤ length symbols.now.file.now }
 {
     if symbol.place > symbols.file.len() {
         return 0;
@@ -35,7 +35,7 @@ fn entries_before(symbols: &Symbols<'_>, symbol: &Symbol) -> usize
 
 /// The last that names a file, of the first entries of a table that begins at a place.
 fn last_file(file: &[u8], start: usize, count: usize) -> Option<Symbol>
-    requires { start + 16 * count ≤ length file.now }
+    requires { 0 < count → start + 16 * count ≤ length file.now }
     ensures { result ≡ last_file file.now start count }
 {
     let mut left = count;
