@@ -15,4 +15,4 @@ loop-first-preserved c =
 pub returns-in-Err-clause-refused : goal.returns-in-Err-clause-refused
 returns-in-Err-clause-refused c =
     part_refused (Asks (table_of c.args.names.now)) (IsUnnamed (table_of c.args.names.now)) 44 c.args.text.now _ _ _ c.in-Err.refused c.loop-first.invariant
-    (sym c.in-None.ensures.none) c.in-Err.ensures.refused
+    (sym c.in-None.ensures.whole) c.in-Err.ensures.refused c.in-Err.ensures.place
