@@ -1,9 +1,10 @@
 -- What is watched, a member of a list or a term at a time.
 use Rattle.std.proofs.Common.{◌≡◌, ℕ, zero, suc, ◌+◌, ◌≤◌, ◌<◌, List, [], ◌∷◌, ◌++◌, length, take, get_or, All, Contains}
-use Rattle.std.proofs.Common.{refl, sym, ap, subst, ◌∙◌, arith, append_assoc}
+use Rattle.std.proofs.Common.{refl, sym, ap, subst, ◌∙◌, arith, append_assoc, Bool, not, filter}
 use Rattle.std.proofs.Common.{append-nil, inl, inr}
 use Rattle.std.proofs.lemmas.List.{length-append, take_more, take_all, flat_map_more}
 use Rattle.std.proofs.lemmas.List.Elements.{All-more, All-weaker, Contains-append_left}
+use Rattle.std.proofs.lemmas.List.Filters.{length-filter_both}
 use Rattle.watched_outcomes.specs.declared.watch.WatchedRegister.{WatchedRegister}
 use Rattle.watched_outcomes.specs.declared.watch.WatchedBytes.{WatchedBytes}
 use Rattle.outcome_queries.specs.{declared.term.Term.Term, declared.watched.Watched.Watched}
@@ -94,6 +95,14 @@ word_room list i words few inside is =
     let small = words_few (take i list) in
     let same : length words ≡ length (words_in (take i list)) = ap length is in
     omega (arith, few, inside, part, small, same)
+
+pub asked_room : (p : Asked → Bool) (list : List Asked) (i : ℕ) (some : List Asked) → length list ≤ 64 → i < length list
+    → some ≡ filter p (take i list) → length some < 64
+asked_room p list i some few inside is =
+    let part = take_short i list in
+    let both = length-filter_both p (λ asked. not (p asked)) (λ asked. refl) (take i list) in
+    let same : length some ≡ length (filter p (take i list)) = ap length is in
+    omega (arith, few, inside, part, both, same)
 
 -- what a longer list tells of terms
 pub still_watched : (old new : List Asked) (term : Term) → Extends old new → IsWatchedFor old term → IsWatchedFor new term
