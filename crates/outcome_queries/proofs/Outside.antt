@@ -262,7 +262,7 @@ parts_found s k text is =
     let cut = cut_at false s k text (sym is) in
     subst (λ t. text ≡ take k text ++ s ∷ t) (sym (take_rest text (k + 1)))
     (let next : suc k ≡ k + 1 = omega arith in
-        subst (λ n. text ≡ take k text ++ s ∷ drop n text) next cut.whole)
+    subst (λ n. text ≡ take k text ++ s ∷ drop n text) next cut.whole)
 
 pub place_found : (s k : ℕ) (text : List ℕ) → k < length text → Some k ≡ place_outside false s text
     → Some (length (take k text)) ≡ place_outside false s text

@@ -112,11 +112,12 @@ holds_found names text inner left right (Err expected) is cut means = tt
 pub uncut_none : (names : Table) (text inner : List ℕ) → inner ≡ trimmed text → place_outside false 61 inner ≡ None
     → IsNoTerm names text expected.Term
 uncut_none names text inner is nowhere left right cut =
-    let none : Skips 61 left → ⊥ = λ skips. no_cut 61 inner left right refl nowhere skips (is ∙ cut) in
-    (
+    let none : Skips 61 left → ⊥ = λ skips. no_cut 61 inner left right refl nowhere skips (is ∙ cut) in (
       λ term is_end means. none (end_skips names left right term is_end means),
-      (λ one value spells says. none (spelled_skips left one spells),
-      λ placed asks. none (place_skips left placed asks.spelled)),
+      (
+        λ one value spells says. none (spelled_skips left one spells),
+        λ placed asks. none (place_skips left placed asks.spelled),
+      ),
     )
 
 -- a text that is cut at one: nothing is meant where it is cut, so nothing is meant at all
@@ -126,8 +127,7 @@ cut_none : (names : Table) (text inner left right : List ℕ) → inner ≡ trim
     → IsNoTerm names text expected.Term
 cut_none names text inner left right is cut place no_end nothing lead behind other =
     let same : Skips 61 lead → (left ≡ lead) × (right ≡ behind) =
-    λ skips. cut_there 61 inner left right lead behind refl cut place skips (is ∙ other) in
-    (
+    λ skips. cut_there 61 inner left right lead behind refl cut place skips (is ∙ other) in (
       λ term is_end means.
           let both = same (end_skips names lead behind term is_end means) in
           no_end term is_end (subst (λ t. Means names left t term) (sym both.1)

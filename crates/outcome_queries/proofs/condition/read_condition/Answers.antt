@@ -1,4 +1,5 @@
 use Rattle.std.proofs.Common.{sym}
+use Rattle.std.proofs.lemmas.Result.{err_from_is_err_and}
 use Rattle.symbols.specs.Tables.{table_of}
 use Rattle.outcome_queries.specs.{Terms.SaysTerm, Terms.IsNoTerm}
 use Rattle.outcome_queries.proofs.Separating.{last_read, part_read, part_refused, shorter}
@@ -13,7 +14,11 @@ loop-first-preserved c =
     c.in-Some.ensures.found c.in_ok-take.ensures.taken
 
 pub returns-in_err-take-clause-refused : goal.returns-in_err-take-clause-refused
-returns-in_err-take-clause-refused c = ?
+returns-in_err-take-clause-refused c =
+    let told = err_from_is_err_and c.from_residual.result c.from_residual.ensures.1 in
+    rw (told.1, told.2) (part_refused (SaysTerm (table_of c.args.names.now)) (IsNoTerm (table_of c.args.names.now)) 38
+    c.args.text.now _ _ _ c.in_err-take.field-0.0 c.loop-first.invariant c.in-Some.ensures.first
+    c.in_err-take.ensures.refused c.in_err-take.ensures.place)
 
 pub returns-in-Ok-clause-read : goal.returns-in-Ok-clause-read
 returns-in-Ok-clause-read c =

@@ -18,7 +18,7 @@ push-requires-in-Bytes c = (
 )
 
 pub loop-asked-preserved : goal.loop-asked-preserved
-loop-asked-preserved c = elim c.match-watched.branch [
+loop-asked-preserved c = elim c.match-asked.branch [
   | in-Register w ↦
       let step = register_step c.args.list.now c.loop-asked.asked-index w.in-Register.hart w.in-Register.register _ _ _ _
       c.loop-asked-test.true w.in-Register.is c.loop-asked.invariant.registers c.loop-asked.invariant.words
