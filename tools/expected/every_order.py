@@ -94,12 +94,14 @@ def ending(machine, columns):
 
 
 def explore(made, harts, columns, most=None):
-    """All endings, and whether some state has no way to an end."""
+    """All endings, whether some state has no way to an end, and the places in memory that are 0 in every state."""
     start = frozen(Plain(made, harts))
     seen, waiting, behind, ends = {start}, deque([start]), {}, {}
+    unwritten = [what for _, what in columns if what[0] == "memory"]
     while waiting:
         here = waiting.popleft()
         machine = thawed(made, here)
+        unwritten = [what for what in unwritten if machine.read(what[1], what[2]) == 0]
         if not machine.going():
             ends[here] = ending(machine, columns)
         for hart in machine.going():
@@ -118,7 +120,7 @@ def explore(made, harts, columns, most=None):
             if before not in can_end:
                 can_end.add(before)
                 waiting.append(before)
-    return set(ends.values()), len(can_end) < len(seen)
+    return set(ends.values()), len(can_end) < len(seen), unwritten
 
 
 def rank(found):
@@ -167,12 +169,13 @@ def lines(made, harts, watch="", exists=None, most=None, symbols=()):
     asked = [test[1] for test, _ in terms if test[0] == "status" or test[1][0] == "register"]
     see_harts(asked + [what for _, what in columns_of(watch, None, symbols) if what[0] == "register"], harts)
     columns = columns_of(watch, exists, symbols)
-    found, is_stuck = explore(made, harts, columns, most)
+    found, is_stuck, unwritten = explore(made, harts, columns, most)
     ends = sorted(found, key=rank)
     yield from (line(one, columns) for one in ends)
     yield f"outcomes {len(ends)}"
     yield "complete"
     yield "stuck" if is_stuck else "always can end"
+    yield from (f"unwritten {address:08x}" for _, address, _ in unwritten)
     if exists is not None:
         tests = [test for test, _ in terms]
         places = [str(k) for k, one in enumerate(ends, 1) if holds(tests, one, columns)]

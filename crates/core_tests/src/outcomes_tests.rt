@@ -74,8 +74,24 @@ fn two_harts_that_count(rt: HostRuntime) {
             holds(&rt, "second", is_row(&found, 2, COUNTED[2]));
             holds(&rt, "states", found.states() > 0);
             holds(&rt, "stuck", matches!(found.stuck(rt.alloc()), Ok(None)));
+            holds(&rt, "written", !found.is_unwritten(0));
         }
         _ => holds(&rt, "found", false),
+    }
+}
+
+/// The word behind the one that they count on.
+#[test]
+fn a_word_that_nobody_writes(rt: HostRuntime) {
+    let Some(image) = image_with(&COUNTER, rt.alloc()) else {
+        return holds(&rt, "image", false);
+    };
+    match find_outcomes(&image, 2, &watching(0x8000_1004), 1000, &(), rt.alloc()) {
+        Ok(found) => {
+            holds(&rt, "unwritten", found.is_unwritten(0));
+            holds(&rt, "no other", !found.is_unwritten(1));
+        }
+        Err(_) => holds(&rt, "found", false),
     }
 }
 

@@ -1,6 +1,6 @@
 -- The lines that a loop writes.
 use Rattle.std.proofs.Common.{◌≡◌, ℕ, zero, suc, ◌+◌, ◌<◌, List, [], ◌∷◌, ◌++◌, length, take, get_or, Some, Option, sym, ap}
-use Rattle.std.proofs.Common.{subst, ◌∙◌, append_assoc, append-nil, arith, slice_get, slice_index}
+use Rattle.std.proofs.Common.{subst, ◌∙◌, append_assoc, append-nil, arith, slice_get, slice_index, slice_index_or}
 use Rattle.std.specs.Io.KnownBytes.{Appends}
 use Rattle.text_fields.proofs.Appending.{each_step, member, told_step}
 use Rattle.std.proofs.Common.{Bool, true, false, ◌||◌, refl}
@@ -11,6 +11,7 @@ use Rattle.watched_outcomes.specs.{declared.watch.Watch.Watch}
 use Rattle.outcome_queries.specs.declared.term.Term.{Term}
 use Rattle.outcome_queries.specs.declared.watched.Asked.{Asked}
 use Rattle.outcome_text.specs.Line.{column_text, columns_text}
+use Rattle.outcome_text.specs.Unwritten.{unwritten_line, unwritten_text}
 use Rattle.text_fields.specs.Each.{each_from}
 use Rattle.outcome_text.specs.{Listing.holds_of, Listing.place_of, Listing.place_text}
 
@@ -48,3 +49,13 @@ pub columns_step : (before : ℕ) (numbers : List ℕ) (old mid new : Option (Li
 columns_step before numbers old mid new xs i n d inside is so_far next =
     each_step (λ index asked. column_text before index asked (slice_index numbers index)) old mid new xs i d inside so_far
     (subst (λ k. Appends mid new (column_text before i (get_or xs i d) k)) is next)
+
+-- a turn of a loop over columns, each with whether it is unwritten
+pub unwritten_step : (unwritten : List Bool) (old mid new : Option (List ℕ)) (xs : List Asked) (i : ℕ) (is : Bool)
+    (d : Asked) → i < length xs → is ≡ slice_index_or unwritten i false
+    → Appends old mid (each_from (unwritten_text unwritten) 0 (take i xs))
+    → Appends mid new (unwritten_line is (get_or xs i d).watched)
+    → Appends old new (each_from (unwritten_text unwritten) 0 (take (i + 1) xs))
+unwritten_step unwritten old mid new xs i is d inside same so_far next =
+    each_step (unwritten_text unwritten) old mid new xs i d inside so_far
+    (subst (λ b. Appends mid new (unwritten_line b (get_or xs i d).watched)) same next)

@@ -7,6 +7,7 @@ ghost use Rattle.text_fields.specs.Each.{each_from};
 ghost use Rattle.outcome_text.specs.Listing.{told_line, ends_text, outcomes_text, incomplete_text};
 
 use crate::line::write_line;
+use crate::unwritten::write_unwritten;
 use arrayvec::ArrayString;
 use outcome_queries::Columns;
 use outcomes::Outcomes;
@@ -16,8 +17,8 @@ use std::io::Write;
 use text_fields::push_decimal;
 
 /// Writes all outcomes of a program, of which this was watched: a line for each, how
-/// many there are, how many states were looked at, and whether one of them can't go on to an end. Where it
-/// answers Ok, it has written exactly these lines.
+/// many there are, how many states were looked at, whether one of them can't go on to an end, and a line for each
+/// place in memory that is watched for nothing. Where it answers Ok, it has written exactly these lines.
 #[tactic(auto, unfolding(crate::specs::Listing::outcomes_text))]
 pub fn write_outcomes<W: Write>(
     outcomes: &Outcomes,
@@ -32,7 +33,8 @@ pub fn write_outcomes<W: Write>(
     report_count("outcomes", outcomes.count() as u64, out)?;
     report_count("states", u64::from(outcomes.states()), out)?;
     out.write_all(b"complete\n")?;
-    out.write_all(ends_text(is_stuck).as_bytes())
+    out.write_all(ends_text(is_stuck).as_bytes())?;
+    write_unwritten(outcomes, columns.words.as_slice(), out)
 }
 
 /// Writes that there are more states than these, which were to be looked at.

@@ -1,14 +1,13 @@
 -- Alike states end alike.
-use Rattle.std.specs.Prelude.{◌≡◌, ℕ, suc, ◌<◌, Bool, true, ◌&&◌, ◌||◌, nat_lt, List, [], ◌∷◌, map, Some, slice_get}
-use Rattle.std.specs.List.{slice_index_or}
-use Rattle.std.proofs.Common.{◌∙◌, refl, sym, ap, ap₂, subst, arith}
+use Rattle.std.specs.Prelude.{◌≡◌, ℕ, suc, ◌<◌, Bool, true, List, [], ◌∷◌, map, Some, slice_get}
+use Rattle.std.proofs.Common.{◌∙◌, refl, ap₂, arith}
 use Rattle.std.proofs.{lemmas.Bool.Decides.nat_tests, Math.Path.fun_ext}
 use Rattle.smt_model.specs.{declared.config.Status.Status}
 use Rattle.smt_model.specs.{Basics.below, Plain.Plain, Bytes.number_at}
 use Rattle.outcome_laws.specs.Live.{AreAlike}
 use Rattle.condensed_machine.specs.Resting.{is_watched}
 use Rattle.watched_outcomes.specs.declared.{watch.Watch.Watch, watch.WatchedRegister.WatchedRegister}
-use Rattle.watched_outcomes.specs.{Endings.Ending, Endings.ending_of, Endings.watched_in, Endings.word_in}
+use Rattle.watched_outcomes.specs.{Endings.ending_of, Endings.watched_in, Endings.word_in}
 use Rattle.watched_outcomes.specs.{declared.watch.WatchedBytes.WatchedBytes, Watching.bytes_of}
 use Rattle.outcomes.specs.{Refusals.AreWatched}
 use Rattle.watched_outcomes.specs.{Watching.AreThere, Watching.is_register_there}

@@ -2,9 +2,9 @@ mod Graph
 mod Listing
 mod Endings
 mod Watching
-mod Sizes
 mod Growing
 mod Collected
+mod Throughout
 mod Telling
 mod Cores
 mod Reading

@@ -1,6 +1,5 @@
 -- When outcomes aren't found.
-use Rattle.std.specs.Prelude.{◌≡◌, ℕ, ◌<◌, true, false, List, Bool, None, Some, length, slice_get, slice_index}
-use Rattle.std.specs.Prelude.{slice_index_or}
+use Rattle.std.specs.Prelude.{◌≡◌, ℕ, ◌<◌, true, false, List, Bool, None, Some, slice_get, slice_index_or}
 use Rattle.elf_image.specs.Image.{ProgramImage}
 use Rattle.smt_model.specs.Faults.{read_fault}
 use Rattle.sc_machine.specs.Steps.{are_harts}
@@ -19,7 +18,7 @@ abbrev pub CanLoad : ProgramImage → WatchedBytes → Type 0
 CanLoad image w = read_fault image w.address (bytes_of w.width) ≡ None
 
 abbrev pub AreWords : ProgramImage → Watch → Type 0
-AreWords image watch = (k : ℕ) → k < length watch.words.items → CanLoad image (slice_index watch.words.items k)
+AreWords image watch = (k : ℕ) (w : WatchedBytes) → slice_get watch.words.items k ≡ Some w → CanLoad image w
 
 -- The number of each watched register is marked.
 abbrev pub AreWatched : List Bool → Watch → Type 0
@@ -29,7 +28,7 @@ AreWatched watched watch = (k : ℕ) (w : WatchedRegister) → slice_get watch.r
 -- The bytes can't be loaded that are watched at an index.
 abbrev pub IsAbsentWord : ProgramImage → Watch → ℕ → Type 0
 IsAbsentWord image watch index =
-    (index < length watch.words.items) × (CanLoad image (slice_index watch.words.items index) → ⊥)
+    (w : WatchedBytes) × (slice_get watch.words.items index ≡ Some w) × (CanLoad image w → ⊥)
 
 -- More states than the budget, pairwise different, can be reached.
 abbrev pub IsBeyond : ProgramImage → ℕ → ℕ → Type 0

@@ -1,10 +1,10 @@
 //! The outcomes of the ends that a search has found.
 
-ghost use Rattle.std.specs.Prelude.{◌≡◌, ◌<◌, ℕ, Contains, None, IfOk, length, slice_index, map};
+ghost use Rattle.std.specs.Prelude.{◌≡◌, ◌<◌, ℕ, Contains, None, IfOk, map};
 ghost use Rattle.smt_model.specs.Basics.{below};
 ghost use Rattle.condensed_machine.specs.Decoded.{Knows, state_of};
 ghost use Rattle.condensed_machine.specs.declared.state.State.{State};
-ghost use Rattle.outcomes.specs.Refusals.{CanLoad};
+ghost use Rattle.outcomes.specs.Refusals.{AreWords};
 ghost use Rattle.outcomes.specs.{Collected.AreOutcomes, Lists.AreOnce};
 ghost use Rattle.watched_outcomes.specs.Endings.{ending_of, watched_in, word_in};
 ghost use Rattle.watched_outcomes.specs.Watching.{AreThere};
@@ -28,8 +28,7 @@ pub(crate) fn list_outcomes(
 ) -> Result<Vec<Listed>, AllocError>
     requires known { (s : State) → Contains search.now.states s → Knows machine.now s }
     requires registers { AreThere machine.now.program.harts watch.now }
-    requires words { (k : ℕ) → k < length watch.now.words.items
-        → CanLoad machine.now.program.image (slice_index watch.now.words.items k) }
+    requires words { AreWords machine.now.program.image watch.now }
     ensures outcomes { IfOk result (λ listed. AreOutcomes machine.now watch.now search.now.states
         search.now.ends listed.items) }
     ensures once { IfOk result (λ listed. AreOnce listed.items) }
@@ -54,8 +53,7 @@ fn outcome_of(
 ) -> Result<Outcome, AllocError>
     requires known { Knows machine.now state }
     requires registers { AreThere machine.now.program.harts watch.now }
-    requires words { (k : ℕ) → k < length watch.now.words.items
-        → CanLoad machine.now.program.image (slice_index watch.now.words.items k) }
+    requires words { AreWords machine.now.program.image watch.now }
     ensures { IfOk result (λ outcome. outcome
         ≡ ending_of machine.now.program.harts watch.now (state_of machine.now state)) }
 {
@@ -106,8 +104,7 @@ fn words_of(
     alloc: Global,
 ) -> Result<Vec<u32>, AllocError>
     requires known { Knows machine.now state }
-    requires words { (k : ℕ) → k < length watch.now.words.items
-        → CanLoad machine.now.program.image (slice_index watch.now.words.items k) }
+    requires words { AreWords machine.now.program.image watch.now }
     ensures { IfOk result (λ numbers. numbers.items
         ≡ map (word_in (state_of machine.now state)) watch.now.words.items) }
 {

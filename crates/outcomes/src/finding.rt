@@ -15,6 +15,7 @@ ghost use Rattle.watched_outcomes.specs.Watching.{AreThere};
 use crate::collecting::list_outcomes;
 use crate::outcomes::Outcomes;
 use crate::refused::OutcomesRefused;
+use crate::unwritten::list_unwritten;
 use condensed_machine::{Begun, CondensedMachine, State};
 use elf_image::Image;
 use sc_machine::PlainRefused;
@@ -27,7 +28,7 @@ use watched_outcomes::{Watch, WatchedBytes};
 ///
 /// Whatever order the harts take, where it leads to an end that end is found; each that is found has an
 /// order that leads there; and every core that runs the program to its end, in whatever way, ends as one
-/// of them says.
+/// of them says. Of each watched place in memory it is found too whether any order writes there.
 pub fn find_outcomes<O: Onlooker>(
     image: &Image,
     harts: u8,
@@ -151,7 +152,7 @@ fn search_from<O: Onlooker>(
     }
 }
 
-/// The outcomes of a search's ends, and whether each state can go on to one.
+/// The outcomes of a search's ends, whether each state can go on to one, and what is watched for nothing.
 fn outcomes_of(
     machine: &CondensedMachine,
     begun: Begun,
@@ -179,6 +180,9 @@ fn outcomes_of(
     let Ok(stuck) = search.stuck(alloc) else {
         return Err(OutcomesRefused::Memory);
     };
+    let Ok(unwritten) = list_unwritten(machine, &search, watch, alloc) else {
+        return Err(OutcomesRefused::Memory);
+    };
     let ways = begun.ways;
     Ok(Outcomes {
         harts: machine.harts(),
@@ -186,5 +190,6 @@ fn outcomes_of(
         search,
         listed,
         stuck,
+        unwritten,
     })
 }
