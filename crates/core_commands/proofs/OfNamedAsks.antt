@@ -3,7 +3,7 @@ use Rattle.std.proofs.Common.{◌≡◌, ◌+◌, ◌≤◌, ◌<◌, ℕ, zero,
 use Rattle.std.proofs.Common.{Option, refl, sym, ap, subst, ◌∙◌, arith, append_assoc, append-nil}
 use Rattle.std.specs.List.{All}
 use Rattle.std.specs.Io.KnownBytes.{Appends}
-use Rattle.std.proofs.lemmas.{Grind.flat_map-append, List.Elements.All-append, Bool.Decides.nat_tests, List.length-append}
+use Rattle.std.proofs.lemmas.{Grind.flat_map-append, List.Elements.All-push, Bool.Decides.nat_tests, List.length-append}
 use Rattle.text_fields.specs.Splitting.{Lacks, field, field_count, rest}
 use Rattle.text_fields.specs.Printing.{Prints}
 use Rattle.text_fields.proofs.{SplittingLaws.parts_of, Appending.appends_more}
@@ -66,7 +66,7 @@ module _ (marks : Marks) (old mid new : Option (List ℕ)) (text : List ℕ) whe
             ∙ ap (λ (bs : List ℕ). bs ++ others)
             (ap (λ (bs : List ℕ). before ++ bs) (sym (append-nil (line ++ 10 ∷ [])))
             ∙ sym (flat_map-append ended so_far.done (line ∷ [])));
-        each = All-append so_far.done (line ∷ []) so_far.each (lacks, tt);
+        each = All-push (Lacks 10) so_far.done line so_far.each lacks;
         written = subst (λ (t : List ℕ). Appends old new t)
             (ap (λ (bs : List ℕ). flat_map (named_line marks) so_far.done ++ bs) (sym (append-nil (named_line marks line)))
             ∙ sym (flat_map-append (named_line marks) so_far.done (line ∷ [])))
