@@ -100,11 +100,16 @@ HasEnds chart drawn = (from : ℕ) × (to : ℕ) × AreEnds chart drawn from to
 
 -- ---- When they are refused
 
--- Nothing is fetched in what an option names.
-pub record IsNeverFetched (word : List ℕ) (drawn : Drawn) : Type 0 where
+-- Nothing is drawn of what a symbol names: no fetch at which a chart may begin, no event at which it may end.
+abbrev pub HasNone : ChartOption → Symbol → Drawn → Type 0
+HasNone From symbol drawn = first_fetch drawn.hart symbol drawn.rows.now ≡ None
+HasNone To symbol drawn =
+    (place : ℕ) → is_event_in drawn.hart symbol drawn.rows.now drawn.events.now place ≡ false
+
+pub record IsNeverFetched (option : ChartOption) (word : List ℕ) (drawn : Drawn) : Type 0 where
   pub symbol : Symbol
   pub named : IsNamed (table_of drawn.names.now) word symbol
-  pub none : first_fetch drawn.hart symbol drawn.rows.now ≡ None
+  pub none : HasNone option symbol drawn
 
 -- The end names something, and this holds of its word.
 abbrev pub OfName : ChartEnd → (List ℕ → Type 0) → Type 0
@@ -118,7 +123,7 @@ IsEndFault option end drawn (refused.NamesNothing one) =
 IsEndFault option end drawn (refused.NamesSeveral one) =
     (one ≡ option) × OfName end (λ word. IsMeaningOf (table_of drawn.names.now) word Several)
 IsEndFault option end drawn (refused.NeverFetched one) =
-    (one ≡ option) × OfName end (λ word. IsNeverFetched word drawn)
+    (one ≡ option) × OfName end (λ word. IsNeverFetched option word drawn)
 IsEndFault option end drawn _ = ⊥
 
 -- And both: the first is looked at first, then the last, and then whether they are turned round.

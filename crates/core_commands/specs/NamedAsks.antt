@@ -1,6 +1,6 @@
 -- The lines of asks, with what is wanted beside the pc of each fetch. (This project's own choice.)
-use Rattle.std.specs.Prelude.{◌≡◌, ℕ, List, [], ◌∷◌, ◌++◌, All, codes, flat_map, Option, Some, None, if◌then◌else◌}
-use Rattle.std.specs.{Prelude.result_ok, List.starts_with}
+use Rattle.std.specs.Prelude.{◌≡◌, ◌==◌, ℕ, List, [], ◌∷◌, ◌++◌, All, codes, flat_map, Option, Some, None, if◌then◌else◌}
+use Rattle.std.specs.{Result.result_ok, List.starts_with}
 use Rattle.text_fields.specs.{Reading.hex_field, Splitting.field, Splitting.rest, Splitting.Lacks}
 use Rattle.address_labels.specs.{Labels.Marks, Texts.labels_text}
 use Rattle.address_labels.specs.declared.writing.Form.TheVariants.{Word}
@@ -12,7 +12,7 @@ behind_five line = rest 32 (rest 32 (rest 32 (rest 32 (rest 32 line))))
 -- The pc of a line that begins as that of a fetch: `done F`, actor, hart and number stand before it.
 abbrev pub fetched_pc : List ℕ → Option ℕ
 fetched_pc line =
-    if starts_with (codes "done F ") line then result_ok (hex_field 8 (field 32 (behind_five line))) else None
+    if starts_with (λ a b. a == b) line (codes "done F ") then result_ok (hex_field 8 (field 32 (behind_five line))) else None
 
 abbrev pub or_else : Option ℕ → Option ℕ → Option ℕ
 or_else None other = other
@@ -30,9 +30,16 @@ labels_by marks (Some pc) = labels_text Word marks pc
 abbrev pub named_line : Marks → List ℕ → List ℕ
 named_line marks line = line ++ (labels_by marks (pc_in line) ++ 10 ∷ [])
 
+-- What stands behind the last newline of a text, as a line, where there is something.
+abbrev pub last_line : Marks → List ℕ → List ℕ
+last_line marks [] = []
+last_line marks (byte ∷ bytes) = named_line marks (byte ∷ bytes)
+
 -- The lines of a text so.
 pub record IsNamedText (marks : Marks) (text named : List ℕ) : Type 0 where
   pub lines : List (List ℕ)
-  pub whole : text ≡ flat_map (λ line. line ++ 10 ∷ []) lines
+  pub last : List ℕ
+  pub whole : text ≡ flat_map (λ line. line ++ 10 ∷ []) lines ++ last
   pub each : All (Lacks 10) lines
-  pub is : named ≡ flat_map (named_line marks) lines
+  pub last_lacks : Lacks 10 last
+  pub is : named ≡ flat_map (named_line marks) lines ++ last_line marks last

@@ -1,6 +1,7 @@
 //! The command `chart`: the pipeline of a trace, drawn.
 
-ghost use Rattle.std.specs.Prelude.{◌≡◌, None, IfOk, IfErr, OnOk, is_some, reverse, true, false};
+ghost use Rattle.std.specs.Prelude.{◌≡◌, ◌≤◌, None, IfOk, IfErr, OnOk, is_some, length, reverse, true, false};
+ghost use Rattle.numbers.specs.Sizes.{most_events};
 ghost use Rattle.sim_inputs.specs.Files.{written_chart};
 ghost use Rattle.charts.specs.Rows.{AreRows};
 ghost use Rattle.command_parts.specs.declared.refused.Refused.TheVariants.{Output};
@@ -60,7 +61,11 @@ pub fn perform_chart<R, G, P, S: EndFiles, W: Write>(
         hart: hart_in(chart.hart, harts)?,
         names,
     };
-    let text = text_of(&drawn, chart, alloc)?;
+    // Handed on as it is: a `?` would leave the prover to find what the refusal becomes.
+    let text = match text_of(&drawn, chart, alloc) {
+        Ok(text) => text,
+        Err(refused) => return Err(refused),
+    };
     put_chart(text.as_slice(), chart, &mut context.files, &mut context.out)
 }
 
@@ -73,6 +78,7 @@ fn history_rows(
 ) -> Result<Vec<Row>, Refused>
     ensures history { OnOk result
         (AreHistory (setup_by settings.now image.now trace.now.head) trace.now.events) }
+    ensures few { OnOk result (length trace.now.events ≤ most_events) }
     ensures rows { IfOk result (λ rows. AreRows (reverse trace.now.events) rows.items) }
     ensures refused { IfErr result
         (IsHistoryRefusal (setup_by settings.now image.now trace.now.head) trace.now.events) }
@@ -86,6 +92,7 @@ fn history_rows(
 
 /// The text of a chart, or of the file of one.
 fn text_of(drawn: &Drawn<'_>, chart: &ChartCommand<'_>, alloc: Global) -> Result<Vec<u8>, Refused>
+    requires few { length drawn.now.events.now ≤ most_events }
     ensures ends { OnOk result (HasEnds chart.now drawn.now) }
     ensures refused { IfErr result (IsDrawingRefusal chart.now drawn.now) }
 {

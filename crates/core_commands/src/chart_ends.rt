@@ -1,6 +1,7 @@
 //! Where a chart begins and ends, where its options name functions.
 
-ghost use Rattle.std.specs.Prelude.{◌≡◌, ℕ, IfOk, IfErr, IfSome, IfNone, false};
+ghost use Rattle.std.specs.Prelude.{◌≡◌, ◌≤◌, ℕ, IfOk, IfErr, IfSome, IfNone, false, find, length, option_copied};
+ghost use Rattle.numbers.specs.Sizes.{most_events};
 ghost use Rattle.command_parts.specs.declared.refused.ChartOption.TheVariants.{From, To};
 ghost use Rattle.charts.specs.Views.{draws_hart};
 ghost use Rattle.symbols.specs.Tables.{table_of};
@@ -38,6 +39,7 @@ pub(crate) struct Drawn<'a> {
 
 /// The first and the last event that are drawn of a chart.
 pub(crate) fn ends_of(chart: &ChartCommand<'_>, drawn: &Drawn<'_>) -> Result<(u32, u32), Refused>
+    requires few { length drawn.now.events.now ≤ most_events }
     ensures ends { IfOk result (λ ends. AreEnds chart.now drawn.now ends.0 ends.1) }
     ensures refused { IfErr result (IsEndRefusal chart.now drawn.now) }
 {
@@ -67,6 +69,7 @@ fn first_event(end: ChartEnd<'_>, drawn: &Drawn<'_>) -> Result<u32, Refused>
 
 /// The event at which a chart ends.
 fn last_event(end: ChartEnd<'_>, drawn: &Drawn<'_>) -> Result<u32, Refused>
+    requires few { length drawn.now.events.now ≤ most_events }
     ensures last { IfOk result (IsLast end.entry drawn.now) }
     ensures refused { IfErr result (IsEndFault To end.entry drawn.now) }
 {
@@ -98,16 +101,15 @@ impl Drawn<'_> {
     fn first_fetch(&self, symbol: Symbol) -> Option<u32>
         ensures { result ≡ first_fetch self.now.hart symbol self.now.rows.now }
     {
-        for row in self.rows {
-            if self.has_in(row, symbol) {
-                return Some(row.fetched);
-            }
+        match first_row(self.rows, self.hart, symbol) {
+            Some(row) => Some(row.fetched),
+            None => None,
         }
-        None
     }
 
     /// The place of the last event of an instruction in what a symbol names.
     fn last_event(&self, symbol: Symbol) -> Option<u32>
+        requires few { length self.now.events.now ≤ most_events }
         ensures some { IfSome result (IsLastEvent self.now.hart symbol self.now.rows.now self.now.events.now) }
         ensures none { IfNone result ((place : ℕ)
             → is_event_in self.now.hart symbol self.now.rows.now self.now.events.now place ≡ false) }
@@ -129,25 +131,32 @@ impl Drawn<'_> {
             return false;
         };
         match self.rows.get(event.seq() as usize) {
-            Some(row) => self.has_in(row, symbol),
+            Some(row) => is_drawn_in(self.hart, symbol, row),
             None => false,
         }
     }
+}
 
-    /// Whether the instruction of a row is drawn, and in what a symbol names.
-    fn has_in(&self, row: &Row, symbol: Symbol) -> bool
-        ensures { result ≡ is_drawn_in self.now.hart symbol row.now }
-    {
-        self.draws(row.hart) && covers(symbol, row.pc)
-    }
+/// The first row of an instruction that is drawn, and in what a symbol names.
+fn first_row(rows: &[Row], hart: Option<u8>, symbol: Symbol) -> Option<&Row>
+    ensures { option_copied result ≡ find (is_drawn_in hart symbol) rows.now }
+{
+    rows.iter().find(|row| is_drawn_in(hart, symbol, row))
+}
 
-    fn draws(&self, hart: u8) -> bool
-        ensures { result ≡ draws_hart self.now.hart hart }
-    {
-        match self.hart {
-            Some(one) => one == hart,
-            None => true,
-        }
+/// Whether the instruction of a row is drawn, and in what a symbol names.
+fn is_drawn_in(hart: Option<u8>, symbol: Symbol, row: &Row) -> bool
+    ensures { result ≡ is_drawn_in hart symbol row.now }
+{
+    draws(hart, row.hart) && covers(symbol, row.pc)
+}
+
+fn draws(hart: Option<u8>, other: u8) -> bool
+    ensures { result ≡ draws_hart hart other }
+{
+    match hart {
+        Some(one) => one == other,
+        None => true,
     }
 }
 

@@ -1,6 +1,8 @@
+pub mod ChartEnds
 pub mod Described
 pub mod Faults
 pub mod Found
+pub mod Harts
 pub mod Keys
 pub mod Names
 pub mod Refusals

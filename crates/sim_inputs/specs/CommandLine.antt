@@ -309,9 +309,9 @@ IsCommandOf name rows (commands.Explain explain) = (name ≡ codes "explain") ×
 IsCommandOf name rows (commands.Litmus litmus) = (name ≡ codes "litmus") × IsLitmus rows litmus
 IsCommandOf name rows (commands.Migrate migrate) = (name ≡ codes "migrate") × IsMigrate rows migrate
 
--- A subcommand of this name, with what was found for it, is the line: its command, and the
--- configuration and the word of `--hints`, which every command may have, and the harts that most may have. One of its files at most is standard input,
--- and none that is written is named by a dash.
+-- A subcommand of this name, with what was found for it, is the line: its command, and the configuration and the word
+-- of `--hints`, which every command may have, and the harts that most may have. One of its files at most is standard
+-- input, and none that is written is named by a dash.
 pub record IsLineOf (name : Text) (rows : List Row) (line : Line) : Type 0 where
   pub config : IsFileOption rows (codes "config") line.config
   pub harts : AreHarts rows line.harts

@@ -128,8 +128,8 @@ files_with config (commands.Migrate migrate) = record {
 }
 
 -- The configuration, the image or the litmus test, the file that is read beside them (the script, the
--- trace that is read, or the order), the source lines, and the file that is written: the trace of a core or of a migration, a
--- chart, an order or its script, or what is made of a test.
+-- trace that is read, or the order), the source lines, and the file that is written: the trace of a core or of a
+-- migration, a chart, an order or its script, or what is made of a test.
 abbrev pub files_of : Line → Files
 files_of line = files_with line.config line.command
 

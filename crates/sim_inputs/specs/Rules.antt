@@ -1,6 +1,6 @@
 -- The command line as data: its subcommands, with their arguments and options. (This project's own
 -- choice.)
-use Rattle.std.specs.Prelude.{true, List, [], ◌∷◌, Some, codes}
+use Rattle.std.specs.Prelude.{true, List, [], ◌∷◌, ◌++◌, Some, codes}
 use Rattle.std.specs.{List.fold}
 use Rattle.clap.specs.Words.{App, Rule, Text, new_app, new_rule, with_rule, with_subcommand}
 use Rattle.clap.specs.{declared.builder.action.ArgAction.TheVariants.SetTrue}
@@ -196,7 +196,8 @@ abbrev pub chart_command : App
 chart_command = subcommand (codes "chart") (image_rule ∷ trace_rule ∷ config_rule ∷ harts_rule ∷ from_rule ∷ to_rule
     ∷ hart_rule ∷ names_rule ∷ width_rule ∷ svg_rule ∷ kanata_rule ∷ [])
 
--- `explain IMAGE`, with `--config FILE`, `--harts N`, `--script FILE`, `--order FILE` and `--trace FILE`, each of which is read.
+-- `explain IMAGE`, with `--config FILE`, `--harts N`, `--script FILE`, `--order FILE` and `--trace FILE`, each of which
+-- is read.
 abbrev pub explain_command : App
 explain_command = subcommand (codes "explain") (image_rule ∷ config_rule ∷ harts_rule ∷ explained_script_rule
     ∷ explained_order_rule ∷ written_trace_rule ∷ [])
@@ -222,7 +223,19 @@ abbrev pub top : App
 top = let app =
     new_app (codes "smtsim") in record app { top = record app.top { subcommand_required = true; has_version = true } }
 
+abbrev pub with_command : App → App → App
+with_command app sub = with_subcommand app sub.top
+
+-- The commands that print a report, the others that have an image, and those that have none.
+abbrev pub report_commands : List App
+report_commands = step_command ∷ run_command ∷ check_command ∷ plain_command ∷ []
+
+abbrev pub image_commands : List App
+image_commands = schedule_command ∷ script_command ∷ list_command ∷ chart_command ∷ explain_command
+    ∷ outcomes_command ∷ []
+
+abbrev pub other_commands : List App
+other_commands = litmus_command ∷ migrate_command ∷ []
+
 abbrev pub smtsim : App
-smtsim = fold (λ app sub. with_subcommand app sub.top) top (step_command ∷ run_command
-    ∷ check_command ∷ plain_command ∷ schedule_command ∷ script_command ∷ list_command
-    ∷ chart_command ∷ explain_command ∷ outcomes_command ∷ litmus_command ∷ migrate_command ∷ [])
+smtsim = fold with_command top (report_commands ++ (image_commands ++ other_commands))

@@ -27,8 +27,8 @@ pub(crate) fn chart_end<'a>(
 }
 
 /// What a word says of where a chart begins or ends: one that begins with a digit is the number of an event, of at most
-/// `greatest`, one in single quotes the name of a function between them, and every other one a name itself. None where it
-/// is no number, or there is no name.
+/// `greatest`, one in single quotes the name of a function between them, and every other one a name itself. None where
+/// it is no number, or there is no name.
 pub(crate) fn read_end(word: &str, greatest: u32) -> Option<ChartEnd<'_>>
     ensures { Finds (IsEndOf word.now greatest) result }
 {
@@ -42,10 +42,11 @@ pub(crate) fn read_end(word: &str, greatest: u32) -> Option<ChartEnd<'_>>
     if bytes[0] != b'\'' {
         return Some(ChartEnd::Function(word));
     }
-    if bytes.len() < 3 || bytes[bytes.len() - 1] != b'\'' {
+    let name = word.strip_prefix('\'')?.strip_suffix('\'')?;
+    if name.is_empty() {
         return None;
     }
-    Some(ChartEnd::Function(word.get(1..bytes.len() - 1)?))
+    Some(ChartEnd::Function(name))
 }
 
 /// Whether the first event isn't behind the last one, where both are numbers.

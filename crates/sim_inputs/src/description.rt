@@ -2,7 +2,7 @@ ghost use Rattle.std.specs.Prelude.{◌≡◌, IfOk};
 ghost use Rattle.std.specs.List.{fold};
 ghost use Rattle.clap.specs.Words.{App, app_of};
 ghost use Rattle.sim_inputs.specs.CommandLine.{IsArgument, IsCommand};
-ghost use Rattle.sim_inputs.specs.Rules.{smtsim};
+ghost use Rattle.sim_inputs.specs.Rules.{image_commands, report_commands, smtsim, top, with_command};
 ghost use Rattle.sim_inputs.specs.Table.{own_arguments_in, rule_in, subcommand_in, with_row};
 
 use crate::arguments::{
@@ -29,8 +29,8 @@ pub(crate) struct Subcommand {
     form: &'static str,
 }
 
-/// The subcommands that have an image, in the order in which help lists them.
-static OF_IMAGES: [Subcommand; 10] = [
+/// The subcommands that print a report, in the order in which help lists them.
+static OF_REPORTS: [Subcommand; 4] = [
     Subcommand {
         name: "step",
         about: "Make a script's asks of the core in order, and print a report",
@@ -104,6 +104,10 @@ static OF_IMAGES: [Subcommand; 10] = [
         ],
         form: ORDER_FORM,
     },
+];
+
+/// The others that have an image, which help lists behind them.
+static OF_IMAGES: [Subcommand; 6] = [
     Subcommand {
         name: "schedule",
         about: "Print the script that makes the core retire in an order of harts",
@@ -172,7 +176,7 @@ static OF_IMAGES: [Subcommand; 10] = [
     },
 ];
 
-/// Those that have none, which help lists behind them.
+/// Those that have none, which help lists last.
 static OF_OTHERS: [Subcommand; 2] = [
     Subcommand {
         name: "litmus",
@@ -192,13 +196,36 @@ static OF_OTHERS: [Subcommand; 2] = [
 pub fn describe<'a>(alloc: Global) -> Result<Command<'a>, AllocError>
     ensures { IfOk result (λ c. app_of c ≡ smtsim) }
 {
-    let command = Command::new(alloc, "smtsim")
+    let of_reports = add_of_reports(without_subcommands(alloc), alloc)?;
+    let of_images = add_of_images(of_reports, alloc)?;
+    add_subcommands(of_images, &OF_OTHERS, alloc)
+}
+
+/// The program's command line without its subcommands.
+fn without_subcommands<'a>(alloc: Global) -> Command<'a>
+    ensures { app_of result ≡ top }
+{
+    Command::new(alloc, "smtsim")
         .about("Simulate a simultaneous multithreading core whose harts run one RV32IMA program")
         .version(VERSION)
         .after_help(CONFIGURATION_FORM)
-        .subcommand_required(true);
-    let of_images = add_subcommands(command, &OF_IMAGES, alloc)?;
-    add_subcommands(of_images, &OF_OTHERS, alloc)
+        .subcommand_required(true)
+}
+
+/// Adds the subcommands that print a report. (The check of a function grows with the tables that it reads.)
+fn add_of_reports<'a>(command: Command<'a>, alloc: Global) -> Result<Command<'a>, AllocError>
+    ensures { (app : App) → app_of command.entry ≡ app
+        → IfOk result (λ c. app_of c ≡ fold with_command app report_commands) }
+{
+    add_subcommands(command, &OF_REPORTS, alloc)
+}
+
+/// Adds the others that have an image.
+fn add_of_images<'a>(command: Command<'a>, alloc: Global) -> Result<Command<'a>, AllocError>
+    ensures { (app : App) → app_of command.entry ≡ app
+        → IfOk result (λ c. app_of c ≡ fold with_command app image_commands) }
+{
+    add_subcommands(command, &OF_IMAGES, alloc)
 }
 
 /// Adds subcommands in turn.

@@ -227,8 +227,8 @@ pub(crate) fn chart_in<'a>(found: &ArgMatches<'a>) -> Option<ChartCommand<'a>>
     Some(chart)
 }
 
-/// Whether the options of a chart go together: its events rise where both are numbers, a line has room, and there's one file
-/// at most.
+/// Whether the options of a chart go together: its events rise where both are numbers, a line has room,
+/// and there's one file at most.
 fn can_be_drawn(chart: &ChartCommand<'_>) -> bool
     ensures { result ≡ can_be_drawn chart.now }
 {

@@ -6,9 +6,9 @@
 //! found for each command), `found_values` (what for one option), `chart_ends` (where a chart begins and ends),
 //! `clap_errors` (what is made of an error of `clap`), `refused_words`, `refused_options` and
 //! `refused_together` (why words are refused, for a person), `description` (the command line as it is described to
-//! `clap`), `arguments` (its arguments and options), `forms` (what stands behind it of files), `version`, `limits` (what stands in
-//! its texts for the limits of a core); then `settings`, `configuration` (how they are read), `roles` and `ranges`
-//! (its parts), `explained` (which fault a refused configuration has).
+//! `clap`), `arguments` (its arguments and options), `forms` (what stands behind it of files), `version` (which one it
+//! is), `limits` (what stands in its texts for the limits of a core); then `settings`, `configuration` (how they are
+//! read), `roles` and `ranges` (its parts), `explained` (which fault a refused configuration has).
 #![tactic(auto)]
 
 mod arguments;

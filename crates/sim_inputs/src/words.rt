@@ -17,7 +17,8 @@ use clap::ArgMatches;
 use std::alloc::Global;
 
 /// Reads the program's words, its own name first. `Help` is answered where `clap` answers with its
-/// help, `Version` where it answers with the version, `Refused` where the words ask for nothing, and `Memory` where there isn't enough of it.
+/// help, `Version` where it answers with the version, `Refused` where the words ask for nothing, and
+/// `Memory` where there isn't enough of it.
 pub fn read_words<'a>(words: &'a [&'a str], alloc: Global) -> Result<Line<'a>, WordsRefused>
     ensures ok { IfOk result (Asks (map (λ word. word.now) words.entry.now)) }
     ensures refused { IfErr result (AreWordsRefusedFor (map (λ word. word.now) words.entry.now)) }
@@ -25,9 +26,13 @@ pub fn read_words<'a>(words: &'a [&'a str], alloc: Global) -> Result<Line<'a>, W
     let Ok(command) = describe(alloc) else {
         return Err(WordsRefused::Memory);
     };
-    match command.try_get_matches_from(words) {
-        Ok(matches) => line_in(&matches).ok_or(WordsRefused::Refused),
-        Err(error) => Err(refusal(error, alloc)),
+    let matches = match command.try_get_matches_from(words) {
+        Ok(matches) => matches,
+        Err(error) => return Err(refusal(error, alloc)),
+    };
+    match line_in(&matches) {
+        Some(line) => Ok(line),
+        None => Err(WordsRefused::Refused),
     }
 }
 
