@@ -1,6 +1,6 @@
 //! What is wanted beside addresses.
 
-ghost use Rattle.std.specs.Prelude.{◌≡◌, not, ◌&&◌, is_some};
+ghost use Rattle.std.specs.Prelude.{◌≡◌, Decides};
 ghost use Rattle.address_labels.specs.Labels.{marks_of, no_marks};
 
 use source_lines::SourceLines;
@@ -28,7 +28,7 @@ impl<'a> Labels<'a> {
 
     /// Whether nothing is wanted.
     pub fn are_none(&self) -> bool
-        ensures { result ≡ (not (is_some self.now.names) && not (is_some self.now.lines)) }
+        ensures { Decides result (marks_of self.now ≡ no_marks) }
     {
         self.names.is_none() && self.lines.is_none()
     }

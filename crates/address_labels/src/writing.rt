@@ -39,8 +39,8 @@ pub enum Form {
 }
 
 /// Writes what is wanted beside an address, a space before each: the name that covers it, and how many bytes it is
-/// behind the start of that, where it isn't that; then the file and the line that its word comes from. A dash stands for
-/// either that isn't known.
+/// behind the start of that, where it isn't that; then the file and the line that its word comes from. A dash stands
+/// for either that isn't known.
 pub fn write_labels<W: Write>(
     labels: &Labels<'_>,
     form: Form,

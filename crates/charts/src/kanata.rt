@@ -14,8 +14,8 @@ use std::io::{Error, ErrorKind, Write};
 use waits::write_waits;
 
 /// Writes the log that Konata reads, Kanata 0004 (docs/FORMATS.md), of the instructions that the view
-/// shows, each of them whole, with what is wanted beside its pc: a cycle is an event. The rows are those of these events. An error is the
-/// one that `out` answered, or want of memory.
+/// shows, each of them whole, with what is wanted beside its pc: a cycle is an event. The rows are those
+/// of these events. An error is the one that `out` answered, or want of memory.
 pub fn write_kanata<W: Write>(
     rows: &[Row],
     events: &[Event],

@@ -4,6 +4,7 @@ use Rattle.std.specs.Prelude.{◌≡◌, ℕ, Bool, List, is_some, unwrap_or, Re
 use Rattle.text_fields.specs.Splitting.{field}
 use Rattle.events.specs.{declared.event.Event.Event}
 use Rattle.event_text.specs.{declared.head.TraceHead.TraceHead}
+use Rattle.event_text.specs.{declared.head.LaterVersion.LaterVersion}
 use Rattle.event_text.specs.declared.head.LaterVersion.TheVariants.{Third}
 use Rattle.event_text.specs.declared.head.TraceHead.TheVariants.{First, Later}
 use Rattle.event_text.specs.{declared.trace.reading.TraceRefused.TraceRefused}

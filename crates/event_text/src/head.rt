@@ -1,10 +1,9 @@
 //! How a trace begins: its version, and of what core a trace of version 2 or 3 says that it is.
 
-ghost use Rattle.std.specs.Prelude.{◌≡◌, ◌≢◌, length, false, IfSome, IfNone};
+ghost use Rattle.std.specs.Prelude.{◌≡◌, ◌≢◌, length, false, IfSome, IfNone, Decides};
 ghost use Rattle.event_text.specs.declared.head.LaterVersion.{LaterVersion as AnyVersion};
 ghost use Rattle.numbers.specs.Sizes.{are_core_sizes};
 ghost use Rattle.event_text.specs.Core.{AreCoreSizes};
-ghost use Rattle.std.specs.Prelude.{Decides};
 ghost use Rattle.event_text.specs.Heads.{head_count, later_header};
 ghost use Rattle.event_text.specs.Refusals.{NamesCore};
 

@@ -1,5 +1,5 @@
 -- The lines of records, counts, harts and output. (This project's own choice.)
-use Rattle.std.specs.Prelude.{ℕ, ◌+◌, Bool, false, ◌==◌, if◌then◌else◌, List, [], ◌∷◌, ◌++◌}
+use Rattle.std.specs.Prelude.{ℕ, Bool, false, ◌==◌, if◌then◌else◌, List, [], ◌∷◌, ◌++◌}
 use Rattle.std.specs.Prelude.{codes, flat_map}
 use Rattle.std.specs.{List.list_any, List.list_all, Fmt.decimal}
 use Rattle.text_fields.specs.Spelling.{hex}

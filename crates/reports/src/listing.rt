@@ -17,8 +17,9 @@ use text_fields::{push_ascii, push_hex};
 type Line = ArrayString<64>;
 
 /// Writes a line for each word of the code, by rising address: the address and the word as eight
-/// hexadecimal digits, and the spelling of its instruction there, or `.word` where it is none. The
-/// code ends behind its zeros. What is wanted beside the address stands behind it. Where it answers Ok, it has written exactly these lines.
+/// hexadecimal digits, the spelling of its instruction there, or `.word` where it is none, and what is
+/// wanted beside the address. The code ends behind its zeros. Where it answers Ok, it has written
+/// exactly these lines.
 pub fn list<W: Write>(image: &Image, labels: &Labels<'_>, out: &mut W) -> io::Result<()>
     ensures { OnOk result (Appends (W.contents out.old) (W.contents out.new)
         (listing_text (marks_of labels.now) image.now)) }

@@ -1,6 +1,6 @@
 -- The steps of a turn, one after another; and why there is none.
-use Rattle.std.proofs.Common.{◌≡◌, ◌≢◌, ℕ, ◌+◌, ◌<◌, ◌≤◌, Bool, true, false, List, [], ◌∷◌, ◌++◌, Option, Some, None}
-use Rattle.std.proofs.Common.{length, reverse, replicate, refl, ap, sym, subst, ◌∙◌, add-one, arith}
+use Rattle.std.proofs.Common.{◌≡◌, ℕ, ◌+◌, ◌<◌, Bool, true, false, List, [], Option, Some, None}
+use Rattle.std.proofs.Common.{length, replicate, refl, ap, sym, subst, ◌∙◌, add-one, arith}
 use Rattle.std.specs.Prelude.{not, ◌&&◌, if◌then◌else◌, nat_lt, nat_le, is_some, Result, Ok, Err, OnOk, is_err}
 use Rattle.std.proofs.lemmas.Bool.Decides.{nat_tests}
 use Rattle.std.specs.Io.KnownBytes.{Appends}
@@ -12,7 +12,7 @@ use Rattle.sc_machine.specs.{Steps.run_on, Refusals.refusal}
 use Rattle.sc_machine.specs.declared.refused.Stopped.{Stopped}
 use Rattle.sc_machine.specs.declared.refused.Stopped.TheVariants.{NotGoing, OutputFull, NoHart}
 use Rattle.address_labels.specs.Labels.{Marks}
-use Rattle.report_lines.specs.Lines.{record_line, records_text}
+use Rattle.report_lines.specs.Lines.{record_line}
 use Rattle.rounds.specs.Steps.{HasMade}
 use Rattle.rounds.proofs.Printing.{printed_more}
 

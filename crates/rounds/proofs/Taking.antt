@@ -1,6 +1,6 @@
 -- Turn after turn.
-use Rattle.std.proofs.Common.{◌≡◌, ◌≢◌, ℕ, zero, suc, ◌+◌, ◌-◌, ◌<◌, ◌≤◌, min, Bool, true, false, List, [], ◌∷◌, ◌++◌, Option}
-use Rattle.std.proofs.Common.{Some, None, length, reverse, replicate, refl, ap, sym, subst, ◌∙◌, inl, inr, arith, ◌⊎◌}
+use Rattle.std.proofs.Common.{◌≡◌, ℕ, zero, suc, ◌+◌, ◌-◌, ◌<◌, ◌≤◌, min, Bool, true, false, List, [], ◌∷◌, ◌++◌, Option}
+use Rattle.std.proofs.Common.{Some, None, length, reverse, replicate, refl, ap, sym, subst, ◌∙◌, inl, inr, arith}
 use Rattle.std.specs.Prelude.{option_map}
 use Rattle.std.proofs.lemmas.Bool.{cases_lt}
 use Rattle.std.specs.Io.KnownBytes.{Appends}
@@ -10,7 +10,7 @@ use Rattle.address_labels.specs.Labels.{Marks}
 use Rattle.report_lines.specs.Lines.{records_text}
 use Rattle.rounds.specs.declared.rules.Rounds.{Rounds}
 use Rattle.rounds.specs.{Turns.Turn, Turns.order_of, Turns.going, Turns.last_of, Turns.next_number, Turns.number_for}
-use Rattle.rounds.specs.{Turns.chosen, Turns.whose, Rounds.IsTurn, Rounds.AreTurns, Steps.HasMade, Steps.HaveMade}
+use Rattle.rounds.specs.{Turns.chosen, Rounds.AreTurns, Steps.HasMade, Steps.HaveMade}
 use Rattle.rounds.proofs.{Choosing.chosen_goes, Choosing.none_goes, Printing.appends_none}
 
 -- There have been turns: so many steps are left, and this says whose turn comes.

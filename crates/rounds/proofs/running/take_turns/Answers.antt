@@ -1,5 +1,5 @@
 use Rattle.address_labels.specs.Labels.{marks_of}
-use Rattle.std.proofs.Common.{◌≡◌, ◌≤◌, ◌<◌, min, ◌∙◌, ap, sym, arith}
+use Rattle.std.proofs.Common.{◌≡◌, ◌<◌, min, ◌∙◌, ap, sym, arith}
 use Rattle.rounds.proofs.Taking.{had_none, had_some, had_more, made_all, made_until}
 use Rattle.rounds.proofs.running.take_turns.Goals as goal
 

@@ -1,5 +1,4 @@
 use Rattle.address_labels.specs.Labels.{marks_of}
-use Rattle.sc_machine.specs.Machine.{Agrees}
 use Rattle.rounds.specs.Steps.{OfEachStart}
 use Rattle.rounds.proofs.Taking.{HaveHad}
 use Rattle.rounds.proofs.running.take_turns.Given as goal

@@ -1,5 +1,5 @@
 use Rattle.address_labels.specs.Labels.{marks_of}
-use Rattle.std.proofs.Common.{◌≡◌, ◌<◌, length, sym, subst, ◌∙◌}
+use Rattle.std.proofs.Common.{◌<◌, length, sym, subst, ◌∙◌}
 use Rattle.sc_machine.specs.Machine.{Agrees}
 use Rattle.rounds.proofs.Stepping.{held, made_more, roomier, stands}
 use Rattle.rounds.proofs.turn.take_turn.Goals as goal
