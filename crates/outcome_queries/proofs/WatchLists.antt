@@ -1,9 +1,12 @@
 -- What is watched, a member of a list or a term at a time.
-use Rattle.std.proofs.Common.{◌≡◌, ℕ, zero, suc, ◌+◌, ◌≤◌, ◌<◌, List, [], ◌∷◌, ◌++◌, length, take, get_or, All, Contains}
-use Rattle.std.proofs.Common.{refl, sym, ap, subst, ◌∙◌, arith, append_assoc}
+use Rattle.std.proofs.Common.{◌≡◌, ℕ, zero, suc, ◌+◌, ◌≤◌, ◌<◌, List, [], ◌∷◌, ◌++◌, length, take, drop, get_or, All}
+use Rattle.std.proofs.Common.{Contains}
+use Rattle.std.proofs.Common.{refl, sym, ap, subst, ◌∙◌, arith, append_assoc, Bool, not, filter}
 use Rattle.std.proofs.Common.{append-nil, inl, inr}
-use Rattle.std.proofs.lemmas.List.{length-append, take_more, take_all, flat_map_more}
+use Rattle.std.proofs.lemmas.List.{drop_more, flat_map_more, length-append, take-append-drop, take_all, take_more}
+use Rattle.std.proofs.lemmas.Grind.{flat_map-append}
 use Rattle.std.proofs.lemmas.List.Elements.{All-more, All-weaker, Contains-append_left}
+use Rattle.std.proofs.lemmas.List.Filters.{length-filter_both}
 use Rattle.watched_outcomes.specs.declared.watch.WatchedRegister.{WatchedRegister}
 use Rattle.watched_outcomes.specs.declared.watch.WatchedBytes.{WatchedBytes}
 use Rattle.outcome_queries.specs.{declared.term.Term.Term, declared.watched.Watched.Watched}
@@ -11,7 +14,7 @@ use Rattle.outcome_queries.specs.declared.watched.Asked.{Asked}
 use Rattle.outcome_queries.specs.declared.term.Term.TheVariants as terms
 use Rattle.outcome_queries.specs.declared.watched.Watched.TheVariants as watched
 use Rattle.outcome_queries.specs.Watches.{registers_in, words_in, register_with, bytes_with, asked_of, asked_in}
-use Rattle.outcome_queries.specs.Watches.{Extends, IsOnceBehind, IsWatchedFor}
+use Rattle.outcome_queries.specs.Watches.{Extends, IsOnceBehind, IsWatchedFor, LacksRoom}
 
 register_short : (w : Watched) → length (register_with w) ≤ 1
 register_short (watched.Register h r) = omega arith
@@ -95,8 +98,17 @@ word_room list i words few inside is =
     let same : length words ≡ length (words_in (take i list)) = ap length is in
     omega (arith, few, inside, part, small, same)
 
+pub asked_room : (p : Asked → Bool) (list : List Asked) (i : ℕ) (some : List Asked) → length list ≤ 64 → i < length list
+    → some ≡ filter p (take i list) → length some < 64
+asked_room p list i some few inside is =
+    let part = take_short i list in
+    let both = length-filter_both p (λ asked. not (p asked)) (λ asked. refl) (take i list) in
+    let same : length some ≡ length (filter p (take i list)) = ap length is in
+    omega (arith, few, inside, part, both, same)
+
 -- what a longer list tells of terms
-pub still_watched : (old new : List Asked) (term : Term) → Extends old new → IsWatchedFor old term → IsWatchedFor new term
+pub still_watched : (old new : List Asked) (term : Term) → Extends old new → IsWatchedFor old term
+    → IsWatchedFor new term
 still_watched old new (terms.Ended h n) more is = tt
 still_watched old new (terms.Stopped h c) more is = tt
 still_watched old new (terms.Holds a v) more is = (
@@ -139,19 +151,74 @@ pub all_once : (list all : List Asked) (terms : List Term) (i : ℕ) → length 
 all_once list all terms i past once =
     subst (λ (t : List Term). IsOnceBehind [] (list ++ asked_in t) all) (take_all i terms past) once
 
--- before the first term
-pub none_yet : (list all : List Asked) (i : ℕ) → length list ≤ i → IsOnceBehind [] (take i list) all
-    → IsOnceBehind [] (list ++ []) all
-none_yet list all i past once = subst (λ (t : List Asked). IsOnceBehind [] t all)
-    (take_all i list past ∙ sym (append-nil list)) once
-
 pub terms_step : (list all new : List Asked) (terms : List Term) (i : ℕ) (d : Term) → i < length terms
     → All (IsWatchedFor all) (take i terms) → Extends all new → IsWatchedFor new (get_or terms i d)
     → All (IsWatchedFor new) (take (i + 1) terms)
 terms_step list all new terms i d inside told more next =
     All-more (IsWatchedFor new) terms i d inside
-    (All-weaker (IsWatchedFor all) (IsWatchedFor new) (λ term. still_watched all new term more) (take i terms) told) next
+    (All-weaker (IsWatchedFor all) (IsWatchedFor new) (λ term. still_watched all new term more) (take i terms) told)
+    next
 
 pub all_told : (all : List Asked) (terms : List Term) (i : ℕ) → length terms ≤ i
     → All (IsWatchedFor all) (take i terms) → All (IsWatchedFor all) terms
 all_told all terms i past told = subst (λ (t : List Term). All (IsWatchedFor all) t) (take_all i terms past) told
+
+-- ---- want of room
+
+once_split : (a xs ys all : List Asked) → IsOnceBehind a (xs ++ ys) all
+    → (mid : List Asked) × IsOnceBehind a xs mid × IsOnceBehind mid ys all
+once_split a [] ys all once = (a, refl, once)
+once_split a (x ∷ xs) ys all (inl there) =
+    let parts = once_split a xs ys all there.1 in (parts.0, inl (there.0, parts.1), parts.2)
+once_split a (x ∷ xs) ys all (inr new) =
+    let parts = once_split (a ++ x ∷ []) xs ys all new.1 in (parts.0, inr (new.0, parts.1), parts.2)
+
+once_same : (a xs b c : List Asked) → IsOnceBehind a xs b → IsOnceBehind a xs c → b ≡ c
+once_same a [] b c one other = sym one ∙ other
+once_same a (x ∷ xs) b c (inl there) (inl again) = once_same a xs b c there.1 again.1
+once_same a (x ∷ xs) b c (inl there) (inr new) = absurd (new.0 there.0)
+once_same a (x ∷ xs) b c (inr new) (inl there) = absurd (new.0 there.0)
+once_same a (x ∷ xs) b c (inr new) (inr again) = once_same (a ++ x ∷ []) xs b c new.1 again.1
+
+once_grows : (a xs b : List Asked) → IsOnceBehind a xs b → length a ≤ length b
+once_grows a [] b same = let long : length a ≡ length b = ap length same in omega (arith, long)
+once_grows a (x ∷ xs) b (inl there) = once_grows a xs b there.1
+once_grows a (x ∷ xs) b (inr new) =
+    let more = once_grows (a ++ x ∷ []) xs b new.1 in
+    let long : length (a ++ x ∷ []) ≡ length a + 1 = length-append a (x ∷ []) in omega (arith, more, long)
+
+still_full : (a b xs ys zs : List Asked) → IsOnceBehind a xs b → LacksRoom b ys → LacksRoom a (xs ++ (ys ++ zs))
+still_full a b xs ys zs once full all whole =
+    let first = once_split a xs (ys ++ zs) all whole in
+    let same = once_same a xs first.0 b first.1 once in
+    let second = once_split b ys zs all (subst (λ (t : List Asked). IsOnceBehind t (ys ++ zs) all) same first.2) in
+    let many = full second.0 second.1 in
+    let more = once_grows second.0 zs all second.2 in omega (arith, many, more)
+
+pub list_full : (list old behind : List Asked) (i : ℕ) (d : Asked) → i < length list
+    → IsOnceBehind [] (take i list) old → LacksRoom old (get_or list i d ∷ []) → LacksRoom [] (list ++ behind)
+list_full list old behind i d inside once full =
+    let cut : list ≡ take i list ++ get_or list i d ∷ drop (i + 1) list =
+    sym (take-append-drop i list) ∙ ap (λ (t : List Asked). take i list ++ t) (drop_more list i d inside) in
+    subst (λ (t : List Asked). LacksRoom [] t)
+    (sym (ap (λ (t : List Asked). t ++ behind) cut
+    ∙ append_assoc (take i list) (get_or list i d ∷ drop (i + 1) list) behind))
+    (still_full [] old (take i list) (get_or list i d ∷ []) (drop (i + 1) list ++ behind) once full)
+
+asked_cut : (terms : List Term) (i : ℕ) (d : Term) → i < length terms
+    → asked_in terms ≡ asked_in (take i terms) ++ (asked_of (get_or terms i d) ++ asked_in (drop (i + 1) terms))
+asked_cut terms i d inside =
+    ap asked_in (sym (take-append-drop i terms)
+    ∙ ap (λ (t : List Term). take i terms ++ t) (drop_more terms i d inside))
+    ∙ flat_map-append asked_of (take i terms) (get_or terms i d ∷ drop (i + 1) terms)
+
+pub terms_full : (list old : List Asked) (terms : List Term) (i : ℕ) (d : Term) → i < length terms
+    → IsOnceBehind [] (list ++ asked_in (take i terms)) old → LacksRoom old (asked_of (get_or terms i d))
+    → LacksRoom [] (list ++ asked_in terms)
+terms_full list old terms i d inside once full =
+    subst (λ (t : List Asked). LacksRoom [] t)
+    (sym (ap (λ (t : List Asked). list ++ t) (asked_cut terms i d inside)
+    ∙ sym (append_assoc list (asked_in (take i terms))
+    (asked_of (get_or terms i d) ++ asked_in (drop (i + 1) terms)))))
+    (still_full [] old (list ++ asked_in (take i terms)) (asked_of (get_or terms i d)) (asked_in (drop (i + 1) terms))
+    once full)

@@ -3,8 +3,10 @@ pub mod AtName
 pub mod Harts
 pub mod Holding
 pub mod Lists
+pub mod Naming
 pub mod Placed
 pub mod Quoted
 pub mod Terms
 pub mod Watched
 pub mod Watches
+pub mod Widths

@@ -1,10 +1,10 @@
 -- How a place in memory is written by a name. (This project's own choice, after a debugger's expressions.)
-use Rattle.std.specs.Prelude.{◌≡◌, ◌⊎◌, ℕ, ◌==◌, ◌≤◌, nat_le, ◌&&◌, ◌||◌, not, Bool, true, false, List, [], ◌∷◌, ◌++◌}
+use Rattle.std.specs.Prelude.{◌≡◌, ◌⊎◌, ℕ, ◌==◌, nat_le, ◌&&◌, ◌||◌, not, Bool, true, false, List, [], ◌∷◌, ◌++◌}
 use Rattle.std.specs.Prelude.{Option, Some, None, is_ok}
-use Rattle.std.specs.{List.list_all, Fmt.decimal, Borrow.Bor}
+use Rattle.std.specs.{List.list_all, Borrow.Bor}
 use Rattle.text_fields.specs.{Splitting.Lacks, Values.SpellsValue, Reading.decimal_field, Reading.hex_field}
 use Rattle.symbols.specs.declared.meanings.Name.{Name}
-use Rattle.watched_outcomes.specs.{declared.watch.Width.Width, Watching.bytes_of}
+use Rattle.outcome_queries.specs.Widths.{width_text}
 use Rattle.outcome_queries.specs.declared.placed.{Placed.Placed, Behind.Behind}
 use Rattle.outcome_queries.specs.declared.placed.Behind.TheVariants.{Element, Bytes}
 
@@ -30,10 +30,15 @@ is_plain_name [] = false
 is_plain_name (first ∷ rest) = can_begin first && (list_all can_follow rest
     && (not (is_hart_name (first ∷ rest)) && not (is_address (first ∷ rest))))
 
+-- A name in quotation marks: one byte at the least, and none of these marks.
+pub record IsMarked (text name : List ℕ) : Type 0 where
+  pub some : name ≡ [] → ⊥
+  pub plain : Lacks 39 name
+  pub spelled : text ≡ 39 ∷ name ++ 39 ∷ []
+
 -- A name: without quotation marks where it needs none, or in these.
 abbrev pub SpellsPart : List ℕ → List ℕ → Type 0
-SpellsPart text name = ((is_plain_name name ≡ true) × (text ≡ name))
-    ⊎ ((name ≡ [] → ⊥) × Lacks 39 name × (text ≡ 39 ∷ name ++ 39 ∷ []))
+SpellsPart text name = ((is_plain_name name ≡ true) × (text ≡ name)) ⊎ IsMarked text name
 
 -- The same, with its file and `:` before it where one is said.
 abbrev pub SpellsOf : List ℕ → Option (Bor (List ℕ)) → List ℕ → Type 0
@@ -49,15 +54,16 @@ abbrev pub SpellsBehind : List ℕ → Behind → Type 0
 SpellsBehind text (Element n) = (index : List ℕ) × SpellsValue index n × (text ≡ 91 ∷ index ++ 93 ∷ [])
 SpellsBehind text (Bytes n) = ((n ≡ 0) × (text ≡ [])) ⊎ ((bytes : List ℕ) × SpellsValue bytes n × (text ≡ 43 ∷ bytes))
 
--- How many bytes are looked at.
-abbrev pub width_text : Option Width → List ℕ
-width_text None = []
-width_text (Some width) = 58 ∷ decimal (bytes_of width)
+-- A place as it stands before its width: the name, and how far behind its start.
+pub record SpellsPlace (text : List ℕ) (name : Name) (far : Behind) : Type 0 where
+  pub named : List ℕ
+  pub behind : List ℕ
+  pub names : SpellsName named name
+  pub goes : SpellsBehind behind far
+  pub spelled : text ≡ named ++ behind
 
 -- All of it.
 pub record SpellsPlaced (text : List ℕ) (placed : Placed) : Type 0 where
-  pub named : List ℕ
-  pub behind : List ℕ
-  pub names : SpellsName named placed.name
-  pub goes : SpellsBehind behind placed.behind
-  pub spelled : text ≡ named ++ (behind ++ width_text placed.width)
+  pub place : List ℕ
+  pub written : SpellsPlace place placed.name placed.behind
+  pub spelled : text ≡ place ++ width_text placed.width

@@ -4,7 +4,8 @@ use Rattle.std.specs.{Char.is_ascii_whitespace, Fmt.decimal, List.prefix_len, Li
 use Rattle.text_fields.specs.Values.{SpellsValue}
 use Rattle.symbols.specs.Tables.{Table}
 use Rattle.outcome_queries.specs.{declared.term.Term.Term, declared.watched.Watched.Watched}
-use Rattle.outcome_queries.specs.{Watched.Names, Watched.IsUnnamed, Asking.Asks}
+use Rattle.outcome_queries.specs.{Watched.Spells, AtName.IsNowhere, Asking.Asks}
+use Rattle.outcome_queries.specs.{declared.placed.Placed.Placed, Placed.SpellsPlaced}
 use Rattle.outcome_queries.specs.declared.refused.Expected.{Expected}
 use Rattle.outcome_queries.specs.declared.refused.Expected.TheVariants as expected
 use Rattle.outcome_queries.specs.declared.term.Term.TheVariants as terms
@@ -41,14 +42,29 @@ pub record SaysTerm (names : Table) (text : List ℕ) (term : Term) : Type 0 whe
   pub spelled : trimmed text ≡ left ++ 61 ∷ right
   pub means : Means names left right term
 
--- What stands before and behind the equals sign is nothing that is watched and its number; or a place that is refused.
+-- A place by a name and a number, whatever names there are.
+pub record AsksPlace (left right : List ℕ) (placed : Placed) : Type 0 where
+  pub spelled : SpellsPlaced left placed
+  pub value : ℕ
+  pub said : SpellsValue right value
+
+-- What stands before and behind the equals sign is nothing that is watched and its number; or a place that is refused,
+-- and a number.
 abbrev pub HoldsNothing : Table → List ℕ → List ℕ → Expected → Type 0
 HoldsNothing names left right expected.Term =
-    ((watched : Watched) (value : ℕ) → Names names left watched → SpellsValue right value → ⊥)
-HoldsNothing names left right refused = IsUnnamed names left refused
+    ((one : Watched) (value : ℕ) → Spells left one → SpellsValue right value → ⊥)
+    × ((placed : Placed) → AsksPlace left right placed → ⊥)
+HoldsNothing names left right refused =
+    (placed : Placed) × AsksPlace left right placed × IsNowhere names placed refused
 
--- The text is no term; or the place that it names is refused.
+-- What was expected of a term, where this was expected of what it names.
+abbrev pub of_term : Expected → Expected
+of_term expected.Watched = expected.Term
+of_term expected = expected
+
+-- The text is no term, however it is cut; or the place that it names is refused.
 abbrev pub IsNoTerm : Table → List ℕ → Expected → Type 0
-IsNoTerm names text expected.Term = (term : Term) → SaysTerm names text term → ⊥
-IsNoTerm names text refused =
-    (left : List ℕ) × (right : List ℕ) × (trimmed text ≡ left ++ 61 ∷ right) × IsUnnamed names left refused
+IsNoTerm names text expected.Term = (left right : List ℕ) → trimmed text ≡ left ++ 61 ∷ right
+    → ((term : Term) → IsOfEnd term → Means names left right term → ⊥) × HoldsNothing names left right expected.Term
+IsNoTerm names text refused = (left : List ℕ) × (right : List ℕ) × (trimmed text ≡ left ++ 61 ∷ right)
+    × HoldsNothing names left right refused

@@ -1,5 +1,5 @@
 -- How what is watched is written. (This project's own choice.)
-use Rattle.std.specs.Prelude.{◌≡◌, ◌⊎◌, ℕ, ◌≤◌, ◌<◌, ◌^◌, List, ◌∷◌, ◌++◌, codes}
+use Rattle.std.specs.Prelude.{◌≡◌, ◌⊎◌, ℕ, ◌≤◌, ◌<◌, ◌^◌, List, ◌∷◌, ◌++◌, Some}
 use Rattle.std.specs.Fmt.{decimal}
 use Rattle.text_fields.specs.Spelling.{hex}
 use Rattle.rv_text.specs.Registers.{IsNameOf}
@@ -8,9 +8,9 @@ use Rattle.outcome_queries.specs.declared.watched.Watched.TheVariants as watched
 use Rattle.outcome_queries.specs.declared.placed.Placed.{Placed}
 use Rattle.outcome_queries.specs.declared.refused.Expected.{Expected}
 use Rattle.outcome_queries.specs.declared.refused.Expected.TheVariants as expected
-use Rattle.outcome_queries.specs.{Placed.SpellsPlaced, AtName.IsAt, AtName.IsNowhere}
+use Rattle.outcome_queries.specs.{Placed.SpellsPlaced, AtName.IsAt, AtName.IsNowhere, Widths.width_text}
 use Rattle.symbols.specs.Tables.{Table}
-use Rattle.watched_outcomes.specs.{declared.watch.WatchedBytes.WatchedBytes, Watching.bytes_of}
+use Rattle.watched_outcomes.specs.{declared.watch.WatchedBytes.WatchedBytes}
 
 -- A name of the register, `@`, and the hart.
 pub record SpellsRegister (text : List ℕ) (hart register : ℕ) : Type 0 where
@@ -22,7 +22,7 @@ pub record SpellsRegister (text : List ℕ) (hart register : ℕ) : Type 0 where
 -- The address, `:`, and of how many bytes the number is.
 pub record SpellsBytes (text : List ℕ) (bytes : WatchedBytes) : Type 0 where
   pub in_range : bytes.address < 16 ^ 8
-  pub spelled : text ≡ hex 8 bytes.address ++ 58 ∷ decimal (bytes_of bytes.width)
+  pub spelled : text ≡ hex 8 bytes.address ++ width_text (Some bytes.width)
 
 -- What a text says by itself: a register at a hart, or bytes at an address.
 abbrev pub Spells : List ℕ → Watched → Type 0

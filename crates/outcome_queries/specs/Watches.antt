@@ -1,7 +1,9 @@
 -- What is watched for a list and a condition.
-use Rattle.std.specs.Prelude.{◌≡◌, ◌⊎◌, ℕ, Bool, true, false, List, [], ◌∷◌, ◌++◌, Contains, flat_map, filter, not}
+use Rattle.std.specs.Prelude.{◌≡◌, ◌⊎◌, Bool, true, false, List, [], ◌∷◌, ◌++◌, ◌<◌, length, Contains, flat_map, filter}
+use Rattle.std.specs.Prelude.{not}
 use Rattle.watched_outcomes.specs.declared.watch.{WatchedRegister.WatchedRegister, WatchedBytes.WatchedBytes}
-use Rattle.outcome_queries.specs.{declared.term.Term.Term, declared.watched.Watched.Watched, declared.watched.Asked.Asked}
+use Rattle.outcome_queries.specs.{declared.term.Term.Term, declared.watched.Watched.Watched}
+use Rattle.outcome_queries.specs.{declared.watched.Asked.Asked}
 use Rattle.outcome_queries.specs.declared.term.Term.TheVariants as terms
 use Rattle.outcome_queries.specs.declared.watched.Watched.TheVariants as watched
 
@@ -52,6 +54,10 @@ IsOnceBehind before [] all = before ≡ all
 IsOnceBehind before (one ∷ others) all =
     (IsWatchedIn before one.watched × IsOnceBehind before others all)
     ⊎ ((IsWatchedIn before one.watched → ⊥) × IsOnceBehind (before ++ one ∷ []) others all)
+
+-- There is no room for all of these behind a list: that would be more than can be watched.
+abbrev pub LacksRoom : List Asked → List Asked → Type 0
+LacksRoom before others = (all : List Asked) → IsOnceBehind before others all → 64 < length all
 
 -- A list with others behind it.
 abbrev pub Extends : List Asked → List Asked → Type 0

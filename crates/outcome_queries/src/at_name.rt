@@ -1,6 +1,6 @@
 //! The bytes of memory that a place by a name is.
 
-ghost use Rattle.std.specs.Prelude.{◌≡◌, IfOk, IfErr};
+ghost use Rattle.std.specs.Prelude.{◌≡◌, ◌^◌, ◌<◌, IfOk, IfErr};
 ghost use Rattle.symbols.specs.Tables.{table_of};
 ghost use Rattle.outcome_queries.specs.AtName.{IsAt, IsNowhere, distance, is_inside, own_width, width_of};
 
@@ -9,8 +9,8 @@ use crate::refused::Expected;
 use symbols::{Meaning, Symbol, Symbols, meaning_of};
 use watched_outcomes::{WatchedBytes, Width};
 
-/// The bytes that are looked at in a place by a name: as many as it says; else as many as its object has, where that are
-/// 1, 2 or 4; else 4. They lie inside of the object, where its size is known.
+/// The bytes that are looked at in a place by a name: as many as it says; else as many as its object has, where that
+/// are 1, 2 or 4; else 4. They lie inside of the object, where its size is known.
 ///
 /// Refused are a name that no symbol has (`Name`), one that stands for several addresses (`OneAddress`), and bytes that
 /// reach out of their object or lie behind all addresses (`Inside`).
@@ -56,7 +56,8 @@ fn own_width(symbol: &Symbol) -> Width
 
 /// How many bytes behind the start of its symbol a place is.
 fn distance_of(behind: Behind, width: Width) -> u64
-    ensures { result ≡ distance behind width }
+    ensures distance { result ≡ distance behind width }
+    ensures small { result < 2 ^ 34 }
 {
     match behind {
         Behind::Element(index) => u64::from(index) * u64::from(width.bytes()),
@@ -66,6 +67,7 @@ fn distance_of(behind: Behind, width: Width) -> u64
 
 /// Whether bytes so far behind the start of a symbol are its own; of one without a size all are.
 fn is_inside(symbol: &Symbol, distance: u64, width: Width) -> bool
+    requires { distance < 2 ^ 34 }
     ensures { result ≡ is_inside symbol.now distance width }
 {
     symbol.size == 0 || distance + u64::from(width.bytes()) <= u64::from(symbol.size)

@@ -1,6 +1,6 @@
 //! Conditions.
 
-ghost use Rattle.std.specs.Prelude.{◌≡◌, ◌∷◌, ◌++◌, [], IfOk, IfErr, OnOk};
+ghost use Rattle.std.specs.Prelude.{◌≡◌, ◌∷◌, ◌++◌, [], length, IfOk, IfErr, OnOk};
 ghost use Rattle.outcome_queries.specs.declared.term.Term.{Term as AnyTerm};
 ghost use Rattle.symbols.specs.Tables.{table_of};
 ghost use Rattle.outcome_queries.specs.Terms.{SaysTerm, IsNoTerm};
@@ -22,7 +22,8 @@ pub fn read_condition<'a>(
     names: &Symbols<'_>,
 ) -> Result<Condition<'a>, QueryRefused>
     ensures read { IfOk result (λ terms. IsSeparated (SaysTerm (table_of names.now)) 38 text.now terms.items) }
-    ensures refused { IfErr result (IsRefusedFor (IsNoTerm (table_of names.now)) 38 text.now) }
+    ensures refused { IfErr result
+        (IsRefusedFor (SaysTerm (table_of names.now)) (IsNoTerm (table_of names.now)) 38 text.now) }
 {
     let mut terms = Condition::new();
     let mut rest = text;
@@ -45,7 +46,9 @@ fn take<'a>(
 ) -> Result<(), QueryRefused>
     ensures taken { OnOk result ((one : AnyTerm) × SaysTerm (table_of names.now) part.now one
         × (terms.new.items ≡ terms.old.items ++ one ∷ [])) }
-    ensures refused { IfErr result (IsPartRefused (IsNoTerm (table_of names.now)) part.now column) }
+    ensures refused { IfErr result (λ why. IsPartRefused (SaysTerm (table_of names.now)) (IsNoTerm (table_of names.now))
+        (length terms.old.items) part.now why.expected) }
+    ensures place { IfErr result (λ why. why.column ≡ column) }
 {
     let term = match read_term(part, names) {
         Ok(term) => term,

@@ -1,6 +1,6 @@
 //! Lists of what is watched.
 
-ghost use Rattle.std.specs.Prelude.{◌≡◌, ◌∷◌, ◌++◌, [], List, ℕ, IfOk, IfErr, OnOk};
+ghost use Rattle.std.specs.Prelude.{◌≡◌, ◌∷◌, ◌++◌, [], length, IfOk, IfErr, OnOk};
 ghost use Rattle.symbols.specs.Tables.{table_of};
 ghost use Rattle.outcome_queries.specs.declared.watched.Asked.{Asked as AnyAsked};
 ghost use Rattle.outcome_queries.specs.Asking.{Asks};
@@ -24,7 +24,8 @@ pub fn read_watch_list<'a>(
     names: &Symbols<'_>,
 ) -> Result<WatchList<'a>, QueryRefused>
     ensures read { IfOk result (λ list. IsSeparated (Asks (table_of names.now)) 44 text.now list.items) }
-    ensures refused { IfErr result (IsRefusedFor (IsUnnamed (table_of names.now)) 44 text.now) }
+    ensures refused { IfErr result
+        (IsRefusedFor (Asks (table_of names.now)) (IsUnnamed (table_of names.now)) 44 text.now) }
 {
     let mut list = WatchList::new();
     let mut rest = text;
@@ -47,7 +48,9 @@ fn take<'a>(
 ) -> Result<(), QueryRefused>
     ensures taken { OnOk result ((one : AnyAsked) × Asks (table_of names.now) part.now one
         × (list.new.items ≡ list.old.items ++ one ∷ [])) }
-    ensures refused { IfErr result (IsPartRefused (IsUnnamed (table_of names.now)) part.now column) }
+    ensures refused { IfErr result (λ why. IsPartRefused (Asks (table_of names.now)) (IsUnnamed (table_of names.now))
+        (length list.old.items) part.now why.expected) }
+    ensures place { IfErr result (λ why. why.column ≡ column) }
 {
     let watched = match read_watched(part, names) {
         Ok(watched) => watched,

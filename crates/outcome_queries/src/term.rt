@@ -2,7 +2,7 @@ ghost use Rattle.std.specs.Prelude.{◌≡◌, ℕ, [], true, false, codes, IfOk
 ghost use Rattle.symbols.specs.Tables.{table_of};
 ghost use Rattle.outcome_queries.specs.declared.term.Term.{Term as AnyTerm};
 ghost use Rattle.outcome_queries.specs.Terms.{Means, IsOfEnd, HoldsNothing, IsNoTerm, SaysTerm, SpellsHart};
-ghost use Rattle.outcome_queries.specs.Terms.{SpellsCause, trimmed};
+ghost use Rattle.outcome_queries.specs.Terms.{SpellsCause, of_term, trimmed};
 
 use crate::quoted::split_outside;
 use crate::refused::Expected;
@@ -43,7 +43,7 @@ pub(crate) fn read_term<'a>(text: &'a [u8], names: &Symbols<'_>) -> Result<Term<
 }
 
 /// The text without the white space around it.
-fn trimmed(text: &[u8]) -> &[u8]
+pub(crate) fn trimmed(text: &[u8]) -> &[u8]
     ensures { result.now ≡ trimmed text.now }
 {
     text.trim_ascii()
@@ -84,8 +84,17 @@ fn read_holds<'a>(left: &'a [u8], right: &[u8], names: &Symbols<'_>) -> Result<T
             },
             value,
         }),
-        Err(Expected::Watched) => Err(Expected::Term),
-        Err(expected) => Err(expected),
+        Err(expected) => Err(of_term(expected)),
+    }
+}
+
+/// What was expected of a term, where this was expected of what it names.
+fn of_term(expected: Expected) -> Expected
+    ensures { result ≡ of_term expected }
+{
+    match expected {
+        Expected::Watched => Expected::Term,
+        other => other,
     }
 }
 

@@ -1,19 +1,17 @@
 ghost use Rattle.std.specs.Prelude.{◌≡◌, ℕ, IfOk, IfErr, IfSome, IfNone};
-ghost use Rattle.std.specs.Fmt.{decimal};
 ghost use Rattle.symbols.specs.Tables.{table_of};
-ghost use Rattle.watched_outcomes.specs.Watching.{bytes_of};
-ghost use Rattle.watched_outcomes.specs.declared.watch.Width.{Width as AnyWidth};
 ghost use Rattle.watched_outcomes.specs.declared.watch.WatchedBytes.{WatchedBytes};
 ghost use Rattle.outcome_queries.specs.Watched.{Names, IsUnnamed, Spells, SpellsRegister, SpellsBytes};
 
 use crate::at_name::bytes_at;
 use crate::placed::read_placed;
 use crate::refused::Expected;
+use crate::width::split_width;
 use numbers::Reg;
 use rv_text::register_named;
 use symbols::Symbols;
 use text_fields::{read_decimal, read_hex, split_field};
-use watched_outcomes::{WatchedBytes, Width};
+use watched_outcomes::WatchedBytes;
 
 /// What is looked at in the end of a program.
 #[derive(Clone, Copy, PartialEq, Eq, Drop)]
@@ -89,27 +87,12 @@ fn read_bytes(text: &[u8]) -> Option<Watched>
     ensures found { IfSome result (Spells text.now) }
     ensures none { IfNone result ((bytes : WatchedBytes) → SpellsBytes text.now bytes → ⊥) }
 {
-    let (address, size) = split_field(text, b':');
-    let width = width_named(size)?;
+    let (address, width) = split_width(text);
+    let Some(width) = width else {
+        return None;
+    };
     match read_hex(address, 8) {
         Ok(address) => Some(Watched::Bytes(WatchedBytes { address, width })),
         Err(_) => None,
     }
-}
-
-/// How many bytes a digit says.
-fn width_named(text: &[u8]) -> Option<Width>
-    ensures found { IfSome result (λ width. text.now ≡ decimal (bytes_of width)) }
-    ensures none { IfNone result ((width : AnyWidth) → text.now ≡ decimal (bytes_of width) → ⊥) }
-{
-    if text == b"1".as_slice() {
-        return Some(Width::Byte);
-    }
-    if text == b"2".as_slice() {
-        return Some(Width::Half);
-    }
-    if text == b"4".as_slice() {
-        return Some(Width::Word);
-    }
-    None
 }

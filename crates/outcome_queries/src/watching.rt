@@ -1,8 +1,9 @@
 //! What is watched for a list and a condition.
 
-ghost use Rattle.std.specs.Prelude.{◌≡◌, ◌≤◌, ◌∷◌, ◌++◌, [], true, false, length, All, IfSome};
-ghost use Rattle.outcome_queries.specs.Watches.{registers_in, words_in, asked_of, asked_in, memory_asked, registers_asked};
-ghost use Rattle.outcome_queries.specs.Watches.{Extends, IsOnceBehind, IsWatchedFor, IsWatchedIn};
+ghost use Rattle.std.specs.Prelude.{◌≡◌, ◌≤◌, ◌∷◌, ◌++◌, [], true, false, length, All, IfSome, IfNone};
+ghost use Rattle.outcome_queries.specs.Watches.{registers_in, words_in, asked_of, asked_in, memory_asked};
+ghost use Rattle.outcome_queries.specs.Watches.{registers_asked};
+ghost use Rattle.outcome_queries.specs.Watches.{Extends, IsOnceBehind, IsWatchedFor, IsWatchedIn, LacksRoom};
 
 use crate::list::WatchList;
 use crate::term::Term;
@@ -16,6 +17,7 @@ pub fn with_terms<'a>(list: &[Asked<'a>], terms: &[Term<'a>]) -> Option<WatchLis
     ensures once { IfSome result
         (λ all. IsOnceBehind [] (list.now ++ asked_in terms.now) all.items) }
     ensures watched { IfSome result (λ all. All (IsWatchedFor all.items) terms.now) }
+    ensures none { IfNone result (LacksRoom [] (list.now ++ asked_in terms.now)) }
 {
     let mut all = WatchList::new();
     for asked in list {
@@ -36,6 +38,7 @@ fn add_term<'a>(all: &mut WatchList<'a>, term: Term<'a>) -> bool
     ensures extends { Extends all.old.items all.new.items }
     ensures once { result ≡ true → IsOnceBehind all.old.items (asked_of term.entry) all.new.items }
     ensures watched { result ≡ true → IsWatchedFor all.new.items term.entry }
+    ensures full { result ≡ false → LacksRoom all.old.items (asked_of term.entry) }
 {
     match term {
         Term::Holds { asked, .. } => add(all, asked),
@@ -48,6 +51,7 @@ fn add<'a>(all: &mut WatchList<'a>, asked: Asked<'a>) -> bool
     ensures extends { Extends all.old.items all.new.items }
     ensures once { result ≡ true → IsOnceBehind all.old.items (asked.entry ∷ []) all.new.items }
     ensures contained { result ≡ true → IsWatchedIn all.new.items asked.entry.watched }
+    ensures full { result ≡ false → LacksRoom all.old.items (asked.entry ∷ []) }
 {
     if is_watched(all.as_slice(), asked.watched) {
         return true;

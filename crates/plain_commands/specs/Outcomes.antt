@@ -138,9 +138,10 @@ pub record IsFiled {S : Type 0} (written : S → Option (List ℕ)) (has_failed 
   pub filed : IsOrderPut written has_failed old new settings image command found
 
 -- The text is misspelled, or names what isn't there, at the column that is told.
-abbrev pub IsMisspelled : (List ℕ → Expected → Type 0) → ℕ → Option (Bor (List ℕ)) → QueryRefused → Type 0
-IsMisspelled Denies separator None why = ⊥
-IsMisspelled Denies separator (Some text) why = IsMisspelledFor Denies separator text.now why
+abbrev pub IsMisspelled : {A : Type 0} → (List ℕ → A → Type 0) → (List ℕ → Expected → Type 0) → ℕ
+    → Option (Bor (List ℕ)) → QueryRefused → Type 0
+IsMisspelled Says Denies separator None why = ⊥
+IsMisspelled Says Denies separator (Some text) why = IsMisspelledFor Says Denies separator text.now why
 
 -- The condition names a hart that isn't there, this one first.
 pub record NamesAbsent (settings : Settings) (names : Table) (command : OutcomesCommand) (hart : ℕ) : Type 0 where
@@ -236,11 +237,13 @@ IsPutRefusal settings image command found reason = IsTextRefusal settings image 
 
 -- The parts of that which are answered by what reads the condition, and by what reads the list.
 abbrev pub IsConditionRefusal : Table → OutcomesCommand → Refused → Type 0
-IsConditionRefusal names command (reasons.Condition why) = IsMisspelled (IsNoTerm names) 38 command.exists why
+IsConditionRefusal names command (reasons.Condition why) =
+    IsMisspelled (SaysTerm names) (IsNoTerm names) 38 command.exists why
 IsConditionRefusal names command _ = ⊥
 
 abbrev pub IsWatchRefusal : Table → OutcomesCommand → Refused → Type 0
-IsWatchRefusal names command (reasons.Watch why) = IsMisspelled (IsUnnamed names) 44 command.watch why
+IsWatchRefusal names command (reasons.Watch why) =
+    IsMisspelled (Asks names) (IsUnnamed names) 44 command.watch why
 IsWatchRefusal names command reasons.ManyWatched = Unit {0}
 IsWatchRefusal names command _ = ⊥
 
@@ -252,9 +255,9 @@ IsHartRefusal harts terms _ = ⊥
 -- When each refusal comes. Of memory nothing is said.
 abbrev pub IsOutcomesRefusal : Settings → ProgramImage → Table → OutcomesCommand → Refused → Type 0
 IsOutcomesRefusal settings image names command (reasons.Watch why) =
-    IsMisspelled (IsUnnamed names) 44 command.watch why
+    IsMisspelled (Asks names) (IsUnnamed names) 44 command.watch why
 IsOutcomesRefusal settings image names command (reasons.Condition why) =
-    IsMisspelled (IsNoTerm names) 38 command.exists why
+    IsMisspelled (SaysTerm names) (IsNoTerm names) 38 command.exists why
 IsOutcomesRefusal settings image names command reasons.ManyWatched = Unit {0}
 IsOutcomesRefusal settings image names command reasons.Config =
     (are_harts settings.config.harts ≡ false) ⊎ LacksScript settings image command reasons.Config
