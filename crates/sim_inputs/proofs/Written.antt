@@ -9,7 +9,7 @@ use Rattle.sim_inputs.specs.declared.line.{Line.Line}
 use Rattle.sim_inputs.specs.declared.line.Command.{Command as LineCommand}
 use Rattle.sim_inputs.specs.declared.line.Command.TheVariants as commands
 use Rattle.sim_inputs.specs.declared.line.ProgramCommand.TheVariants as program
-use Rattle.sim_inputs.specs.CommandLine.{IsCommandOf, IsLineOf, Names}
+use Rattle.sim_inputs.specs.CommandLine.{IsCommandOf, Names}
 use Rattle.sim_inputs.specs.Files.{files_with, is_standard_input, writes_no_dash}
 use Rattle.sim_inputs.proofs.Subcommand.{is_line}
 
