@@ -1,9 +1,9 @@
 -- The lines that a loop writes.
-use Rattle.std.proofs.Common.{◌≡◌, ℕ, zero, suc, ◌+◌, ◌<◌, List, [], ◌∷◌, ◌++◌, length, take, get_or, Some, Option, sym, ap}
-use Rattle.std.proofs.Common.{subst, ◌∙◌, append_assoc, append-nil, arith, slice_get, slice_index, slice_index_or}
+use Rattle.std.proofs.Common.{◌≡◌, ℕ, ◌+◌, ◌<◌, List, length, take, get_or, Some, Option, sym, ap}
+use Rattle.std.proofs.Common.{subst, ◌∙◌, arith, slice_get, slice_index, slice_index_or}
 use Rattle.std.specs.Io.KnownBytes.{Appends}
 use Rattle.text_fields.proofs.Appending.{each_step, member, told_step}
-use Rattle.std.proofs.Common.{Bool, true, false, ◌||◌, refl}
+use Rattle.std.proofs.Common.{Bool, true, false, refl}
 use Rattle.std.specs.List.{list_any}
 use Rattle.std.proofs.lemmas.List.Folds.{list_any_at, list_any_more}
 use Rattle.outcomes.specs.{Found.Told}

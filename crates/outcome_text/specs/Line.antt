@@ -1,5 +1,5 @@
 -- The line of an outcome. (This project's own choice.)
-use Rattle.std.specs.Prelude.{ℕ, ◌+◌, ◌==◌, ◌&&◌, if◌then◌else◌, List, [], ◌∷◌, ◌++◌, codes, flat_map, length, slice_index}
+use Rattle.std.specs.Prelude.{ℕ, ◌==◌, ◌&&◌, if◌then◌else◌, List, [], ◌∷◌, ◌++◌, codes, flat_map, length, slice_index}
 use Rattle.std.specs.{Fmt.decimal}
 use Rattle.text_fields.specs.Spelling.{hex}
 use Rattle.text_fields.specs.Each.{each_from}

@@ -1,4 +1,4 @@
-use Rattle.std.proofs.Common.{take, slice_index}
+use Rattle.std.proofs.Common.{take}
 use Rattle.std.specs.Io.KnownBytes.{Appends}
 use Rattle.outcome_text.specs.Line.{columns_text}
 use Rattle.outcome_text.proofs.line.write_columns.Given as goal
