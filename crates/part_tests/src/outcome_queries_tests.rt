@@ -4,8 +4,8 @@
 use arrayvec::ArrayVec;
 use numbers::sizes::HART_ROOM;
 use outcome_queries::{
-    Expected, Term, Watched, absent_hart, holds, name_asked, read_condition, read_watch_list,
-    watch_of, with_terms,
+    Expected, Watched, absent_hart, holds, name_asked, read_condition, read_watch_list, watch_of,
+    with_terms,
 };
 use smt_model::Status;
 use std::alloc::Global;
