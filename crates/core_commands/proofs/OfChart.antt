@@ -1,15 +1,17 @@
 -- The command `chart`: the events of a trace that was checked are a history of some core.
-use Rattle.std.specs.Prelude.{◌≡◌, ◌⊎◌, ℕ, List, true, Result, Ok, Err, IfOk}
-use Rattle.std.proofs.Common.{subst, ap, inl, inr}
+use Rattle.std.specs.Prelude.{◌≡◌, ◌⊎◌, ℕ, List, reverse, true, Result, Ok, Err, IfOk}
+use Rattle.std.proofs.Common.{subst, ap, ◌∙◌, inl, inr, Option}
 use Rattle.elf_image.specs.Image.{ProgramImage}
 use Rattle.event_text.specs.{Contents.TraceContent}
-use Rattle.smt_model.specs.Rules.{is_legal}
+use Rattle.smt_model.specs.{Rules.is_legal, Setup.Setup, declared.config.Config.Config}
+use Rattle.core_state.specs.Setup.{setup_of}
+use Rattle.event_text.specs.declared.head.TraceHead.{TraceHead}
 use Rattle.core_state.specs.View.{CoreView}
 use Rattle.smt_core.specs.Shown.{Shown}
-use Rattle.charts.specs.Rows.{AreHistory as AreSomeHistory}
+use Rattle.charts.specs.Rows.{AreRows, AreHistory as AreSomeHistory}
 use Rattle.sim_inputs.specs.declared.settings.Settings.{Settings}
 use Rattle.sim_inputs.specs.declared.line.ChartCommand.{ChartCommand}
-use Rattle.symbols.specs.Tables.{Table}
+use Rattle.symbols.specs.Tables.{Table, table_of}
 use Rattle.command_parts.specs.declared.refused.Refused.{Refused}
 use Rattle.command_parts.specs.declared.refused.Refused.TheVariants as refused
 use Rattle.core_commands.specs.declared.chart_ends.Drawn.{Drawn}
@@ -31,6 +33,20 @@ history_of settings image read core whole shown = (
 neither : {A : Type 0} → ⊥ ⊎ (A × ⊥) → ⊥
 neither (inl is) = is
 neither (inr (first, is)) = is
+
+pub fits_of : (settings : Settings) (image : ProgramImage) (head other : TraceHead) (config : Config) (hart : Option ℕ)
+    → ((program : ProgramImage) → setup_of program config ≡ setup_by settings program other) → other ≡ head
+    → hart_fits config.harts hart ≡ true → hart_fits (setup_by settings image head).harts hart ≡ true
+fits_of settings image head other config hart same is fits =
+    subst (λ (n : ℕ). hart_fits n hart ≡ true)
+    (ap (λ (s : Setup). s.harts) (same image ∙ ap (setup_by settings image) is)) fits
+
+pub drawn_of : (settings : Settings) (image : ProgramImage) (trace : List ℕ) (chart : ChartCommand) (names : Table)
+    (read : TraceContent) (drawn : Drawn) → AreRows (reverse read.events) drawn.rows.now
+    → drawn.events.now ≡ read.events → drawn.hart ≡ chart.hart → table_of drawn.names.now ≡ names
+    → IsDrawnOf (setup_by settings image read.head) read.events chart names drawn
+drawn_of settings image trace chart names read drawn rows events hart same =
+    record { rows = rows; events_are = events; hart = hart; names_are = same }
 
 -- A trace of a history of the core, and what is drawn of it.
 module _ (settings : Settings) (image : ProgramImage) (trace : List ℕ) (chart : ChartCommand) (names : Table)

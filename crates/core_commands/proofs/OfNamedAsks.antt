@@ -1,6 +1,6 @@
 -- Lines of asks, cut off one by one.
 use Rattle.std.proofs.Common.{◌≡◌, ◌+◌, ◌≤◌, ◌<◌, ℕ, zero, suc, ◌==◌, Bool, true, false, List, [], ◌∷◌, ◌++◌, length, flat_map}
-use Rattle.std.proofs.Common.{Option, refl, sym, ap, subst, ◌∙◌, arith, append_assoc, append-nil}
+use Rattle.std.proofs.Common.{Result, Ok, Err, OnOk, Option, refl, sym, ap, subst, ◌∙◌, arith, append_assoc, append-nil}
 use Rattle.std.specs.List.{All}
 use Rattle.std.specs.Io.KnownBytes.{Appends}
 use Rattle.std.proofs.lemmas.{Grind.flat_map-append, List.Elements.All-push, Bool.Decides.nat_tests, List.length-append}
@@ -18,13 +18,12 @@ one_or_more (suc zero) some P one more = one refl
 one_or_more (suc (suc n)) some P one more = more (omega arith)
 
 pub first_cut : (text line others : List ℕ) → line ≡ field 10 text → others ≡ rest 10 text
-    → (length line == length text) ≡ false → text ≡ line ++ 10 ∷ others
+    → (length line ≡ length text → ⊥) → text ≡ line ++ 10 ∷ others
 first_cut text line others is are shorter =
     let parts = parts_of 10 text in
     let same : length line ≡ length (field 10 text) = ap length is in
     one_or_more (field_count 10 text) parts.count (text ≡ line ++ 10 ∷ others)
-    (λ one. let whole : length text ≡ length (field 10 text) = ap length (parts.alone one) in
-    absurd (grind (arith, nat_tests)))
+    (λ one. absurd (shorter (same ∙ sym (ap length (parts.alone one)))))
     (λ two. (parts.cut two).0 ∙ ap (λ (bs : List ℕ). bs ++ 10 ∷ rest 10 text) (sym is)
     ∙ ap (λ (bs : List ℕ). line ++ 10 ∷ bs) (sym are))
 
@@ -87,3 +86,9 @@ module _ (marks : Marks) (old mid new : Option (List ℕ)) (text : List ℕ) whe
     },
     appends_more old mid new _ _ so_far.written next,
   )
+
+  -- where it was written
+  pub last_written : {E : Type 0} (answer : Result Unit E) (left : List ℕ) → AreNamed marks old mid text left → Lacks 10 left
+      → OnOk answer (Appends mid new (last_line marks left)) → OnOk answer (Prints old new (IsNamedText marks text))
+  last_written (Ok done) left so_far lacks next = last_too left so_far lacks next
+  last_written (Err why) left so_far lacks next = tt

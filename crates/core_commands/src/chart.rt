@@ -104,6 +104,7 @@ fn text_of(drawn: &Drawn<'_>, chart: &ChartCommand<'_>, alloc: Global) -> Result
 /// The hart that is to be drawn, of a core of so many; all of them, where none is named.
 fn hart_in(hart: Option<u32>, harts: u8) -> Result<Option<u8>, Refused>
     ensures there { OnOk result (hart_fits harts hart ≡ true) }
+    ensures same { IfOk result (λ one. one ≡ hart) }
     ensures refused { IfErr result (IsHartRefusal harts hart) }
 {
     match hart {

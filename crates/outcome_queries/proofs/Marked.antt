@@ -1,13 +1,13 @@
 -- A name in quotation marks, cut from its text.
-use Rattle.std.proofs.Common.{◌≡◌, ℕ, zero, suc, ◌+◌, ◌-◌, ◌≤◌, Bool, true, false, not, ◌||◌, ◌&&◌, ◌==◌, List, [], ◌∷◌, ◌++◌, length}
+use Rattle.std.proofs.Common.{◌≡◌, ℕ, suc, ◌+◌, ◌-◌, ◌≤◌, Bool, true, false, ◌||◌, ◌==◌, List, [], ◌∷◌, ◌++◌, length}
 use Rattle.std.proofs.Common.{take, drop, get_or, refl, sym, ap, subst, ◌∙◌, arith}
-use Rattle.std.proofs.{lemmas.Bool.Decides.nat_tests}
-use Rattle.std.proofs.lemmas.List.{length-append, length-take-le, take_all, take_at, take_more}
-use Rattle.std.specs.List.{list_all, list_any}
+use Rattle.std.proofs.lemmas.List.{length-append, take_all, take_at, take_more}
+use Rattle.std.specs.List.{list_any}
 use Rattle.text_fields.specs.Splitting.{Lacks}
 use Rattle.outcome_queries.specs.Placed.{IsMarked}
 
-any_is : (b c : Bool) (s : ℕ) (xs : List ℕ) → (c ≡ list_any (λ y. y == s) xs) → (b || c) ≡ false → (b ≡ false) × (c ≡ false)
+any_is : (b c : Bool) (s : ℕ) (xs : List ℕ) → (c ≡ list_any (λ y. y == s) xs)
+    → (b || c) ≡ false → (b ≡ false) × (c ≡ false)
 any_is true c s xs is none = cc
 any_is false c s xs is none = (refl, none)
 
@@ -62,4 +62,6 @@ name_is text name is =
 pub marked_none : (text : List ℕ) → list_any (λ y. y == 39) (take (length text - 1 - 1) (drop 1 text)) ≡ true
     → (name : List ℕ) → IsMarked text name → ⊥
 marked_none text some name is =
-    has_where 39 name (subst (λ (t : List ℕ). list_any (λ y. y == 39) t ≡ true) (name_is text name is.spelled) some) is.plain
+    let there : list_any (λ y. y == 39) name ≡ true =
+    subst (λ (t : List ℕ). list_any (λ y. y == 39) t ≡ true) (name_is text name is.spelled) some in
+    has_where 39 name there is.plain

@@ -1,11 +1,12 @@
 -- Where a byte stands outside of quotation marks, in a text that is put together.
-use Rattle.std.proofs.Common.{◌≡◌, ℕ, zero, suc, ◌+◌, ◌-◌, ◌<◌, ◌≤◌, Bool, true, false, not, ◌&&◌, ◌==◌, List, [], ◌∷◌, ◌++◌, length}
-use Rattle.std.proofs.Common.{take, drop, get_or, if◌then◌else◌, Option, Some, None, option_map, refl, sym, ap, subst, ◌∙◌, arith, append_assoc, append-nil}
+use Rattle.std.proofs.Common.{◌≡◌, ℕ, suc, ◌+◌, ◌-◌, ◌<◌, ◌≤◌, Bool, true, false, not, ◌&&◌, ◌==◌, List, [], ◌∷◌, ◌++◌}
+use Rattle.std.proofs.Common.{length}
+use Rattle.std.proofs.Common.{take, drop, get_or, if◌then◌else◌, Option, Some, None, option_map, refl, sym, ap, subst}
+use Rattle.std.proofs.Common.{◌∙◌, arith, append_assoc, append-nil}
 use Rattle.std.proofs.{lemmas.Bool.Decides.nat_tests}
 use Rattle.std.proofs.lemmas.List.{drop_all, drop_more, length-append, length-take-le, take_at, take_rest}
-use Rattle.std.specs.List.{list_all}
 use Rattle.text_fields.specs.Splitting.{Lacks}
-use Rattle.outcome_queries.specs.Quoted.{place_outside, before_place, field_outside}
+use Rattle.outcome_queries.specs.Quoted.{place_outside, field_outside}
 
 -- ---- a byte further
 
@@ -96,7 +97,8 @@ skips_both s one other first second = record {
   goes_on = λ more.
       ap (place_outside false s) (append_assoc one other more) ∙ first.goes_on (other ++ more)
       ∙ ap (option_map (λ k. length one + k)) (second.goes_on more)
-      ∙ two_more (length one) (length other) (length (one ++ other)) (place_outside false s more) (length-append one other);
+      ∙ two_more (length one) (length other) (length (one ++ other)) (place_outside false s more)
+      (length-append one other);
 }
 
 pub skips_none : (s : ℕ) → Skips s []
@@ -198,14 +200,6 @@ field_is s text first others cut place =
 pub field_whole : (s : ℕ) (text : List ℕ) → place_outside false s text ≡ None → field_outside s text ≡ text
 field_whole s text none = rw none refl
 
-pub field_lead : (s : ℕ) (lead others : List ℕ) → (s == 39) ≡ false → Skips s lead
-    → field_outside s (lead ++ s ∷ others) ≡ lead
-field_lead s lead others mark skips =
-    sym (field_is s (lead ++ s ∷ others) lead others refl (sym (found_behind s lead others mark skips)))
-
-pub field_alone : (s : ℕ) (text : List ℕ) → Skips s text → field_outside s text ≡ text
-field_alone s text skips = field_whole s text (none_in s text skips)
-
 -- ---- a turn of a loop that looks for the place
 
 step_by : (mark here : Bool) (q : Bool) (s c : ℕ) (rest : List ℕ) → (c == 39) ≡ mark → ((c == s) && not q) ≡ here
@@ -224,7 +218,8 @@ so_far : (q : Bool) (s i d : ℕ) (text : List ℕ) → i < length text
 so_far q s i d text inside is =
     is ∙ ap (λ t. option_map (λ k. i + k) (place_outside q s t)) (drop_more text i d inside)
     ∙ ap (option_map (λ k. i + k))
-    (step_by (get_or text i d == 39) ((get_or text i d == s) && not q) q s (get_or text i d) (drop (i + 1) text) refl refl)
+    (step_by (get_or text i d == 39) ((get_or text i d == s) && not q) q s (get_or text i d) (drop (i + 1) text) refl
+    refl)
 
 pub found_here : (q : Bool) (s i d : ℕ) (text : List ℕ) → i < length text
     → place_outside false s text ≡ option_map (λ k. i + k) (place_outside q s (drop i text))
@@ -252,9 +247,6 @@ pub nowhere : (q : Bool) (s i : ℕ) (text : List ℕ) → length text ≤ i
 nowhere q s i text past is =
     sym (is ∙ ap (λ t. option_map (λ k. i + k) (place_outside q s t)) (drop_all i text past)
     ∙ ap (option_map (λ k. i + k)) (empty q s))
-
-pub at_start : (s : ℕ) (text : List ℕ) → place_outside false s text ≡ option_map (λ k. 0 + k) (place_outside false s text)
-at_start s text = none_before (place_outside false s text)
 
 pub parts_found : (s k : ℕ) (text : List ℕ) → Some k ≡ place_outside false s text
     → text ≡ take k text ++ s ∷ take (length text - (k + 1)) (drop (k + 1) text)

@@ -1,8 +1,10 @@
 -- A place by a name, read where its text is cut: there is one way to cut it.
-use Rattle.std.proofs.Common.{◌≡◌, ◌≢◌, ℕ, zero, suc, ◌+◌, ◌⊎◌, Bool, true, false, not, ◌&&◌, ◌==◌, List, [], ◌∷◌, ◌++◌, length}
-use Rattle.std.proofs.Common.{get_or, IfNone, Option, Some, None, inl, inr, refl, sym, ap, subst, ◌∙◌, arith, append_assoc, append-nil}
-use Rattle.std.proofs.{lemmas.Bool.Decides.nat_tests, lemmas.List.length-append, lemmas.List.append_cancel_right, lemmas.List.get_or_at}
-use Rattle.std.specs.{List.list_all, Borrow.Bor}
+use Rattle.std.proofs.Common.{◌≡◌, ℕ, ◌+◌, ◌⊎◌, true, false, ◌==◌, List, [], ◌∷◌, ◌++◌, length}
+use Rattle.std.proofs.Common.{get_or, IfNone, Option, Some, None, inl, inr, refl, sym, ap, subst, ◌∙◌, arith}
+use Rattle.std.proofs.Common.{append_assoc, append-nil}
+use Rattle.std.proofs.{lemmas.Bool.Decides.nat_tests, lemmas.List.length-append, lemmas.List.append_cancel_right}
+use Rattle.std.proofs.{lemmas.List.get_or_at}
+use Rattle.std.specs.{Borrow.Bor}
 use Rattle.text_fields.specs.{Splitting.Lacks, Values.SpellsValue}
 use Rattle.text_fields.proofs.LacksLaws.{Lacks-append, Lacks-from_all}
 use Rattle.symbols.specs.declared.meanings.Name.{Name}
@@ -11,7 +13,7 @@ use Rattle.watched_outcomes.specs.declared.watch.Width.TheVariants.{Byte, Half, 
 use Rattle.outcome_queries.specs.declared.placed.{Placed.Placed, Behind.Behind}
 use Rattle.outcome_queries.specs.declared.placed.Behind.TheVariants.{Element, Bytes}
 use Rattle.outcome_queries.specs.Quoted.{place_outside}
-use Rattle.outcome_queries.specs.Placed.{can_begin, can_follow, is_plain_name, IsMarked, SpellsPart, SpellsOf, SpellsName}
+use Rattle.outcome_queries.specs.Placed.{can_begin, can_follow, is_plain_name, SpellsPart, SpellsOf, SpellsName}
 use Rattle.outcome_queries.specs.Placed.{SpellsBehind, SpellsPlace, SpellsPlaced}
 use Rattle.outcome_queries.specs.Widths.{width_text}
 use Rattle.outcome_queries.proofs.Outside.{Skips, cut_there, found_behind, no_cut, none_in, same_begin, skips_both}
@@ -20,13 +22,6 @@ use Rattle.outcome_queries.proofs.Spelled.{bracket, colon, name_skips, part_skip
 use Rattle.outcome_queries.proofs.Spelled.{behind_byte, plain_all, value_lacks, value_skips}
 
 -- ---- a name, and a name with its file
-
-pub part_none : (text : List ℕ) → is_plain_name text ≡ false → ((name : List ℕ) → IsMarked text name → ⊥)
-    → (name : List ℕ) → SpellsPart text name → ⊥
-part_none text other none name (inl is) =
-    let plain : is_plain_name text ≡ true = subst (λ t. is_plain_name t ≡ true) (sym is.1) is.0 in
-    let never : true ≡ false = sym plain ∙ other in cc
-part_none text other none name (inr is) = none name is
 
 pub with_file : (text first others : List ℕ) → text ≡ first ++ 58 ∷ others
     → Some (length first) ≡ place_outside false 58 text → (file : Option (Bor (List ℕ))) (name : List ℕ)
@@ -46,35 +41,6 @@ without_file text none (Some file) name is =
 
 -- ---- an element, bytes behind the start, or the start
 
-pub element_found : (text named index : List ℕ) (name : Name) (n : ℕ) → text ≡ named ++ 91 ∷ (index ++ 93 ∷ [])
-    → SpellsName named name → SpellsValue index n → SpellsPlace text name (Element n)
-element_found text named index name n cut names value = record {
-  named = named;
-  behind = 91 ∷ index ++ 93 ∷ [];
-  names = names;
-  goes = (index, value, refl);
-  spelled = cut;
-}
-
-pub bytes_found : (text named distance : List ℕ) (name : Name) (n : ℕ) → text ≡ named ++ 43 ∷ distance
-    → SpellsName named name → SpellsValue distance n → SpellsPlace text name (Bytes n)
-bytes_found text named distance name n cut names value = record {
-  named = named;
-  behind = 43 ∷ distance;
-  names = names;
-  goes = inr (distance, value, refl);
-  spelled = cut;
-}
-
-pub start_found : (text : List ℕ) (name : Name) → SpellsName text name → SpellsPlace text name (Bytes 0)
-start_found text name names = record {
-  named = text;
-  behind = [];
-  names = names;
-  goes = inl (refl, refl);
-  spelled = sym (append-nil text);
-}
-
 -- the name and the number of such a place, cut from its text
 pub record AreParts (named number : List ℕ) (name : Name) : Type 0 where
   pub names : SpellsName named name
@@ -86,8 +52,9 @@ bytes_skip goes n (inl is) = subst (λ t. Skips 91 t) (sym is.1) (skips_none 91)
 bytes_skip goes n (inr is) =
     subst (λ t. Skips 91 t) (sym is.2) (behind_byte 91 43 is.0 refl refl (value_skips 91 n is.0 bracket is.1))
 
-element_by : (text named index lead goes : List ℕ) (name : Name) (far : Behind) → text ≡ named ++ 91 ∷ (index ++ 93 ∷ [])
-    → Some (length named) ≡ place_outside false 91 text → SpellsName lead name → SpellsBehind goes far
+element_by : (text named index lead goes : List ℕ) (name : Name) (far : Behind)
+    → text ≡ named ++ 91 ∷ (index ++ 93 ∷ []) → Some (length named) ≡ place_outside false 91 text
+    → SpellsName lead name → SpellsBehind goes far
     → text ≡ lead ++ goes → AreParts named index name
 element_by text named index lead goes name (Element n) cut place names is spelled =
     let skips = name_skips 91 lead name.file name.name.now bracket refl names in
@@ -101,7 +68,8 @@ element_by text named index lead goes name (Element n) cut place names is spelle
     }
 element_by text named index lead goes name (Bytes n) cut place names is spelled =
     let skips = name_skips 91 lead name.file name.name.now bracket refl names in
-    let none = none_in 91 text (subst (λ t. Skips 91 t) (sym spelled) (skips_both 91 lead goes skips (bytes_skip goes n is))) in
+    let all = skips_both 91 lead goes skips (bytes_skip goes n is) in
+    let none = none_in 91 text (subst (λ t. Skips 91 t) (sym spelled) all) in
     let never : Some (length named) ≡ None = place ∙ none in cc
 
 pub element_parts : (text named index : List ℕ) (name : Name) (far : Behind) → text ≡ named ++ 91 ∷ (index ++ 93 ∷ [])
@@ -285,7 +253,8 @@ pub placed_none : (text place : List ℕ) (width : Option Width) → text ≡ pl
     → (width ≡ None → (before : List ℕ) (w : Width) → text ≡ before ++ width_text (Some w) → ⊥)
     → ((name : Name) (far : Behind) → SpellsPlace place name far → ⊥) → (placed : Placed) → SpellsPlaced text placed → ⊥
 placed_none text place width cut none nowhere placed is =
-    let same = place_is text place is.place width placed.width placed.name placed.behind cut none is.written is.spelled in
+    let same = place_is text place is.place width placed.width placed.name placed.behind cut none is.written is.spelled
+    in
     nowhere placed.name placed.behind (subst (λ t. SpellsPlace t placed.name placed.behind) same is.written)
 
 -- what stands behind a bracket doesn't end in one
@@ -293,7 +262,8 @@ pub no_bracket : (text lead rest : List ℕ) (last d : ℕ) → text ≡ lead ++
     → Some (length lead) ≡ place_outside false 91 text → last + 1 ≡ length rest → (get_or rest last d ≡ 93 → ⊥)
     → LacksElement text
 no_bracket text lead rest last d cut place long other named index found spelled =
-    let size : length lead ≡ length named = let same : Some (length lead) ≡ Some (length named) = place ∙ sym found in cc in
+    let both_found : Some (length lead) ≡ Some (length named) = place ∙ sym found in
+    let size : length lead ≡ length named = cc in
     let both = same_begin lead (91 ∷ rest) named (91 ∷ (index ++ 93 ∷ [])) size (sym cut ∙ spelled) in
     let same : rest ≡ index ++ 93 ∷ [] = let behind = both.1 in cc in
     let more : length rest ≡ length index + 1 = ap length same ∙ length-append index (93 ∷ []) in

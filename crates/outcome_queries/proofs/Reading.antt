@@ -1,25 +1,24 @@
 -- What is watched, read where its text is cut.
-use Rattle.std.proofs.Common.{◌≡◌, ◌≢◌, ℕ, ◌-◌, ◌*◌, ◌^◌, ◌≤◌, ◌<◌, ◌⊎◌, Bool, true, false, nat_lt, ◌==◌}
-use Rattle.std.proofs.Common.{if◌then◌else◌, List, [], ◌∷◌, ◌++◌, length, Result, Ok, Err, inl, inr, refl, sym, ap, subst, ◌∙◌}
-use Rattle.std.proofs.Common.{arith, codes, not, Option, Some, None, ◌+◌}
+use Rattle.std.proofs.Common.{◌≡◌, ◌≢◌, ℕ, ◌-◌, ◌^◌, ◌≤◌, ◌<◌, ◌⊎◌, Bool, true, false, nat_lt, ◌==◌}
+use Rattle.std.proofs.Common.{if◌then◌else◌, List, [], ◌∷◌, ◌++◌, length, Ok, Err, inl, inr, refl, sym, ap, subst, ◌∙◌}
+use Rattle.std.proofs.Common.{arith, not, Option, Some, None, ◌+◌}
 use Rattle.std.specs.{Char.is_ascii_digit, List.list_all}
 use Rattle.std.specs.Fmt.{decimal}
 use Rattle.text_fields.specs.{Reading.decimal_field, Reading.hex_field, Reading.is_hex_digit, Spelling.hex}
 use Rattle.text_fields.specs.Splitting.{field, rest, Lacks}
 use Rattle.text_fields.proofs.{DecimalLaws.decimal_field-decimal, DecimalLaws.decimal_field_only}
 use Rattle.text_fields.proofs.{HexLaws.hex_field-hex, HexLaws.hex_field_only}
-use Rattle.text_fields.proofs.{LacksLaws.Lacks-decimal, LacksLaws.Lacks-hex}
-use Rattle.text_fields.proofs.{SplittingLaws.field-cut, SplittingLaws.rest-cut, SplittingLaws.cut_where, SplittingLaws.parts_at}
+use Rattle.text_fields.proofs.{LacksLaws.Lacks-decimal}
+use Rattle.text_fields.proofs.{SplittingLaws.field-cut, SplittingLaws.rest-cut, SplittingLaws.cut_where}
+use Rattle.text_fields.proofs.{SplittingLaws.parts_at}
 use Rattle.text_fields.proofs.ValueLaws.{no_number}
 use Rattle.text_fields.specs.declared.read.FieldError.{FieldError}
 use Rattle.rv_text.specs.Registers.{abi_name, x_name, lettered, pointer_name, IsNameOf}
-use Rattle.outcome_queries.specs.Watched.{Spells, SpellsRegister, SpellsBytes}
+use Rattle.outcome_queries.specs.Watched.{SpellsRegister, SpellsBytes}
 use Rattle.watched_outcomes.specs.declared.watch.{WatchedBytes.WatchedBytes, Width.Width}
 use Rattle.outcome_queries.specs.Widths.{width_text}
 use Rattle.outcome_queries.proofs.Outside.{same_begin}
 use Rattle.std.proofs.lemmas.List.{length-append}
-use Rattle.outcome_queries.specs.declared.watched.Watched.{Watched}
-use Rattle.outcome_queries.specs.declared.watched.Watched.TheVariants as watched
 
 -- a byte that stands in no name, no number and no address
 pub record IsMark (s : ℕ) : Type 0 where
@@ -137,8 +136,8 @@ bytes_found text before width a w cut is read =
 width_long : (w : Width) → length (width_text (Some w)) ≡ 2
 width_long w = refl
 
-address_is : (text before : List ℕ) (width : Option Width) (w : Width) (b : WatchedBytes) → text ≡ before ++ width_text width
-    → width ≡ Some w → (is : SpellsBytes text b) → before ≡ hex 8 b.address
+address_is : (text before : List ℕ) (width : Option Width) (w : Width) (b : WatchedBytes)
+    → text ≡ before ++ width_text width → width ≡ Some w → (is : SpellsBytes text b) → before ≡ hex 8 b.address
 address_is text before width w b cut some is =
     let whole : text ≡ before ++ width_text (Some w) = cut ∙ ap (λ o. before ++ width_text o) some in
     let one : length text ≡ length before + 2 = ap length whole ∙ length-append before (width_text (Some w)) in
@@ -158,12 +157,6 @@ no_address text before width w error cut some read b is =
     let number : hex_field 8 before ≡ Ok b.address =
     rw (address_is text before width w b cut some is) (hex_field-hex 8 b.address is.in_range) in
     let never : Err error ≡ Ok b.address = read ∙ number in cc
-
--- a text that is none of both
-pub spells_none : (text : List ℕ) → ((h r : ℕ) → SpellsRegister text h r → ⊥)
-    → ((b : WatchedBytes) → SpellsBytes text b → ⊥) → (one : Watched) → Spells text one → ⊥
-spells_none text no_register no_bytes (watched.Register h r) is = no_register h r is
-spells_none text no_register no_bytes (watched.Bytes b) is = no_bytes b is
 
 -- what the readers' own cuts say of it
 pub no_register_named : (text name : List ℕ) → name ≡ field 64 text → ((r : ℕ) → IsNameOf r name → ⊥)

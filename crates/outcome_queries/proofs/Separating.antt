@@ -1,5 +1,6 @@
 -- A list that is read a part at a time.
-use Rattle.std.proofs.Common.{◌≡◌, ℕ, suc, ◌+◌, ◌-◌, ◌≤◌, ◌<◌, List, [], ◌∷◌, ◌++◌, length, refl, sym, ap, subst, ◌∙◌, arith}
+use Rattle.std.proofs.Common.{◌≡◌, ℕ, suc, ◌+◌, ◌-◌, ◌≤◌, ◌<◌, List, [], ◌∷◌, ◌++◌, length, refl, sym, ap, subst, ◌∙◌}
+use Rattle.std.proofs.Common.{arith}
 use Rattle.std.proofs.Common.{append_assoc}
 use Rattle.std.proofs.lemmas.List.{length-append}
 use Rattle.outcome_queries.specs.Quoted.{field_outside}
@@ -7,13 +8,11 @@ use Rattle.outcome_queries.specs.declared.refused.{QueryRefused.QueryRefused, Ex
 use Rattle.outcome_queries.specs.Lists.{IsLed, IsSeparated, IsPartRefused, IsRefusedFor}
 
 -- Of a text this much has been read, and the rest says what is left.
-pub record IsRead {A : Type 0} (Says : List ℕ → A → Type 0) (s : ℕ) (text rest_text : List ℕ) (items : List A) : Type 0 where
+pub record IsRead {A : Type 0} (Says : List ℕ → A → Type 0) (s : ℕ) (text rest_text : List ℕ) (items : List A)
+    : Type 0 where
   pub before : List ℕ
   pub whole : text ≡ before ++ rest_text
   pub led : IsLed Says s before items
-
-pub nothing_read : {A : Type 0} (Says : List ℕ → A → Type 0) (s : ℕ) (text : List ℕ) → IsRead Says s text text []
-nothing_read Says s text = record { before = []; whole = refl; led = refl }
 
 -- one more part is read
 one_led : {A : Type 0} (Says : List ℕ → A → Type 0) (s : ℕ) (before first : List ℕ) (old : List A) (one : A)
@@ -41,12 +40,14 @@ part_read {A} Says s text old_rest first new_rest old new is cut taken = record 
 
 -- the last one is
 with_first : {A : Type 0} (Says : List ℕ → A → Type 0) (s : ℕ) (text first others : List ℕ) (one : A) (more : List A)
-    → text ≡ first ++ s ∷ others → Says first one → IsSeparated Says s others more → IsSeparated Says s text (one ∷ more)
+    → text ≡ first ++ s ∷ others → Says first one → IsSeparated Says s others more
+    → IsSeparated Says s text (one ∷ more)
 with_first Says s text first others one [] cut says is = absurd is
 with_first Says s text first others one (next ∷ more) cut says is = (first, others, cut, says, is)
 
 goes_on : {A : Type 0} (Says : List ℕ → A → Type 0) (s : ℕ) (before rest_text : List ℕ) (old more : List A)
-    → IsLed Says s before old → IsSeparated Says s rest_text more → IsSeparated Says s (before ++ rest_text) (old ++ more)
+    → IsLed Says s before old → IsSeparated Says s rest_text more
+    → IsSeparated Says s (before ++ rest_text) (old ++ more)
 goes_on {A} Says s before rest_text [] more led is =
     subst (λ t. IsSeparated Says s (t ++ rest_text) more) (sym led) is
 goes_on {A} Says s before rest_text (one ∷ old) more led is =

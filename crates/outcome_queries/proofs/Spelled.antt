@@ -1,18 +1,17 @@
 -- Names, numbers and places as they are spelled: which bytes they lack outside of quotation marks.
-use Rattle.std.proofs.Common.{◌≡◌, ◌≢◌, ℕ, zero, suc, ◌+◌, ◌-◌, ◌^◌, ◌≤◌, ◌<◌, ◌⊎◌, Bool, true, false, not, ◌&&◌, ◌==◌, List, [], ◌∷◌}
-use Rattle.std.proofs.Common.{◌++◌, length, Option, Some, None, inl, inr, refl, sym, ap, subst, ◌∙◌, arith, codes, append_assoc}
+use Rattle.std.proofs.Common.{◌≡◌, ℕ, ◌+◌, Bool, true, false, ◌&&◌, ◌==◌, List, [], ◌∷◌}
+use Rattle.std.proofs.Common.{◌++◌, Option, Some, None, inl, inr, refl, sym, subst, arith, codes}
 use Rattle.std.proofs.{lemmas.Bool.Decides.nat_tests}
-use Rattle.std.specs.{Char.is_ascii_digit, List.list_all, Fmt.decimal, Borrow.Bor}
+use Rattle.std.specs.{Char.is_ascii_digit, List.list_all, Borrow.Bor}
 use Rattle.text_fields.specs.{Reading.is_hex_digit, Spelling.hex, Splitting.Lacks, Values.SpellsValue}
 use Rattle.text_fields.proofs.LacksLaws.{Lacks-append, Lacks-decimal, Lacks-from_all, Lacks-hex}
-use Rattle.symbols.specs.declared.meanings.Name.{Name}
 use Rattle.watched_outcomes.specs.declared.watch.Width.{Width}
 use Rattle.watched_outcomes.specs.declared.watch.Width.TheVariants.{Byte, Half, Word}
 use Rattle.watched_outcomes.specs.Watching.{bytes_of}
 use Rattle.outcome_queries.specs.declared.placed.{Placed.Placed, Behind.Behind}
 use Rattle.outcome_queries.specs.declared.placed.Behind.TheVariants.{Element, Bytes}
-use Rattle.outcome_queries.specs.Placed.{can_begin, can_follow, is_plain_name, IsMarked, SpellsPart, SpellsOf, SpellsName}
-use Rattle.outcome_queries.specs.Placed.{SpellsBehind, SpellsPlace, SpellsPlaced}
+use Rattle.outcome_queries.specs.Placed.{can_begin, can_follow, is_plain_name, SpellsPart, SpellsOf}
+use Rattle.outcome_queries.specs.Placed.{SpellsBehind, SpellsPlaced}
 use Rattle.outcome_queries.specs.Widths.{width_text}
 use Rattle.outcome_queries.proofs.Outside.{Skips, skips_plain, skips_quoted, skips_both, skips_none}
 
@@ -40,7 +39,8 @@ equals = record { mark = refl; name = refl; digit = refl; hex = refl; base = ref
 
 pub value_lacks : (s v : ℕ) (text : List ℕ) → is_ascii_digit s ≡ false → is_hex_digit s ≡ false → (120 == s) ≡ false
     → SpellsValue text v → Lacks s text
-value_lacks s v text digit hex base (inl is) = rw is.spelled (Lacks-decimal s v digit (let few = is.in_range in grind arith))
+value_lacks s v text digit hex base (inl is) =
+    let few = is.in_range in rw is.spelled (Lacks-decimal s v digit (grind arith))
 value_lacks s v text digit hex_digit base (inr is) =
     let zero : (48 == s) ≡ false = grind (arith, nat_tests) in
     let lead : Lacks s (codes "0x") = rw (zero, base) refl in
@@ -111,7 +111,8 @@ behind_skips s text (Element n) apart open_one close_one plus_one is =
     subst (λ t. Skips s t) (sym is.2)
     (behind_byte s 91 (is.0 ++ 93 ∷ []) open_one refl
     (skips_both s is.0 (93 ∷ []) (value_skips s n is.0 apart is.1) (byte_skips s 93 close_one refl)))
-behind_skips s text (Bytes n) apart open_one close_one plus_one (inl is) = subst (λ t. Skips s t) (sym is.1) (skips_none s)
+behind_skips s text (Bytes n) apart open_one close_one plus_one (inl is) =
+    subst (λ t. Skips s t) (sym is.1) (skips_none s)
 behind_skips s text (Bytes n) apart open_one close_one plus_one (inr is) =
     subst (λ t. Skips s t) (sym is.2) (behind_byte s 43 is.0 plus_one refl (value_skips s n is.0 apart is.1))
 
@@ -129,6 +130,7 @@ place_skips text placed is =
     let at = is.written in
     let named = name_skips 61 at.named placed.name.file placed.name.name.now equals refl at.names in
     let goes = behind_skips 61 at.behind placed.behind equals refl refl refl at.goes in
-    let place : Skips 61 is.place = subst (λ t. Skips 61 t) (sym at.spelled) (skips_both 61 at.named at.behind named goes) in
+    let place : Skips 61 is.place =
+    subst (λ t. Skips 61 t) (sym at.spelled) (skips_both 61 at.named at.behind named goes) in
     subst (λ t. Skips 61 t) (sym is.spelled)
     (skips_both 61 is.place (width_text placed.width) place (width_skips 61 placed.width equals refl))

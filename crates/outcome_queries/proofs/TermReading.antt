@@ -1,6 +1,6 @@
 -- The terms of a condition, read where their text is cut.
-use Rattle.std.proofs.Common.{◌≡◌, ◌≢◌, ℕ, ◌-◌, ◌^◌, ◌≤◌, ◌<◌, ◌⊎◌, true, false, ◌&&◌, nat_le, List, [], ◌∷◌, ◌++◌, length}
-use Rattle.std.proofs.Common.{Option, Some, None, IfSome, IfNone, IfOk, IfErr, Result, Ok, Err, inl, inr, refl, sym, ap, subst, ◌∙◌, arith, codes}
+use Rattle.std.proofs.Common.{◌≡◌, ℕ, false, List, [], ◌∷◌, ◌++◌, length}
+use Rattle.std.proofs.Common.{Some, None, IfOk, IfErr, Result, Ok, Err, refl, sym, subst, ◌∙◌, arith, codes}
 use Rattle.std.specs.Fmt.{decimal}
 use Rattle.text_fields.specs.Reading.{decimal_field}
 use Rattle.text_fields.specs.Splitting.{field, rest}
@@ -10,15 +10,15 @@ use Rattle.text_fields.specs.{Spelling.hex, Values.SpellsValue}
 use Rattle.text_fields.proofs.LacksLaws.{Lacks-decimal, Lacks-hex}
 use Rattle.symbols.specs.Tables.{Table}
 use Rattle.watched_outcomes.specs.declared.watch.WatchedBytes.{WatchedBytes}
-use Rattle.outcome_queries.specs.{declared.term.Term.Term, declared.watched.Watched.Watched, declared.placed.Placed.Placed}
+use Rattle.outcome_queries.specs.{declared.term.Term.Term, declared.watched.Watched.Watched}
 use Rattle.outcome_queries.specs.declared.term.Term.TheVariants as terms
 use Rattle.outcome_queries.specs.declared.watched.Watched.TheVariants as watched
 use Rattle.outcome_queries.specs.declared.refused.Expected.{Expected}
 use Rattle.outcome_queries.specs.declared.refused.Expected.TheVariants as expected
-use Rattle.outcome_queries.specs.{Quoted.place_outside, Placed.SpellsPlaced, AtName.IsNowhere, Asking.Asks}
+use Rattle.outcome_queries.specs.{Quoted.place_outside, Placed.SpellsPlaced, Asking.Asks}
 use Rattle.outcome_queries.specs.{Lists.IsPartRefused, Widths.width_text}
 use Rattle.outcome_queries.specs.Watched.{IsUnnamed, Spells, SpellsBytes, SpellsRegister}
-use Rattle.outcome_queries.specs.Terms.{AsksPlace, HoldsNothing, IsNoTerm, IsOfEnd, Means, SaysTerm, SpellsCause}
+use Rattle.outcome_queries.specs.Terms.{HoldsNothing, IsNoTerm, IsOfEnd, Means, SaysTerm, SpellsCause}
 use Rattle.outcome_queries.specs.Terms.{SpellsHart, of_term, trimmed}
 use Rattle.outcome_queries.proofs.Outside.{Skips, cut_there, no_cut, skips_both, skips_plain}
 use Rattle.outcome_queries.proofs.Reading.{either_lacks, equals_mark, number_found, number_none, quote_mark}
@@ -69,7 +69,8 @@ hart_skips text h is =
 register_skips : (text : List ℕ) (h r : ℕ) → SpellsRegister text h r → Skips 61 text
 register_skips text h r is =
     let small = is.in_range in
-    let name : Skips 61 is.name = skips_plain 61 is.name (either_lacks 61 r is.name equals_mark is.names.last is.names.name)
+    let name : Skips 61 is.name =
+    skips_plain 61 is.name (either_lacks 61 r is.name equals_mark is.names.last is.names.name)
     (either_lacks 39 r is.name quote_mark is.names.last is.names.name) in
     subst (λ t. Skips 61 t) (sym is.spelled)
     (skips_both 61 is.name (64 ∷ decimal h) name (behind_byte 61 64 (decimal h) refl refl
@@ -105,7 +106,8 @@ term_found names text inner left right term is cut means = record {
 
 pub holds_found : (names : Table) (text inner left right : List ℕ) (read : Result Term Expected) → inner ≡ trimmed text
     → inner ≡ left ++ 61 ∷ right → IfOk read (Means names left right) → IfOk read (SaysTerm names text)
-holds_found names text inner left right (Ok term) is cut means = term_found names text inner left right term is cut means
+holds_found names text inner left right (Ok term) is cut means =
+    term_found names text inner left right term is cut means
 holds_found names text inner left right (Err expected) is cut means = tt
 
 -- a text without an equals sign
@@ -176,13 +178,6 @@ unnamed_holds names left right value expected.Watched says is =
 unnamed_holds names left right value expected.Term says is = absurd is.2
 unnamed_holds names left right value refused says is =
     (is.0, record { spelled = is.1; value = value; said = says }, is.2)
-
--- ---- a place that is refused
-
-pub nowhere_unnamed : (names : Table) (text : List ℕ) (placed : Placed) (refused : Expected) → SpellsPlaced text placed
-    → IsNowhere names placed refused → IsUnnamed names text refused
-nowhere_unnamed names text placed expected.Watched spells is = absurd is
-nowhere_unnamed names text placed refused spells is = (placed, spells, is)
 
 -- ---- a part of a list that is refused
 

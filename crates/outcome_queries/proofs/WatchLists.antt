@@ -1,5 +1,6 @@
 -- What is watched, a member of a list or a term at a time.
-use Rattle.std.proofs.Common.{◌≡◌, ℕ, zero, suc, ◌+◌, ◌≤◌, ◌<◌, List, [], ◌∷◌, ◌++◌, length, take, drop, get_or, All, Contains}
+use Rattle.std.proofs.Common.{◌≡◌, ℕ, zero, suc, ◌+◌, ◌≤◌, ◌<◌, List, [], ◌∷◌, ◌++◌, length, take, drop, get_or, All}
+use Rattle.std.proofs.Common.{Contains}
 use Rattle.std.proofs.Common.{refl, sym, ap, subst, ◌∙◌, arith, append_assoc, Bool, not, filter}
 use Rattle.std.proofs.Common.{append-nil, inl, inr}
 use Rattle.std.proofs.lemmas.List.{drop_more, flat_map_more, length-append, take-append-drop, take_all, take_more}
@@ -13,7 +14,7 @@ use Rattle.outcome_queries.specs.declared.watched.Asked.{Asked}
 use Rattle.outcome_queries.specs.declared.term.Term.TheVariants as terms
 use Rattle.outcome_queries.specs.declared.watched.Watched.TheVariants as watched
 use Rattle.outcome_queries.specs.Watches.{registers_in, words_in, register_with, bytes_with, asked_of, asked_in}
-use Rattle.outcome_queries.specs.Watches.{Extends, IsOnceBehind, IsWatchedFor, IsWatchedIn, LacksRoom}
+use Rattle.outcome_queries.specs.Watches.{Extends, IsOnceBehind, IsWatchedFor, LacksRoom}
 
 register_short : (w : Watched) → length (register_with w) ≤ 1
 register_short (watched.Register h r) = omega arith
@@ -106,7 +107,8 @@ asked_room p list i some few inside is =
     omega (arith, few, inside, part, both, same)
 
 -- what a longer list tells of terms
-pub still_watched : (old new : List Asked) (term : Term) → Extends old new → IsWatchedFor old term → IsWatchedFor new term
+pub still_watched : (old new : List Asked) (term : Term) → Extends old new → IsWatchedFor old term
+    → IsWatchedFor new term
 still_watched old new (terms.Ended h n) more is = tt
 still_watched old new (terms.Stopped h c) more is = tt
 still_watched old new (terms.Holds a v) more is = (
@@ -149,18 +151,13 @@ pub all_once : (list all : List Asked) (terms : List Term) (i : ℕ) → length 
 all_once list all terms i past once =
     subst (λ (t : List Term). IsOnceBehind [] (list ++ asked_in t) all) (take_all i terms past) once
 
--- before the first term
-pub none_yet : (list all : List Asked) (i : ℕ) → length list ≤ i → IsOnceBehind [] (take i list) all
-    → IsOnceBehind [] (list ++ []) all
-none_yet list all i past once = subst (λ (t : List Asked). IsOnceBehind [] t all)
-    (take_all i list past ∙ sym (append-nil list)) once
-
 pub terms_step : (list all new : List Asked) (terms : List Term) (i : ℕ) (d : Term) → i < length terms
     → All (IsWatchedFor all) (take i terms) → Extends all new → IsWatchedFor new (get_or terms i d)
     → All (IsWatchedFor new) (take (i + 1) terms)
 terms_step list all new terms i d inside told more next =
     All-more (IsWatchedFor new) terms i d inside
-    (All-weaker (IsWatchedFor all) (IsWatchedFor new) (λ term. still_watched all new term more) (take i terms) told) next
+    (All-weaker (IsWatchedFor all) (IsWatchedFor new) (λ term. still_watched all new term more) (take i terms) told)
+    next
 
 pub all_told : (all : List Asked) (terms : List Term) (i : ℕ) → length terms ≤ i
     → All (IsWatchedFor all) (take i terms) → All (IsWatchedFor all) terms
@@ -198,13 +195,6 @@ still_full a b xs ys zs once full all whole =
     let many = full second.0 second.1 in
     let more = once_grows second.0 zs all second.2 in omega (arith, many, more)
 
-pub one_full : (old : List Asked) (one : Asked) → (IsWatchedIn old one.watched → ⊥) → length old ≡ 64
-    → LacksRoom old (one ∷ [])
-one_full old one other long all (inl there) = absurd (other there.0)
-one_full old one other long all (inr new) =
-    let more : length (old ++ one ∷ []) ≡ length old + 1 = length-append old (one ∷ []) in
-    let size : length (old ++ one ∷ []) ≡ length all = ap length new.1 in omega (arith, long, more, size)
-
 pub list_full : (list old behind : List Asked) (i : ℕ) (d : Asked) → i < length list
     → IsOnceBehind [] (take i list) old → LacksRoom old (get_or list i d ∷ []) → LacksRoom [] (list ++ behind)
 list_full list old behind i d inside once full =
@@ -218,7 +208,8 @@ list_full list old behind i d inside once full =
 asked_cut : (terms : List Term) (i : ℕ) (d : Term) → i < length terms
     → asked_in terms ≡ asked_in (take i terms) ++ (asked_of (get_or terms i d) ++ asked_in (drop (i + 1) terms))
 asked_cut terms i d inside =
-    ap asked_in (sym (take-append-drop i terms) ∙ ap (λ (t : List Term). take i terms ++ t) (drop_more terms i d inside))
+    ap asked_in (sym (take-append-drop i terms)
+    ∙ ap (λ (t : List Term). take i terms ++ t) (drop_more terms i d inside))
     ∙ flat_map-append asked_of (take i terms) (get_or terms i d ∷ drop (i + 1) terms)
 
 pub terms_full : (list old : List Asked) (terms : List Term) (i : ℕ) (d : Term) → i < length terms

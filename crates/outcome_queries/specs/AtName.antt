@@ -1,5 +1,5 @@
 -- The bytes of memory that a place by a name is. (This project's own choice.)
-use Rattle.std.specs.Prelude.{◌≡◌, ◌⊎◌, ℕ, ◌+◌, ◌*◌, ◌-◌, ◌^◌, ◌<◌, ◌≤◌, ◌==◌, nat_le, ◌||◌, Bool, true, false}
+use Rattle.std.specs.Prelude.{◌≡◌, ◌⊎◌, ℕ, ◌+◌, ◌*◌, ◌^◌, ◌≤◌, ◌==◌, nat_le, ◌||◌, Bool, true, false}
 use Rattle.std.specs.Prelude.{Option, Some, None, if◌then◌else◌}
 use Rattle.symbols.specs.{declared.symbol.Symbol.Symbol, Tables.Table, Meanings.IsMeaning}
 use Rattle.symbols.specs.declared.meanings.Meaning.TheVariants as means

@@ -1,5 +1,5 @@
 -- How a place in memory is written by a name. (This project's own choice, after a debugger's expressions.)
-use Rattle.std.specs.Prelude.{◌≡◌, ◌⊎◌, ℕ, ◌==◌, ◌≤◌, nat_le, ◌&&◌, ◌||◌, not, Bool, true, false, List, [], ◌∷◌, ◌++◌}
+use Rattle.std.specs.Prelude.{◌≡◌, ◌⊎◌, ℕ, ◌==◌, nat_le, ◌&&◌, ◌||◌, not, Bool, true, false, List, [], ◌∷◌, ◌++◌}
 use Rattle.std.specs.Prelude.{Option, Some, None, is_ok}
 use Rattle.std.specs.{List.list_all, Borrow.Bor}
 use Rattle.text_fields.specs.{Splitting.Lacks, Values.SpellsValue, Reading.decimal_field, Reading.hex_field}

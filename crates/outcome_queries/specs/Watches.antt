@@ -1,7 +1,9 @@
 -- What is watched for a list and a condition.
-use Rattle.std.specs.Prelude.{◌≡◌, ◌⊎◌, ℕ, Bool, true, false, List, [], ◌∷◌, ◌++◌, ◌<◌, length, Contains, flat_map, filter, not}
+use Rattle.std.specs.Prelude.{◌≡◌, ◌⊎◌, Bool, true, false, List, [], ◌∷◌, ◌++◌, ◌<◌, length, Contains, flat_map, filter}
+use Rattle.std.specs.Prelude.{not}
 use Rattle.watched_outcomes.specs.declared.watch.{WatchedRegister.WatchedRegister, WatchedBytes.WatchedBytes}
-use Rattle.outcome_queries.specs.{declared.term.Term.Term, declared.watched.Watched.Watched, declared.watched.Asked.Asked}
+use Rattle.outcome_queries.specs.{declared.term.Term.Term, declared.watched.Watched.Watched}
+use Rattle.outcome_queries.specs.{declared.watched.Asked.Asked}
 use Rattle.outcome_queries.specs.declared.term.Term.TheVariants as terms
 use Rattle.outcome_queries.specs.declared.watched.Watched.TheVariants as watched
 

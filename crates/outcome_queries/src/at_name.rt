@@ -9,8 +9,8 @@ use crate::refused::Expected;
 use symbols::{Meaning, Symbol, Symbols, meaning_of};
 use watched_outcomes::{WatchedBytes, Width};
 
-/// The bytes that are looked at in a place by a name: as many as it says; else as many as its object has, where that are
-/// 1, 2 or 4; else 4. They lie inside of the object, where its size is known.
+/// The bytes that are looked at in a place by a name: as many as it says; else as many as its object has, where that
+/// are 1, 2 or 4; else 4. They lie inside of the object, where its size is known.
 ///
 /// Refused are a name that no symbol has (`Name`), one that stands for several addresses (`OneAddress`), and bytes that
 /// reach out of their object or lie behind all addresses (`Inside`).

@@ -125,8 +125,8 @@ fn between_marks(text: &[u8]) -> Option<&[u8]>
     }
 }
 
-/// Whether a name needs no quotation marks: it begins with a letter, `_`, `.` or `$`, has none but these, digits and `-`
-/// behind that, and says nothing else, as `h0` and `80001000` do.
+/// Whether a name needs no quotation marks: it begins with a letter, `_`, `.` or `$`, has none but these, digits and
+/// `-` behind that, and says nothing else, as `h0` and `80001000` do.
 #[tactic(auto, unfolding(crate::specs::Placed::is_plain_name))]
 fn is_plain_name(text: &[u8]) -> bool
     ensures { result ≡ is_plain_name text.now }

@@ -1,7 +1,8 @@
 //! What is watched for a list and a condition.
 
 ghost use Rattle.std.specs.Prelude.{◌≡◌, ◌≤◌, ◌∷◌, ◌++◌, [], true, false, length, All, IfSome, IfNone};
-ghost use Rattle.outcome_queries.specs.Watches.{registers_in, words_in, asked_of, asked_in, memory_asked, registers_asked};
+ghost use Rattle.outcome_queries.specs.Watches.{registers_in, words_in, asked_of, asked_in, memory_asked};
+ghost use Rattle.outcome_queries.specs.Watches.{registers_asked};
 ghost use Rattle.outcome_queries.specs.Watches.{Extends, IsOnceBehind, IsWatchedFor, IsWatchedIn, LacksRoom};
 
 use crate::list::WatchList;

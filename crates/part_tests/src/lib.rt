@@ -30,6 +30,8 @@ mod litmus_cycles_tests;
 #[cfg(test)]
 mod load_store_tests;
 #[cfg(test)]
+mod outcome_queries_tests;
+#[cfg(test)]
 mod placing;
 #[cfg(test)]
 mod queue_commands_tests;

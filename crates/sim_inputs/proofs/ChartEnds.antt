@@ -96,9 +96,9 @@ pub nameless_says_none : (word quoted name : List ℕ) (greatest : ℕ) → get_
     → quoted ≡ name ++ 39 ∷ [] → length name ≡ 0 → (end : ChartEnd) → IsEndOf word greatest end → ⊥
 nameless_says_none word quoted name greatest begins is ended empty =
     quoted_says_none word greatest begins (λ other some same.
-      let long : length quoted ≡ length other + 1 = ap length (ap rest_of (sym is ∙ same)) ∙ length-append other (39 ∷ []) in
-      let short : length quoted ≡ length name + 1 = ap length ended ∙ length-append name (39 ∷ []) in
-      some (emptied other (omega (arith, long, short, empty))))
+    let long : length quoted ≡ length other + 1 = ap length (ap rest_of (sym is ∙ same)) ∙ length-append other (39 ∷ []) in
+    let short : length quoted ≡ length name + 1 = ap length ended ∙ length-append name (39 ∷ []) in
+    some (emptied other (omega (arith, long, short, empty))))
 
 -- where no end is found, there is none
 pub finds_none : (P : ChartEnd → Type 0) (found : Option ChartEnd) → found ≡ None → ((end : ChartEnd) → P end → ⊥)

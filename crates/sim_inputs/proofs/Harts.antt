@@ -1,6 +1,6 @@
 -- How many harts are asked for, where there may not be so many.
 use Rattle.std.proofs.Common.{◌≡◌, ℕ, ◌≤◌, List, Result, Ok, Err, Option, None, Some}
-use Rattle.std.proofs.Common.{option_map, codes, refl, sym, ap, ◌∙◌, arith}
+use Rattle.std.proofs.Common.{option_map, codes, sym, ap, ◌∙◌, arith}
 use Rattle.std.specs.Result.{result_ok}
 use Rattle.std.proofs.lemmas.{Option.same_Some, Bool.leb-true}
 use Rattle.numbers.specs.Sizes.{most_harts}

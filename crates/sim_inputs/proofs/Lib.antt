@@ -1,4 +1,5 @@
 pub mod ChartEnds
+pub mod Charts
 pub mod Described
 pub mod Faults
 pub mod Found
@@ -8,3 +9,4 @@ pub mod Names
 pub mod Refusals
 pub mod Rows
 pub mod Subcommand
+pub mod Written

@@ -2,14 +2,13 @@
 use Rattle.std.specs.Prelude.{None, ◌≡◌, ◌≢◌, ℕ, ◌-◌, ◌^◌, nat_le, not, ◌&&◌, ◌||◌, Bool, true, false, List, [], ◌∷◌}
 use Rattle.std.specs.Prelude.{Option, Some, is_some, length, ◌==◌}
 use Rattle.std.specs.Prelude.{IsSomeAnd, option_map, codes, if◌then◌else◌}
-use Rattle.std.specs.{Borrow.Bor, List.fold, Option.option_map_or, Result.result_ok, Str.bytes_eq}
+use Rattle.std.specs.{Borrow.Bor, Option.option_map_or, Result.result_ok, Str.bytes_eq}
 use Rattle.numbers.specs.Sizes.{most_events, most_harts}
 use Rattle.text_fields.specs.Reading.{decimal_field}
 use Rattle.clap.specs.Words.{App, Row, Rule, Text, IsAmong, app_of, rule_of, fault_of, first_of}
-use Rattle.clap.specs.Words.{new_app, new_rule, subcommand_of, with_rule, with_subcommand}
+use Rattle.clap.specs.Words.{subcommand_of}
 use Rattle.clap.specs.{declared.builder.arg.Arg.Arg, declared.builder.command.Command.Command}
 use Rattle.clap.specs.{declared.builder.command.Command.TheViews.out-Command}
-use Rattle.clap.specs.{declared.builder.action.ArgAction.TheVariants.SetTrue}
 use Rattle.clap.specs.{declared.error.kind.ErrorKind.ErrorKind}
 use Rattle.clap.specs.{declared.error.kind.ErrorKind.TheVariants.DisplayHelp}
 use Rattle.clap.specs.{declared.error.kind.ErrorKind.TheVariants.DisplayVersion}

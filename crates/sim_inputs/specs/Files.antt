@@ -103,7 +103,7 @@ program_files config command = record {
   written = written_by command;
 }
 
-abbrev files_with : Option (Bor (List ℕ)) → Command → Files
+abbrev pub files_with : Option (Bor (List ℕ)) → Command → Files
 files_with config (commands.OfProgram command) = program_files config command
 files_with config (commands.Explain explain) = record {
   config = config;

@@ -9,4 +9,5 @@ returns-then-contains-clause-none c =
 pub returns-else-contains-clause-found : goal.returns-else-contains-clause-found
 returns-else-contains-clause-found c =
     marked_found c.args.text.now (omega arith) c.if-text-ne39.false c.if-text-ne39-2.false
-    (lacks_where 39 (take (length c.args.text.now - 1 - 1) (drop 1 c.args.text.now)) (sym c.contains.ensures.value ∙ c.if-contains.false))
+    (lacks_where 39 (take (length c.args.text.now - 1 - 1) (drop 1 c.args.text.now))
+    (sym c.contains.ensures.value ∙ c.if-contains.false))

@@ -1,6 +1,6 @@
 use Rattle.std.proofs.Common.{◌≡◌, ◌+◌, false, drop, option_map, sym, subst, arith, ◌∙◌}
 use Rattle.outcome_queries.specs.Quoted.{place_outside}
-use Rattle.outcome_queries.proofs.Outside.{at_start, found_here, not_here, nowhere}
+use Rattle.outcome_queries.proofs.Outside.{found_here, not_here, nowhere}
 use Rattle.outcome_queries.proofs.quoted.place_outside.Goals as goal
 
 pub returns-then-stands_here-clause-place : goal.returns-then-stands_here-clause-place

@@ -1,4 +1,4 @@
-use Rattle.outcome_queries.proofs.Outside.{field_is, parts_found, place_found}
+use Rattle.outcome_queries.proofs.Outside.{parts_found, place_found}
 use Rattle.outcome_queries.proofs.quoted.split_outside.Goals as goal
 
 pub returns-clause-found : goal.returns-clause-found

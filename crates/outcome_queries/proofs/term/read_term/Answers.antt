@@ -4,7 +4,8 @@ use Rattle.outcome_queries.proofs.term.read_term.Goals as goal
 
 pub returns-in_default-clause-refused : goal.returns-in_default-clause-refused
 returns-in_default-clause-refused c =
-    uncut_none (table_of c.args.names.now) c.args.text.now c.trimmed.result.now c.trimmed.ensures c.in_default.ensures.none
+    uncut_none (table_of c.args.names.now) c.args.text.now c.trimmed.result.now c.trimmed.ensures
+    c.in_default.ensures.none
 
 pub returns-in-Some-read_end-clause-found : goal.returns-in-Some-read_end-clause-found
 returns-in-Some-read_end-clause-found c =

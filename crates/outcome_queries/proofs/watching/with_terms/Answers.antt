@@ -1,5 +1,6 @@
 use Rattle.outcome_queries.specs.Watches.{asked_in}
-use Rattle.outcome_queries.proofs.WatchLists.{list_full, list_turn, terms_full, terms_turn, terms_step, all_told, all_once}
+use Rattle.outcome_queries.proofs.WatchLists.{list_full, list_turn, terms_full, terms_turn, terms_step, all_told}
+use Rattle.outcome_queries.proofs.WatchLists.{all_once}
 use Rattle.outcome_queries.proofs.watching.with_terms.Goals as goal
 
 pub loop-asked-preserved : goal.loop-asked-preserved

@@ -1,4 +1,4 @@
-use Rattle.std.proofs.Common.{arith, tests, rules, None, Some, ◌≡◌, get_or}
+use Rattle.std.proofs.Common.{arith, None, Some}
 use Rattle.std.proofs.lemmas.Bool.Decides.{nat_tests}
 use Rattle.std.proofs.lemmas.Str.Pattern.{strip_prefix_char, strip_suffix_char}
 use Rattle.sim_inputs.specs.ChartEnds.{IsEndOf}
