@@ -1,6 +1,6 @@
 -- What is refused of a search for outcomes is refused of the command, and what is put into a file of what it found.
-use Rattle.std.specs.Prelude.{◌≡◌, ℕ, ◌+◌, ◌<◌, Bool, true, false, Option, Some, None, List, ◌++◌, length, take, get_or}
-use Rattle.std.specs.Prelude.{option_map, [], Result, Ok, Err, IfOk}
+use Rattle.std.specs.Prelude.{◌≡◌, ℕ, ◌+◌, ◌<◌, Bool, Option, Some, None, List, ◌++◌, length, take, get_or}
+use Rattle.std.specs.Prelude.{[], Result, Ok, Err, IfOk}
 use Rattle.std.specs.Io.KnownBytes.{Appends}
 use Rattle.std.proofs.Common.{inl, inr, sym, ap, subst, ◌∙◌}
 use Rattle.std.proofs.{lemmas.List.take_more, lemmas.List.flat_map_more}
@@ -17,12 +17,20 @@ use Rattle.sim_inputs.specs.{declared.line.OutcomesCommand.OutcomesCommand}
 use Rattle.command_parts.specs.declared.refused.Refused.{Refused}
 use Rattle.command_parts.specs.declared.refused.Refused.TheVariants as reason
 use Rattle.symbols.specs.Tables.{Table}
-use Rattle.outcome_queries.specs.declared.watched.Asked.{Asked}
+use Rattle.outcome_queries.specs.{declared.watched.Asked.Asked, Watches.registers_in, Watches.words_in}
 use Rattle.plain_commands.specs.Outcomes.{IsAsked, IsWatchOf, IsFound, IsFiled, IsOrderPut, IsTextFor, order_wanted}
 use Rattle.plain_commands.specs.Outcomes.{IsSearchRefusal, IsConditionOf, IsHartRefusal, IsOutcomesRefusal}
 
-module _ (settings : Settings) (image : ProgramImage) (names : Table) (command : OutcomesCommand) (watch : Watch) (terms : List Term)
-    (all : List Asked) (asked : IsAsked names command all terms) (is_of : IsWatchOf watch all) where
+-- What is watched for a list, as that is lent.
+pub watch_of_lent : (watch : Watch) (lent all : List Asked) → lent ≡ all → watch.registers.items ≡ registers_in lent
+    → watch.words.items ≡ words_in lent → IsWatchOf watch all
+watch_of_lent watch lent all same registers words = record {
+  registers = registers ∙ ap registers_in same;
+  words = words ∙ ap words_in same;
+}
+
+module _ (settings : Settings) (image : ProgramImage) (names : Table) (command : OutcomesCommand) (watch : Watch)
+    (terms : List Term) (all : List Asked) (asked : IsAsked names command all terms) (is_of : IsWatchOf watch all) where
   pub search_refused : (why : Refused) → IsSearchRefusal image settings.config.harts watch why
       → IsOutcomesRefusal settings image names command why
   search_refused (reason.Image number) is = absurd is
@@ -71,8 +79,8 @@ module _ (settings : Settings) (image : ProgramImage) (names : Table) (command :
 
 -- So it is where the condition names a hart that isn't there.
 pub hart_refused : (settings : Settings) (image : ProgramImage) (names : Table) (command : OutcomesCommand)
-    (terms : List Term) → IsConditionOf names command.exists terms → (why : Refused) → IsHartRefusal settings.config.harts terms why
-    → IsOutcomesRefusal settings image names command why
+    (terms : List Term) → IsConditionOf names command.exists terms → (why : Refused)
+    → IsHartRefusal settings.config.harts terms why → IsOutcomesRefusal settings image names command why
 hart_refused settings image names command terms condition (reason.Image number) is = absurd is
 hart_refused settings image names command terms condition reason.Config is = absurd is
 hart_refused settings image names command terms condition reason.Harts is = absurd is
@@ -145,8 +153,9 @@ module _ {S : Type 0} (written : S → Option (List ℕ)) (has_failed : S → Bo
       → IsOrderPut written has_failed old new settings image command found
   stuck_put order is stuck put = order_put order (ap (λ o. order_wanted o found) is ∙ stuck) put
 
-  pub filed_so : (names : Table) (watch : Watch) (terms : List Term) (all : List Asked) → IsAsked names command all terms
-      → IsWatchOf watch all → IsFound settings image watch found → IsOrderPut written has_failed old new settings image command found
+  pub filed_so : (names : Table) (watch : Watch) (terms : List Term) (all : List Asked)
+      → IsAsked names command all terms → IsWatchOf watch all → IsFound settings image watch found
+      → IsOrderPut written has_failed old new settings image command found
       → IsFiled written has_failed old new settings image names command
   filed_so names watch terms all asked is_of is_found put = record {
     watch = watch;

@@ -1,12 +1,13 @@
 -- The command `outcomes`: every end that a program has on the plain machine. (This project's own choice.)
-use Rattle.std.specs.Prelude.{◌≡◌, ◌≢◌, ◌⊎◌, ℕ, ◌-◌, ◌<◌, ◌≤◌, Bool, true, false, is_some, if◌then◌else◌, List, [], ◌++◌}
+use Rattle.std.specs.Prelude.{◌≡◌, ◌⊎◌, ℕ, ◌-◌, ◌<◌, Bool, true, false, is_some, if◌then◌else◌, List, [], ◌++◌}
 use Rattle.std.specs.Prelude.{Option, Some, None, Contains, length}
 use Rattle.std.specs.Io.KnownBytes.{Appends}
 use Rattle.elf_image.specs.Image.{ProgramImage}
 use Rattle.core_state.specs.Setup.{setup_of}
 use Rattle.watched_outcomes.specs.{declared.watch.Watch.Watch, declared.watch.WatchedRegister.WatchedRegister}
 use Rattle.watched_outcomes.specs.declared.watch.WatchedBytes.{WatchedBytes}
-use Rattle.outcomes.specs.{Found.Found, Found.Told, Found.InEachSetup, Found.IsExactList, Found.CoversCores, Found.IsOnce}
+use Rattle.outcomes.specs.{Found.Found, Found.Told, Found.InEachSetup, Found.IsExactList}
+use Rattle.outcomes.specs.{Found.CoversCores, Found.IsOnce}
 use Rattle.outcomes.specs.{Refusals.IsRefusedFor, Refusals.AreWords, Refusals.CanLoad}
 use Rattle.watched_outcomes.specs.{Watching.is_register_there, Watching.AreThere}
 use Rattle.outcomes.specs.Told.{order_listed}

@@ -66,7 +66,8 @@ pub fn perform_outcomes<R, G: Gate, P, S: EndFiles, W: Write>(
         (W.contents context.old.out) (W.contents context.new.out)) }
     ensures unwanted { wants_order command.now ≡ false → context.new.files ≡ context.old.files }
     ensures filed { IfOk result (λ status. status ≡ 0 → wants_order command.now ≡ true
-        → IsFiled S.written S.has_failed context.old.files context.new.files settings.now image.now (table_of names.now) command.now) }
+        → IsFiled S.written S.has_failed context.old.files context.new.files settings.now image.now
+        (table_of names.now) command.now) }
     ensures unbroken { OnOk result (S.has_failed context.new.files ≡ false) }
     ensures finished { OnOk result (S.is_finished context.new.files ≡ true) }
     ensures unreported { S.has_failed context.new.files ≡ true
