@@ -14,6 +14,7 @@ use Rattle.rounds.specs.declared.stopped.RoundsStopped.{RoundsStopped}
 use Rattle.rounds.specs.declared.stopped.RoundsStopped.TheVariants as stopped
 use Rattle.rounds.specs.Rounds.{HasLeft}
 use Rattle.sim_inputs.specs.declared.settings.Settings.{Settings}
+use Rattle.address_labels.specs.Labels.{Marks}
 use Rattle.text_fields.proofs.Appending.{appends_more}
 use Rattle.plain_commands.specs.PlainRounds.{InRounds, IsRoundsRefusal, IsReported, RoundsComeTo, rounds_refusal}
 
