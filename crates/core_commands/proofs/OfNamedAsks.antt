@@ -37,11 +37,11 @@ none_cut text line is whole =
     one_or_more (field_count 10 text) parts.count (Lacks 10 text)
     (λ one. subst (λ (bs : List ℕ). Lacks 10 bs) (sym (parts.alone one)) parts.lacks)
     (λ two.
-        let cut : length text ≡ length (field 10 text ++ 10 ∷ rest 10 text) = ap length (parts.cut two).0 in
-        let both : length (field 10 text ++ 10 ∷ rest 10 text) ≡ length (field 10 text) + length (10 ∷ rest 10 text)
-        = length-append (field 10 text) (10 ∷ rest 10 text) in
-        let more : length (10 ∷ rest 10 text) ≡ suc (length (rest 10 text)) = refl in
-        absurd (omega (arith, cut, both, more, same, whole)))
+    let cut : length text ≡ length (field 10 text ++ 10 ∷ rest 10 text) = ap length (parts.cut two).0 in
+    let both : length (field 10 text ++ 10 ∷ rest 10 text) ≡ length (field 10 text) + length (10 ∷ rest 10 text)
+    = length-append (field 10 text) (10 ∷ rest 10 text) in
+    let more : length (10 ∷ rest 10 text) ≡ suc (length (rest 10 text)) = refl in
+    absurd (omega (arith, cut, both, more, same, whole)))
 
 -- ---- The lines so far
 

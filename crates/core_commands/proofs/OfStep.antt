@@ -96,7 +96,9 @@ pub as_marked : (script : List ℕ) (why : Bool) (marks : Marks) (core : CoreVie
 as_marked script why marks core idle text old new printed marked =
     (marked.0, (text, printed, marked.1), marked.2)
 
--- The text of the asks, which was written into nothing.
-pub asked_text : (script : List ℕ) (core : CoreView) (idle : List ℕ) (text : List ℕ)
-    → Prints (Some []) (Some text) (AreCounted script core idle) → AreCounted script core idle text
-asked_text script core idle text asks = subst (λ (t : List ℕ). AreCounted script core idle t) (sym asks.2) asks.1
+-- What explains a text of asks, or that text.
+pub told_text : (why : Bool) (script : List ℕ) (core : CoreView) (idle lines text : List ℕ)
+    → AreCounted script core idle lines → (why ≡ false → text ≡ lines) → ArePrinted why script core idle text
+told_text false script core idle lines text counted same =
+    subst (λ (t : List ℕ). AreCounted script core idle t) (sym (same refl)) counted
+told_text true script core idle lines text counted same = (lines, counted)

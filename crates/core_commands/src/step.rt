@@ -174,20 +174,30 @@ fn print_asks<R, G, P: Predict, S, W: Write>(
         Err(Refused::Output) => return Err(Refused::Memory),
         Err(refused) => return Err(refused),
     };
-    if why {
-        lines = explained(
-            image,
-            settings,
-            script,
-            lines.as_slice(),
-            &finished.core,
-            alloc,
-        )?;
-    }
-    match put_asks(lines.as_slice(), labels, out) {
+    let text = told(why, image, settings, script, lines, &finished.core, alloc)?;
+    match put_asks(text.as_slice(), labels, out) {
         Ok(()) => Ok(finished),
         Err(_) => Err(Refused::Output),
     }
+}
+
+/// The lines of a script's asks, which have left this core; or what explains them, where that is wanted.
+fn told(
+    why: bool,
+    image: &Image,
+    settings: &Settings,
+    script: &[u8],
+    lines: Vec<u8>,
+    core: &Core,
+    alloc: Global,
+) -> Result<Vec<u8>, Refused>
+    ensures refused { IfErr result (IsStepRefusal settings.now script.now) }
+    ensures same { IfOk result (λ text. why ≡ false → text.items ≡ lines.items) }
+{
+    if !why {
+        return Ok(lines);
+    }
+    explained(image, settings, script, lines.as_slice(), core, alloc)
 }
 
 /// Writes the lines of asks.
