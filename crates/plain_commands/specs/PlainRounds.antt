@@ -1,6 +1,6 @@
 -- The command `plain` with `--rounds`: harts that take turns on the plain machine. (This project's own
 -- choice.)
-use Rattle.std.specs.Prelude.{◌≡◌, ℕ, ◌^◌, max, Bool, true, false, List, Option, Some, None, option_map}
+use Rattle.std.specs.Prelude.{◌≡◌, ℕ, max, Bool, true, false, List, Option, Some, None, option_map}
 use Rattle.std.specs.Prelude.{unwrap_or}
 use Rattle.std.specs.Io.KnownBytes.{Appends}
 use Rattle.elf_image.specs.Image.{ProgramImage}

@@ -1,6 +1,6 @@
 use Rattle.std.proofs.Common.{refl}
 use Rattle.symbols.specs.Tables.{table_of}
-use Rattle.plain_commands.proofs.OfOutcomes.{watch_of_lent, search_refused, hart_refused, of_each, filed_so}
+use Rattle.plain_commands.proofs.OfOutcomes.{watch_of_lent, search_refused, of_each, filed_so}
 use Rattle.plain_commands.proofs.all_outcomes.perform_outcomes.Goals as goal
 
 pub returns-in-Err : goal.returns-in-Err

@@ -1,6 +1,6 @@
 use Rattle.address_labels.specs.Labels.{marks_of}
 use Rattle.std.proofs.Common.{sym, subst}
-use Rattle.std.specs.Prelude.{Ok, Err}
+use Rattle.std.specs.Prelude.{Ok}
 use Rattle.std.proofs.lemmas.Result.{IfOk-weaker, IfErr-weaker}
 use Rattle.sc_machine.specs.Steps.{are_harts}
 use Rattle.plain_commands.specs.PlainRounds.{IsRoundsRefusal}
