@@ -120,7 +120,7 @@ smtsim chart --records a t
 smtsim chart --from 5 --to 4 a t
 smtsim chart --from 16777216 a t
 smtsim chart --from 01 a t
-smtsim chart --to x a t
+smtsim chart --to 5x a t
 smtsim chart --hart 16 a t
 smtsim chart --width 0 a t
 smtsim chart --width 10001 a t
