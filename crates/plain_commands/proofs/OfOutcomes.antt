@@ -19,7 +19,7 @@ use Rattle.command_parts.specs.declared.refused.Refused.TheVariants as reason
 use Rattle.symbols.specs.Tables.{Table}
 use Rattle.outcome_queries.specs.{declared.watched.Asked.Asked, Watches.registers_in, Watches.words_in}
 use Rattle.plain_commands.specs.Outcomes.{IsAsked, IsWatchOf, IsFound, IsFiled, IsOrderPut, IsTextFor, order_wanted}
-use Rattle.plain_commands.specs.Outcomes.{IsSearchRefusal, IsConditionOf, IsHartRefusal, IsOutcomesRefusal}
+use Rattle.plain_commands.specs.Outcomes.{IsSearchRefusal, IsOutcomesRefusal}
 
 -- What is watched for a list, as that is lent.
 pub watch_of_lent : (watch : Watch) (lent all : List Asked) → lent ≡ all → watch.registers.items ≡ registers_in lent
@@ -76,44 +76,6 @@ module _ (settings : Settings) (image : ProgramImage) (names : Table) (command :
   search_refused reason.Thread is = absurd is
   search_refused reason.File is = absurd is
   search_refused reason.Output is = absurd is
-
--- So it is where the condition names a hart that isn't there.
-pub hart_refused : (settings : Settings) (image : ProgramImage) (names : Table) (command : OutcomesCommand)
-    (terms : List Term) → IsConditionOf names command.exists terms → (why : Refused)
-    → IsHartRefusal settings.config.harts terms why → IsOutcomesRefusal settings image names command why
-hart_refused settings image names command terms condition (reason.Image number) is = absurd is
-hart_refused settings image names command terms condition reason.Config is = absurd is
-hart_refused settings image names command terms condition reason.Harts is = absurd is
-hart_refused settings image names command terms condition (reason.Script number) is = absurd is
-hart_refused settings image names command terms condition (reason.Order index) is = absurd is
-hart_refused settings image names command terms condition (reason.Step index stopped) is = absurd is
-hart_refused settings image names command terms condition (reason.Trace line rule) is = absurd is
-hart_refused settings image names command terms condition reason.Version is = absurd is
-hart_refused settings image names command terms condition (reason.Event index rule) is = absurd is
-hart_refused settings image names command terms condition (reason.Prediction index) is = absurd is
-hart_refused settings image names command terms condition (reason.Register index) is = absurd is
-hart_refused settings image names command terms condition (reason.NoUnit kind) is = absurd is
-hart_refused settings image names command terms condition (reason.Limit least) is = absurd is
-hart_refused settings image names command terms condition (reason.NoHart hart) is =
-    inl (record { terms = terms; condition = condition; first = is })
-hart_refused settings image names command terms condition (reason.Lines number fault) is = absurd is
-hart_refused settings image names command terms condition (reason.NamesNothing option) is = absurd is
-hart_refused settings image names command terms condition (reason.NamesSeveral option) is = absurd is
-hart_refused settings image names command terms condition (reason.NeverFetched option) is = absurd is
-hart_refused settings image names command terms condition (reason.Turned from to) is = absurd is
-hart_refused settings image names command terms condition (reason.Picture last) is = absurd is
-hart_refused settings image names command terms condition (reason.Watch why) is = absurd is
-hart_refused settings image names command terms condition (reason.Condition why) is = absurd is
-hart_refused settings image names command terms condition reason.ManyWatched is = absurd is
-hart_refused settings image names command terms condition (reason.NoWord address) is = absurd is
-hart_refused settings image names command terms condition (reason.NoOutcome number) is = absurd is
-hart_refused settings image names command terms condition reason.NotStuck is = absurd is
-hart_refused settings image names command terms condition (reason.Litmus place fault) is = absurd is
-hart_refused settings image names command terms condition reason.NothingToDraw is = absurd is
-hart_refused settings image names command terms condition reason.Memory is = absurd is
-hart_refused settings image names command terms condition reason.Thread is = absurd is
-hart_refused settings image names command terms condition reason.File is = absurd is
-hart_refused settings image names command terms condition reason.Output is = absurd is
 
 -- A line more of an order.
 pub order_step : (old mid new : Option (List ℕ)) (order : List ℕ) (i d : ℕ) → i < length order
