@@ -1,7 +1,7 @@
 -- What is owed on a command of a program, of its settings, its program image, the names that it wants of it and its
 -- second file as it was read: each row names the definitions of one command. (This project's own choice.)
 use Rattle.std.specs.Prelude.{◌≡◌, ℕ, Bool, true, false, List, Option, Some, None, is_some}
-use Rattle.std.specs.Prelude.{if◌then◌else◌}
+use Rattle.std.specs.Prelude.{if◌then◌else◌, ◌||◌}
 use Rattle.elf_image.specs.Image.{ProgramImage}
 use Rattle.core_state.specs.View.{CoreView}
 use Rattle.symbols.specs.Tables.{Table}
@@ -131,7 +131,7 @@ is_function (ends.Function name) = true
 
 abbrev pub wants_names : ProgramCommand → Bool
 wants_names (commands.Outcomes outcomes) = true
-wants_names (commands.Chart chart) = chart.names || (is_function chart.from || is_function chart.to)
+wants_names (commands.Chart chart) = (chart.names || is_function chart.from) || is_function chart.to
 wants_names (commands.Step step) = step.names
 wants_names (commands.Run run) = run.names
 wants_names (commands.Check check) = check.names

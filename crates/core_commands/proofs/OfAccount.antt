@@ -40,8 +40,10 @@ looked_is true core n rs is_looks is_records =
 looked_is false core n rs is_looks is_records = refl
 
 -- An account that is this core's, and how its harts stand.
-module _ (core : CoreView) (wanted : Wanted) (marks : Marks) (rs : List Record) (events lent : ℕ) (statuses : List Status)
-    (put : List ℕ) (counts : Option Counts) (idle : List ℕ) (is_records : rs ≡ retired_of core) (is_events : events ≡ length core.past)
+module _ (core : CoreView) (wanted : Wanted) (marks : Marks) (rs : List Record) (events lent : ℕ)
+    (statuses : List Status)
+    (put : List ℕ) (counts : Option Counts) (idle : List ℕ) (is_records : rs ≡ retired_of core)
+    (is_events : events ≡ length core.past)
     (is_lent : lent ≡ open_job_count core.setup core.past) (is_statuses : statuses ≡ statuses_of core)
     (is_put : put ≡ output core.past) (are_counts : counts ≡ counts_in wanted.counts core) where
   same_text : (ends : List ℕ)
@@ -62,7 +64,8 @@ module _ (core : CoreView) (wanted : Wanted) (marks : Marks) (rs : List Record) 
       is_stand harts = record {
         printed = (
           tables ++ (looked
-              ++ (records_text wanted.records marks rs ++ body_text wanted.json events rs lent statuses put counts idle ends)),
+              ++ (records_text wanted.records marks rs ++ body_text wanted.json events rs lent statuses put counts
+              idle ends)),
           record {
             tables = tables;
             are_tables = are;
@@ -70,10 +73,12 @@ module _ (core : CoreView) (wanted : Wanted) (marks : Marks) (rs : List Record) 
             are_ends = are_ends;
             whole = ap (λ t. tables ++ (looked ++ t)) (same_text ends)
                 ∙ ap (λ l. tables ++ (l
-                ++ (records_text wanted.records marks (retired_of core) ++ body_of wanted.json wanted.counts core idle ends)))
+                ++ (records_text wanted.records marks
+                (retired_of core) ++ body_of wanted.json wanted.counts core idle ends)))
                 is_looked;
           },
-          appends_more old mid new _ _ (subst (Appends old mid) same first) (appends_more mid behind new _ _ second next),
+          appends_more old mid new _ _ (subst (Appends old mid) same first)
+              (appends_more mid behind new _ _ second next),
         );
         harts = harts ∙ ap status_number (is_stand ∙ is_statuses);
       }

@@ -1,5 +1,6 @@
 -- Lines of asks, cut off one by one.
-use Rattle.std.proofs.Common.{◌≡◌, ◌+◌, ◌≤◌, ◌<◌, ℕ, zero, suc, ◌==◌, Bool, true, false, List, [], ◌∷◌, ◌++◌, length, flat_map}
+use Rattle.std.proofs.Common.{◌≡◌, ◌+◌, ◌≤◌, ◌<◌, ℕ, zero, suc, ◌==◌, Bool, true, false, List, [], ◌∷◌, ◌++◌, length}
+use Rattle.std.proofs.Common.{flat_map}
 use Rattle.std.proofs.Common.{Result, Ok, Err, OnOk, Option, refl, sym, ap, subst, ◌∙◌, arith, append_assoc, append-nil}
 use Rattle.std.specs.List.{All}
 use Rattle.std.specs.Io.KnownBytes.{Appends}
@@ -67,7 +68,8 @@ module _ (marks : Marks) (old mid new : Option (List ℕ)) (text : List ℕ) whe
             ∙ sym (flat_map-append ended so_far.done (line ∷ [])));
         each = All-push (Lacks 10) so_far.done line so_far.each lacks;
         written = subst (λ (t : List ℕ). Appends old new t)
-            (ap (λ (bs : List ℕ). flat_map (named_line marks) so_far.done ++ bs) (sym (append-nil (named_line marks line)))
+            (ap (λ (bs : List ℕ). flat_map (named_line marks) so_far.done ++ bs) (sym (append-nil
+            (named_line marks line)))
             ∙ sym (flat_map-append (named_line marks) so_far.done (line ∷ [])))
             (appends_more old mid new _ _ so_far.written next);
       }
@@ -88,7 +90,8 @@ module _ (marks : Marks) (old mid new : Option (List ℕ)) (text : List ℕ) whe
   )
 
   -- where it was written
-  pub last_written : {E : Type 0} (answer : Result Unit E) (left : List ℕ) → AreNamed marks old mid text left → Lacks 10 left
+  pub last_written : {E : Type 0} (answer : Result Unit E) (left : List ℕ) → AreNamed marks old mid text left
+      → Lacks 10 left
       → OnOk answer (Appends mid new (last_line marks left)) → OnOk answer (Prints old new (IsNamedText marks text))
   last_written (Ok done) left so_far lacks next = last_too left so_far lacks next
   last_written (Err why) left so_far lacks next = tt

@@ -32,10 +32,12 @@ refused_all settings image is = λ other. is
 module _ {P : Type 0} (predicts : P → ℕ → ℕ → ℕ → ℕ → P → Type 0) (before : P) (settings : Settings)
     (input : Option (List ℕ)) (wanted : Wanted) (marks : Marks) (Traced : CoreView → Type 0) where
   -- The lines were answered, and then the account was printed.
-  pub prompt_comes_to : (image : ProgramImage) (ended : Ended) (core : CoreView) (idle : List ℕ) (old mid new : Option (List ℕ))
+  pub prompt_comes_to : (image : ProgramImage) (ended : Ended) (core : CoreView) (idle : List ℕ)
+      (old mid new : Option (List ℕ))
       (status : ℕ) → AreAccepted settings
       → IsPrompted predicts before (setup_of image settings.config) settings.limit input ended core idle
-      → Prints old mid (λ text. Unit {0}) → Traced core → IsReported core (idle_of core idle) wanted marks mid new status
+      → Prints old mid (λ text. Unit {0}) → Traced core
+      → IsReported core (idle_of core idle) wanted marks mid new status
       → PromptComesTo predicts before settings image input wanted marks Traced old new status
   prompt_comes_to image ended core idle old mid new status accepted prompted answered traced reported = record {
     accepted = accepted;

@@ -93,13 +93,15 @@ report_refusal settings reason accepted manned (inr same) =
 pub never_image : (settings : Settings) (number : ℕ) → IsRunRefusal settings (Image number) → ⊥
 never_image settings number is = is
 
-pub comes_to : (settings : Settings) (image : ProgramImage) (wanted : Wanted) (marks : Marks) (core : CoreView) (idle : List ℕ)
+pub comes_to : (settings : Settings) (image : ProgramImage) (wanted : Wanted) (marks : Marks) (core : CoreView)
+    (idle : List ℕ)
     (Traced : CoreView → Type 0) (old new : Option (List ℕ)) (exit_status : ℕ)
     → AreAccepted settings → (LackARole settings → ⊥)
     → core.setup ≡ setup_of image settings.config → core.limit ≡ settings.limit → Shown core
     → Traced core → IsReported core (idle_of core idle) wanted marks old new exit_status
     → RunComesTo settings image wanted marks Traced old new exit_status
-comes_to settings image wanted marks core idle Traced old new exit_status accepted manned setup limit shown traced reported =
+comes_to settings image wanted marks core idle Traced old new exit_status accepted manned setup limit shown traced
+    reported =
     record {
       accepted = accepted;
       manned = manned;

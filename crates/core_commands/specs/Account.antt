@@ -62,7 +62,8 @@ body_of as_json with_counts core idle ends =
     (statuses_of core) (output core.past) (counts_in with_counts core) idle ends
 
 -- What is printed of a core behind the lines of the asks: its tables, how many loads looked again
--- and its records, where they are wanted, with these marks beside them, and its report, with what else is wanted; of the actors' asks
+-- and its records, where they are wanted, with these marks beside them, and its report, with what else is wanted; of
+-- the actors' asks
 -- so many were answered idle.
 pub record IsAccount (core : CoreView) (idle : List ℕ) (wanted : Wanted) (marks : Marks) (text : List ℕ) : Type 0 where
   pub tables : List ℕ

@@ -29,7 +29,8 @@ IsPictureRefusal chart (refused.Picture last) = is_some chart.svg ≡ true
 IsPictureRefusal chart refused.Memory = Unit {0}
 IsPictureRefusal chart _ = ⊥
 
--- What is drawn: the rows of a history, its events and the names of its program, of all harts or of the one that is named.
+-- What is drawn: the rows of a history, its events and the names of its program, of all harts or of the one that is
+-- named.
 pub record IsDrawnOf (setup : Setup) (events : List Event) (chart : ChartCommand) (names : Table)
     (drawn : Drawn) : Type 0 where
   pub rows : AreRows (reverse events) drawn.rows.now

@@ -1,5 +1,6 @@
 -- The lines of asks, with what is wanted beside the pc of each fetch. (This project's own choice.)
-use Rattle.std.specs.Prelude.{◌≡◌, ◌==◌, ℕ, List, [], ◌∷◌, ◌++◌, All, codes, flat_map, Option, Some, None, if◌then◌else◌}
+use Rattle.std.specs.Prelude.{◌≡◌, ◌==◌, ℕ, List, [], ◌∷◌, ◌++◌, All, codes, flat_map, Option, Some, None}
+use Rattle.std.specs.Prelude.{if◌then◌else◌}
 use Rattle.std.specs.{Result.result_ok, List.starts_with}
 use Rattle.text_fields.specs.{Reading.hex_field, Splitting.field, Splitting.rest, Splitting.Lacks}
 use Rattle.address_labels.specs.{Labels.Marks, Texts.labels_text}
@@ -12,7 +13,8 @@ behind_five line = rest 32 (rest 32 (rest 32 (rest 32 (rest 32 line))))
 -- The pc of a line that begins as that of a fetch: `done F`, actor, hart and number stand before it.
 abbrev pub fetched_pc : List ℕ → Option ℕ
 fetched_pc line =
-    if starts_with (λ a b. a == b) line (codes "done F ") then result_ok (hex_field 8 (field 32 (behind_five line))) else None
+    if starts_with (λ a b. a == b) line (codes "done F ") then result_ok (hex_field 8 (field 32
+    (behind_five line))) else None
 
 abbrev pub or_else : Option ℕ → Option ℕ → Option ℕ
 or_else None other = other

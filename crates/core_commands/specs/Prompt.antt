@@ -13,7 +13,8 @@ use Rattle.command_parts.specs.{Refused.AreAccepted}
 use Rattle.core_commands.specs.Account.{IsAccount, idle_of, statuses_of}
 
 -- What the lines were answered, and then what is printed of a core.
-pub record AreAnswersAndAccount (core : CoreView) (idle : List ℕ) (wanted : Wanted) (marks : Marks) (text : List ℕ) : Type 0 where
+pub record AreAnswersAndAccount (core : CoreView) (idle : List ℕ) (wanted : Wanted) (marks : Marks)
+    (text : List ℕ) : Type 0 where
   pub answers : List ℕ
   pub account : List ℕ
   pub is_account : IsAccount core (idle_of core idle) wanted marks account
@@ -21,7 +22,8 @@ pub record AreAnswersAndAccount (core : CoreView) (idle : List ℕ) (wanted : Wa
 
 -- What the command comes to. The lines of an input were read and answered up to their end, and there is
 -- the core that was asked the words of those that were kept. Of a script of these words it is the core
--- that `step` comes to, and as many asks of each actor were answered idle. Its trace is written where that is wanted (`Traced`). What was printed are the
+-- that `step` comes to, and as many asks of each actor were answered idle. Its trace is written where that is wanted
+-- (`Traced`). What was printed are the
 -- answers, and then what is printed of the core; the exit status is that of its harts.
 pub record PromptComesTo {P : Type 0} (predicts : P → ℕ → ℕ → ℕ → ℕ → P → Type 0) (before : P)
     (settings : Settings) (image : ProgramImage) (input : Option (List ℕ)) (wanted : Wanted) (marks : Marks)

@@ -28,8 +28,8 @@ use symbols::Symbols;
 /// Checks a trace as `perform_check` does, and draws its history: as text on `out`, or as a picture
 /// or a log into `files`. Answers the exit status, 0.
 ///
-/// Refused are, in this order, what `perform_check` refuses, a hart that the core hasn't, a name in the program of which
-/// nothing is drawn, and a picture of too many instructions; then nothing is written. So it is where there isn't enough
+/// Refused are, in this order, what `perform_check` refuses, a hart that the core hasn't, a name in the program of
+/// which nothing is drawn, and a picture of too many instructions; then nothing is written. So it is where there isn't enough
 /// memory: the whole chart is made before any of it is written. `Output` is answered where `out` or
 /// `files` failed.
 #[inline(never)]

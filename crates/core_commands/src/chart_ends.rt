@@ -160,8 +160,8 @@ fn draws(hart: Option<u8>, other: u8) -> bool
     }
 }
 
-/// What a word stands for: all of it, as a name; or where that is none, what stands behind its last colon, of the part of
-/// the program whose file stands before that.
+/// What a word stands for: all of it, as a name; or where that is none, what stands behind its last colon, of the
+/// part of the program whose file stands before that.
 fn meaning_of_word(names: &Symbols<'_>, word: &[u8]) -> Meaning
     ensures { IsMeaningOf (table_of names.now) word.now result }
 {

@@ -252,7 +252,8 @@ pub fn perform_step<R, G, P: Predict + Copy, S: EndFiles, W: Write>(
     ensures unbroken { OnOk result (S.has_failed context.new.files ≡ false) }
     ensures finished { OnOk result (S.is_finished context.new.files ≡ true) }
     ensures unreported { S.has_failed context.new.files ≡ true → (core : CoreView) × (idle : List ℕ)
-        × Prints (W.contents context.old.out) (W.contents context.new.out) (AreMarked why (marks_of labels.now) script.now core idle) }
+        × Prints (W.contents context.old.out) (W.contents context.new.out) (AreMarked why
+        (marks_of labels.now) script.now core idle) }
 {
     let finished = print_asks(context, image, settings, script, why, labels)?;
     let idle = idle_of(&finished.core, &finished.idle);

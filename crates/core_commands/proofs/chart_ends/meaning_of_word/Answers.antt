@@ -12,7 +12,17 @@ returns-in-Nothing-Some c = (
 )
 
 pub returns-in_default : goal.returns-in_default
-returns-in_default c = (record { file = None; name = c.args.word }, record { file = refl; is = refl }, inl c.meaning_of.ensures)
+returns-in_default c = (
+  record { file = None; name = c.args.word },
+  record { file = refl; is = refl },
+  inl
+      c.meaning_of.ensures,
+)
 
 pub returns-in_default-2 : goal.returns-in_default-2
-returns-in_default-2 c = (record { file = None; name = c.args.word }, record { file = refl; is = refl }, inl c.meaning_of.ensures)
+returns-in_default-2 c = (
+  record { file = None; name = c.args.word },
+  record { file = refl; is = refl },
+  inl
+      c.meaning_of.ensures,
+)

@@ -14,7 +14,8 @@ returns-then-word-place-eq58-clause-some c =
     let word : List ℕ = c.args.word.now in
     let place : ℕ = length word - 1 - c.loop-back.back in
     let next : length word - c.loop-back.back ≡ place + 1 = omega arith in
-    let tail : take (length word - (place + 1)) (drop (place + 1) word) ≡ drop (place + 1) word = grind (arith, common_steps) in
+    let tail : take (length word - (place + 1)) (drop (place + 1) word) ≡ drop (place + 1) word = grind
+    (arith, common_steps) in
     record {
       file = take place word;
       named = refl;

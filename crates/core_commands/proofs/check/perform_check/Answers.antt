@@ -25,5 +25,6 @@ returns-clause-ended g c =
     let reported = rw c.core.ensures at c.report_core.ensures.reported in
     IfOk-weaker c.report_core.result _ _
     (λ status reported. comes_to c.args.settings.now c.args.image.now c.args.trace.now c.args.wanted
-    (marks_of c.args.labels.now) judged.trace _ _ _ status judged.is_trace judged.whole judged.accepted judged.shown reported)
+    (marks_of c.args.labels.now) judged.trace _ _ _ status judged.is_trace judged.whole judged.accepted judged.shown
+    reported)
     reported

@@ -4,11 +4,13 @@ use Rattle.core_commands.proofs.chart_ends.Drawn.last_event.Goals as goal
 
 pub loop-back-init : goal.loop-back-init
 loop-back-init c = λ later past.
-    none_behind c.args.self.now.hart c.args.symbol c.args.self.now.rows.now c.args.self.now.events.now later (omega arith)
+    none_behind c.args.self.now.hart c.args.symbol c.args.self.now.rows.now c.args.self.now.events.now later
+    (omega arith)
 
 pub loop-back-preserved : goal.loop-back-preserved
 loop-back-preserved c = λ later past.
-    none_at c.args.self.now.hart c.args.symbol c.args.self.now.rows.now c.args.self.now.events.now c.loop-back.back later
+    none_at c.args.self.now.hart c.args.symbol c.args.self.now.rows.now c.args.self.now.events.now c.loop-back.back
+    later
     (omega arith) (omega arith) (sym c.has_event_in.ensures ∙ c.if-has_event_in.false) c.loop-back.invariant
 
 pub returns-then-has_event_in-clause-some : goal.returns-then-has_event_in-clause-some
