@@ -29,9 +29,9 @@ use symbols::Symbols;
 /// or a log into `files`. Answers the exit status, 0.
 ///
 /// Refused are, in this order, what `perform_check` refuses, a hart that the core hasn't, a name in the program of
-/// which nothing is drawn, and a picture of too many instructions; then nothing is written. So it is where there isn't enough
-/// memory: the whole chart is made before any of it is written. `Output` is answered where `out` or
-/// `files` failed.
+/// which nothing is drawn, and a picture of too many instructions; then nothing is written. So it is where there isn't
+/// enough memory: the whole chart is made before any of it is written. `Output` is answered where `out` or `files`
+/// failed.
 #[inline(never)]
 pub fn perform_chart<R, G, P, S: EndFiles, W: Write>(
     context: &mut Context<'_, R, G, P, S, W>,
