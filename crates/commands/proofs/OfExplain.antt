@@ -13,10 +13,13 @@ use Rattle.sim_inputs.specs.{declared.settings.Settings.Settings}
 use Rattle.sim_inputs.specs.{Configuration.IsConfiguration, Configuration.with_harts, declared.line.Beside.Beside}
 use Rattle.sim_inputs.specs.declared.line.Beside.TheVariants as beside
 use Rattle.command_parts.specs.declared.refused.Refused.{Refused}
-use Rattle.command_parts.specs.declared.refused.Refused.TheVariants.{Image, Config, Harts, Script, Order, Step, Memory, File}
-use Rattle.command_parts.specs.declared.refused.Refused.TheVariants.{Output, Thread, Trace, Version, Event, NoUnit, Limit, NoHart}
+use Rattle.command_parts.specs.declared.refused.Refused.TheVariants.{Image, Config, Harts, Script, Order, Step}
+use Rattle.command_parts.specs.declared.refused.Refused.TheVariants.{Memory, File}
+use Rattle.command_parts.specs.declared.refused.Refused.TheVariants.{Output, Thread, Trace, Version, Event, NoUnit}
+use Rattle.command_parts.specs.declared.refused.Refused.TheVariants.{Limit, NoHart}
 use Rattle.command_parts.specs.declared.refused.Refused.TheVariants.{Prediction, Register, Picture}
-use Rattle.command_parts.specs.declared.refused.Refused.TheVariants.{Lines, NamesNothing, NamesSeveral, NeverFetched, Turned}
+use Rattle.command_parts.specs.declared.refused.Refused.TheVariants.{Lines, NamesNothing, NamesSeveral, NeverFetched}
+use Rattle.command_parts.specs.declared.refused.Refused.TheVariants.{Turned}
 use Rattle.command_parts.specs.declared.refused.Refused.TheVariants.{Watch, Condition, ManyWatched, NoWord}
 use Rattle.command_parts.specs.declared.refused.Refused.TheVariants.{NoOutcome, NotStuck, Litmus, NothingToDraw}
 use Rattle.command_parts.specs.declared.refused.Unread.{Unread}
@@ -248,12 +251,17 @@ loaded_refusal config settings file Thread configured is = absurd is
 loaded_refusal config settings file File configured is = absurd is
 loaded_refusal config settings file Output configured is = absurd is
 
+never_harts : (settings : Settings) (program : ProgramImage) (text : List ℕ)
+    → IsBesideFault (beside.Trace []) settings program text Harts → ⊥
+never_harts settings program text (inl (why, same)) = cc
+never_harts settings program text (inr is) = is
+
 -- The text beside an image that is accepted: what is refused of it, and of its harts. It is never refused for those.
 pub no_harts_beside : (told : Beside) (settings : Settings) (program : ProgramImage) (second : Read)
     → BehindFile second (IsBesideFault told settings program) Harts → ⊥
 no_harts_beside (beside.Script name) settings program (Ok text) is = is
 no_harts_beside (beside.Order name) settings program (Ok text) is = is
-no_harts_beside (beside.Trace name) settings program (Ok text) is = is
+no_harts_beside (beside.Trace name) settings program (Ok text) is = never_harts settings program text is
 no_harts_beside told settings program (Err unread.File) is = cc
 no_harts_beside told settings program (Err unread.Memory) is = cc
 

@@ -12,10 +12,13 @@ use Rattle.sim_inputs.specs.{declared.line.Command.Command, declared.settings.Se
 use Rattle.sim_inputs.specs.Configuration.{AreInRange, IsConfiguration, with_harts}
 use Rattle.report_lines.specs.Statuses.{says_harts}
 use Rattle.command_parts.specs.declared.refused.Refused.{Refused}
-use Rattle.command_parts.specs.declared.refused.Refused.TheVariants.{Image, Config, Harts, Script, Order, Step, Memory, File}
-use Rattle.command_parts.specs.declared.refused.Refused.TheVariants.{Output, Thread, Trace, Version, Event, NoUnit, Limit, NoHart}
+use Rattle.command_parts.specs.declared.refused.Refused.TheVariants.{Image, Config, Harts, Script, Order, Step}
+use Rattle.command_parts.specs.declared.refused.Refused.TheVariants.{Memory, File}
+use Rattle.command_parts.specs.declared.refused.Refused.TheVariants.{Output, Thread, Trace, Version, Event, NoUnit}
+use Rattle.command_parts.specs.declared.refused.Refused.TheVariants.{Limit, NoHart}
 use Rattle.command_parts.specs.declared.refused.Refused.TheVariants.{Prediction, Register, Picture}
-use Rattle.command_parts.specs.declared.refused.Refused.TheVariants.{Lines, NamesNothing, NamesSeveral, NeverFetched, Turned}
+use Rattle.command_parts.specs.declared.refused.Refused.TheVariants.{Lines, NamesNothing, NamesSeveral, NeverFetched}
+use Rattle.command_parts.specs.declared.refused.Refused.TheVariants.{Turned}
 use Rattle.command_parts.specs.declared.refused.Refused.TheVariants.{Watch, Condition, ManyWatched, NoWord}
 use Rattle.command_parts.specs.declared.refused.Refused.TheVariants.{NoOutcome, NotStuck, Litmus, NothingToDraw}
 use Rattle.command_parts.specs.declared.refused.Unread.{Unread}
@@ -54,9 +57,11 @@ module _ (harts : Option ℕ) (command : ProgramCommand) (text : List ℕ) (own 
     (wanted : AreLinesFor (reads_lines command) lines program origins) where
   pub command_refusal : (reason : Refused) → IsCommandRefusal command (with_harts harts own) program names second reason
       → IsProgramRefusal harts command (Ok text) (Ok file) second lines reason
-  command_refusal (Image number) is = absurd ((sound command (with_harts harts own) program names origins second).no_image number is)
+  command_refusal (Image number) is = absurd ((sound command
+      (with_harts harts own) program names origins second).no_image number is)
   command_refusal Config is =
-      let unfit = (sound command (with_harts harts own) program names origins second).unfit (accepted_with (with_harts harts own) in_range) is in
+      let unfit = (sound command (with_harts harts own) program names origins second).unfit (accepted_with
+      (with_harts harts own) in_range) is in
       inr (own, configured, (passes, program, loaded, unfit))
   command_refusal Harts is = absurd ((sound command (with_harts harts own) program names origins second).no_harts is)
   command_refusal (Script number) is = (own, configured, (passes, program, loaded, (names, named, is)))
@@ -116,7 +121,8 @@ module _ (harts : Option ℕ) (command : ProgramCommand) (text : List ℕ) (own 
             (
               origins,
               wanted,
-              (sound command (with_harts harts own) program names origins second).flushed Traced old mid new status flushed
+              (sound command (with_harts harts own) program names origins second).flushed Traced old mid new status
+                  flushed
                   ended,
             ),
           ),
@@ -126,8 +132,10 @@ module _ (harts : Option ℕ) (command : ProgramCommand) (text : List ℕ) (own 
 
 -- ---- The exit status
 
-program_says : (harts : Option ℕ) (command : ProgramCommand) (config image second lines : Read) (Traced : ToWrite → Type 0)
-    (old new : Option (List ℕ)) (status : ℕ) → ProgramComesTo harts command config image second lines Traced old new status
+program_says : (harts : Option ℕ) (command : ProgramCommand) (config image second lines : Read) (Traced : ToWrite
+    → Type 0)
+    (old new : Option (List ℕ)) (status : ℕ)
+    → ProgramComesTo harts command config image second lines Traced old new status
     → IsTrue (says_harts status)
 program_says harts command (Ok text) (Ok file) second lines Traced old new status is =
     let comes = is.2.3.2.2 in
@@ -150,7 +158,8 @@ migration_says (Ok text) (Ok file) Traced old new status is = zero_says status i
 migration_says (Ok text) (Err why) Traced old new status is = absurd is.1.2
 migration_says (Err why) trace Traced old new status is = absurd is.1
 
-explain_says : (harts : Option ℕ) (beside : Option Beside) (config image second : Read) (old new : Option (List ℕ)) (status : ℕ)
+explain_says : (harts : Option ℕ) (beside : Option Beside) (config image second : Read) (old new : Option (List ℕ))
+    (status : ℕ)
     → ExplainLineComesTo harts beside config image second old new status → IsTrue (says_harts status)
 explain_says harts beside (Ok text) (Ok file) second old new status is = zero_says status is.2.3.1.1.zero
 explain_says harts beside (Ok text) (Err why) second old new status is = absurd is.2

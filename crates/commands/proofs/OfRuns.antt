@@ -28,14 +28,17 @@ module _ {S : Type 0} (begins : S → ℕ → Part → S → Type 0) (written : 
       → IfOk answer (StressComesTo settings program times
       (AreEndsWritten begins written has_failed before after keep) old new)
       → (keep ≡ false → after ≡ before)
-      → IsPerformed begins is_finished written has_failed before after (commands.Run run) settings program names lines second old new answer
+      → IsPerformed begins is_finished written has_failed before after
+      (commands.Run run) settings program names lines second old new answer
   many_performed times keep is keeps ended unwanted = record {
     refused = refused;
     ended = subst
-        (λ t. IfOk answer (RunsComeTo t run settings program (marks_where run.names names lines) (IsWritten begins written has_failed before after) old new))
+        (λ t. IfOk answer (RunsComeTo t run settings program (marks_where run.names names lines)
+        (IsWritten begins written has_failed before after) old new))
         (sym is)
         (subst
-        (λ k. IfOk answer (StressComesTo settings program times (AreEndsWritten begins written has_failed before after k) old new))
+        (λ k. IfOk answer (StressComesTo settings program times
+        (AreEndsWritten begins written has_failed before after k) old new))
         keeps ended);
     unwanted = λ none. unwanted (keeps ∙ rw is at none);
     unbroken = unbroken;
@@ -44,17 +47,21 @@ module _ {S : Type 0} (begins : S → ℕ → Part → S → Type 0) (written : 
   }
 
   pub one_performed : (wanted : Wanted) → run.times ≡ None → wanted ≡ run_wants run
-      → IfOk answer (RunComesTo settings program wanted (marks_where run.names names lines) (IsTraceWritten written has_failed before after wanted.trace) old new)
+      → IfOk answer (RunComesTo settings program wanted (marks_where run.names names lines)
+      (IsTraceWritten written has_failed before after wanted.trace) old new)
       → (wanted.trace ≡ false → after ≡ before)
-      → IsPerformed begins is_finished written has_failed before after (commands.Run run) settings program names lines second old new answer
+      → IsPerformed begins is_finished written has_failed before after
+      (commands.Run run) settings program names lines second old new answer
   one_performed wanted is same ended unwanted = record {
     refused = refused;
     ended = subst
-        (λ t. IfOk answer (RunsComeTo t run settings program (marks_where run.names names lines) (IsWritten begins written has_failed before after) old new))
+        (λ t. IfOk answer (RunsComeTo t run settings program (marks_where run.names names lines)
+        (IsWritten begins written has_failed before after) old new))
         (sym is)
         (subst
         (λ (w : Wanted).
-        IfOk answer (RunComesTo settings program w (marks_where run.names names lines) (IsTraceWritten written has_failed before after w.trace) old new))
+        IfOk answer (RunComesTo settings program w (marks_where run.names names lines)
+        (IsTraceWritten written has_failed before after w.trace) old new))
         same ended);
     unwanted = λ none. unwanted (ap (λ (w : Wanted). w.trace) same ∙ rw is at none);
     unbroken = unbroken;

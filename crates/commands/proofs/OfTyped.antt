@@ -4,7 +4,8 @@ use Rattle.std.specs.Io.KnownBytes.{Keeps}
 use Rattle.elf_image.specs.{Loaded.IsImageOf}
 use Rattle.elf_image.specs.Image.{ProgramImage}
 use Rattle.core_state.specs.{View.CoreView}
-use Rattle.sim_inputs.specs.{declared.settings.Settings.Settings, Configuration.IsConfiguration, Configuration.with_harts}
+use Rattle.sim_inputs.specs.{declared.settings.Settings.Settings, Configuration.IsConfiguration}
+use Rattle.sim_inputs.specs.{Configuration.with_harts}
 use Rattle.report_lines.specs.Statuses.{says_harts}
 use Rattle.core_commands.specs.{declared.wanted.Wanted.Wanted}
 use Rattle.command_parts.specs.{Inputs.Read, Inputs.AreNamesFor, Inputs.AreLinesFor}
@@ -29,38 +30,42 @@ module _ {P : Type 0} (predicts : P → ℕ → ℕ → ℕ → ℕ → P → Ty
       → PromptComesTo predicts before (with_harts harts settings) program input wanted
       (marks_where step.names names origins) Traced old mid status → Keeps mid new
       → TypedComesTo predicts before harts step (Ok text) (Ok file) lines input wanted Traced old new status
-  typed_flushed text file program names lines origins old mid new status configured passes loaded named beside is flushed = (
-    settings,
-    configured,
-    (
-      passes,
-      program,
-      loaded,
-      (
-        names,
-        named,
+  typed_flushed text file program names lines origins old mid new status configured passes loaded named beside is
+      flushed = (
+        settings,
+        configured,
         (
-          origins,
-          beside,
-          record {
-            accepted = is.accepted;
-            ended = is.ended;
-            core = is.core;
-            idle = is.idle;
-            prompted = is.prompted;
-            as_step = is.as_step;
-            traced = is.traced;
-            printed = prints_kept old mid new _ is.printed flushed;
-            harts = is.harts;
-          },
+          passes,
+          program,
+          loaded,
+          (
+            names,
+            named,
+            (
+              origins,
+              beside,
+              record {
+                accepted = is.accepted;
+                ended = is.ended;
+                core = is.core;
+                idle = is.idle;
+                prompted = is.prompted;
+                as_step = is.as_step;
+                traced = is.traced;
+                printed = prints_kept old mid new _ is.printed flushed;
+                harts = is.harts;
+              },
+            ),
+          ),
         ),
-      ),
-    ),
-  )
+      )
 
-pub typed_says : {P : Type 0} (predicts : P → ℕ → ℕ → ℕ → ℕ → P → Type 0) (before : P) (harts : Option ℕ) (step : StepCommand)
-    (config image lines : Read) (input : Option (List ℕ)) (wanted : Wanted) (Traced : CoreView → Type 0) (old new : Option (List ℕ)) (status : ℕ)
-    → TypedComesTo predicts before harts step config image lines input wanted Traced old new status → IsTrue (says_harts status)
+pub typed_says : {P : Type 0} (predicts : P → ℕ → ℕ → ℕ → ℕ → P
+    → Type 0) (before : P) (harts : Option ℕ) (step : StepCommand)
+    (config image lines : Read) (input : Option (List ℕ)) (wanted : Wanted) (Traced : CoreView
+    → Type 0) (old new : Option (List ℕ)) (status : ℕ)
+    → TypedComesTo predicts before harts step config image lines input wanted Traced old new status
+    → IsTrue (says_harts status)
 typed_says predicts before harts step (Ok text) (Ok file) lines input wanted Traced old new status is =
     let comes = is.2.3.2.2 in
     status_says status (statuses_of comes.core) comes.harts

@@ -24,7 +24,8 @@ use Rattle.commands.specs.Commands.{IsCommandRefusal, CommandComesTo, AreUnfit}
 
 pub record IsSound (command : ProgramCommand) (settings : Settings) (program : ProgramImage) (names : Table)
     (lines : Option (List Origin)) (second : Read) : Type 1 where
-  -- It never refuses the image, nor harts beside a trace, nor the lines of the image's sources, and of settings that are a
+  -- It never refuses the image, nor harts beside a trace, nor the lines of the image's sources, and of settings that
+  -- are a
   -- core's it refuses those that are unfit.
   pub no_image : (number : ℕ) → IsCommandRefusal command settings program names second (Image number) → ⊥
   pub no_harts : IsCommandRefusal command settings program names second Harts → ⊥

@@ -1,5 +1,6 @@
 -- Each command's definitions are as `perform` needs them.
-use Rattle.std.specs.Prelude.{◌≡◌, ◌⊎◌, ℕ, max, true, false, IsTrue, List, [], ◌∷◌, Option, Some, None, Ok, Err, length, map, reverse}
+use Rattle.std.specs.Prelude.{◌≡◌, ◌⊎◌, ℕ, max, true, false, IsTrue, List, [], ◌∷◌, Option, Some, None, Ok, Err}
+use Rattle.std.specs.Prelude.{length, map, reverse}
 use Rattle.std.proofs.Common.{refl, sym, ap, subst, ◌∙◌, arith}
 use Rattle.std.specs.Io.KnownBytes.{Keeps}
 use Rattle.std.proofs.lemmas.Bool.{true≢false, cases_lt}
@@ -34,7 +35,8 @@ use Rattle.plain_commands.specs.{Plain.standing}
 use Rattle.command_parts.specs.declared.refused.Refused.TheVariants.{Config, Harts, Image, Lines, Output}
 use Rattle.plain_commands.specs.PlainRounds.{rounds_of, IsRoundsRefusal, RoundsComeTo}
 use Rattle.plain_commands.proofs.OfRounds.{from_rounds, in_rounds}
-use Rattle.commands.proofs.Sound.{IsSound, no_unread_image, no_unread_harts, no_unread_lines, no_unread_config, kept, prints_kept, status_says, zero_says}
+use Rattle.commands.proofs.Sound.{IsSound, no_unread_image, no_unread_harts, no_unread_lines, no_unread_config, kept}
+use Rattle.commands.proofs.Sound.{prints_kept, status_says, zero_says}
 
 -- Sizes of a core aren't refused, nor are its harts too few or too many for the plain machine.
 never_refused : (settings : Settings) → AreAccepted settings → AreRefused settings → ⊥
@@ -142,10 +144,13 @@ of_run run settings program names lines second = record {
     | inl refused ↦ absurd (never_refused settings accepted refused)
     | inr lacks ↦ lacks.1
   ];
-  output = λ Traced old new status is. run_accepted run settings program (marks_where run.names names lines) Traced old status run.times new is;
+  output = λ Traced old new status is. run_accepted run settings program
+      (marks_where run.names names lines) Traced old status run.times new is;
   flushed = λ Traced old mid new status flushed is.
-      run_flushed run settings program (marks_where run.names names lines) Traced old status run.times mid new flushed is;
-  says = λ Traced old new status is. run_says run settings program (marks_where run.names names lines) Traced old status run.times new is;
+      run_flushed run settings program
+      (marks_where run.names names lines) Traced old status run.times mid new flushed is;
+  says = λ Traced old new status is. run_says run settings program
+      (marks_where run.names names lines) Traced old status run.times new is;
 }
 
 -- What is told of a trace is refused by the output alone.
@@ -229,7 +234,8 @@ of_plain plain settings program names lines (Ok order) = record {
       in_rounds (rounds_of plain) _ (λ rounds. IsRoundsRefusal settings Output) _ _ (λ rounds of. of.accepted)
       (λ of. (of.harts, of.is_order)) is;
   flushed = λ Traced old mid new status flushed is.
-      in_rounds (rounds_of plain) _ (λ rounds. RoundsComeTo settings program rounds plain.records (marks_where plain.names names lines) old new status) _ _
+      in_rounds (rounds_of plain) _ (λ rounds. RoundsComeTo settings program rounds plain.records
+      (marks_where plain.names names lines) old new status) _ _
       (λ rounds of. record {
         accepted = of.accepted;
         turns = of.turns;
@@ -265,7 +271,8 @@ of_plain plain settings program names lines (Err why) = record {
       in_rounds (rounds_of plain) _ (λ rounds. IsRoundsRefusal settings Output) _ _ (λ rounds of. of.accepted)
       (λ of. absurd of) is;
   flushed = λ Traced old mid new status flushed is.
-      in_rounds (rounds_of plain) _ (λ rounds. RoundsComeTo settings program rounds plain.records (marks_where plain.names names lines) old new status) _ _
+      in_rounds (rounds_of plain) _ (λ rounds. RoundsComeTo settings program rounds plain.records
+      (marks_where plain.names names lines) old new status) _ _
       (λ rounds of. record {
         accepted = of.accepted;
         turns = of.turns;
@@ -413,8 +420,11 @@ sound (commands.Step step) settings program names lines second = of_step step se
 sound (commands.Run run) settings program names lines second = of_run run settings program names lines second
 sound (commands.Check check) settings program names lines second = of_check check settings program names lines second
 sound (commands.Plain plain) settings program names lines second = of_plain plain settings program names lines second
-sound (commands.Schedule schedule) settings program names lines second = of_schedule schedule settings program names lines second
-sound (commands.Script script) settings program names lines second = of_script script settings program names lines second
+sound (commands.Schedule schedule) settings program names lines second = of_schedule schedule settings program names
+    lines second
+sound (commands.Script script) settings program names lines second = of_script script settings program names lines
+    second
 sound (commands.List list) settings program names lines second = of_list list settings program names lines second
-sound (commands.Outcomes outcomes) settings program names lines second = of_outcomes outcomes settings program names lines second
+sound (commands.Outcomes outcomes) settings program names lines second = of_outcomes outcomes settings program names
+    lines second
 sound (commands.Chart chart) settings program names lines second = of_chart chart settings program names lines second

@@ -67,7 +67,8 @@ abbrev pub CommandComesTo : ProgramCommand → Settings → ProgramImage → Tab
     → (ToWrite → Type 0)
     → Option (List ℕ) → Option (List ℕ) → ℕ → Type 0
 CommandComesTo (commands.Step step) settings image names lines second Traced old new status =
-    OfFile second (λ script. StepComesTo settings image script step.why (step_wants step) (marks_where step.names names lines)
+    OfFile second (λ script. StepComesTo settings image script step.why (step_wants step)
+    (marks_where step.names names lines)
     (λ core. Traced (TraceOf (is_some step.trace) core)) old new status)
 CommandComesTo (commands.Run run) settings image names lines second Traced old new status =
     RunsComeTo run.times run settings image (marks_where run.names names lines) Traced old new status

@@ -40,7 +40,8 @@ abbrev pub TellsTwoCores : Option ℕ → Beside → Read → Type 0
 TellsTwoCores harts beside second = (is_trace beside ≡ true) × AreTwoCores harts second
 
 -- When each refusal comes of a command of a program, with so many harts where that is given: the configuration is
--- looked at first, then the image, then harts beside a trace, then the lines of the program's sources, and then what the
+-- looked at first, then the image, then harts beside a trace, then the lines of the program's sources, and then what
+-- the
 -- command needs. A file that can't be read is refused where it is looked at.
 abbrev pub IsProgramRefusal : Option ℕ → ProgramCommand → Read → Read → Read → Read → Refused → Type 0
 IsProgramRefusal harts command config image second lines (Image number) = OfSettings config
@@ -178,13 +179,17 @@ writes_file (commands.Explain explain) = false
 writes_file (commands.Litmus litmus) = is_some (written_for_test litmus)
 writes_file (commands.Migrate migrate) = true
 
--- What a command has answered, of its settings, its program image, its names, its source lines and its second file, before the
+-- What a command has answered, of its settings, its program image, its names, its source lines and its second file,
+-- before the
 -- output is flushed: a refusal that may come of it, or an exit status behind what is owed on it.
 -- Where no file is written nothing goes into the sink of its files. The sink hasn't failed behind an
--- exit status, and what was put into it is finished; where it has failed, nothing is printed but what a command prints before its trace.
+-- exit status, and what was put into it is finished; where it has failed, nothing is printed but what a command
+-- prints before its trace.
 pub record IsPerformed {S : Type 0} (begins : S → ℕ → Part → S → Type 0) (is_finished : S → Bool)
-    (written : S → Option (List ℕ)) (has_failed : S → Bool) (before after : S) (command : ProgramCommand) (settings : Settings) (program : ProgramImage)
-    (names : Table) (lines : Option (List Origin)) (second : Read) (old new : Option (List ℕ)) (answer : Result ℕ Refused) : Type 0 where
+    (written : S → Option (List ℕ)) (has_failed : S
+    → Bool) (before after : S) (command : ProgramCommand) (settings : Settings) (program : ProgramImage)
+    (names : Table) (lines : Option (List Origin)) (second : Read) (old new : Option (List ℕ))
+    (answer : Result ℕ Refused) : Type 0 where
   pub refused : IfErr answer (IsCommandRefusal command settings program names second)
   pub ended : IfOk answer (CommandComesTo command settings program names lines second
       (IsWritten begins written has_failed before after) old new)

@@ -24,14 +24,15 @@ use std::io::Write;
 const WITHOUT_CONFIG: &[u8] = b"the image without a configuration:\n";
 
 /// Says of a configuration's text, with so many harts in place of its own where that is given, and of an image's file
-/// why each is refused, or what is in it, and answers the exit status, 0 where both are accepted; else the refusal of the first that isn't, as
+/// why each is refused, or what is in it, and answers the exit status, 0 where both are accepted; else the refusal of
+/// the first that isn't, as
 /// every other command has it. A file that couldn't be read is refused in its place. Where the
 /// configuration is refused, the image is looked at with the memory that it has without one. All that
 /// is printed is flushed. `Output` is answered where `out` failed.
 #[inline(never)]
 pub fn perform_explain<W: Write>(
     config: &[u8],
-    harts: Option<HartCount>,
+    harts: &Option<HartCount>,
     image: Result<&[u8], Unread>,
     out: &mut W,
     alloc: Global,
@@ -57,7 +58,7 @@ pub fn perform_explain<W: Write>(
 /// it makes itself, if any.
 fn tell_config<W: Write>(
     config: &[u8],
-    harts: Option<HartCount>,
+    harts: &Option<HartCount>,
     out: &mut W,
     alloc: Global,
 ) -> Result<Option<Settings>, Refused>
@@ -67,7 +68,7 @@ fn tell_config<W: Write>(
     ensures printed { IfOk result (λ settings.
         Prints (W.contents out.old) (W.contents out.new) (Begins (config_head settings))) }
 {
-    match explain_config(config, harts, alloc) {
+    match explain_config(config, *harts, alloc) {
         Ok(said) => {
             put(said.text.as_slice(), out)?;
             Ok(said.settings)

@@ -7,6 +7,7 @@ ghost use Rattle.commands.specs.Perform.{IsExplainLineRefusal, ExplainLineComesT
 
 use crate::explain::perform_explain;
 use crate::explain_beside::tell_beside;
+use crate::settings::settings_with;
 use crate::two_cores::are_two_cores;
 use command_parts::{Inputs, Refused, image_of, settings_of};
 use sim_inputs::{Beside, ExplainCommand, HartCount};
@@ -18,16 +19,16 @@ use std::io::Write;
 /// image are taken before they are refused. What is explained beside them is looked at where both are accepted.
 pub(crate) fn read_and_explain<P: Predict, W: Write>(
     explain: &ExplainCommand<'_>,
-    harts: Option<HartCount>,
+    harts: &Option<HartCount>,
     inputs: &Inputs<'_>,
     predict: &mut P,
     out: &mut W,
     alloc: Global,
 ) -> Result<u8, Refused>
     ensures unset { IfErr inputs.now.config (λ why. result ≡ Err (refusal_of why)) }
-    ensures refused { IfErr result (IsExplainLineRefusal harts explain.now.beside (as_read inputs.now.config)
+    ensures refused { IfErr result (IsExplainLineRefusal harts.now explain.now.beside (as_read inputs.now.config)
         (as_read inputs.now.program) (as_read inputs.now.second)) }
-    ensures ended { IfOk result (ExplainLineComesTo harts explain.now.beside (as_read inputs.now.config)
+    ensures ended { IfOk result (ExplainLineComesTo harts.now explain.now.beside (as_read inputs.now.config)
         (as_read inputs.now.program) (as_read inputs.now.second) (W.contents out.old) (W.contents out.new)) }
 {
     let text = inputs.config?;
@@ -36,7 +37,7 @@ pub(crate) fn read_and_explain<P: Predict, W: Write>(
         Ok(status) => status,
         Err(refused) => return Err(refused),
     };
-    match explain.beside {
+    match &explain.beside {
         None => Ok(status),
         Some(beside) => {
             read_and_tell(beside, text, harts, inputs, predict, out, alloc)?;
@@ -47,29 +48,30 @@ pub(crate) fn read_and_explain<P: Predict, W: Write>(
 
 /// Says what there is to say of the text beside an image and the text of a configuration.
 fn read_and_tell<P: Predict, W: Write>(
-    beside: Beside<'_>,
+    beside: &Beside<'_>,
     config: &[u8],
-    harts: Option<HartCount>,
+    harts: &Option<HartCount>,
     inputs: &Inputs<'_>,
     predict: &mut P,
     out: &mut W,
     alloc: Global,
 ) -> Result<(), Refused>
-    ensures refused { IfErr result (IsExplainLineRefusal harts (Some beside.entry) (Ok config.now)
+    ensures refused { IfErr result (IsExplainLineRefusal harts.now (Some beside.now) (Ok config.now)
         (as_read inputs.now.program) (as_read inputs.now.second)) }
     ensures told { OnOk result (OfProgram (Ok config.now) (as_read inputs.now.program)
-        (λ settings program. HasToldBeside harts (Some beside.entry) settings program (as_read inputs.now.second)
+        (λ settings program. HasToldBeside harts.now (Some beside.now) settings program (as_read inputs.now.second)
         (W.contents out.old) (W.contents out.new))) }
 {
     let own = settings_of(config, alloc)?;
+    let ram = own.ram;
+    let settings = settings_with(own, harts);
     let bytes = inputs.program?;
-    let image = image_of(bytes, own.ram, alloc)?;
-    let settings = own.with_harts(harts);
+    let image = image_of(bytes, ram, alloc)?;
     if beside.is_trace() && are_two_cores(harts, inputs.second) {
         return Err(Refused::Harts);
     }
     let text = inputs.second?;
-    match tell_beside(beside, text, &settings, &image, predict, out, alloc) {
+    match tell_beside(*beside, text, &settings, &image, predict, out, alloc) {
         Ok(()) => Ok(()),
         Err(refused) => Err(refused),
     }

@@ -1,40 +1,21 @@
-//! What a command of a program is about, and what stands beside its addresses.
+//! What stands beside the addresses that a command shows.
 
 ghost use Rattle.std.specs.Prelude.{◌≡◌};
 ghost use Rattle.symbols.specs.Tables.{table_of};
 ghost use Rattle.address_labels.specs.Labels.{lines_in, marks_of, marks_where};
-ghost use Rattle.sim_inputs.specs.Files.{shows_names};
 
 use address_labels::Labels;
-use elf_image::Image;
-use sim_inputs::{ProgramCommand, Settings};
 use source_lines::SourceLines;
 use symbols::Symbols;
 
-/// What a command of a program is about.
-#[derive(Clone, Copy, Drop)]
-pub(crate) struct About<'a> {
-    pub settings: &'a Settings,
-    pub image: &'a Image,
-    /// The names that it wants, and the lines of its sources.
-    pub names: &'a Symbols<'a>,
-    pub lines: Option<&'a SourceLines<'a>>,
-}
-
-impl<'a> About<'a> {
-    /// What stands beside addresses that a command shows.
-    pub(crate) fn labels_for(&self, command: &ProgramCommand<'_>) -> Labels<'a>
-        ensures { marks_of result ≡ marks_where (shows_names command.now) (table_of self.now.names.now)
-            (lines_in self.now.lines) }
-    {
-        let names = if command.shows_names() {
-            Some(self.names)
-        } else {
-            None
-        };
-        Labels {
-            names,
-            lines: self.lines,
-        }
-    }
+/// The names, where they are wanted, and the lines of the program's sources, where there are any.
+pub(crate) fn labels_where<'a>(
+    is_named: bool,
+    names: &'a Symbols<'a>,
+    lines: Option<&'a SourceLines<'a>>,
+) -> Labels<'a>
+    ensures { marks_of result ≡ marks_where is_named (table_of names.now) (lines_in lines.entry) }
+{
+    let names = if is_named { Some(names) } else { None };
+    Labels { names, lines }
 }

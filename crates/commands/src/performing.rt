@@ -18,27 +18,31 @@ ghost use Rattle.commands.specs.Perform.{IsMigrateLineRefusal, MigrationComesTo}
 ghost use Rattle.event_text.specs.Sinking.{HasPut};
 ghost use Rattle.commands.specs.Written.{IsWritten};
 
-use crate::about::About;
 use crate::explain_line::read_and_explain;
+use crate::labelling::labels_where;
 use crate::list::perform_list;
 use crate::naming::{names_where, wants_names};
 use crate::runs::perform_runs;
+use crate::settings::settings_with;
 use crate::two_cores::are_two_cores;
 use actors::Gate;
 use command_parts::{Context, Inputs, Refused, Unread, image_of, lines_where, refuse, settings_of};
 use core_commands::{
     Wanted, perform_chart, perform_check, perform_migrate, perform_script, perform_step,
 };
+use elf_image::Image;
 use plain_commands::{
     perform_litmus, perform_outcomes, perform_plain, perform_rounds, perform_schedule, rounds_of,
 };
-use sim_inputs::{Command, HartCount, Line, LitmusCommand, ProgramCommand};
+use sim_inputs::{Command, HartCount, Line, LitmusCommand, ProgramCommand, Settings};
 use smt_core::Predict;
+use source_lines::SourceLines;
 use std::alloc::Global;
 use std::io::Write;
 use std::sync::Wait;
 use std::thread::Threads;
 use stress_runs::EndFiles;
+use symbols::Symbols;
 
 /// Does all that the program does once its files are read, and answers its exit status: how the harts
 /// stand, 0 for a listing, a schedule, a script, a chart, a litmus test and a migration, 2 for a refused
@@ -68,7 +72,8 @@ pub fn perform<
     ensures unset { IfErr inputs.now.config (λ why. result ≡ 5) }
     ensures refused { says_harts result ≡ false → (reason : AnyRefused)
         × (exit_status_of reason ≡ result) × IsRefusal line.now.harts line.now.command
-        (as_read inputs.now.config) (as_read inputs.now.program) (as_read inputs.now.second) (as_read inputs.now.lines) reason }
+        (as_read inputs.now.config) (as_read inputs.now.program) (as_read inputs.now.second)
+        (as_read inputs.now.lines) reason }
     ensures ended { IsTrue (says_harts result) → LineComesTo line.now.harts line.now.command
         (as_read inputs.now.config) (as_read inputs.now.program) (as_read inputs.now.second) (as_read inputs.now.lines)
         (IsWritten S.begins S.written S.has_failed context.old.files context.new.files) (W.contents context.old.out)
@@ -130,10 +135,10 @@ fn perform_line<
 {
     let alloc = context.alloc;
     match &line.command {
-        Command::OfProgram(command) => read_and_perform(context, command, line.harts, inputs),
+        Command::OfProgram(command) => read_and_perform(context, command, &line.harts, inputs),
         Command::Explain(explain) => read_and_explain(
             explain,
-            line.harts,
+            &line.harts,
             inputs,
             &mut context.predict,
             &mut context.out,
@@ -220,15 +225,15 @@ fn read_and_perform<
 >(
     context: &mut Context<'_, R, G, P, S, W>,
     command: &ProgramCommand<'_>,
-    harts: Option<HartCount>,
+    harts: &Option<HartCount>,
     inputs: &Inputs<'_>,
 ) -> Result<u8, Refused>
     requires works { S.has_failed context.old.files ≡ false }
     requires finished { S.is_finished context.old.files ≡ true }
     ensures unset { IfErr inputs.now.config (λ why. result ≡ Err (refusal_of why)) }
-    ensures refused { IfErr result (IsProgramRefusal harts command.now (as_read inputs.now.config)
+    ensures refused { IfErr result (IsProgramRefusal harts.now command.now (as_read inputs.now.config)
         (as_read inputs.now.program) (as_read inputs.now.second) (as_read inputs.now.lines)) }
-    ensures ended { IfOk result (ProgramComesTo harts command.now (as_read inputs.now.config)
+    ensures ended { IfOk result (ProgramComesTo harts.now command.now (as_read inputs.now.config)
         (as_read inputs.now.program) (as_read inputs.now.second) (as_read inputs.now.lines)
         (IsWritten S.begins S.written S.has_failed context.old.files context.new.files) (W.contents context.old.out)
         (W.contents context.new.out)) }
@@ -239,23 +244,29 @@ fn read_and_perform<
 {
     let config = inputs.config?;
     let own = settings_of(config, context.alloc)?;
+    let ram = own.ram;
+    let settings = settings_with(own, harts);
     let file = inputs.program?;
-    let image = image_of(file, own.ram, context.alloc)?;
-    let settings = own.with_harts(harts);
+    let image = image_of(file, ram, context.alloc)?;
     if command.reads_trace() && are_two_cores(harts, inputs.second) {
         return Err(Refused::Harts);
     }
     let names = names_where(wants_names(command), file, context.alloc)?;
     let wants_lines = command.lines().is_some();
-    let lines = lines_where(wants_lines, inputs.lines, &image, context.alloc)?;
-    let about = About {
-        settings: &settings,
-        image: &image,
-        names: &names,
-        lines: lines.as_ref(),
+    let lines = match lines_where(wants_lines, inputs.lines, &image, context.alloc) {
+        Ok(lines) => lines,
+        Err(refused) => return Err(refused),
     };
     // Handed on as it is: a `?` would leave the prover to find what the refusal becomes.
-    let status = match perform_command(context, command, &about, inputs.second) {
+    let status = match perform_command(
+        context,
+        command,
+        &settings,
+        &image,
+        &names,
+        lines.as_ref(),
+        inputs.second,
+    ) {
         Ok(status) => status,
         Err(refused) => return Err(refused),
     };
@@ -265,7 +276,8 @@ fn read_and_perform<
     }
 }
 
-/// Does what a command of a program asks for, of its settings, its image with the names and the lines that it wants, and
+/// Does what a command of a program asks for, of its settings, its image with the names and the lines that it wants,
+/// and
 /// its second file.
 fn perform_command<
     G: Gate + Sync,
@@ -276,23 +288,20 @@ fn perform_command<
 >(
     context: &mut Context<'_, R, G, P, S, W>,
     command: &ProgramCommand<'_>,
-    about: &About<'_>,
+    settings: &Settings,
+    image: &Image,
+    names: &Symbols<'_>,
+    lines: Option<&SourceLines<'_>>,
     second: Result<&[u8], Unread>,
 ) -> Result<u8, Refused>
     requires works { S.has_failed context.old.files ≡ false }
     requires finished { S.is_finished context.old.files ≡ true }
     ensures { IsPerformed S.begins S.is_finished S.written S.has_failed context.old.files context.new.files command.now
-        about.now.settings.now about.now.image.now (table_of about.now.names.now) (lines_in about.now.lines)
+        settings.now image.now (table_of names.now) (lines_in lines.entry)
         (as_read second.entry) (W.contents context.old.out) (W.contents context.new.out) result }
 {
     let alloc = context.alloc;
-    let About {
-        settings,
-        image,
-        names,
-        lines: _,
-    } = *about;
-    let labels = &about.labels_for(command);
+    let labels = &labels_where(command.shows_names(), names, lines);
     match command {
         ProgramCommand::Step(step) => {
             let wanted = Wanted::of_step(step);

@@ -39,7 +39,8 @@ pub(crate) fn perform_runs<
     ensures { (names : Table) (lines : Option (List Origin)) (second : Read)
         → marks_of labels.now ≡ marks_where run.now.names names lines
         → IsPerformed S.begins S.is_finished S.written S.has_failed context.old.files context.new.files
-        (Run run.now) settings.now image.now names lines second (W.contents context.old.out) (W.contents context.new.out)
+        (Run run.now) settings.now image.now names lines second (W.contents context.old.out)
+        (W.contents context.new.out)
         result }
 {
     if let Some(times) = run.times {

@@ -10,8 +10,8 @@ use sim_inputs::HartCount;
 
 /// Whether harts are given beside a trace that says itself of what core it is. Of one that couldn't be read nothing is
 /// said.
-pub(crate) fn are_two_cores(harts: Option<HartCount>, trace: Result<&[u8], Unread>) -> bool
-    ensures { Decides result (AreTwoCores harts (as_read trace.entry)) }
+pub(crate) fn are_two_cores(harts: &Option<HartCount>, trace: Result<&[u8], Unread>) -> bool
+    ensures { Decides result (AreTwoCores harts.now (as_read trace.entry)) }
 {
     match (harts, trace) {
         (Some(_), Ok(text)) => names_core(text),

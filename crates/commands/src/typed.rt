@@ -12,16 +12,24 @@ ghost use Rattle.commands.specs.Perform.{IsRefusal};
 ghost use Rattle.commands.specs.Typed.{TypedComesTo};
 ghost use Rattle.command_parts.specs.Refused.{exit_status_of, refusal_of};
 ghost use Rattle.core_commands.specs.Wanted.{step_wants};
+ghost use Rattle.core_commands.specs.Prompt.{PromptComesTo};
+ghost use Rattle.core_commands.specs.Step.{IsStepRefusal};
+ghost use Rattle.symbols.specs.Tables.{table_of};
+ghost use Rattle.address_labels.specs.Labels.{lines_in, marks_where};
 
+use crate::labelling::labels_where;
 use crate::naming::names_where;
 use crate::performing::refuse_line;
-use address_labels::Labels;
+use crate::settings::settings_with;
 use command_parts::{Context, Inputs, Refused, image_of, lines_where, settings_of};
 use core_commands::{Wanted, perform_prompt};
-use sim_inputs::{HartCount, StepCommand};
+use elf_image::Image;
+use sim_inputs::{HartCount, Settings, StepCommand};
 use smt_core::Predict;
+use source_lines::SourceLines;
 use std::io::{BufRead, Write};
 use stress_runs::EndFiles;
+use symbols::Symbols;
 
 /// Does all that the program does with a line of `step` whose script is typed, once its other files
 /// are read, with so many harts where that is given: as `perform` does, but each line of `reader` is asked as it comes.
@@ -51,7 +59,7 @@ pub fn perform_typed<R, G, P: Predict + Copy, B: BufRead, S: EndFiles, W: Write,
     ensures finished { IsTrue (says_harts result) → S.is_finished context.new.files ≡ true }
     ensures unwanted { is_some step.now.trace ≡ false → context.new.files ≡ context.old.files }
 {
-    match read_and_prompt(context, step, harts, inputs, reader) {
+    match read_and_prompt(context, step, &harts, inputs, reader) {
         Ok(status) => status,
         Err(refused) => refuse_line(refused, context, err),
     }
@@ -61,16 +69,16 @@ pub fn perform_typed<R, G, P: Predict + Copy, B: BufRead, S: EndFiles, W: Write,
 fn read_and_prompt<R, G, P: Predict + Copy, B: BufRead, S: EndFiles, W: Write>(
     context: &mut Context<'_, R, G, P, S, W>,
     step: &StepCommand<'_>,
-    harts: Option<HartCount>,
+    harts: &Option<HartCount>,
     inputs: &Inputs<'_>,
     reader: &mut B,
 ) -> Result<u8, Refused>
     requires works { S.has_failed context.old.files ≡ false }
     requires finished { S.is_finished context.old.files ≡ true }
     ensures unset { IfErr inputs.now.config (λ why. result ≡ Err (refusal_of why)) }
-    ensures refused { IfErr result (IsRefusal harts (OfProgram (Step step.now)) (as_read inputs.now.config)
+    ensures refused { IfErr result (IsRefusal harts.now (OfProgram (Step step.now)) (as_read inputs.now.config)
         (as_read inputs.now.program) (Ok []) (as_read inputs.now.lines)) }
-    ensures ended { IfOk result (TypedComesTo P.predicts context.old.predict harts step.now (as_read inputs.now.config)
+    ensures ended { IfOk result (TypedComesTo P.predicts context.old.predict harts.now step.now (as_read inputs.now.config)
         (as_read inputs.now.program) (as_read inputs.now.lines) (B.remaining reader.old) (step_wants step.now)
         (IsTraceWritten S.written S.has_failed context.old.files context.new.files (is_some step.now.trace))
         (W.contents context.old.out) (W.contents context.new.out)) }
@@ -79,19 +87,25 @@ fn read_and_prompt<R, G, P: Predict + Copy, B: BufRead, S: EndFiles, W: Write>(
 {
     let config = inputs.config?;
     let own = settings_of(config, context.alloc)?;
+    let ram = own.ram;
+    let settings = settings_with(own, harts);
     let file = inputs.program?;
-    let image = image_of(file, own.ram, context.alloc)?;
-    let settings = own.with_harts(harts);
+    let image = image_of(file, ram, context.alloc)?;
     let names = names_where(step.names, file, context.alloc)?;
-    let lines = lines_where(step.lines.is_some(), inputs.lines, &image, context.alloc)?;
-    let labels = Labels {
-        names: if step.names { Some(&names) } else { None },
-        lines: lines.as_ref(),
+    let wants_lines = step.lines.is_some();
+    let lines = match lines_where(wants_lines, inputs.lines, &image, context.alloc) {
+        Ok(lines) => lines,
+        Err(refused) => return Err(refused),
     };
-    let wanted = Wanted::of_step(step);
     // Handed on as it is: a `?` would leave the prover to find what the refusal becomes.
-    let status = match perform_prompt(
-        context, &image, &settings, step.why, wanted, &labels, reader,
+    let status = match prompt_beside(
+        context,
+        step,
+        &settings,
+        &image,
+        &names,
+        lines.as_ref(),
+        reader,
     ) {
         Ok(status) => status,
         Err(refused) => return Err(refused),
@@ -100,4 +114,30 @@ fn read_and_prompt<R, G, P: Predict + Copy, B: BufRead, S: EndFiles, W: Write>(
         Ok(()) => Ok(status),
         Err(_) => Err(Refused::Output),
     }
+}
+
+/// Asks each line of `reader` as it comes, with what the line wants beside addresses.
+fn prompt_beside<R, G, P: Predict + Copy, B: BufRead, S: EndFiles, W: Write>(
+    context: &mut Context<'_, R, G, P, S, W>,
+    step: &StepCommand<'_>,
+    settings: &Settings,
+    image: &Image,
+    names: &Symbols<'_>,
+    lines: Option<&SourceLines<'_>>,
+    reader: &mut B,
+) -> Result<u8, Refused>
+    requires works { S.has_failed context.old.files ≡ false }
+    requires finished { S.is_finished context.old.files ≡ true }
+    ensures refused { IfErr result (IsStepRefusal settings.now []) }
+    ensures ended { IfOk result (PromptComesTo P.predicts context.old.predict settings.now image.now
+        (B.remaining reader.old) (step_wants step.now) (marks_where step.now.names (table_of names.now)
+        (lines_in lines.entry))
+        (IsTraceWritten S.written S.has_failed context.old.files context.new.files (is_some step.now.trace))
+        (W.contents context.old.out) (W.contents context.new.out)) }
+    ensures finished { OnOk result (S.is_finished context.new.files ≡ true) }
+    ensures unwanted { is_some step.now.trace ≡ false → context.new.files ≡ context.old.files }
+{
+    let labels = &labels_where(step.names, names, lines);
+    let wanted = Wanted::of_step(step);
+    perform_prompt(context, image, settings, step.why, wanted, labels, reader)
 }

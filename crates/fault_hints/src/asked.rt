@@ -17,7 +17,7 @@ use watched_outcomes::{WatchedBytes, Width};
 /// Adds the unit that a schedule needs.
 pub(crate) fn add_unit(
     kind: UnitKind,
-    fault: &LineFault<'_>,
+    fault: &LineFault<'_, '_>,
     hint: &mut Hint,
     alloc: Global,
 ) -> Result<(), AllocError> {
@@ -34,7 +34,7 @@ pub(crate) fn add_unit(
 /// Adds the limit that a schedule needs.
 pub(crate) fn add_limit(
     least: u64,
-    fault: &LineFault<'_>,
+    fault: &LineFault<'_, '_>,
     hint: &mut Hint,
     alloc: Global,
 ) -> Result<(), AllocError> {
@@ -50,7 +50,7 @@ pub(crate) fn add_limit(
 /// Adds the hart that an option names.
 pub(crate) fn add_hart(
     hart: u32,
-    fault: &LineFault<'_>,
+    fault: &LineFault<'_, '_>,
     hint: &mut Hint,
     alloc: Global,
 ) -> Result<(), AllocError> {
@@ -69,7 +69,7 @@ pub(crate) fn add_hart(
 
 /// Adds that harts were asked for of a core that the trace names itself.
 pub(crate) fn add_two_cores(
-    fault: &LineFault<'_>,
+    fault: &LineFault<'_, '_>,
     hint: &mut Hint,
     alloc: Global,
 ) -> Result<(), AllocError> {
@@ -94,7 +94,7 @@ pub(crate) fn add_picture(last: u32, hint: &mut Hint, alloc: Global) -> Result<(
 /// Adds where a list of what is watched is misspelled.
 pub(crate) fn add_watch(
     why: QueryRefused,
-    fault: &LineFault<'_>,
+    fault: &LineFault<'_, '_>,
     hint: &mut Hint,
     alloc: Global,
 ) -> Result<(), AllocError> {
@@ -107,7 +107,7 @@ pub(crate) fn add_watch(
 /// Adds where a condition is misspelled.
 pub(crate) fn add_condition(
     why: QueryRefused,
-    fault: &LineFault<'_>,
+    fault: &LineFault<'_, '_>,
     hint: &mut Hint,
     alloc: Global,
 ) -> Result<(), AllocError> {
@@ -122,7 +122,7 @@ fn add_query(
     option: &str,
     text: Option<&str>,
     why: QueryRefused,
-    fault: &LineFault<'_>,
+    fault: &LineFault<'_, '_>,
     hint: &mut Hint,
     alloc: Global,
 ) -> Result<(), AllocError> {
@@ -140,7 +140,7 @@ fn add_query(
 /// Adds that a word that is watched isn't there, or a half or a byte.
 pub(crate) fn add_absent_word(
     bytes: WatchedBytes,
-    fault: &LineFault<'_>,
+    fault: &LineFault<'_, '_>,
     hint: &mut Hint,
     alloc: Global,
 ) -> Result<(), AllocError> {
@@ -183,7 +183,7 @@ pub(crate) fn add_absent_outcome(
 pub(crate) fn add_litmus(
     place: Place,
     why: Fault,
-    fault: &LineFault<'_>,
+    fault: &LineFault<'_, '_>,
     hint: &mut Hint,
     alloc: Global,
 ) -> Result<(), AllocError> {

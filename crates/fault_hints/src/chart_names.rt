@@ -14,7 +14,7 @@ use symbols::{Name, Unread, read};
 /// Adds that an option of a chart names nothing in the program, and what was meant.
 pub(crate) fn add_nothing_named(
     option: ChartOption,
-    fault: &LineFault<'_>,
+    fault: &LineFault<'_, '_>,
     hint: &mut Hint,
     alloc: Global,
 ) -> Result<(), AllocError> {
@@ -59,7 +59,7 @@ pub fn why_nameless(line: &Line<'_>, inputs: &Inputs<'_>, alloc: Global) -> Opti
 /// Adds that an option of a chart names several addresses.
 pub(crate) fn add_several_named(
     option: ChartOption,
-    fault: &LineFault<'_>,
+    fault: &LineFault<'_, '_>,
     hint: &mut Hint,
     alloc: Global,
 ) -> Result<(), AllocError> {
@@ -82,7 +82,7 @@ pub(crate) fn add_several_named(
 /// Adds that nothing is fetched in what an option of a chart names.
 pub(crate) fn add_never_fetched(
     option: ChartOption,
-    fault: &LineFault<'_>,
+    fault: &LineFault<'_, '_>,
     hint: &mut Hint,
     alloc: Global,
 ) -> Result<(), AllocError> {
@@ -97,7 +97,7 @@ pub(crate) fn add_never_fetched(
 pub(crate) fn add_turned(
     from: u32,
     to: u32,
-    fault: &LineFault<'_>,
+    fault: &LineFault<'_, '_>,
     hint: &mut Hint,
     alloc: Global,
 ) -> Result<(), AllocError> {
@@ -114,7 +114,7 @@ pub(crate) fn add_turned(
 pub(crate) fn add_source_line(
     line: usize,
     why: SourceFault,
-    fault: &LineFault<'_>,
+    fault: &LineFault<'_, '_>,
     hint: &mut Hint,
     alloc: Global,
 ) -> Result<(), AllocError> {
@@ -134,7 +134,7 @@ pub(crate) fn add_source_line(
 /// Adds an option of a chart as it stands in the command line.
 fn add_option(
     option: ChartOption,
-    fault: &LineFault<'_>,
+    fault: &LineFault<'_, '_>,
     hint: &mut Hint,
     alloc: Global,
 ) -> Result<(), AllocError> {
@@ -144,7 +144,7 @@ fn add_option(
 }
 
 /// The name that an option of a chart gives.
-fn word_of<'a>(option: ChartOption, fault: &LineFault<'a>) -> &'a str {
+fn word_of<'a>(option: ChartOption, fault: &LineFault<'a, '_>) -> &'a str {
     let Command::OfProgram(ProgramCommand::Chart(chart)) = fault.line.command else {
         return "";
     };

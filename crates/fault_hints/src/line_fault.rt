@@ -17,9 +17,9 @@ pub struct FileFaults {
 
 /// A fault of a line, and all that its hint is made of.
 #[derive(Clone, Copy, Drop)]
-pub struct LineFault<'a> {
+pub struct LineFault<'line, 'inputs> {
     pub refused: Refused,
-    pub line: Line<'a>,
-    pub inputs: Inputs<'a>,
+    pub line: Line<'line>,
+    pub inputs: Inputs<'inputs>,
     pub files: FileFaults,
 }

@@ -18,7 +18,7 @@ const MOST_TOLD: usize = 3;
 pub(crate) fn add_named(
     text: &[u8],
     expected: Expected,
-    fault: &LineFault<'_>,
+    fault: &LineFault<'_, '_>,
     hint: &mut Hint,
     alloc: Global,
 ) -> Result<(), AllocError> {

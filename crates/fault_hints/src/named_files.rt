@@ -43,7 +43,7 @@ fn written_role(line: &Line<'_>) -> &'static str {
 
 /// Adds the file of the configuration, if the line names one.
 pub(crate) fn add_config(
-    fault: &LineFault<'_>,
+    fault: &LineFault<'_, '_>,
     hint: &mut Hint,
     alloc: Global,
 ) -> Result<(), AllocError> {
@@ -55,7 +55,7 @@ pub(crate) fn add_config(
 
 /// Adds the program of the line.
 pub(crate) fn add_program(
-    fault: &LineFault<'_>,
+    fault: &LineFault<'_, '_>,
     hint: &mut Hint,
     alloc: Global,
 ) -> Result<(), AllocError> {
@@ -67,7 +67,7 @@ pub(crate) fn add_program(
 
 /// Adds the second file of the line.
 pub(crate) fn add_second(
-    fault: &LineFault<'_>,
+    fault: &LineFault<'_, '_>,
     hint: &mut Hint,
     alloc: Global,
 ) -> Result<(), AllocError> {
@@ -79,7 +79,7 @@ pub(crate) fn add_second(
 
 /// Adds the source lines of the line.
 pub(crate) fn add_lines(
-    fault: &LineFault<'_>,
+    fault: &LineFault<'_, '_>,
     hint: &mut Hint,
     alloc: Global,
 ) -> Result<(), AllocError> {
@@ -112,7 +112,7 @@ fn add_named(
 
 /// Adds which file can't be read, and why: the first that is needed.
 pub(crate) fn add_unread(
-    fault: &LineFault<'_>,
+    fault: &LineFault<'_, '_>,
     hint: &mut Hint,
     alloc: Global,
 ) -> Result<(), AllocError> {
@@ -147,7 +147,7 @@ fn reading(name: Option<&str>) -> Doing {
 
 /// Adds for which file there isn't enough memory, if it is one.
 pub(crate) fn add_memory(
-    fault: &LineFault<'_>,
+    fault: &LineFault<'_, '_>,
     hint: &mut Hint,
     alloc: Global,
 ) -> Result<(), AllocError> {
@@ -176,7 +176,7 @@ fn is_refused(file: Result<&[u8], Unread>, why: Unread) -> bool {
 
 /// Adds what takes no more, and why: a file that is written, or standard output.
 pub(crate) fn add_unwritten(
-    fault: &LineFault<'_>,
+    fault: &LineFault<'_, '_>,
     hint: &mut Hint,
     alloc: Global,
 ) -> Result<(), AllocError> {

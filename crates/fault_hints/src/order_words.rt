@@ -12,7 +12,7 @@ use std::alloc::{AllocError, Global};
 /// Adds the word of the order with this number, from 0, that names no hart.
 pub(crate) fn add_order_word(
     number: usize,
-    fault: &LineFault<'_>,
+    fault: &LineFault<'_, '_>,
     hint: &mut Hint,
     alloc: Global,
 ) -> Result<(), AllocError> {
@@ -30,7 +30,7 @@ pub(crate) fn add_order_word(
 pub(crate) fn add_step(
     number: usize,
     why: Stopped,
-    fault: &LineFault<'_>,
+    fault: &LineFault<'_, '_>,
     hint: &mut Hint,
     alloc: Global,
 ) -> Result<(), AllocError> {
@@ -44,7 +44,7 @@ pub(crate) fn add_step(
 
 /// Adds which harts there are.
 pub(crate) fn add_harts(
-    fault: &LineFault<'_>,
+    fault: &LineFault<'_, '_>,
     hint: &mut Hint,
     alloc: Global,
 ) -> Result<(), AllocError> {
@@ -69,7 +69,7 @@ pub(crate) fn add_harts(
 /// Adds the order and a word of it, and answers the word.
 fn add_word<'a>(
     number: usize,
-    fault: &LineFault<'a>,
+    fault: &LineFault<'_, 'a>,
     hint: &mut Hint,
     alloc: Global,
 ) -> Result<Option<&'a [u8]>, AllocError> {

@@ -19,7 +19,7 @@ use std::alloc::{AllocError, Global};
 
 /// Adds to a hint what there is to say of a fault of a line. Fails only for want of memory.
 pub fn add_line_fault(
-    fault: &LineFault<'_>,
+    fault: &LineFault<'_, '_>,
     hint: &mut Hint,
     alloc: Global,
 ) -> Result<(), AllocError> {
@@ -44,7 +44,7 @@ pub fn add_line_fault(
 
 /// Adds what there is to say of a trace that is refused.
 fn add_trace_fault(
-    fault: &LineFault<'_>,
+    fault: &LineFault<'_, '_>,
     hint: &mut Hint,
     alloc: Global,
 ) -> Result<(), AllocError> {
@@ -67,7 +67,7 @@ fn add_trace_fault(
 
 /// Adds what there is to say of what options ask for, and of a litmus test.
 fn add_asked_fault(
-    fault: &LineFault<'_>,
+    fault: &LineFault<'_, '_>,
     hint: &mut Hint,
     alloc: Global,
 ) -> Result<(), AllocError> {

@@ -19,7 +19,7 @@ pub(crate) struct Hinting {
 
 impl Hinting {
     /// Writes the hint of a fault of a line, where one is wanted.
-    pub(crate) fn tell_line<E: Write>(&self, fault: &LineFault<'_>, err: &mut E) {
+    pub(crate) fn tell_line<E: Write>(&self, fault: &LineFault<'_, '_>, err: &mut E) {
         let Some(form) = fault.line.hints.form(self.on_terminal) else {
             return;
         };
@@ -63,7 +63,7 @@ impl Hinting {
 }
 
 /// The text of the hint of a fault of a line.
-fn line_hint(form: Form, fault: &LineFault<'_>, alloc: Global) -> Result<Vec<u8>, AllocError> {
+fn line_hint(form: Form, fault: &LineFault<'_, '_>, alloc: Global) -> Result<Vec<u8>, AllocError> {
     let said = fault.refused.to_string(alloc)?;
     let status = fault.refused.exit_status();
     let mut hint = Hint::new(form, said.as_str(), status, alloc)?;

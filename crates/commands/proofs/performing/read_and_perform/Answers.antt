@@ -11,7 +11,8 @@ returns-in-Err-clause-refused g c =
     let own = c.in_ok-own.ensures.settings in
     let with = c.with_harts-settings.ensures in
     rw (c.in_ok-config.was, c.in_ok-file.was)
-    (command_refusal c.args.harts c.args.command.now _ _ _ _ (table_of c.in_ok-names.names) (as_read c.args.inputs.now.second)
+    (command_refusal c.args.harts c.args.command.now _ _ _ _ (table_of c.in_ok-names.names)
+    (as_read c.args.inputs.now.second)
     (as_read c.args.inputs.now.lines) (lines_in c.as_ref.result) own (rw with.value at with.in_range own.sets.in_range)
     c.in_ok-image.ensures.passed c.in_ok-image.ensures.image (rw c.wants_names.ensures at c.in_ok-names.ensures.names)
     (rw c.is_some-wants_lines.ensures at c.in_ok-lines.ensures.lines) c.in-Err.refused
@@ -22,7 +23,8 @@ returns-clause-refused g c =
     let own = c.in_ok-own.ensures.settings in
     let with = c.with_harts-settings.ensures in
     rw (c.in_ok-config.was, c.in_ok-file.was)
-    (output_refusal c.args.harts c.args.command.now _ _ _ _ (table_of c.in_ok-names.names) (as_read c.args.inputs.now.second)
+    (output_refusal c.args.harts c.args.command.now _ _ _ _ (table_of c.in_ok-names.names)
+    (as_read c.args.inputs.now.second)
     (as_read c.args.inputs.now.lines) (lines_in c.as_ref.result) own (rw with.value at with.in_range own.sets.in_range)
     c.in_ok-image.ensures.passed c.in_ok-image.ensures.image (rw c.wants_names.ensures at c.in_ok-names.ensures.names)
     (rw c.is_some-wants_lines.ensures at c.in_ok-lines.ensures.lines)
