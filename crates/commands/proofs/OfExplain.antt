@@ -30,6 +30,7 @@ use Rattle.commands.specs.Explain.{IsExplainRefusal, IsExplanationOf, IsWritingR
 use Rattle.commands.specs.Explain.{Tells, PrintsSome}
 use Rattle.commands.specs.Explain.{IsBesideFault}
 use Rattle.commands.specs.Perform.{ExplainLineComesTo, IsExplainLineRefusal, HasToldBeside}
+use Rattle.core_commands.specs.Judgement.{IsJudgementRefusal}
 use Rattle.commands.proofs.OfLine.{accepted_of}
 
 -- ---- What is printed
@@ -252,7 +253,7 @@ loaded_refusal config settings file File configured is = absurd is
 loaded_refusal config settings file Output configured is = absurd is
 
 never_harts : (settings : Settings) (program : ProgramImage) (text : List ℕ)
-    → IsBesideFault (beside.Trace []) settings program text Harts → ⊥
+    → IsJudgementRefusal settings program text Harts → ⊥
 never_harts settings program text (inl (why, same)) = cc
 never_harts settings program text (inr is) = is
 

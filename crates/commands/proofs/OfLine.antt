@@ -26,7 +26,7 @@ use Rattle.command_parts.specs.declared.refused.Unread.TheVariants as unread
 use Rattle.command_parts.specs.Refused.{exit_status_of, refusal_of, AreAccepted, PassesAll}
 use Rattle.symbols.specs.Tables.{Table}
 use Rattle.source_lines.specs.Lines.{Origin}
-use Rattle.command_parts.specs.Inputs.{Read, AreNamesFor, AreLinesFor}
+use Rattle.command_parts.specs.Inputs.{Read, AreNamesFor, AreLinesFor, IsLinesFault}
 use Rattle.commands.specs.Commands.{IsCommandRefusal, CommandComesTo, reads_lines, wants_names}
 use Rattle.commands.specs.Perform.{IsProgramRefusal, ProgramComesTo, LineComesTo, LitmusLineComesTo}
 use Rattle.commands.specs.Perform.{ExplainLineComesTo, HasTwoCores, MigrateLineComesTo}
@@ -46,6 +46,46 @@ pub accepted_with : (settings : Settings) → AreInRange settings → AreAccepte
 accepted_with settings in_range = λ image. in_range.accepted
 
 -- ---- Refusals
+
+-- A configuration and an image that make these settings and this program image.
+module _ (harts : Option ℕ) (command : ProgramCommand) (text : List ℕ) (own : Settings) (file : List ℕ)
+    (program : ProgramImage) (second lines : Read) (configured : IsConfiguration text own)
+    (passes : PassesAll file own.ram) (loaded : IsImageOf file own.ram program) where
+  -- What is refused of the lines of its sources.
+  pub lines_refusal : (reason : Refused) → IsLinesFault (reads_lines command) lines program reason
+      → IsProgramRefusal harts command (Ok text) (Ok file) second lines reason
+  lines_refusal (Image number) is = absurd is
+  lines_refusal Config is = absurd is
+  lines_refusal Harts is = absurd is
+  lines_refusal (Script number) is = absurd is
+  lines_refusal (Order index) is = absurd is
+  lines_refusal (Step index why) is = absurd is
+  lines_refusal (Trace line rule) is = absurd is
+  lines_refusal Version is = absurd is
+  lines_refusal (Event index rule) is = absurd is
+  lines_refusal (Prediction index) is = absurd is
+  lines_refusal (Register index) is = absurd is
+  lines_refusal (NoUnit kind) is = absurd is
+  lines_refusal (Limit least) is = absurd is
+  lines_refusal (NoHart hart) is = absurd is
+  lines_refusal (Lines number fault) is = (own, configured, (passes, program, loaded, is))
+  lines_refusal (NamesNothing option) is = absurd is
+  lines_refusal (NamesSeveral option) is = absurd is
+  lines_refusal (NeverFetched option) is = absurd is
+  lines_refusal (Turned from to) is = absurd is
+  lines_refusal (Picture last) is = absurd is
+  lines_refusal (Watch why) is = absurd is
+  lines_refusal (Condition why) is = absurd is
+  lines_refusal ManyWatched is = absurd is
+  lines_refusal (NoWord address) is = absurd is
+  lines_refusal (NoOutcome number) is = absurd is
+  lines_refusal NotStuck is = absurd is
+  lines_refusal (Litmus place fault) is = absurd is
+  lines_refusal NothingToDraw is = absurd is
+  lines_refusal Memory is = tt
+  lines_refusal Thread is = absurd is
+  lines_refusal File is = inr (inr (inl (own, configured, (passes, program, loaded, is))))
+  lines_refusal Output is = absurd is
 
 -- A configuration and an image that make these settings and this program image, and the names and the lines of its
 -- sources that are wanted; and the harts of the line.

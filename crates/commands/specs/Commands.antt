@@ -1,7 +1,7 @@
 -- What is owed on a command of a program, of its settings, its program image, the names that it wants of it and its
 -- second file as it was read: each row names the definitions of one command. (This project's own choice.)
 use Rattle.std.specs.Prelude.{◌≡◌, ℕ, Bool, true, false, List, Option, Some, None, is_some}
-use Rattle.std.specs.Prelude.{if◌then◌else◌, ◌||◌}
+use Rattle.std.specs.Prelude.{if◌then◌else◌, ◌||◌, option_map}
 use Rattle.elf_image.specs.Image.{ProgramImage}
 use Rattle.core_state.specs.View.{CoreView}
 use Rattle.symbols.specs.Tables.{Table}
@@ -24,7 +24,7 @@ use Rattle.plain_commands.specs.Plain.{IsPlainRefusal, PlainComesTo}
 use Rattle.plain_commands.specs.PlainRounds.{rounds_of, InRounds, IsRoundsRefusal, RoundsComeTo}
 use Rattle.plain_commands.specs.Schedule.{IsScheduleRefusal, ScheduleComesTo}
 use Rattle.core_commands.specs.Script.{IsScriptingRefusal, ScriptComesTo}
-use Rattle.source_lines.specs.Lines.{Origin}
+use Rattle.source_lines.specs.{declared.reading.SourceLines.SourceLines, Lines.Origin, Lines.origins_of}
 use Rattle.address_labels.specs.Labels.{Marks, marks_where}
 use Rattle.sim_inputs.specs.Files.{lines_of}
 use Rattle.sim_inputs.specs.declared.line.ChartEnd.{ChartEnd}
@@ -144,3 +144,7 @@ wants_names (commands.Script script) = false
 -- It reads the lines of its sources.
 abbrev pub reads_lines : ProgramCommand → Bool
 reads_lines command = is_some (lines_of command)
+
+-- The lines of sources that were read, as they are spoken of.
+abbrev pub origins_in : Option SourceLines → Option (List Origin)
+origins_in lines = option_map (λ lines. origins_of lines.lines.items) lines

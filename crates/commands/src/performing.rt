@@ -9,8 +9,7 @@ ghost use Rattle.command_parts.specs.Refused.{exit_status_of, refusal_of};
 ghost use Rattle.sim_inputs.specs.Files.{written_for_test};
 ghost use Rattle.command_parts.specs.Inputs.{as_read};
 ghost use Rattle.symbols.specs.Tables.{table_of};
-ghost use Rattle.address_labels.specs.Labels.{lines_in};
-ghost use Rattle.commands.specs.Commands.{IsProgramUnreported, program_writes_file};
+ghost use Rattle.commands.specs.Commands.{IsProgramUnreported, origins_in, program_writes_file};
 ghost use Rattle.commands.specs.Perform.{IsRefusal, LineComesTo, IsLeft, IsUnreported, writes_file};
 ghost use Rattle.commands.specs.Perform.{IsProgramRefusal, ProgramComesTo, IsPerformed};
 ghost use Rattle.commands.specs.Perform.{IsLitmusLineRefusal, LitmusLineComesTo};
@@ -19,7 +18,7 @@ ghost use Rattle.event_text.specs.Sinking.{HasPut};
 ghost use Rattle.commands.specs.Written.{IsWritten};
 
 use crate::explain_line::read_and_explain;
-use crate::labelling::labels_where;
+use crate::labelling::labels_for;
 use crate::list::perform_list;
 use crate::naming::{names_where, wants_names};
 use crate::runs::perform_runs;
@@ -264,7 +263,7 @@ fn read_and_perform<
         &settings,
         &image,
         &names,
-        lines.as_ref(),
+        &lines,
         inputs.second,
     ) {
         Ok(status) => status,
@@ -276,9 +275,8 @@ fn read_and_perform<
     }
 }
 
-/// Does what a command of a program asks for, of its settings, its image with the names and the lines that it wants,
-/// and
-/// its second file.
+/// Does what a command of a program asks for, of its settings, its image with the names and the lines that it
+/// wants, and its second file.
 fn perform_command<
     G: Gate + Sync,
     P: Predict + Copy + Send,
@@ -291,17 +289,17 @@ fn perform_command<
     settings: &Settings,
     image: &Image,
     names: &Symbols<'_>,
-    lines: Option<&SourceLines<'_>>,
+    lines: &Option<SourceLines<'_>>,
     second: Result<&[u8], Unread>,
 ) -> Result<u8, Refused>
     requires works { S.has_failed context.old.files ≡ false }
     requires finished { S.is_finished context.old.files ≡ true }
     ensures { IsPerformed S.begins S.is_finished S.written S.has_failed context.old.files context.new.files command.now
-        settings.now image.now (table_of names.now) (lines_in lines.entry)
+        settings.now image.now (table_of names.now) (origins_in lines.now)
         (as_read second.entry) (W.contents context.old.out) (W.contents context.new.out) result }
 {
     let alloc = context.alloc;
-    let labels = &labels_where(command.shows_names(), names, lines);
+    let labels = &labels_for(command, names, lines);
     match command {
         ProgramCommand::Step(step) => {
             let wanted = Wanted::of_step(step);

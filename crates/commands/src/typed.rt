@@ -9,13 +9,14 @@ ghost use Rattle.command_parts.specs.declared.refused.Refused.{Refused as AnyRef
 ghost use Rattle.core_commands.specs.Account.{IsTraceWritten};
 ghost use Rattle.command_parts.specs.Inputs.{as_read};
 ghost use Rattle.commands.specs.Perform.{IsRefusal};
+ghost use Rattle.commands.specs.Commands.{origins_in};
 ghost use Rattle.commands.specs.Typed.{TypedComesTo};
 ghost use Rattle.command_parts.specs.Refused.{exit_status_of, refusal_of};
 ghost use Rattle.core_commands.specs.Wanted.{step_wants};
 ghost use Rattle.core_commands.specs.Prompt.{PromptComesTo};
 ghost use Rattle.core_commands.specs.Step.{IsStepRefusal};
 ghost use Rattle.symbols.specs.Tables.{table_of};
-ghost use Rattle.address_labels.specs.Labels.{lines_in, marks_where};
+ghost use Rattle.address_labels.specs.Labels.{marks_where};
 
 use crate::labelling::labels_where;
 use crate::naming::names_where;
@@ -78,7 +79,8 @@ fn read_and_prompt<R, G, P: Predict + Copy, B: BufRead, S: EndFiles, W: Write>(
     ensures unset { IfErr inputs.now.config (λ why. result ≡ Err (refusal_of why)) }
     ensures refused { IfErr result (IsRefusal harts.now (OfProgram (Step step.now)) (as_read inputs.now.config)
         (as_read inputs.now.program) (Ok []) (as_read inputs.now.lines)) }
-    ensures ended { IfOk result (TypedComesTo P.predicts context.old.predict harts.now step.now (as_read inputs.now.config)
+    ensures ended { IfOk result (TypedComesTo P.predicts context.old.predict harts.now step.now
+        (as_read inputs.now.config)
         (as_read inputs.now.program) (as_read inputs.now.lines) (B.remaining reader.old) (step_wants step.now)
         (IsTraceWritten S.written S.has_failed context.old.files context.new.files (is_some step.now.trace))
         (W.contents context.old.out) (W.contents context.new.out)) }
@@ -98,15 +100,7 @@ fn read_and_prompt<R, G, P: Predict + Copy, B: BufRead, S: EndFiles, W: Write>(
         Err(refused) => return Err(refused),
     };
     // Handed on as it is: a `?` would leave the prover to find what the refusal becomes.
-    let status = match prompt_beside(
-        context,
-        step,
-        &settings,
-        &image,
-        &names,
-        lines.as_ref(),
-        reader,
-    ) {
+    let status = match prompt_beside(context, step, &settings, &image, &names, &lines, reader) {
         Ok(status) => status,
         Err(refused) => return Err(refused),
     };
@@ -123,7 +117,7 @@ fn prompt_beside<R, G, P: Predict + Copy, B: BufRead, S: EndFiles, W: Write>(
     settings: &Settings,
     image: &Image,
     names: &Symbols<'_>,
-    lines: Option<&SourceLines<'_>>,
+    lines: &Option<SourceLines<'_>>,
     reader: &mut B,
 ) -> Result<u8, Refused>
     requires works { S.has_failed context.old.files ≡ false }
@@ -131,7 +125,7 @@ fn prompt_beside<R, G, P: Predict + Copy, B: BufRead, S: EndFiles, W: Write>(
     ensures refused { IfErr result (IsStepRefusal settings.now []) }
     ensures ended { IfOk result (PromptComesTo P.predicts context.old.predict settings.now image.now
         (B.remaining reader.old) (step_wants step.now) (marks_where step.now.names (table_of names.now)
-        (lines_in lines.entry))
+        (origins_in lines.now))
         (IsTraceWritten S.written S.has_failed context.old.files context.new.files (is_some step.now.trace))
         (W.contents context.old.out) (W.contents context.new.out)) }
     ensures finished { OnOk result (S.is_finished context.new.files ≡ true) }
