@@ -27,9 +27,14 @@ fn beside(address: u32, alloc: Global) -> Option<(Vec<u8>, usize)> {
         &image,
         alloc,
     ).ok()?;
+    said_beside(address, &lines, alloc)
+}
+
+/// What is written beside an address, and how wide it is.
+fn said_beside(address: u32, lines: &SourceLines<'_>, alloc: Global) -> Option<(Vec<u8>, usize)> {
     let labels = Labels {
         names: None,
-        lines: Some(&lines),
+        lines: Some(lines),
     };
     let mut text = Vec::new(alloc);
     write_labels(&labels, Form::Word, address, &mut text).ok()?;
