@@ -19,7 +19,7 @@ pub struct FileFaults {
 #[derive(Clone, Copy, Drop)]
 pub struct LineFault<'line, 'inputs> {
     pub refused: Refused,
-    pub line: Line<'line>,
+    pub line: &'line Line<'line>,
     pub inputs: Inputs<'inputs>,
     pub files: FileFaults,
 }

@@ -60,7 +60,7 @@ pub(crate) fn add_program(
     alloc: Global,
 ) -> Result<(), AllocError> {
     match fault.line.files().program {
-        Some(name) => add_read(name, program_role(&fault.line), hint, alloc),
+        Some(name) => add_read(name, program_role(fault.line), hint, alloc),
         None => Ok(()),
     }
 }
@@ -72,7 +72,7 @@ pub(crate) fn add_second(
     alloc: Global,
 ) -> Result<(), AllocError> {
     match fault.line.files().second {
-        Some(name) => add_read(name, second_role(&fault.line), hint, alloc),
+        Some(name) => add_read(name, second_role(fault.line), hint, alloc),
         None => Ok(()),
     }
 }
@@ -187,7 +187,7 @@ pub(crate) fn add_unwritten(
             None => Ok(()),
         };
     };
-    let line = &fault.line;
+    let line = fault.line;
     if let Command::OfProgram(ProgramCommand::Run(run)) = line.command {
         if let Some(folder) = run.keep {
             add_named(folder, "written", "the folder of the ends", hint, alloc)?;

@@ -238,7 +238,7 @@ impl<S: Files + Input + Threads + Wait + Sync, G: Gate + Sync, P: Predict + Copy
     ) {
         let fault = LineFault {
             refused,
-            line: *line,
+            line,
             inputs,
             files,
         };
