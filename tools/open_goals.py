@@ -59,18 +59,32 @@ def take_libraries():
     return 0
 
 
+def stand(found, crates):
+    """Those of these crates whose libraries stand here, and those of all below them."""
+    standing = {name for name in crates if os.path.isdir(f"{ROOT}/crates/{name}/out/rlib/{name}.rlib")}
+    while lost := {name for name in standing if not standing.issuperset(found.uses[name])}:
+        standing -= lost
+    return standing
+
+
 def call_prover(verb, crate, *more):
-    """Calls the prover in the crate's folder as `rt check` would, and returns its exit status."""
+    """Calls the prover in the crate's folder as `rt check` would, and returns its exit status. Libraries that don't stand are handed over as
+    source, for a check: then what is called of them is checked too."""
     folder, found = kit(), CrateList()
+    below = found.reached([crate]) - {crate}
+    standing = stand(found, below)
+    read = {crate, *(below - standing)}
     words = [f"{folder}/bin/rattle", verb, "--crate-name", crate]
     words.append("src/main.rt" if os.path.isfile(f"{ROOT}/crates/{crate}/src/main.rt") else "src/lib.rt")
     words += ["-L", f"dependency={folder}/rlibs"]
-    for name in found.of_kit[crate]:
+    for name in sorted({it for one in read for it in found.of_kit[one]}):
         words += ["--extern", f"{name}={folder}/rlibs/{name}.rlib"]
-    for name in found.uses[crate]:
+    for name in sorted({it for one in read for it in found.uses[one] if it in standing}):
         words += ["--extern", f"{name}={ROOT}/crates/{name}/out/rlib/{name}.rlib"]
-    for name in sorted(found.reached([crate]) - {crate}):
+    for name in sorted(standing):
         words += ["-L", f"dependency={ROOT}/crates/{name}/out/rlib"]
+    for name in sorted(read - {crate}):
+        words += ["--lib", f"{name}:{','.join([*found.uses[name], *found.of_kit[name]])}={ROOT}/crates/{name}/src/lib.rt"]
     words += ["--antt-project", f"{folder}/rattle/logic/antt-project.json", "--logic-built", f"{folder}/logic_built"]
     words += ["--links", f"{crate}=", *more, "--incremental", "out/incremental"]
     os.makedirs(f"{ROOT}/crates/{crate}/out", exist_ok=True)
