@@ -6,7 +6,8 @@
     open_goals.py --make CRATE           makes the library of a crate that was proved here, for a check of those above it
 
 `rt check` proves the libraries below anew, although `rt ci` has, and looks at all sources of a large repository for most of a minute
-before it begins. This calls the prover as `rt check` does, over what stands in each crate's out/. It is for the time of writing: nothing
+before it begins. This calls the prover as `rt check` does, over what stands in each crate's out/, and over the sources of what
+doesn't. It is for the time of writing: nothing
 that it makes counts for the gate, and what the gate keeps is only read.
 """
 
@@ -68,12 +69,15 @@ def stand(found, crates):
 
 
 def call_prover(verb, crate, *more):
-    """Calls the prover in the crate's folder as `rt check` would, and returns its exit status. Libraries that don't stand are handed over as
-    source, for a check: then what is called of them is checked too."""
+    """Calls the prover in the crate's folder as `rt check` would, and returns its exit status. For a check, libraries that don't stand are
+    handed over as source: then what is called of them is checked too."""
     folder, found = kit(), CrateList()
     below = found.reached([crate]) - {crate}
     standing = stand(found, below)
     read = {crate, *(below - standing)}
+    if verb == "build" and len(read) > 1:
+        print(f"no library is made over source: {' '.join(sorted(read - {crate}))} don't stand", file=sys.stderr)
+        return 1
     words = [f"{folder}/bin/rattle", verb, "--crate-name", crate]
     words.append("src/main.rt" if os.path.isfile(f"{ROOT}/crates/{crate}/src/main.rt") else "src/lib.rt")
     words += ["-L", f"dependency={folder}/rlibs"]
