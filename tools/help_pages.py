@@ -50,6 +50,7 @@ def manual(whole, commands, version):
     out += [".SH COMMANDS"]
     for name, it in commands.items():
         out += [f".SS {name}", roff(it.about) + ".", *terms(it.files), *terms(it.options), *as_it_is(it.behind)]
+    out += [".SH OPTIONS", *terms(whole.options)]
     out += [".SH CONFIGURATION", *as_it_is(whole.behind), ".SH EXIT STATUS"]
     for status, meaning in exit_statuses():
         out += [".TP", f"\\fB{status}\\fR", roff(meaning)]

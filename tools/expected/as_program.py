@@ -48,6 +48,7 @@ def by_model(words):
     if name is not None and status in (0, 1, 3):
         line = inputs.read_line(words)
         settings = inputs.read_config(program.read_file(line["config"]) if line["config"] else b"")
+        settings["harts"] = line["harts"] or settings["harts"]
         events = [text[5:] for text in out if text.startswith("done ")]
         with open(name, "wb") as file:
             file.write(traces.text_of([*traces.heads_of(settings, 3), *events]))

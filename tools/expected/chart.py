@@ -12,6 +12,7 @@ import argparse
 import sys
 
 import judge
+import labels
 from instructions import spelled
 from judge_inputs import Complete, Decode, Drop, Fetch, Issue, Refetch, Refused, Rename, Retire
 from judge_words import op_of_word
@@ -57,18 +58,23 @@ def rows_of(history):
 class Names:
     """How the names of rows are laid out: each part as wide as its widest, with a space behind."""
 
+    beside = None  # what stands beside a pc, where names are wanted
+
     def __init__(self, rows, shown):
+        name_of = (lambda row: "") if Names.beside is None else (lambda row: Names.beside(row.fetch.pc) + " ")
+        self.names = {row.number: name_of(row) for row in shown}
+        self.name = max(map(len, self.names.values()), default=0)
         self.hart = len(str(max((row.hart for row in shown), default=0)))
         self.number = len(str(max((row.number for row in rows), default=0)))
         self.text = max((len(row.text) for row in shown), default=0)
-        self.room = len(self.laid_out(0, 0, 0, ""))
+        self.room = len(self.laid_out(0, 0, 0, "")) + self.name
         self.behind = max(len(remark) for remark in (" by " + "9" * self.number, " replayed"))
 
     def laid_out(self, hart, number, pc, text):
         return f"{hart:>{self.hart}} {number:>{self.number}} {pc:08x} {text:<{self.text}} "
 
     def of(self, row):
-        return self.laid_out(row.hart, row.number, row.fetch.pc, row.text)
+        return self.laid_out(row.hart, row.number, row.fetch.pc, row.text) + self.names[row.number].ljust(self.name)
 
 
 def names_of(rows, first, last, hart):
@@ -119,7 +125,8 @@ PLACES = {
 
 def title(history, row):
     """What a browser shows of a row."""
-    yield f"number {row.number} of hart {row.hart}: {row.fetch.pc:08x} {row.text}"
+    beside = "" if Names.beside is None else " " + Names.beside(row.fetch.pc)
+    yield f"number {row.number} of hart {row.hart}: {row.fetch.pc:08x} {row.text}{beside}"
     yield ", ".join(f"{said} {row.at[letter]}" for letter, said in PLACES.items() if letter in row.at)
     if row.squash is not None:
         yield f"squashed {row.squash} by number {row.by}" + (f", handed back {row.at['X']}" if "X" in row.at else "")
@@ -192,7 +199,8 @@ def kanata(history, rows, first, last, hart):
                 told += "" if row.by is None else f", squashed by number {row.by}"
                 told += ", replayed" if row.replayed else ""
                 told += ", refetched" if "G" in row.at else ""
-                lines = [f"I\t{id}\t{row.number}\t{row.hart}", f"L\t{id}\t0\t{row.fetch.pc:08x}: {row.text}"]
+                beside = "" if Names.beside is None else " " + Names.beside(row.fetch.pc)
+                lines = [f"I\t{id}\t{row.number}\t{row.hart}", f"L\t{id}\t0\t{row.fetch.pc:08x}: {row.text}{beside}"]
                 lines += [f"L\t{id}\t1\t{told}", f"S\t{id}\t0\tF"]
             elif letter != "G":
                 lines = [f"E\t{id}\t0\t{stages[id]}"]
@@ -223,13 +231,25 @@ def kanata(history, rows, first, last, hart):
         yield from lines
 
 
+def end_of(word, found, rows, hart, chosen):
+    """The event of a number; or the first or the last one of an instruction in what a name stands for."""
+    if word[:1].isdigit():
+        return int(word)
+    name = word[1:-1] if word[:1] == "'" else word
+    places = [(start, size) for text, start, size, *_ in found.names if text.decode() == name]
+    inside = [row for row in rows if hart in (None, row.hart)
+              and any(start <= row.fetch.pc < start + max(size, 1) for start, size in places)]
+    return chosen(place for row in inside for place in row.at.values())
+
+
 def main(words):
     line = argparse.ArgumentParser()
     line.add_argument("image")
     line.add_argument("trace")
     line.add_argument("--config")
-    line.add_argument("--from", type=int, default=0, dest="first")
-    line.add_argument("--to", type=int, default=2**24, dest="last")
+    line.add_argument("--from", default="0", dest="first")
+    line.add_argument("--to", default=str(2**24), dest="last")
+    line.add_argument("--names", action="store_true")
     line.add_argument("--hart", type=int)
     line.add_argument("--width", type=int, default=120)
     line.add_argument("--kanata", action="store_true")
@@ -245,6 +265,11 @@ def main(words):
         return refused.status
     history = judge.Rules(settings, image, events)
     rows = rows_of(history)
+    with open(asked.image, "rb") as file:
+        found = labels.Labels(file.read(), True, None)
+    Names.beside = found.name_of if asked.names else None
+    asked.first = end_of(asked.first, found, rows, asked.hart, min)
+    asked.last = end_of(asked.last, found, rows, asked.hart, max)
     last = min(asked.last, len(events) - 1)
     if asked.kanata:
         lines = kanata(history, rows, asked.first, last, asked.hart)

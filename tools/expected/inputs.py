@@ -10,9 +10,10 @@ DEFAULTS = {
     "harts": 1, "extra": 64, "queue": 16, "ram": 65536, "limit": 1000000, "turns": 10**9,
     "actors": list(ROLES),
 }
-# How many files each command has, and which options beside `--config`.
+# How many files each command has, and which options beside `--config` and `--harts`; `list` hasn't the second one.
 COMMANDS = {
-    "step": (2, ("--records", "--show", "--looks")), "plain": (2, ("--records",)), "list": (1, ()),
+    "step": (2, ("--records", "--show", "--looks", "--names")), "plain": (2, ("--records", "--names")),
+    "list": (1, ("--names",)),
     "explain": (1, ()),
 }
 # The options with a file that a command has, of which one at most is given.
@@ -39,15 +40,19 @@ def read_line(words):
     command, rest = words[0], list(words[1:])
     count, flags = COMMANDS[command]
     numbers = NUMBERS.get(command, {})
-    line = {"command": command, "files": [], "config": None, "beside": None}
+    line = {"command": command, "files": [], "config": None, "harts": None, "beside": None}
     line |= dict.fromkeys((option[2:] for option in numbers), None)
-    line |= {"records": False, "show": False, "looks": False}
+    line |= {"records": False, "show": False, "looks": False, "names": False, "lines": None}
     seen = set()
     while rest:
         word = rest.pop(0)
         name, has_value, value = word.partition("=")
         if name == "--config" and name not in seen and (has_value or rest):
             line["config"] = value if has_value else rest.pop(0)
+        elif name == "--lines" and command != "explain" and name not in seen and (has_value or rest):
+            line["lines"] = value if has_value else rest.pop(0)
+        elif name == "--harts" and command != "list" and name not in seen and (has_value or rest):
+            line["harts"] = read_number(value if has_value else rest.pop(0), limits.HARTS[0], limits.HARTS[-1])
         elif name in BESIDE.get(command, ()) and not seen & set(BESIDE[command]) and (has_value or rest):
             line["beside"] = name[2:], value if has_value else rest.pop(0)
         elif name in numbers and name not in seen and (has_value or rest):

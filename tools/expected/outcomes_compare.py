@@ -87,7 +87,7 @@ def some_program_that_writes_code(r):
 
 def some_watch(r, harts):
     parts = [f"{r.choice(('x5', 't0', 'x6', 'a0'))}@{r.randrange(harts)}" for _ in range(r.randrange(3))]
-    parts += [f"{r.choice(SHARED):08x}:4" for _ in range(r.randrange(2))]
+    parts += [f"{r.choice(SHARED):08x}:{r.choice((4, 4, 2, 1))}" for _ in range(r.randrange(2))]
     return ",".join(parts)
 
 
@@ -117,9 +117,9 @@ def ends_so(made, harts, order, wanted, watch, exists):
         if machine.refusal(hart) is not None:
             return False
         machine.step(hart)
-    registers, words = every_order.columns(watch, exists)
-    found = every_order.ending(machine, registers, words)
-    return not machine.going() and every_order.line(found, registers, words) == wanted
+    columns = every_order.columns_of(watch, exists)
+    found = every_order.ending(machine, columns)
+    return not machine.going() and every_order.line(found, columns) == wanted
 
 
 def plain_states(made, harts):

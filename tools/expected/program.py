@@ -1,7 +1,7 @@
 """What the program prints and how it ends, for the words of a command line, as
 docs/FORMATS.md says it.
 
-    python3 tools/expected/program.py step IMAGE SCRIPT [--config FILE] [--records] [--show] [--looks]
+    python3 tools/expected/program.py step IMAGE SCRIPT [--config FILE] [--harts N] [--records] [--show] [--looks]
     python3 tools/expected/program.py plain IMAGE ORDER [--config FILE] [--records]
     python3 tools/expected/program.py plain IMAGE --rounds K [--steps N] [--seed S] [--config FILE] [--records]
     python3 tools/expected/program.py list IMAGE [--config FILE]
@@ -14,6 +14,7 @@ import core
 import explanation
 import image
 import inputs
+import labels
 import looks
 from inputs import Refused
 from instructions import spelled
@@ -191,30 +192,52 @@ def explained(line, settings, made):
     return out + lines, [] if why is None else [f"smtsim: {why}"], 0 if why is None else 2
 
 
+def labels_of(line, made):
+    """What is wanted beside addresses; None where nothing is."""
+    if not line["names"] and line["lines"] is None:
+        return None
+    text = read_file(line["lines"]) if line["lines"] is not None else None
+    if line["lines"] is not None and text is None:
+        raise Refused("file", 5)
+    lines = None if text is None else labels.source_lines(text, made)
+    return labels.Labels(read_file(line["files"][0]), line["names"], lines)
+
+
 def run(words):
     """The lines on standard output, those on standard error, and the exit status."""
+    out, faults, status, beside = bare_run(words)
+    if beside is None:
+        return out, faults, status
+    return [beside.marked(words[0], text) for text in out], faults, status
+
+
+def bare_run(words):
+    """The same without what is wanted beside addresses, and behind it that."""
+    beside = None
     try:
         line = inputs.read_line(words)
         config = read_file(line["config"]) if line["config"] is not None else b""
         if config is None:
             raise Refused("file", 5)
         settings = inputs.read_config(config)
+        settings["harts"] = line["harts"] or settings["harts"]
         made = loaded(line["files"][0], settings)
-        if line["command"] == "list":
-            return list(listing(made)), [], 0
         if line["command"] == "explain":
-            return explained(line, settings, made)
+            return *explained(line, settings, made), None
+        beside = labels_of(line, made)
+        if line["command"] == "list":
+            return list(listing(made)), [], 0, beside
         if line.get("rounds") is not None:
             out, status = in_rounds(made, settings, line)
-            return out, [], status
+            return out, [], status, beside
         second = read_file(line["files"][1])
         if second is None:
             raise Refused("file", 5)
         made_by = {"step": asked, "plain": ordered}[line["command"]]
         out, status = made_by(made, settings, second, line)
     except Refused as refused:
-        return [], [f"smtsim: {refused.why}"], refused.status
-    return out, [], status
+        return [], [f"smtsim: {refused.why}"], refused.status, None
+    return out, [], status, beside
 
 
 if __name__ == "__main__":

@@ -1,8 +1,21 @@
 """The names in an ELF file's table of symbols, as docs/FORMATS.md says what is a name of a program."""
 
 import struct
+from dataclasses import dataclass
 
-LABEL, OBJECT, FUNCTION = 0, 1, 2
+LABEL, OBJECT, FUNCTION, FILE = 0, 1, 2, 4
+
+
+@dataclass
+class Name:
+    """A name of the program, with the file that the table names before it, where it is a local one."""
+
+    name: bytes
+    address: int
+    size: int
+    kind: int
+    is_global: bool
+    file: bytes | None
 
 
 class Damaged(Exception):
@@ -21,6 +34,12 @@ def sections(file):
 
 def names(file):
     """Each name of the program: its text, address, size, kind, and whether it is global. None where there is no table."""
+    found = names_with_files(file)
+    return None if found is None else [(one.name, one.address, one.size, one.kind, one.is_global) for one in found]
+
+
+def names_with_files(file):
+    """Each name of the program. None where there is no table."""
     headers = list(sections(file))
     found = [header for header in headers if header[0] == 2]
     if not found:
@@ -32,12 +51,15 @@ def names(file):
     texts = file[texts_at : texts_at + texts_length]
     if kind != 3 or texts_at + texts_length > len(file) or not texts or texts[-1]:
         raise Damaged
-    out = []
+    out, source = [], None
     for place in range(at, at + length, 16):
         name, address, size, info, _, section = struct.unpack_from("<IIIBBH", file, place)
         text = texts[name:].split(b"\0")[0]
+        if info % 16 == FILE:
+            source = text
         if info % 16 <= FUNCTION and 1 <= section < 0xFF00 and text and text[:1] != b"$" and text[:2] != b".L":
-            out.append((text, address, size, info % 16, 1 <= info // 16 <= 2))
+            is_global = 1 <= info // 16 <= 2
+            out.append(Name(text, address, size, info % 16, is_global, None if is_global else source))
     return out
 
 

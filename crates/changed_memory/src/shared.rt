@@ -91,7 +91,7 @@ impl SharedState {
     }
 
     /// The number that 1, 2 or 4 bytes are, where a load of them has no fault.
-    pub(crate) fn number(&self, start: &Memory, addr: u32, n: u8) -> u32
+    pub fn number(&self, start: &Memory, addr: u32, n: u8) -> u32
         requires start { IsStart start.now.image start.now }
         requires size { IsSize n }
         requires no_fault { read_fault start.now.image addr n ≡ None }

@@ -5,6 +5,7 @@ mod waits;
 
 use crate::row::Row;
 use crate::view::View;
+use address_labels::Labels;
 use events::Event;
 use lines::Log;
 use std::alloc::{AllocError, Global};
@@ -13,19 +14,20 @@ use std::io::{Error, ErrorKind, Write};
 use waits::write_waits;
 
 /// Writes the log that Konata reads, Kanata 0004 (docs/FORMATS.md), of the instructions that the view
-/// shows, each of them whole: a cycle is an event. The rows are those of these events. An error is the
-/// one that `out` answered, or want of memory.
+/// shows, each of them whole, with what is wanted beside its pc: a cycle is an event. The rows are those
+/// of these events. An error is the one that `out` answered, or want of memory.
 pub fn write_kanata<W: Write>(
     rows: &[Row],
     events: &[Event],
     view: &View,
+    labels: &Labels<'_>,
     out: &mut W,
     alloc: Global,
 ) -> io::Result<()> {
     let Ok(ids) = ids_of(rows, view, alloc) else {
         return Err(Error::from(ErrorKind::OutOfMemory));
     };
-    let mut log = Log::new(first_place(rows, view));
+    let mut log = Log::new(first_place(rows, view), labels);
     log.write_head(out)?;
     for place in 0..events.len() {
         write_event(
@@ -73,7 +75,7 @@ fn write_event<W: Write>(
     ids: &[Option<u32>],
     event: &Event,
     place: u32,
-    log: &mut Log,
+    log: &mut Log<'_>,
     out: &mut W,
 ) -> io::Result<()> {
     let seq = event.seq() as usize;
@@ -108,7 +110,7 @@ fn write_squashes<W: Write>(
     ids: &[Option<u32>],
     seq: usize,
     place: u32,
-    log: &mut Log,
+    log: &mut Log<'_>,
     out: &mut W,
 ) -> io::Result<()> {
     for younger in seq..rows.len() {

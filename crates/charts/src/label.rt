@@ -1,7 +1,8 @@
-//! The name of a row: its hart, its number, its pc and its instruction.
+//! The name of a row: its hart, its number, its pc, its instruction, and what is wanted beside the pc.
 
 use crate::row::Row;
 use crate::view::View;
+use address_labels::{Form, Labels, label_width, write_labels};
 use arrayvec::ArrayString;
 use rv_decode::{Op, decode_op};
 use std::io;
@@ -22,6 +23,13 @@ fn text_of(text: &'static str) -> ArrayString<40> {
     ArrayString::from(text).unwrap_or_default()
 }
 
+/// What is wanted beside the pcs of rows, and how it is spelled there.
+#[derive(Clone, Copy, Drop)]
+pub(crate) struct Named<'a> {
+    pub labels: &'a Labels<'a>,
+    pub form: Form,
+}
+
 /// How wide the parts of a row's name are.
 #[derive(Clone, Copy, Drop)]
 pub(crate) struct Widths {
@@ -31,20 +39,24 @@ pub(crate) struct Widths {
     number: usize,
     /// The characters of the longest instruction that is drawn.
     instruction: usize,
+    /// The characters of the longest labels beside a pc that is drawn, a space before each; 0 where none are wanted.
+    labels: usize,
 }
 
 impl Widths {
     /// Of the names of the rows that are drawn.
-    pub fn of(rows: &[Row], view: &View) -> Widths {
+    pub fn of(rows: &[Row], view: &View, labels: &Labels<'_>) -> Widths {
         let mut widths = Widths {
             hart: 1,
             number: digits_of(rows.len().saturating_sub(1)),
             instruction: 0,
+            labels: 0,
         };
         for row in rows {
             if view.shows(row) {
                 widths.hart = widths.hart.max(digits_of(usize::from(row.hart)));
                 widths.instruction = widths.instruction.max(instruction_of(row).len());
+                widths.labels = widths.labels.max(label_width(labels, row.pc));
             }
         }
         widths
@@ -56,6 +68,7 @@ impl Widths {
         self.hart
             .saturating_add(self.number)
             .saturating_add(self.instruction)
+            .saturating_add(self.labels)
             .saturating_add(12)
     }
 
@@ -65,13 +78,27 @@ impl Widths {
         self.number.saturating_add(4).max(9)
     }
 
-    /// Writes the name of the row with this number.
-    pub fn write_name<W: Write>(&self, row: &Row, number: usize, out: &mut W) -> io::Result<()> {
+    /// Writes the name of the row with this number, with what is wanted beside its pc.
+    pub fn write_name<W: Write>(
+        &self,
+        row: &Row,
+        number: usize,
+        named: Named<'_>,
+        out: &mut W,
+    ) -> io::Result<()> {
         let instruction = instruction_of(row);
         write_right(usize::from(row.hart), self.hart, out)?;
         write_right(number, self.number, out)?;
-        write!(out, "{:08x} {instruction} ", row.pc)?;
-        write_spaces(self.instruction.saturating_sub(instruction.len()), out)
+        write!(out, "{:08x} {instruction}", row.pc)?;
+        let Named { labels, form } = named;
+        if labels.are_none() {
+            out.write_all(b" ")?;
+            return write_spaces(self.instruction.saturating_sub(instruction.len()), out);
+        }
+        write_spaces(self.instruction.saturating_sub(instruction.len()), out)?;
+        write_labels(labels, form, row.pc, out)?;
+        write_spaces(self.labels.saturating_sub(label_width(labels, row.pc)), out)?;
+        out.write_all(b" ")
     }
 }
 

@@ -3,9 +3,10 @@
 mod page;
 mod strip;
 
-use crate::label::Widths;
+use crate::label::{Named, Widths};
 use crate::row::Row;
 use crate::view::{Band, View, first_left};
+use address_labels::{Form, Labels};
 use events::Event;
 use page::Page;
 use std::io;
@@ -39,11 +40,16 @@ pub fn write_svg<W: Write>(
     events: &[Event],
     view: &View,
     width: u32,
+    labels: &Labels<'_>,
     out: &mut W,
 ) -> io::Result<()> {
     // A band is no wider than what there is to see.
     let columns = view.span().min(width).max(1);
-    let widths = Widths::of(rows, view);
+    let widths = Widths::of(rows, view, labels);
+    let named = Named {
+        labels,
+        form: Form::Drawn,
+    };
     let page = Page::of(rows, view, columns, &widths);
     page.write_head(rows, view, out)?;
     let mut top = page.first_top();
@@ -53,7 +59,9 @@ pub fn write_svg<W: Write>(
         first = first_left(rows, first, band.from);
         page.write_ruler(&band, top, count_shown(rows, first, view, &band), out)?;
         top = page.below_ruler(top);
-        top = write_rows(rows, first, events, view, &band, &page, &widths, top, out)?;
+        top = write_rows(
+            rows, first, events, view, &band, &page, &widths, named, top, out,
+        )?;
         top = page.below_band(top);
     }
     write_end(out)
@@ -68,6 +76,7 @@ fn write_rows<W: Write>(
     band: &Band,
     page: &Page,
     widths: &Widths,
+    named: Named<'_>,
     top: u32,
     out: &mut W,
 ) -> io::Result<u32> {
@@ -79,7 +88,7 @@ fn write_rows<W: Write>(
             return Ok(top);
         }
         if shown.shows(row) {
-            write_strip(row, number, events, band, page, widths, top, out)?;
+            write_strip(row, number, events, band, page, widths, named, top, out)?;
             top = page.below_row(top);
         }
     }

@@ -2,9 +2,10 @@
 
 ghost use Rattle.std.specs.Prelude.{◌≤◌};
 
-use crate::label::{Widths, digits_of, write_spaces};
+use crate::label::{Named, Widths, digits_of, write_spaces};
 use crate::row::Row;
 use crate::view::{Band, View, first_left};
+use address_labels::{Form, Labels};
 use std::io;
 use std::io::Write;
 
@@ -15,9 +16,19 @@ const FEWEST_COLUMNS: u32 = 10;
 const COLUMNS_A_NUMBER: usize = 10;
 
 /// Writes the chart of some rows, of which the view shows a part, in lines of `width` characters
-/// (docs/FORMATS.md). An error is the one that `out` answered.
-pub fn write_text<W: Write>(rows: &[Row], view: &View, width: u32, out: &mut W) -> io::Result<()> {
-    let widths = Widths::of(rows, view);
+/// (docs/FORMATS.md), with what is wanted beside their pcs. An error is the one that `out` answered.
+pub fn write_text<W: Write>(
+    rows: &[Row],
+    view: &View,
+    width: u32,
+    labels: &Labels<'_>,
+    out: &mut W,
+) -> io::Result<()> {
+    let widths = Widths::of(rows, view, labels);
+    let named = Named {
+        labels,
+        form: Form::Word,
+    };
     let columns = columns_in(width as usize, &widths);
     let mut first = 0;
     for number in 0..view.bands(columns) {
@@ -27,7 +38,7 @@ pub fn write_text<W: Write>(rows: &[Row], view: &View, width: u32, out: &mut W) 
             out.write_all(b"\n")?;
         }
         write_ruler(&band, &widths, out)?;
-        write_rows(rows, first, view, &band, &widths, out)?;
+        write_rows(rows, first, view, &band, &widths, named, out)?;
     }
     Ok(())
 }
@@ -63,6 +74,7 @@ fn write_rows<W: Write>(
     view: &View,
     band: &Band,
     widths: &Widths,
+    named: Named<'_>,
     out: &mut W,
 ) -> io::Result<()> {
     let shown = view.within(band);
@@ -72,7 +84,7 @@ fn write_rows<W: Write>(
             return Ok(());
         }
         if shown.shows(row) {
-            widths.write_name(row, number, out)?;
+            widths.write_name(row, number, named, out)?;
             write_cells(row, band, out)?;
             write_remark(row, band, out)?;
         }

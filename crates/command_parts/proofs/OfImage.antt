@@ -1,9 +1,10 @@
 -- What is refused behind an image's file.
 use Rattle.std.specs.Prelude.{ℕ, List}
 use Rattle.command_parts.specs.declared.refused.Refused.{Refused}
-use Rattle.command_parts.specs.declared.refused.Refused.TheVariants.{Image, Config, Script, Order, Step, Memory, File}
+use Rattle.command_parts.specs.declared.refused.Refused.TheVariants.{Image, Config, Harts, Script, Order, Step, Memory, File}
 use Rattle.command_parts.specs.declared.refused.Refused.TheVariants.{Output, Thread, Trace, Version, Event, NoUnit, Limit, NoHart}
 use Rattle.command_parts.specs.declared.refused.Refused.TheVariants.{Prediction, Register, Picture}
+use Rattle.command_parts.specs.declared.refused.Refused.TheVariants.{Lines, NamesNothing, NamesSeveral, NeverFetched, Turned}
 use Rattle.command_parts.specs.declared.refused.Refused.TheVariants.{Watch, Condition, ManyWatched, NoWord}
 use Rattle.command_parts.specs.declared.refused.Refused.TheVariants.{NoOutcome, NotStuck, Litmus, NothingToDraw}
 use Rattle.command_parts.specs.Refused.{PassesAll, BehindImage}
@@ -13,6 +14,7 @@ pub refusal_behind : (file : List ℕ) (ram : ℕ) (P : Refused → Type 0) (rea
     → ((number : ℕ) → P (Image number) → ⊥) → PassesAll file ram → P reason → BehindImage file ram P reason
 refusal_behind file ram P (Image number) never passes is = absurd (never number is)
 refusal_behind file ram P Config never passes is = (passes, is)
+refusal_behind file ram P Harts never passes is = (passes, is)
 refusal_behind file ram P (Script number) never passes is = (passes, is)
 refusal_behind file ram P (Order index) never passes is = (passes, is)
 refusal_behind file ram P (Step index why) never passes is = (passes, is)
@@ -24,6 +26,11 @@ refusal_behind file ram P (Register index) never passes is = (passes, is)
 refusal_behind file ram P (NoUnit kind) never passes is = (passes, is)
 refusal_behind file ram P (Limit least) never passes is = (passes, is)
 refusal_behind file ram P (NoHart hart) never passes is = (passes, is)
+refusal_behind file ram P (Lines number fault) never passes is = (passes, is)
+refusal_behind file ram P (NamesNothing option) never passes is = (passes, is)
+refusal_behind file ram P (NamesSeveral option) never passes is = (passes, is)
+refusal_behind file ram P (NeverFetched option) never passes is = (passes, is)
+refusal_behind file ram P (Turned from to) never passes is = (passes, is)
 refusal_behind file ram P (Picture last) never passes is = (passes, is)
 refusal_behind file ram P (Watch why) never passes is = (passes, is)
 refusal_behind file ram P (Condition why) never passes is = (passes, is)

@@ -8,12 +8,13 @@ use Rattle.core_state.specs.Setup.{setup_of}
 use Rattle.smt_model.specs.Setup.{is_accepted}
 use Rattle.sim_inputs.specs.{declared.settings.Settings.Settings}
 use Rattle.command_parts.specs.{declared.refused.Refused.Refused, declared.refused.Unread.Unread}
-use Rattle.command_parts.specs.declared.refused.Refused.TheVariants.{Image, Config, Script, Order}
+use Rattle.command_parts.specs.declared.refused.Refused.TheVariants.{Image, Config, Harts, Script, Order}
 use Rattle.command_parts.specs.declared.refused.Refused.TheVariants.{Step, Trace, Version, Event, Prediction}
 use Rattle.command_parts.specs.declared.refused.Refused.TheVariants.{Register, NoUnit, Limit, NoHart}
 use Rattle.command_parts.specs.declared.refused.Refused.TheVariants.{Picture, Memory, Thread, File, Output}
 use Rattle.command_parts.specs.declared.refused.Refused.TheVariants.{Watch, Condition, ManyWatched, NoWord}
 use Rattle.command_parts.specs.declared.refused.Refused.TheVariants.{NoOutcome, NotStuck, Litmus, NothingToDraw}
+use Rattle.command_parts.specs.declared.refused.Refused.TheVariants.{Lines, NamesNothing, NamesSeveral, NeverFetched, Turned}
 use Rattle.command_parts.specs.declared.refused.Unread.TheVariants as unread
 
 -- The number of the exit status: 2 for an input, 4 for a trace, 5 for memory, threads, files and
@@ -21,6 +22,7 @@ use Rattle.command_parts.specs.declared.refused.Unread.TheVariants as unread
 abbrev pub exit_status_of : Refused → ℕ
 exit_status_of (Image number) = 2
 exit_status_of Config = 2
+exit_status_of Harts = 2
 exit_status_of (Script number) = 2
 exit_status_of (Order index) = 2
 exit_status_of (Step index why) = 2
@@ -33,6 +35,11 @@ exit_status_of (NoUnit kind) = 2
 exit_status_of (Limit least) = 2
 exit_status_of (NoHart hart) = 2
 exit_status_of (Picture last) = 2
+exit_status_of (Lines line fault) = 2
+exit_status_of (NamesNothing option) = 2
+exit_status_of (NamesSeveral option) = 2
+exit_status_of (NeverFetched option) = 2
+exit_status_of (Turned from to) = 2
 exit_status_of (Watch why) = 2
 exit_status_of (Condition why) = 2
 exit_status_of ManyWatched = 2

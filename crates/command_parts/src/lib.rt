@@ -11,6 +11,6 @@ mod refused;
 mod writing;
 
 pub use context::Context;
-pub use inputs::{Inputs, image_of, settings_of};
-pub use refused::{Refused, Unread, refuse};
+pub use inputs::{Inputs, image_of, lines_where, names_in, settings_of};
+pub use refused::{ChartOption, Refused, Unread, refuse};
 pub use writing::put_text;

@@ -8,8 +8,11 @@ use litmus_reading::{Fault, Place};
 use outcome_queries::QueryRefused;
 use rv_instr::{UnitKind, unit_name};
 use sc_machine::Stopped;
+use source_lines::LineFault;
+use std::fmt;
 use std::io::Write;
 use thiserror::Error;
+use watched_outcomes::WatchedBytes;
 
 /// Why a simulation was not made, or not reported whole.
 #[derive(Clone, Copy, Debug, PartialEq, Eq, Drop, Error)]
@@ -20,6 +23,9 @@ pub enum Refused {
     /// The configuration isn't one of a core.
     #[error("config refused")]
     Config,
+    /// Harts were asked for of a core that its trace names itself.
+    #[error("harts refused")]
+    Harts,
     /// This word of the script, from 1, is the first that says nothing.
     #[error("script word {0} refused")]
     Script(usize),
@@ -56,6 +62,21 @@ pub enum Refused {
     /// The core has no hart with this number, which was to be drawn.
     #[error("no hart {0}")]
     NoHart(u32),
+    /// This line of the source lines, from 1, is the first that isn't one of the image, and why it isn't.
+    #[error("lines {line} refused: {fault}")]
+    Lines { line: usize, fault: LineFault },
+    /// This option of a chart has a name that nothing in the program has.
+    #[error("{0} names nothing")]
+    NamesNothing(ChartOption),
+    /// It has one that stands for several addresses.
+    #[error("{0} names several")]
+    NamesSeveral(ChartOption),
+    /// No instruction in what it names is fetched, of a hart that is drawn.
+    #[error("{0} is never fetched")]
+    NeverFetched(ChartOption),
+    /// The last event that was to be drawn, by its name, is before the first.
+    #[error("--to {to} below --from {from}")]
+    Turned { from: u32, to: u32 },
     /// A picture would have too many instructions; one up to this event has few enough.
     #[error("picture of more than 4000 instructions: --to {0} would do")]
     Picture(u32),
@@ -68,9 +89,9 @@ pub enum Refused {
     /// More registers and words are named than can be watched.
     #[error("more than 64 watched")]
     ManyWatched,
-    /// No word of memory is at this address, which was to be watched.
-    #[error("no word at {0:08x}")]
-    NoWord(u32),
+    /// No such bytes of memory are at this address, which were to be watched.
+    #[error("no {0}")]
+    NoWord(WatchedBytes),
     /// There is no outcome with this number, whose order was to be written.
     #[error("no outcome {0}")]
     NoOutcome(u32),
@@ -107,16 +128,34 @@ impl Refused {
         ensures apart { says_harts result ≡ false }
     {
         match self {
-            Refused::Image(_) | Refused::Config => 2,
+            Refused::Image(_) | Refused::Config | Refused::Harts => 2,
             Refused::Script(_) | Refused::Order(_) | Refused::Step { .. } => 2,
             Refused::NoUnit(_) | Refused::Limit(_) => 2,
             Refused::NoHart(_) | Refused::Picture(_) => 2,
+            Refused::Lines { .. } | Refused::NamesNothing(_) | Refused::NamesSeveral(_) => 2,
+            Refused::NeverFetched(_) | Refused::Turned { .. } => 2,
             Refused::Watch(_) | Refused::Condition(_) | Refused::ManyWatched => 2,
             Refused::NoWord(_) | Refused::NoOutcome(_) | Refused::NotStuck => 2,
             Refused::Litmus(_, _) | Refused::NothingToDraw => 2,
             Refused::Trace { .. } | Refused::Version | Refused::Event { .. } => 4,
             Refused::Prediction(_) | Refused::Register(_) => 4,
             Refused::Memory | Refused::Thread | Refused::File | Refused::Output => 5,
+        }
+    }
+}
+
+/// An option of a chart that may name a function.
+#[derive(Clone, Copy, Debug, PartialEq, Eq, Drop)]
+pub enum ChartOption {
+    From,
+    To,
+}
+
+impl fmt::Display for ChartOption {
+    fn fmt<W: fmt::Write>(&self, f: &mut fmt::Formatter<W>) -> fmt::Result {
+        match self {
+            ChartOption::From => f.write_str("--from"),
+            ChartOption::To => f.write_str("--to"),
         }
     }
 }

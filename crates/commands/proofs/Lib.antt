@@ -6,3 +6,4 @@ pub mod OfTyped
 pub mod OfTest
 pub mod OfMigration
 pub mod OfRuns
+mod OfLabels

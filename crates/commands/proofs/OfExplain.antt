@@ -10,11 +10,16 @@ use Rattle.elf_image.specs.{declared.refusal.LoadRefused.LoadRefused, Refusal.re
 use Rattle.elf_image.specs.Image.{ProgramImage}
 use Rattle.explanations.specs.Explained.{Begins, IsRefusedBy, IsAccepted, refused_line, config_head, image_head}
 use Rattle.sim_inputs.specs.{declared.settings.Settings.Settings}
-use Rattle.sim_inputs.specs.{Configuration.IsConfiguration, declared.line.Beside.Beside}
+use Rattle.sim_inputs.specs.{Configuration.IsConfiguration, Configuration.with_harts, declared.line.Beside.Beside}
+use Rattle.sim_inputs.specs.declared.line.Beside.TheVariants as beside
 use Rattle.command_parts.specs.declared.refused.Refused.{Refused}
-use Rattle.command_parts.specs.declared.refused.Refused.TheVariants.{Image, Config, Script, Order, Step, Memory, File}
-use Rattle.command_parts.specs.declared.refused.Refused.TheVariants.{Output, Thread, Trace, Version, Event, NoUnit, Limit, NoHart}
+use Rattle.command_parts.specs.declared.refused.Refused.TheVariants.{Image, Config, Harts, Script, Order, Step}
+use Rattle.command_parts.specs.declared.refused.Refused.TheVariants.{Memory, File}
+use Rattle.command_parts.specs.declared.refused.Refused.TheVariants.{Output, Thread, Trace, Version, Event, NoUnit}
+use Rattle.command_parts.specs.declared.refused.Refused.TheVariants.{Limit, NoHart}
 use Rattle.command_parts.specs.declared.refused.Refused.TheVariants.{Prediction, Register, Picture}
+use Rattle.command_parts.specs.declared.refused.Refused.TheVariants.{Lines, NamesNothing, NamesSeveral, NeverFetched}
+use Rattle.command_parts.specs.declared.refused.Refused.TheVariants.{Turned}
 use Rattle.command_parts.specs.declared.refused.Refused.TheVariants.{Watch, Condition, ManyWatched, NoWord}
 use Rattle.command_parts.specs.declared.refused.Refused.TheVariants.{NoOutcome, NotStuck, Litmus, NothingToDraw}
 use Rattle.command_parts.specs.declared.refused.Unread.{Unread}
@@ -25,6 +30,7 @@ use Rattle.commands.specs.Explain.{IsExplainRefusal, IsExplanationOf, IsWritingR
 use Rattle.commands.specs.Explain.{Tells, PrintsSome}
 use Rattle.commands.specs.Explain.{IsBesideFault}
 use Rattle.commands.specs.Perform.{ExplainLineComesTo, IsExplainLineRefusal, HasToldBeside}
+use Rattle.core_commands.specs.Judgement.{IsJudgementRefusal}
 use Rattle.commands.proofs.OfLine.{accepted_of}
 
 -- ---- What is printed
@@ -111,6 +117,7 @@ pub writing_refusal : (config : List ℕ) (image : Read) (old new : Option (List
     → IsWritingRefusal reason → IsExplainRefusal config image reason × IsExplanationOf reason old new
 writing_refusal config image old new (Image number) is = absurd is
 writing_refusal config image old new Config is = absurd is
+writing_refusal config image old new Harts is = absurd is
 writing_refusal config image old new (Script number) is = absurd is
 writing_refusal config image old new (Order index) is = absurd is
 writing_refusal config image old new (Step index why) is = absurd is
@@ -122,6 +129,11 @@ writing_refusal config image old new (Register index) is = absurd is
 writing_refusal config image old new (NoUnit kind) is = absurd is
 writing_refusal config image old new (Limit least) is = absurd is
 writing_refusal config image old new (NoHart hart) is = absurd is
+writing_refusal config image old new (Lines number fault) is = absurd is
+writing_refusal config image old new (NamesNothing option) is = absurd is
+writing_refusal config image old new (NamesSeveral option) is = absurd is
+writing_refusal config image old new (NeverFetched option) is = absurd is
+writing_refusal config image old new (Turned from to) is = absurd is
 writing_refusal config image old new (Picture last) is = absurd is
 writing_refusal config image old new (Watch why) is = absurd is
 writing_refusal config image old new (Litmus place fault) is = absurd is
@@ -172,6 +184,7 @@ pub config_refusal : (config : List ℕ) (image : Read) (reason : Refused) → I
     → IsExplainRefusal config image reason
 config_refusal config image (Image number) is = absurd is
 config_refusal config image Config is = is
+config_refusal config image Harts is = absurd is
 config_refusal config image (Script number) is = absurd is
 config_refusal config image (Order index) is = absurd is
 config_refusal config image (Step index why) is = absurd is
@@ -183,6 +196,11 @@ config_refusal config image (Register index) is = absurd is
 config_refusal config image (NoUnit kind) is = absurd is
 config_refusal config image (Limit least) is = absurd is
 config_refusal config image (NoHart hart) is = absurd is
+config_refusal config image (Lines number fault) is = absurd is
+config_refusal config image (NamesNothing option) is = absurd is
+config_refusal config image (NamesSeveral option) is = absurd is
+config_refusal config image (NeverFetched option) is = absurd is
+config_refusal config image (Turned from to) is = absurd is
 config_refusal config image (Picture last) is = absurd is
 config_refusal config image (Watch why) is = absurd is
 config_refusal config image (Litmus place fault) is = absurd is
@@ -203,6 +221,7 @@ pub loaded_refusal : (config : List ℕ) (settings : Settings) (file : List ℕ)
     → IsExplainRefusal config (Ok file) reason
 loaded_refusal config settings file (Image number) configured is = (settings, configured, is)
 loaded_refusal config settings file Config configured is = absurd is
+loaded_refusal config settings file Harts configured is = absurd is
 loaded_refusal config settings file (Script number) configured is = absurd is
 loaded_refusal config settings file (Order index) configured is = absurd is
 loaded_refusal config settings file (Step index why) configured is = absurd is
@@ -214,6 +233,11 @@ loaded_refusal config settings file (Register index) configured is = absurd is
 loaded_refusal config settings file (NoUnit kind) configured is = absurd is
 loaded_refusal config settings file (Limit least) configured is = absurd is
 loaded_refusal config settings file (NoHart hart) configured is = absurd is
+loaded_refusal config settings file (Lines number fault) configured is = absurd is
+loaded_refusal config settings file (NamesNothing option) configured is = absurd is
+loaded_refusal config settings file (NamesSeveral option) configured is = absurd is
+loaded_refusal config settings file (NeverFetched option) configured is = absurd is
+loaded_refusal config settings file (Turned from to) configured is = absurd is
 loaded_refusal config settings file (Picture last) configured is = absurd is
 loaded_refusal config settings file (Watch why) configured is = absurd is
 loaded_refusal config settings file (Litmus place fault) configured is = absurd is
@@ -228,32 +252,51 @@ loaded_refusal config settings file Thread configured is = absurd is
 loaded_refusal config settings file File configured is = absurd is
 loaded_refusal config settings file Output configured is = absurd is
 
--- The text beside an image that is accepted.
-pub beside_refusal : (told : Beside) (config : List ℕ) (settings : Settings) (file : List ℕ) (program : ProgramImage)
-    (second : Read) (reason : Refused) → IsConfiguration config settings → PassesAll file settings.ram
-    → IsImageOf file settings.ram program → BehindFile second (IsBesideFault told settings program) reason
-    → IsExplainLineRefusal (Some told) (Ok config) (Ok file) second reason
-beside_refusal told config settings file program second reason configured passes loaded is =
-    inr (settings, configured, (passes, program, loaded, is))
+never_harts : (settings : Settings) (program : ProgramImage) (text : List ℕ)
+    → IsJudgementRefusal settings program text Harts → ⊥
+never_harts settings program text (inl (why, same)) = cc
+never_harts settings program text (inr is) = is
+
+-- The text beside an image that is accepted: what is refused of it, and of its harts. It is never refused for those.
+pub no_harts_beside : (told : Beside) (settings : Settings) (program : ProgramImage) (second : Read)
+    → BehindFile second (IsBesideFault told settings program) Harts → ⊥
+no_harts_beside (beside.Script name) settings program (Ok text) is = is
+no_harts_beside (beside.Order name) settings program (Ok text) is = is
+no_harts_beside (beside.Trace name) settings program (Ok text) is = never_harts settings program text is
+no_harts_beside told settings program (Err unread.File) is = cc
+no_harts_beside told settings program (Err unread.Memory) is = cc
+
+pub beside_refusal : (harts : Option ℕ) (told : Beside) (config : List ℕ) (own : Settings) (file : List ℕ)
+    (program : ProgramImage) (second : Read) (reason : Refused) → IsConfiguration config own
+    → PassesAll file own.ram → IsImageOf file own.ram program
+    → BehindFile second (IsBesideFault told (with_harts harts own) program) reason
+    → IsExplainLineRefusal harts (Some told) (Ok config) (Ok file) second reason
+beside_refusal harts told config own file program second Harts configured passes loaded is =
+    absurd (no_harts_beside told (with_harts harts own) program second is)
+beside_refusal harts told config own file program second reason configured passes loaded is =
+    inr (own, configured, (passes, program, loaded, is))
 
 -- Nothing is told beside it; or something is.
-pub alone_comes_to : (config : List ℕ) (image second : Read) (old new : Option (List ℕ)) (status : ℕ)
+pub alone_comes_to : (harts : Option ℕ) (config : List ℕ) (image second : Read) (old new : Option (List ℕ))
+    (status : ℕ)
     → OfProgram (Ok config) image (λ settings program. ExplainComesTo old new status)
-    → ExplainLineComesTo None (Ok config) image second old new status
-alone_comes_to config (Ok file) second old new status told = (
+    → ExplainLineComesTo harts None (Ok config) image second old new status
+alone_comes_to harts config (Ok file) second old new status told = (
   told.0,
   told.1,
   (told.2.0, told.2.1, told.2.2, (accepted_of config told.0 told.1, (new, told.2.3, refl))),
 )
-alone_comes_to config (Err why) second old new status told = absurd told.2
+alone_comes_to harts config (Err why) second old new status told = absurd told.2
 
-pub both_come_to : (told : Beside) (config : List ℕ) (image second : Read) (old mid new : Option (List ℕ))
-    (status : ℕ) → OfProgram (Ok config) image (λ settings program. ExplainComesTo old mid status)
-    → OfProgram (Ok config) image (λ settings program. HasToldBeside (Some told) settings program second mid new)
-    → ExplainLineComesTo (Some told) (Ok config) image second old new status
-both_come_to told config (Ok file) second old mid new status first then = (
+pub both_come_to : (harts : Option ℕ) (told : Beside) (config : List ℕ) (image second : Read)
+    (old mid new : Option (List ℕ)) (status : ℕ)
+    → OfProgram (Ok config) image (λ settings program. ExplainComesTo old mid status)
+    → OfProgram (Ok config) image
+    (λ settings program. HasToldBeside harts (Some told) settings program second mid new)
+    → ExplainLineComesTo harts (Some told) (Ok config) image second old new status
+both_come_to harts told config (Ok file) second old mid new status first then = (
   then.0,
   then.1,
   (then.2.0, then.2.1, then.2.2, (accepted_of config then.0 then.1, (mid, first.2.3, then.2.3))),
 )
-both_come_to told config (Err why) second old mid new status first then = absurd then.2
+both_come_to harts told config (Err why) second old mid new status first then = absurd then.2

@@ -9,21 +9,27 @@ use Rattle.elf_image.specs.{Loaded.IsImageOf}
 use Rattle.elf_image.specs.Image.{ProgramImage}
 use Rattle.commands.specs.Written.{ToWrite}
 use Rattle.sim_inputs.specs.{declared.line.Command.Command, declared.settings.Settings.Settings}
-use Rattle.sim_inputs.specs.{Configuration.IsConfiguration}
+use Rattle.sim_inputs.specs.Configuration.{AreInRange, IsConfiguration, with_harts}
 use Rattle.report_lines.specs.Statuses.{says_harts}
 use Rattle.command_parts.specs.declared.refused.Refused.{Refused}
-use Rattle.command_parts.specs.declared.refused.Refused.TheVariants.{Image, Config, Script, Order, Step, Memory, File}
-use Rattle.command_parts.specs.declared.refused.Refused.TheVariants.{Output, Thread, Trace, Version, Event, NoUnit, Limit, NoHart}
+use Rattle.command_parts.specs.declared.refused.Refused.TheVariants.{Image, Config, Harts, Script, Order, Step}
+use Rattle.command_parts.specs.declared.refused.Refused.TheVariants.{Memory, File}
+use Rattle.command_parts.specs.declared.refused.Refused.TheVariants.{Output, Thread, Trace, Version, Event, NoUnit}
+use Rattle.command_parts.specs.declared.refused.Refused.TheVariants.{Limit, NoHart}
 use Rattle.command_parts.specs.declared.refused.Refused.TheVariants.{Prediction, Register, Picture}
+use Rattle.command_parts.specs.declared.refused.Refused.TheVariants.{Lines, NamesNothing, NamesSeveral, NeverFetched}
+use Rattle.command_parts.specs.declared.refused.Refused.TheVariants.{Turned}
 use Rattle.command_parts.specs.declared.refused.Refused.TheVariants.{Watch, Condition, ManyWatched, NoWord}
 use Rattle.command_parts.specs.declared.refused.Refused.TheVariants.{NoOutcome, NotStuck, Litmus, NothingToDraw}
 use Rattle.command_parts.specs.declared.refused.Unread.{Unread}
 use Rattle.command_parts.specs.declared.refused.Unread.TheVariants as unread
 use Rattle.command_parts.specs.Refused.{exit_status_of, refusal_of, AreAccepted, PassesAll}
-use Rattle.command_parts.specs.Inputs.{Read}
-use Rattle.commands.specs.Commands.{IsCommandRefusal, CommandComesTo}
+use Rattle.symbols.specs.Tables.{Table}
+use Rattle.source_lines.specs.Lines.{Origin}
+use Rattle.command_parts.specs.Inputs.{Read, AreNamesFor, AreLinesFor, IsLinesFault}
+use Rattle.commands.specs.Commands.{IsCommandRefusal, CommandComesTo, reads_lines, wants_names}
 use Rattle.commands.specs.Perform.{IsProgramRefusal, ProgramComesTo, LineComesTo, LitmusLineComesTo}
-use Rattle.commands.specs.Perform.{ExplainLineComesTo, MigrateLineComesTo}
+use Rattle.commands.specs.Perform.{ExplainLineComesTo, HasTwoCores, MigrateLineComesTo}
 use Rattle.sim_inputs.specs.declared.line.Command.TheVariants as commands
 use Rattle.sim_inputs.specs.declared.line.ProgramCommand.{ProgramCommand}
 use Rattle.sim_inputs.specs.declared.line.LitmusCommand.{LitmusCommand}
@@ -35,76 +41,147 @@ use Rattle.commands.proofs.SoundCommands.{sound}
 pub accepted_of : (text : List ℕ) (settings : Settings) → IsConfiguration text settings → AreAccepted settings
 accepted_of text settings is = λ image. is.sets.in_range.accepted
 
+-- So they are with other harts.
+pub accepted_with : (settings : Settings) → AreInRange settings → AreAccepted settings
+accepted_with settings in_range = λ image. in_range.accepted
+
 -- ---- Refusals
 
 -- A configuration and an image that make these settings and this program image.
-module _ (command : ProgramCommand) (text : List ℕ) (settings : Settings) (file : List ℕ) (program : ProgramImage)
-    (second : Read) (configured : IsConfiguration text settings) (passes : PassesAll file settings.ram)
-    (loaded : IsImageOf file settings.ram program) where
-  pub command_refusal : (reason : Refused) → IsCommandRefusal command settings program second reason
-      → IsProgramRefusal command (Ok text) (Ok file) second reason
-  command_refusal (Image number) is = absurd ((sound command settings program second).no_image number is)
+module _ (harts : Option ℕ) (command : ProgramCommand) (text : List ℕ) (own : Settings) (file : List ℕ)
+    (program : ProgramImage) (second lines : Read) (configured : IsConfiguration text own)
+    (passes : PassesAll file own.ram) (loaded : IsImageOf file own.ram program) where
+  -- What is refused of the lines of its sources.
+  pub lines_refusal : (reason : Refused) → IsLinesFault (reads_lines command) lines program reason
+      → IsProgramRefusal harts command (Ok text) (Ok file) second lines reason
+  lines_refusal (Image number) is = absurd is
+  lines_refusal Config is = absurd is
+  lines_refusal Harts is = absurd is
+  lines_refusal (Script number) is = absurd is
+  lines_refusal (Order index) is = absurd is
+  lines_refusal (Step index why) is = absurd is
+  lines_refusal (Trace line rule) is = absurd is
+  lines_refusal Version is = absurd is
+  lines_refusal (Event index rule) is = absurd is
+  lines_refusal (Prediction index) is = absurd is
+  lines_refusal (Register index) is = absurd is
+  lines_refusal (NoUnit kind) is = absurd is
+  lines_refusal (Limit least) is = absurd is
+  lines_refusal (NoHart hart) is = absurd is
+  lines_refusal (Lines number fault) is = (own, configured, (passes, program, loaded, is))
+  lines_refusal (NamesNothing option) is = absurd is
+  lines_refusal (NamesSeveral option) is = absurd is
+  lines_refusal (NeverFetched option) is = absurd is
+  lines_refusal (Turned from to) is = absurd is
+  lines_refusal (Picture last) is = absurd is
+  lines_refusal (Watch why) is = absurd is
+  lines_refusal (Condition why) is = absurd is
+  lines_refusal ManyWatched is = absurd is
+  lines_refusal (NoWord address) is = absurd is
+  lines_refusal (NoOutcome number) is = absurd is
+  lines_refusal NotStuck is = absurd is
+  lines_refusal (Litmus place fault) is = absurd is
+  lines_refusal NothingToDraw is = absurd is
+  lines_refusal Memory is = tt
+  lines_refusal Thread is = absurd is
+  lines_refusal File is = inr (inr (inl (own, configured, (passes, program, loaded, is))))
+  lines_refusal Output is = absurd is
+
+-- A configuration and an image that make these settings and this program image, and the names and the lines of its
+-- sources that are wanted; and the harts of the line.
+module _ (harts : Option ℕ) (command : ProgramCommand) (text : List ℕ) (own : Settings) (file : List ℕ)
+    (program : ProgramImage) (names : Table) (second lines : Read) (origins : Option (List Origin))
+    (configured : IsConfiguration text own) (in_range : AreInRange (with_harts harts own))
+    (passes : PassesAll file own.ram) (loaded : IsImageOf file own.ram program)
+    (named : AreNamesFor (wants_names command) file names)
+    (wanted : AreLinesFor (reads_lines command) lines program origins) where
+  pub command_refusal : (reason : Refused) → IsCommandRefusal command (with_harts harts own) program names second reason
+      → IsProgramRefusal harts command (Ok text) (Ok file) second lines reason
+  command_refusal (Image number) is = absurd ((sound command
+      (with_harts harts own) program names origins second).no_image number is)
   command_refusal Config is =
-      let unfit = (sound command settings program second).unfit (accepted_of text settings configured) is in
-      inr (settings, configured, (passes, program, loaded, unfit))
-  command_refusal (Script number) is = (settings, configured, (passes, program, loaded, is))
-  command_refusal (Order index) is = (settings, configured, (passes, program, loaded, is))
-  command_refusal (Step index why) is = (settings, configured, (passes, program, loaded, is))
-  command_refusal (Trace line rule) is = (settings, configured, (passes, program, loaded, is))
-  command_refusal Version is = (settings, configured, (passes, program, loaded, is))
-  command_refusal (Event index rule) is = (settings, configured, (passes, program, loaded, is))
-  command_refusal (Prediction index) is = (settings, configured, (passes, program, loaded, is))
-  command_refusal (Register index) is = (settings, configured, (passes, program, loaded, is))
-  command_refusal (NoUnit kind) is = (settings, configured, (passes, program, loaded, is))
-  command_refusal (Limit least) is = (settings, configured, (passes, program, loaded, is))
-  command_refusal (NoHart hart) is = (settings, configured, (passes, program, loaded, is))
-  command_refusal (Picture last) is = (settings, configured, (passes, program, loaded, is))
-  command_refusal (Watch why) is = (settings, configured, (passes, program, loaded, is))
-  command_refusal (Condition why) is = (settings, configured, (passes, program, loaded, is))
-  command_refusal ManyWatched is = (settings, configured, (passes, program, loaded, is))
-  command_refusal (NoWord address) is = (settings, configured, (passes, program, loaded, is))
-  command_refusal (NoOutcome number) is = (settings, configured, (passes, program, loaded, is))
-  command_refusal NotStuck is = (settings, configured, (passes, program, loaded, is))
-  command_refusal (Litmus place fault) is = (settings, configured, (passes, program, loaded, is))
-  command_refusal NothingToDraw is = (settings, configured, (passes, program, loaded, is))
+      let unfit = (sound command (with_harts harts own) program names origins second).unfit (accepted_with
+      (with_harts harts own) in_range) is in
+      inr (own, configured, (passes, program, loaded, unfit))
+  command_refusal Harts is = absurd ((sound command (with_harts harts own) program names origins second).no_harts is)
+  command_refusal (Script number) is = (own, configured, (passes, program, loaded, (names, named, is)))
+  command_refusal (Order index) is = (own, configured, (passes, program, loaded, (names, named, is)))
+  command_refusal (Step index why) is = (own, configured, (passes, program, loaded, (names, named, is)))
+  command_refusal (Trace line rule) is = (own, configured, (passes, program, loaded, (names, named, is)))
+  command_refusal Version is = (own, configured, (passes, program, loaded, (names, named, is)))
+  command_refusal (Event index rule) is = (own, configured, (passes, program, loaded, (names, named, is)))
+  command_refusal (Prediction index) is = (own, configured, (passes, program, loaded, (names, named, is)))
+  command_refusal (Register index) is = (own, configured, (passes, program, loaded, (names, named, is)))
+  command_refusal (NoUnit kind) is = (own, configured, (passes, program, loaded, (names, named, is)))
+  command_refusal (Limit least) is = (own, configured, (passes, program, loaded, (names, named, is)))
+  command_refusal (NoHart hart) is = (own, configured, (passes, program, loaded, (names, named, is)))
+  command_refusal (Lines number fault) is =
+      absurd ((sound command (with_harts harts own) program names origins second).no_lines number fault is)
+  command_refusal (NamesNothing option) is = (own, configured, (passes, program, loaded, (names, named, is)))
+  command_refusal (NamesSeveral option) is = (own, configured, (passes, program, loaded, (names, named, is)))
+  command_refusal (NeverFetched option) is = (own, configured, (passes, program, loaded, (names, named, is)))
+  command_refusal (Turned from to) is = (own, configured, (passes, program, loaded, (names, named, is)))
+  command_refusal (Picture last) is = (own, configured, (passes, program, loaded, (names, named, is)))
+  command_refusal (Watch why) is = (own, configured, (passes, program, loaded, (names, named, is)))
+  command_refusal (Condition why) is = (own, configured, (passes, program, loaded, (names, named, is)))
+  command_refusal ManyWatched is = (own, configured, (passes, program, loaded, (names, named, is)))
+  command_refusal (NoWord address) is = (own, configured, (passes, program, loaded, (names, named, is)))
+  command_refusal (NoOutcome number) is = (own, configured, (passes, program, loaded, (names, named, is)))
+  command_refusal NotStuck is = (own, configured, (passes, program, loaded, (names, named, is)))
+  command_refusal (Litmus place fault) is = (own, configured, (passes, program, loaded, (names, named, is)))
+  command_refusal NothingToDraw is = (own, configured, (passes, program, loaded, (names, named, is)))
   command_refusal Memory is = tt
-  command_refusal Thread is = (settings, configured, (passes, program, loaded, is))
-  command_refusal File is = inr (inr (settings, configured, (passes, program, loaded, is)))
-  command_refusal Output is = (settings, configured, (passes, program, loaded, is))
+  command_refusal Thread is = (own, configured, (passes, program, loaded, (names, named, is)))
+  command_refusal File is = inr (inr (inr (own, configured, (passes, program, loaded, (names, named, is)))))
+  command_refusal Output is = (own, configured, (passes, program, loaded, (names, named, is)))
 
   -- Behind what the command comes to, only the output may still be refused; and once that is flushed, the
   -- line has come to it.
   module _ (Traced : ToWrite → Type 0) (old mid : Option (List ℕ)) (status : ℕ)
-      (ended : CommandComesTo command settings program second Traced old mid status) where
-    pub output_refusal : IsProgramRefusal command (Ok text) (Ok file) second Output
-    output_refusal =
-        command_refusal Output ((sound command settings program second).output Traced old mid status ended)
+      (ended : CommandComesTo command (with_harts harts own) program names origins second Traced old mid status) where
+    pub output_refusal : IsProgramRefusal harts command (Ok text) (Ok file) second lines Output
+    output_refusal = command_refusal Output
+        ((sound command (with_harts harts own) program names origins second).output Traced old mid status ended)
 
-    pub comes_to : (new : Option (List ℕ)) → Keeps mid new
-        → ProgramComesTo command (Ok text) (Ok file) second Traced old new status
-    comes_to new flushed = (
-      settings,
+    pub comes_to : (new : Option (List ℕ)) → Keeps mid new → (HasTwoCores harts command second → ⊥)
+        → ProgramComesTo harts command (Ok text) (Ok file) second lines Traced old new status
+    comes_to new flushed one = (
+      own,
       configured,
       (
         passes,
         program,
         loaded,
         (
-          accepted_of text settings configured,
-          (sound command settings program second).flushed Traced old mid new status flushed ended,
+          names,
+          named,
+          (
+            accepted_with (with_harts harts own) in_range,
+            one,
+            (
+              origins,
+              wanted,
+              (sound command (with_harts harts own) program names origins second).flushed Traced old mid new status
+                  flushed
+                  ended,
+            ),
+          ),
         ),
       ),
     )
 
 -- ---- The exit status
 
-program_says : (command : ProgramCommand) (config image second : Read) (Traced : ToWrite → Type 0)
-    (old new : Option (List ℕ)) (status : ℕ) → ProgramComesTo command config image second Traced old new status
+program_says : (harts : Option ℕ) (command : ProgramCommand) (config image second lines : Read) (Traced : ToWrite
+    → Type 0)
+    (old new : Option (List ℕ)) (status : ℕ)
+    → ProgramComesTo harts command config image second lines Traced old new status
     → IsTrue (says_harts status)
-program_says command (Ok text) (Ok file) second Traced old new status is =
-    (sound command is.0 is.2.1 second).says Traced old new status is.2.3.1
-program_says command (Ok text) (Err why) second Traced old new status is = absurd is.2
-program_says command (Err why) image second Traced old new status is = absurd is
+program_says harts command (Ok text) (Ok file) second lines Traced old new status is =
+    let comes = is.2.3.2.2 in
+    (sound command (with_harts harts is.0) is.2.1 is.2.3.0 comes.0 second).says Traced old new status comes.2
+program_says harts command (Ok text) (Err why) second lines Traced old new status is = absurd is.2
+program_says harts command (Err why) image second lines Traced old new status is = absurd is
 
 litmus_says : (litmus : LitmusCommand) (config test : Read) (old new : Option (List ℕ)) (status : ℕ)
     → LitmusLineComesTo litmus config test old new status → IsTrue (says_harts status)
@@ -121,22 +198,23 @@ migration_says (Ok text) (Ok file) Traced old new status is = zero_says status i
 migration_says (Ok text) (Err why) Traced old new status is = absurd is.1.2
 migration_says (Err why) trace Traced old new status is = absurd is.1
 
-explain_says : (beside : Option Beside) (config image second : Read) (old new : Option (List ℕ)) (status : ℕ)
-    → ExplainLineComesTo beside config image second old new status → IsTrue (says_harts status)
-explain_says beside (Ok text) (Ok file) second old new status is = zero_says status is.2.3.1.1.zero
-explain_says beside (Ok text) (Err why) second old new status is = absurd is.2
-explain_says beside (Err why) image second old new status is = absurd is
+explain_says : (harts : Option ℕ) (beside : Option Beside) (config image second : Read) (old new : Option (List ℕ))
+    (status : ℕ)
+    → ExplainLineComesTo harts beside config image second old new status → IsTrue (says_harts status)
+explain_says harts beside (Ok text) (Ok file) second old new status is = zero_says status is.2.3.1.1.zero
+explain_says harts beside (Ok text) (Err why) second old new status is = absurd is.2
+explain_says harts beside (Err why) image second old new status is = absurd is
 
-pub status_says : (command : Command) (config image second : Read) (Traced : ToWrite → Type 0)
-    (old new : Option (List ℕ)) (status : ℕ) → LineComesTo command config image second Traced old new status
+pub status_says : (harts : Option ℕ) (command : Command) (config image second lines : Read) (Traced : ToWrite → Type 0)
+    (old new : Option (List ℕ)) (status : ℕ) → LineComesTo harts command config image second lines Traced old new status
     → IsTrue (says_harts status)
-status_says (commands.OfProgram command) config image second Traced old new status is =
-    program_says command config image second Traced old new status is
-status_says (commands.Explain explain) config image second Traced old new status is =
-    explain_says explain.beside config image second old new status is
-status_says (commands.Litmus litmus) config test second Traced old new status is =
+status_says harts (commands.OfProgram command) config image second lines Traced old new status is =
+    program_says harts command config image second lines Traced old new status is
+status_says harts (commands.Explain explain) config image second lines Traced old new status is =
+    explain_says harts explain.beside config image second old new status is
+status_says harts (commands.Litmus litmus) config test second lines Traced old new status is =
     litmus_says litmus config test old new status is
-status_says (commands.Migrate migrate) config none trace Traced old new status is =
+status_says harts (commands.Migrate migrate) config none trace lines Traced old new status is =
     migration_says config trace Traced old new status is
 
 -- A refusal's exit status is 2, 4 or 5, and so never one that says how harts stand; it is 5 for a
@@ -145,6 +223,7 @@ pub known_refusal : (reason : Refused) (status : ℕ) → status ≡ exit_status
     → IsTrue (says_harts status) ⊎ (status ≡ 2) ⊎ (status ≡ 4) ⊎ (status ≡ 5)
 known_refusal (Image number) status is = inr (inl is)
 known_refusal Config status is = inr (inl is)
+known_refusal Harts status is = inr (inl is)
 known_refusal (Script number) status is = inr (inl is)
 known_refusal (Order index) status is = inr (inl is)
 known_refusal (Step index why) status is = inr (inl is)
@@ -156,6 +235,11 @@ known_refusal (Register index) status is = inr (inr (inl is))
 known_refusal (NoUnit kind) status is = inr (inl is)
 known_refusal (Limit least) status is = inr (inl is)
 known_refusal (NoHart hart) status is = inr (inl is)
+known_refusal (Lines number fault) status is = inr (inl is)
+known_refusal (NamesNothing option) status is = inr (inl is)
+known_refusal (NamesSeveral option) status is = inr (inl is)
+known_refusal (NeverFetched option) status is = inr (inl is)
+known_refusal (Turned from to) status is = inr (inl is)
 known_refusal (Picture last) status is = inr (inl is)
 known_refusal (Watch why) status is = inr (inl is)
 known_refusal (Condition why) status is = inr (inl is)
@@ -173,6 +257,7 @@ known_refusal Output status is = inr (inr (inr is))
 never_says : (reason : Refused) → says_harts (exit_status_of reason) ≡ false
 never_says (Image number) = refl
 never_says Config = refl
+never_says Harts = refl
 never_says (Script number) = refl
 never_says (Order index) = refl
 never_says (Step index why) = refl
@@ -184,6 +269,11 @@ never_says (Register index) = refl
 never_says (NoUnit kind) = refl
 never_says (Limit least) = refl
 never_says (NoHart hart) = refl
+never_says (Lines number fault) = refl
+never_says (NamesNothing option) = refl
+never_says (NamesSeveral option) = refl
+never_says (NeverFetched option) = refl
+never_says (Turned from to) = refl
 never_says (Picture last) = refl
 never_says (Watch why) = refl
 never_says (Condition why) = refl

@@ -22,6 +22,7 @@ module _ (text file : List ℕ) (settings : Settings) (configured : IsConfigurat
       → IsMigrateLineRefusal (Ok text) (Ok file) why
   migrate_refusal (reason.Image number) is = absurd is
   migrate_refusal reason.Config is = absurd is
+  migrate_refusal reason.Harts is = absurd is
   migrate_refusal (reason.Script number) is = absurd is
   migrate_refusal (reason.Order index) is = absurd is
   migrate_refusal (reason.Step index stopped) is = absurd is
@@ -33,6 +34,11 @@ module _ (text file : List ℕ) (settings : Settings) (configured : IsConfigurat
   migrate_refusal (reason.NoUnit kind) is = absurd is
   migrate_refusal (reason.Limit least) is = absurd is
   migrate_refusal (reason.NoHart hart) is = absurd is
+  migrate_refusal (reason.Lines number fault) is = absurd is
+  migrate_refusal (reason.NamesNothing option) is = absurd is
+  migrate_refusal (reason.NamesSeveral option) is = absurd is
+  migrate_refusal (reason.NeverFetched option) is = absurd is
+  migrate_refusal (reason.Turned from to) is = absurd is
   migrate_refusal (reason.Picture last) is = absurd is
   migrate_refusal (reason.Watch why) is = absurd is
   migrate_refusal (reason.Condition why) is = absurd is

@@ -16,6 +16,7 @@ module _ (litmus : LitmusCommand) (text file : List ℕ) (settings : Settings)
       → IsLitmusLineRefusal litmus (Ok text) (Ok file) why
   test_refusal (reason.Image number) is = absurd is
   test_refusal reason.Config is = absurd is
+  test_refusal reason.Harts is = absurd is
   test_refusal (reason.Script number) is = absurd is
   test_refusal (reason.Order index) is = absurd is
   test_refusal (reason.Step index stopped) is = absurd is
@@ -27,6 +28,11 @@ module _ (litmus : LitmusCommand) (text file : List ℕ) (settings : Settings)
   test_refusal (reason.NoUnit kind) is = absurd is
   test_refusal (reason.Limit least) is = absurd is
   test_refusal (reason.NoHart hart) is = absurd is
+  test_refusal (reason.Lines number fault) is = absurd is
+  test_refusal (reason.NamesNothing option) is = absurd is
+  test_refusal (reason.NamesSeveral option) is = absurd is
+  test_refusal (reason.NeverFetched option) is = absurd is
+  test_refusal (reason.Turned from to) is = absurd is
   test_refusal (reason.Picture last) is = absurd is
   test_refusal (reason.Watch why) is = absurd is
   test_refusal (reason.Condition why) is = absurd is

@@ -6,6 +6,8 @@ use Rattle.std.specs.List.{list_any, list_all}
 use Rattle.std.specs.Io.KnownBytes.{Appends, Keeps}
 use mathlib.Core.Logic.{inl, inr}
 use Rattle.elf_image.specs.Image.{ProgramImage}
+use Rattle.symbols.specs.Tables.{Table}
+use Rattle.source_lines.specs.{Lines.Origin, declared.line.LineFault.LineFault}
 use Rattle.commands.specs.Written.{ToWrite}
 use Rattle.smt_model.specs.{declared.config.Status.Status, Plain.is_going_status}
 use Rattle.text_fields.specs.{Printing.Prints}
@@ -13,35 +15,48 @@ use Rattle.sim_inputs.specs.declared.line.ProgramCommand.{ProgramCommand}
 use Rattle.sim_inputs.specs.{declared.settings.Settings.Settings}
 use Rattle.report_lines.specs.Lines.{status_number, has_ended_well}
 use Rattle.report_lines.specs.Statuses.{says_harts}
-use Rattle.command_parts.specs.declared.refused.Refused.TheVariants.{Image, Config, Output}
+use Rattle.command_parts.specs.declared.refused.Refused.TheVariants.{Image, Config, Harts, Lines, Output}
 use Rattle.command_parts.specs.declared.refused.Unread.{Unread}
 use Rattle.command_parts.specs.declared.refused.Unread.TheVariants as unread
 use Rattle.command_parts.specs.Refused.{AreAccepted, refusal_of}
 use Rattle.command_parts.specs.Inputs.{Read}
 use Rattle.commands.specs.Commands.{IsCommandRefusal, CommandComesTo, AreUnfit}
 
-pub record IsSound (command : ProgramCommand) (settings : Settings) (program : ProgramImage) (second : Read)
-    : Type 1 where
-  -- It never refuses the image, and of settings that are a core's it refuses those that are unfit.
-  pub no_image : (number : ℕ) → IsCommandRefusal command settings program second (Image number) → ⊥
-  pub unfit : AreAccepted settings → IsCommandRefusal command settings program second Config
+pub record IsSound (command : ProgramCommand) (settings : Settings) (program : ProgramImage) (names : Table)
+    (lines : Option (List Origin)) (second : Read) : Type 1 where
+  -- It never refuses the image, nor harts beside a trace, nor the lines of the image's sources, and of settings that
+  -- are a
+  -- core's it refuses those that are unfit.
+  pub no_image : (number : ℕ) → IsCommandRefusal command settings program names second (Image number) → ⊥
+  pub no_harts : IsCommandRefusal command settings program names second Harts → ⊥
+  pub no_lines : (number : ℕ) (fault : LineFault)
+      → IsCommandRefusal command settings program names second (Lines number fault) → ⊥
+  pub unfit : AreAccepted settings → IsCommandRefusal command settings program names second Config
       → AreUnfit command settings program second
   -- Behind what it comes to, only the output may still be refused. A flush changes nothing of it, and its
   -- exit status says how harts stand.
   pub output : (Traced : ToWrite → Type 0) (old new : Option (List ℕ)) (status : ℕ)
-      → CommandComesTo command settings program second Traced old new status
-      → IsCommandRefusal command settings program second Output
+      → CommandComesTo command settings program names lines second Traced old new status
+      → IsCommandRefusal command settings program names second Output
   pub flushed : (Traced : ToWrite → Type 0) (old mid new : Option (List ℕ)) (status : ℕ) → Keeps mid new
-      → CommandComesTo command settings program second Traced old mid status
-      → CommandComesTo command settings program second Traced old new status
+      → CommandComesTo command settings program names lines second Traced old mid status
+      → CommandComesTo command settings program names lines second Traced old new status
   pub says : (Traced : ToWrite → Type 0) (old new : Option (List ℕ)) (status : ℕ)
-      → CommandComesTo command settings program second Traced old new status → IsTrue (says_harts status)
+      → CommandComesTo command settings program names lines second Traced old new status → IsTrue (says_harts status)
 
 -- ---- For all of them
 
 pub no_unread_image : (number : ℕ) (why : Unread) → Image number ≡ refusal_of why → ⊥
 no_unread_image number unread.File is = cc
 no_unread_image number unread.Memory is = cc
+
+pub no_unread_harts : (why : Unread) → Harts ≡ refusal_of why → ⊥
+no_unread_harts unread.File is = cc
+no_unread_harts unread.Memory is = cc
+
+pub no_unread_lines : (number : ℕ) (fault : LineFault) (why : Unread) → Lines number fault ≡ refusal_of why → ⊥
+no_unread_lines number fault unread.File is = cc
+no_unread_lines number fault unread.Memory is = cc
 
 pub no_unread_config : (why : Unread) → Config ≡ refusal_of why → ⊥
 no_unread_config unread.File is = cc

@@ -1,11 +1,15 @@
 -- Each command's definitions are as `perform` needs them.
-use Rattle.std.specs.Prelude.{◌≡◌, ◌⊎◌, ℕ, max, true, false, IsTrue, List, [], ◌∷◌, Option, Some, None, Ok, Err, length, map, reverse}
+use Rattle.std.specs.Prelude.{◌≡◌, ◌⊎◌, ℕ, max, true, false, IsTrue, List, [], ◌∷◌, Option, Some, None, Ok, Err}
+use Rattle.std.specs.Prelude.{length, map, reverse}
 use Rattle.std.proofs.Common.{refl, sym, ap, subst, ◌∙◌, arith}
 use Rattle.std.specs.Io.KnownBytes.{Keeps}
 use Rattle.std.proofs.lemmas.Bool.{true≢false, cases_lt}
 use Rattle.std.proofs.lemmas.Bool.Decides.{nat_tests}
 use mathlib.Core.Logic.{inl, inr}
 use Rattle.elf_image.specs.Image.{ProgramImage}
+use Rattle.symbols.specs.Tables.{Table}
+use Rattle.source_lines.specs.{Lines.Origin, declared.line.LineFault.LineFault}
+use Rattle.address_labels.specs.Labels.{Marks, marks_where}
 use Rattle.sc_machine.specs.Steps.{are_harts}
 use Rattle.smt_model.specs.{Setup.is_accepted, Rules.is_legal}
 use Rattle.sim_inputs.specs.{declared.settings.Settings.Settings}
@@ -28,10 +32,11 @@ use Rattle.core_commands.specs.{Run.LackARole}
 use Rattle.command_parts.specs.Inputs.{Read}
 use Rattle.core_commands.specs.{Account.statuses_of}
 use Rattle.plain_commands.specs.{Plain.standing}
-use Rattle.command_parts.specs.declared.refused.Refused.TheVariants.{Config, Image, Output}
+use Rattle.command_parts.specs.declared.refused.Refused.TheVariants.{Config, Harts, Image, Lines, Output}
 use Rattle.plain_commands.specs.PlainRounds.{rounds_of, IsRoundsRefusal, RoundsComeTo}
 use Rattle.plain_commands.proofs.OfRounds.{from_rounds, in_rounds}
-use Rattle.commands.proofs.Sound.{IsSound, no_unread_image, no_unread_config, kept, prints_kept, status_says, zero_says}
+use Rattle.commands.proofs.Sound.{IsSound, no_unread_image, no_unread_harts, no_unread_lines, no_unread_config, kept}
+use Rattle.commands.proofs.Sound.{prints_kept, status_says, zero_says}
 
 -- Sizes of a core aren't refused, nor are its harts too few or too many for the plain machine.
 never_refused : (settings : Settings) → AreAccepted settings → AreRefused settings → ⊥
@@ -45,10 +50,13 @@ never_without_harts settings accepted refused =
     let both = accepted empty in
     absurd (grind (arith, nat_tests, both, refused))
 
-of_step : (step : StepCommand) (settings : Settings) (program : ProgramImage) (second : Read)
-    → IsSound (commands.Step step) settings program second
-of_step step settings program (Ok script) = record {
+of_step : (step : StepCommand) (settings : Settings) (program : ProgramImage) (names : Table)
+    (lines : Option (List Origin)) (second : Read)
+    → IsSound (commands.Step step) settings program names lines second
+of_step step settings program names lines (Ok script) = record {
   no_image = λ number is. is;
+  no_harts = λ is. is;
+  no_lines = λ number fault is. is;
   unfit = λ accepted is. never_refused settings accepted is;
   output = λ Traced old new status is. (is.accepted, is.is_asking);
   flushed = λ Traced old mid new status flushed is. record {
@@ -64,8 +72,10 @@ of_step step settings program (Ok script) = record {
   };
   says = λ Traced old new status is. status_says status (statuses_of is.core) is.harts;
 }
-of_step step settings program (Err why) = record {
+of_step step settings program names lines (Err why) = record {
   no_image = λ number is. no_unread_image number why is;
+  no_harts = λ is. no_unread_harts why is;
+  no_lines = λ number fault is. no_unread_lines number fault why is;
   unfit = λ accepted is. no_unread_config why is;
   output = λ Traced old new status is. absurd is;
   flushed = λ Traced old mid new status flushed is. absurd is;
@@ -84,17 +94,17 @@ worst_says (end ∷ past) = elim (greater_of (worst_of past) (status_number end.
 ]
 
 -- One run, or as many as are asked for.
-module _ (run : RunCommand) (settings : Settings) (program : ProgramImage) (Traced : ToWrite → Type 0)
+module _ (run : RunCommand) (settings : Settings) (program : ProgramImage) (marks : Marks) (Traced : ToWrite → Type 0)
     (old : Option (List ℕ)) (status : ℕ) where
   run_accepted : (times : Option ℕ) (new : Option (List ℕ))
-      → RunsComeTo times run settings program Traced old new status
+      → RunsComeTo times run settings program marks Traced old new status
       → AreAccepted settings × (LackARole settings → ⊥)
   run_accepted None new is = (is.accepted, is.manned)
   run_accepted (Some times) new is = (is.accepted, is.manned)
 
   run_flushed : (times : Option ℕ) (mid new : Option (List ℕ)) → Keeps mid new
-      → RunsComeTo times run settings program Traced old mid status
-      → RunsComeTo times run settings program Traced old new status
+      → RunsComeTo times run settings program marks Traced old mid status
+      → RunsComeTo times run settings program marks Traced old new status
   run_flushed None mid new flushed is = record {
     accepted = is.accepted;
     manned = is.manned;
@@ -119,36 +129,57 @@ module _ (run : RunCommand) (settings : Settings) (program : ProgramImage) (Trac
   }
 
   run_says : (times : Option ℕ) (new : Option (List ℕ))
-      → RunsComeTo times run settings program Traced old new status → IsTrue (says_harts status)
+      → RunsComeTo times run settings program marks Traced old new status → IsTrue (says_harts status)
   run_says None new is = status_says status (statuses_of is.core) is.harts
   run_says (Some times) new is = ap says_harts is.stands ∙ worst_says (map end_of is.cores)
 
-of_run : (run : RunCommand) (settings : Settings) (program : ProgramImage) (second : Read)
-    → IsSound (commands.Run run) settings program second
-of_run run settings program second = record {
+of_run : (run : RunCommand) (settings : Settings) (program : ProgramImage) (names : Table)
+    (lines : Option (List Origin)) (second : Read)
+    → IsSound (commands.Run run) settings program names lines second
+of_run run settings program names lines second = record {
   no_image = λ number is. is;
+  no_harts = λ is. is;
+  no_lines = λ number fault is. is;
   unfit = λ accepted is. elim is [
     | inl refused ↦ absurd (never_refused settings accepted refused)
     | inr lacks ↦ lacks.1
   ];
-  output = λ Traced old new status is. run_accepted run settings program Traced old status run.times new is;
+  output = λ Traced old new status is. run_accepted run settings program
+      (marks_where run.names names lines) Traced old status run.times new is;
   flushed = λ Traced old mid new status flushed is.
-      run_flushed run settings program Traced old status run.times mid new flushed is;
-  says = λ Traced old new status is. run_says run settings program Traced old status run.times new is;
+      run_flushed run settings program
+      (marks_where run.names names lines) Traced old status run.times mid new flushed is;
+  says = λ Traced old new status is. run_says run settings program
+      (marks_where run.names names lines) Traced old status run.times new is;
 }
 
 -- What is told of a trace is refused by the output alone.
 image_is_told : (number : ℕ) → Image number ≡ Output → ⊥
 image_is_told number same = cc
 
+harts_is_told : Harts ≡ Output → ⊥
+harts_is_told same = cc
+
+lines_are_told : (number : ℕ) (fault : LineFault) → Lines number fault ≡ Output → ⊥
+lines_are_told number fault same = cc
+
 config_is_told : Config ≡ Output → ⊥
 config_is_told same = cc
 
-of_check : (check : CheckCommand) (settings : Settings) (program : ProgramImage) (second : Read)
-    → IsSound (commands.Check check) settings program second
-of_check check settings program (Ok trace) = record {
+of_check : (check : CheckCommand) (settings : Settings) (program : ProgramImage) (names : Table)
+    (lines : Option (List Origin)) (second : Read)
+    → IsSound (commands.Check check) settings program names lines second
+of_check check settings program names lines (Ok trace) = record {
   no_image = λ number is. elim is [
     | inl told ↦ absurd (image_is_told number told.1)
+    | inr refused ↦ refused
+  ];
+  no_harts = λ is. elim is [
+    | inl told ↦ absurd (harts_is_told told.1)
+    | inr refused ↦ refused
+  ];
+  no_lines = λ number fault is. elim is [
+    | inl told ↦ absurd (lines_are_told number fault told.1)
     | inr refused ↦ refused
   ];
   unfit = λ accepted is. elim is [
@@ -179,18 +210,23 @@ of_check check settings program (Ok trace) = record {
   };
   says = λ Traced old new status is. status_says status (statuses_of is.core) is.harts;
 }
-of_check check settings program (Err why) = record {
+of_check check settings program names lines (Err why) = record {
   no_image = λ number is. no_unread_image number why is;
+  no_harts = λ is. no_unread_harts why is;
+  no_lines = λ number fault is. no_unread_lines number fault why is;
   unfit = λ accepted is. no_unread_config why is;
   output = λ Traced old new status is. absurd is;
   flushed = λ Traced old mid new status flushed is. absurd is;
   says = λ Traced old new status is. absurd is;
 }
 
-of_plain : (plain : PlainCommand) (settings : Settings) (program : ProgramImage) (second : Read)
-    → IsSound (commands.Plain plain) settings program second
-of_plain plain settings program (Ok order) = record {
+of_plain : (plain : PlainCommand) (settings : Settings) (program : ProgramImage) (names : Table)
+    (lines : Option (List Origin)) (second : Read)
+    → IsSound (commands.Plain plain) settings program names lines second
+of_plain plain settings program names lines (Ok order) = record {
   no_image = λ number is. from_rounds (rounds_of plain) _ _ ⊥ (λ rounds of. of) (λ of. of) is;
+  no_harts = λ is. from_rounds (rounds_of plain) _ _ ⊥ (λ rounds of. of) (λ of. of) is;
+  no_lines = λ number fault is. from_rounds (rounds_of plain) _ _ ⊥ (λ rounds of. of) (λ of. of) is;
   unfit = λ accepted is.
       from_rounds (rounds_of plain) _ _ ⊥ (λ rounds of. never_without_harts settings accepted of)
       (λ of. never_without_harts settings accepted of.1) is;
@@ -198,7 +234,8 @@ of_plain plain settings program (Ok order) = record {
       in_rounds (rounds_of plain) _ (λ rounds. IsRoundsRefusal settings Output) _ _ (λ rounds of. of.accepted)
       (λ of. (of.harts, of.is_order)) is;
   flushed = λ Traced old mid new status flushed is.
-      in_rounds (rounds_of plain) _ (λ rounds. RoundsComeTo settings program rounds plain.records old new status) _ _
+      in_rounds (rounds_of plain) _ (λ rounds. RoundsComeTo settings program rounds plain.records
+      (marks_where plain.names names lines) old new status) _ _
       (λ rounds of. record {
         accepted = of.accepted;
         turns = of.turns;
@@ -220,9 +257,13 @@ of_plain plain settings program (Ok order) = record {
       (λ rounds of. status_says status (standing settings.config.harts of.ran) of.stands)
       (λ of. status_says status (standing settings.config.harts of.ran) of.stands) is;
 }
-of_plain plain settings program (Err why) = record {
+of_plain plain settings program names lines (Err why) = record {
   no_image = λ number is.
       from_rounds (rounds_of plain) _ _ ⊥ (λ rounds of. of) (λ of. no_unread_image number why of) is;
+  no_harts = λ is.
+      from_rounds (rounds_of plain) _ _ ⊥ (λ rounds of. of) (λ of. no_unread_harts why of) is;
+  no_lines = λ number fault is.
+      from_rounds (rounds_of plain) _ _ ⊥ (λ rounds of. of) (λ of. no_unread_lines number fault why of) is;
   unfit = λ accepted is.
       from_rounds (rounds_of plain) _ _ ⊥ (λ rounds of. never_without_harts settings accepted of)
       (λ of. no_unread_config why of) is;
@@ -230,7 +271,8 @@ of_plain plain settings program (Err why) = record {
       in_rounds (rounds_of plain) _ (λ rounds. IsRoundsRefusal settings Output) _ _ (λ rounds of. of.accepted)
       (λ of. absurd of) is;
   flushed = λ Traced old mid new status flushed is.
-      in_rounds (rounds_of plain) _ (λ rounds. RoundsComeTo settings program rounds plain.records old new status) _ _
+      in_rounds (rounds_of plain) _ (λ rounds. RoundsComeTo settings program rounds plain.records
+      (marks_where plain.names names lines) old new status) _ _
       (λ rounds of. record {
         accepted = of.accepted;
         turns = of.turns;
@@ -246,46 +288,59 @@ of_plain plain settings program (Err why) = record {
       (λ of. absurd of) is;
 }
 
-of_schedule : (schedule : ScheduleCommand) (settings : Settings) (program : ProgramImage) (second : Read)
-    → IsSound (commands.Schedule schedule) settings program second
-of_schedule schedule settings program (Ok order) = record {
+of_schedule : (schedule : ScheduleCommand) (settings : Settings) (program : ProgramImage) (names : Table)
+    (lines : Option (List Origin)) (second : Read)
+    → IsSound (commands.Schedule schedule) settings program names lines second
+of_schedule schedule settings program names lines (Ok order) = record {
   no_image = λ number is. is;
+  no_harts = λ is. is;
+  no_lines = λ number fault is. is;
   unfit = λ accepted is. never_refused settings accepted (λ image. is.2);
   output = λ Traced old new status is. (is.printed.0, is.printed.1);
   flushed = λ Traced old mid new status flushed is.
       record { printed = prints_kept old mid new _ is.printed flushed; zero = is.zero };
   says = λ Traced old new status is. zero_says status is.zero;
 }
-of_schedule schedule settings program (Err why) = record {
+of_schedule schedule settings program names lines (Err why) = record {
   no_image = λ number is. no_unread_image number why is;
+  no_harts = λ is. no_unread_harts why is;
+  no_lines = λ number fault is. no_unread_lines number fault why is;
   unfit = λ accepted is. no_unread_config why is;
   output = λ Traced old new status is. absurd is;
   flushed = λ Traced old mid new status flushed is. absurd is;
   says = λ Traced old new status is. absurd is;
 }
 
-of_script : (script : ScriptCommand) (settings : Settings) (program : ProgramImage) (second : Read)
-    → IsSound (commands.Script script) settings program second
-of_script script settings program (Ok trace) = record {
+of_script : (script : ScriptCommand) (settings : Settings) (program : ProgramImage) (names : Table)
+    (lines : Option (List Origin)) (second : Read)
+    → IsSound (commands.Script script) settings program names lines second
+of_script script settings program names lines (Ok trace) = record {
   no_image = λ number is. is;
+  no_harts = λ is. is;
+  no_lines = λ number fault is. is;
   unfit = λ accepted is. is;
   output = λ Traced old new status is. (is.printed.0, is.printed.1);
   flushed = λ Traced old mid new status flushed is.
       record { printed = prints_kept old mid new _ is.printed flushed; zero = is.zero };
   says = λ Traced old new status is. zero_says status is.zero;
 }
-of_script script settings program (Err why) = record {
+of_script script settings program names lines (Err why) = record {
   no_image = λ number is. no_unread_image number why is;
+  no_harts = λ is. no_unread_harts why is;
+  no_lines = λ number fault is. no_unread_lines number fault why is;
   unfit = λ accepted is. no_unread_config why is;
   output = λ Traced old new status is. absurd is;
   flushed = λ Traced old mid new status flushed is. absurd is;
   says = λ Traced old new status is. absurd is;
 }
 
-of_list : (list : ListCommand) (settings : Settings) (program : ProgramImage) (second : Read)
-    → IsSound (commands.List list) settings program second
-of_list list settings program second = record {
+of_list : (list : ListCommand) (settings : Settings) (program : ProgramImage) (names : Table)
+    (lines : Option (List Origin)) (second : Read)
+    → IsSound (commands.List list) settings program names lines second
+of_list list settings program names lines second = record {
   no_image = λ number is. is;
+  no_harts = λ is. is;
+  no_lines = λ number fault is. is;
   unfit = λ accepted is. is;
   output = λ Traced old new status is. tt;
   flushed = λ Traced old mid new status flushed is.
@@ -293,27 +348,35 @@ of_list list settings program second = record {
   says = λ Traced old new status is. zero_says status is.zero;
 }
 
-of_chart : (chart : ChartCommand) (settings : Settings) (program : ProgramImage) (second : Read)
-    → IsSound (commands.Chart chart) settings program second
-of_chart chart settings program (Ok trace) = record {
+of_chart : (chart : ChartCommand) (settings : Settings) (program : ProgramImage) (names : Table)
+    (lines : Option (List Origin)) (second : Read)
+    → IsSound (commands.Chart chart) settings program names lines second
+of_chart chart settings program names lines (Ok trace) = record {
   no_image = λ number is. is;
+  no_harts = λ is. is;
+  no_lines = λ number fault is. is;
   unfit = λ accepted is. is;
   output = λ Traced old new status is. (is.history.0, is.history.1, is.history.2.0);
   flushed = λ Traced old mid new status flushed is. is;
   says = λ Traced old new status is. zero_says status is.zero;
 }
-of_chart chart settings program (Err why) = record {
+of_chart chart settings program names lines (Err why) = record {
   no_image = λ number is. no_unread_image number why is;
+  no_harts = λ is. no_unread_harts why is;
+  no_lines = λ number fault is. no_unread_lines number fault why is;
   unfit = λ accepted is. no_unread_config why is;
   output = λ Traced old new status is. absurd is;
   flushed = λ Traced old mid new status flushed is. absurd is;
   says = λ Traced old new status is. absurd is;
 }
 
-of_outcomes : (outcomes : OutcomesCommand) (settings : Settings) (program : ProgramImage) (second : Read)
-    → IsSound (commands.Outcomes outcomes) settings program second
-of_outcomes outcomes settings program second = record {
+of_outcomes : (outcomes : OutcomesCommand) (settings : Settings) (program : ProgramImage) (names : Table)
+    (lines : Option (List Origin)) (second : Read)
+    → IsSound (commands.Outcomes outcomes) settings program names lines second
+of_outcomes outcomes settings program names lines second = record {
   no_image = λ number is. is;
+  no_harts = λ is. is;
+  no_lines = λ number fault is. is;
   unfit = λ accepted is. elim is [
     | inl few ↦ absurd (never_without_harts settings accepted few)
     | inr lacks ↦ absurd (true≢false (sym (accepted program) ∙ lacks.2))
@@ -324,7 +387,9 @@ of_outcomes outcomes settings program second = record {
       watch = all.watch;
       terms = all.terms;
       found = all.found;
+      all = all.all;
       asked = all.asked;
+      is_of = all.is_of;
       there = all.there;
       is_found = all.is_found;
       printed = kept old mid new _ all.printed flushed;
@@ -333,7 +398,9 @@ of_outcomes outcomes settings program second = record {
     | inr more ↦ inr (record {
       watch = more.watch;
       terms = more.terms;
+      all = more.all;
       asked = more.asked;
+      is_of = more.is_of;
       there = more.there;
       beyond = more.beyond;
       printed = kept old mid new _ more.printed flushed;
@@ -346,14 +413,18 @@ of_outcomes outcomes settings program second = record {
   ];
 }
 
-pub sound : (command : ProgramCommand) (settings : Settings) (program : ProgramImage) (second : Read)
-    → IsSound command settings program second
-sound (commands.Step step) settings program second = of_step step settings program second
-sound (commands.Run run) settings program second = of_run run settings program second
-sound (commands.Check check) settings program second = of_check check settings program second
-sound (commands.Plain plain) settings program second = of_plain plain settings program second
-sound (commands.Schedule schedule) settings program second = of_schedule schedule settings program second
-sound (commands.Script script) settings program second = of_script script settings program second
-sound (commands.List list) settings program second = of_list list settings program second
-sound (commands.Outcomes outcomes) settings program second = of_outcomes outcomes settings program second
-sound (commands.Chart chart) settings program second = of_chart chart settings program second
+pub sound : (command : ProgramCommand) (settings : Settings) (program : ProgramImage) (names : Table)
+    (lines : Option (List Origin)) (second : Read)
+    → IsSound command settings program names lines second
+sound (commands.Step step) settings program names lines second = of_step step settings program names lines second
+sound (commands.Run run) settings program names lines second = of_run run settings program names lines second
+sound (commands.Check check) settings program names lines second = of_check check settings program names lines second
+sound (commands.Plain plain) settings program names lines second = of_plain plain settings program names lines second
+sound (commands.Schedule schedule) settings program names lines second = of_schedule schedule settings program names
+    lines second
+sound (commands.Script script) settings program names lines second = of_script script settings program names lines
+    second
+sound (commands.List list) settings program names lines second = of_list list settings program names lines second
+sound (commands.Outcomes outcomes) settings program names lines second = of_outcomes outcomes settings program names
+    lines second
+sound (commands.Chart chart) settings program names lines second = of_chart chart settings program names lines second

@@ -13,7 +13,8 @@ use Rattle.core_commands.specs.{Check.AreHistory, Check.OfEvents, Judgement.IsJu
 use Rattle.explained_words.specs.Explained.{IsOrderFault, IsFollowed, script_head, order_head}
 use Rattle.explained_words.specs.declared.order.OrderFault.TheVariants as fault
 use Rattle.command_parts.specs.{declared.refused.Refused.Refused}
-use Rattle.command_parts.specs.declared.refused.Refused.TheVariants.{Image, Config, Script, Order, Step, Memory, File, Output}
+use Rattle.command_parts.specs.declared.refused.Refused.TheVariants.{Image, Config, Script, Order, Step, Memory, File}
+use Rattle.command_parts.specs.declared.refused.Refused.TheVariants.{Output}
 use Rattle.command_parts.specs.declared.refused.Unread.TheVariants as unread
 use Rattle.command_parts.specs.Refused.{IsFirstFailed}
 use Rattle.command_parts.specs.Inputs.{Read, OfFile, OfSettings, IsNoConfiguration}

@@ -15,7 +15,7 @@ ghost use Rattle.commands.specs.Explain.{IsWritingRefusal, PrintsSome};
 use command_parts::{Refused, Unread};
 use elf_image::{LoadRefused, RamSize};
 use explanations::{explain_config, explain_image};
-use sim_inputs::Settings;
+use sim_inputs::{HartCount, Settings};
 use std::alloc::Global;
 use std::io;
 use std::io::Write;
@@ -23,14 +23,16 @@ use std::io::Write;
 /// What is written before the image where the configuration, which is refused, sets no memory.
 const WITHOUT_CONFIG: &[u8] = b"the image without a configuration:\n";
 
-/// Says of a configuration's text and of an image's file why each is refused, or what is in it, and
-/// answers the exit status, 0 where both are accepted; else the refusal of the first that isn't, as
+/// Says of a configuration's text, with so many harts in place of its own where that is given, and of an image's file
+/// why each is refused, or what is in it, and answers the exit status, 0 where both are accepted; else the refusal of
+/// the first that isn't, as
 /// every other command has it. A file that couldn't be read is refused in its place. Where the
 /// configuration is refused, the image is looked at with the memory that it has without one. All that
 /// is printed is flushed. `Output` is answered where `out` failed.
 #[inline(never)]
 pub fn perform_explain<W: Write>(
     config: &[u8],
+    harts: &Option<HartCount>,
     image: Result<&[u8], Unread>,
     out: &mut W,
     alloc: Global,
@@ -41,7 +43,7 @@ pub fn perform_explain<W: Write>(
     ensures ended { IfOk result (λ status. OfProgram (Ok config.now) (as_read image.entry)
         (λ settings program. ExplainComesTo (W.contents out.old) (W.contents out.new) status)) }
 {
-    let Some(settings) = tell_config(config, out, alloc)? else {
+    let Some(settings) = tell_config(config, harts, out, alloc)? else {
         tell_without_config(image, out, alloc)?;
         return Err(Refused::Config);
     };
@@ -52,9 +54,11 @@ pub fn perform_explain<W: Write>(
     }
 }
 
-/// Says what there is to say of a configuration, and answers the settings that it makes, if any.
+/// Says what there is to say of a configuration, with so many harts where that is given, and answers the settings that
+/// it makes itself, if any.
 fn tell_config<W: Write>(
     config: &[u8],
+    harts: &Option<HartCount>,
     out: &mut W,
     alloc: Global,
 ) -> Result<Option<Settings>, Refused>
@@ -64,7 +68,7 @@ fn tell_config<W: Write>(
     ensures printed { IfOk result (λ settings.
         Prints (W.contents out.old) (W.contents out.new) (Begins (config_head settings))) }
 {
-    match explain_config(config, alloc) {
+    match explain_config(config, *harts, alloc) {
         Ok(said) => {
             put(said.text.as_slice(), out)?;
             Ok(said.settings)

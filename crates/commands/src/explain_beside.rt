@@ -1,4 +1,5 @@
-//! What the command `explain` says of a script, an order or a trace, beside an image and a configuration that are accepted.
+//! What the command `explain` says of a script, an order or a trace, beside an image and a configuration that are
+//! accepted.
 
 ghost use Rattle.std.specs.Prelude.{◌≡◌, IfErr, OnOk};
 ghost use Rattle.sim_inputs.specs.declared.line.Beside.TheVariants as beside;

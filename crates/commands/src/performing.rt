@@ -1,52 +1,55 @@
 //! All that the program does with a line once its files are read.
 
-ghost use Rattle.std.specs.Prelude.{◌≡◌, ◌⊎◌, IsTrue, IfOk, IfErr, OnOk, Ok, Err, is_some, true, false};
-ghost use Rattle.std.specs.Prelude.{Some, IsSomeAnd};
+ghost use Rattle.std.specs.Prelude.{◌≡◌, ◌⊎◌, IsTrue, IfOk, IfErr, OnOk, Err, is_some, true, false};
+ghost use Rattle.std.specs.Prelude.{IsSomeAnd};
 ghost use Rattle.command_parts.specs.declared.refused.Refused.TheVariants.{Output};
 ghost use Rattle.report_lines.specs.Statuses.{says_harts};
 ghost use Rattle.command_parts.specs.declared.refused.Refused.{Refused as AnyRefused};
 ghost use Rattle.command_parts.specs.Refused.{exit_status_of, refusal_of};
-ghost use Rattle.sim_inputs.specs.declared.line.ProgramCommand.TheVariants.{Run};
 ghost use Rattle.sim_inputs.specs.Files.{written_for_test};
-ghost use Rattle.command_parts.specs.Inputs.{as_read, Read, OfProgram};
-ghost use Rattle.commands.specs.Commands.{IsProgramUnreported, program_writes_file};
+ghost use Rattle.command_parts.specs.Inputs.{as_read};
+ghost use Rattle.symbols.specs.Tables.{table_of};
+ghost use Rattle.commands.specs.Commands.{IsProgramUnreported, origins_in, program_writes_file};
 ghost use Rattle.commands.specs.Perform.{IsRefusal, LineComesTo, IsLeft, IsUnreported, writes_file};
 ghost use Rattle.commands.specs.Perform.{IsProgramRefusal, ProgramComesTo, IsPerformed};
-ghost use Rattle.commands.specs.Perform.{IsExplainLineRefusal, ExplainLineComesTo, HasToldBeside};
 ghost use Rattle.commands.specs.Perform.{IsLitmusLineRefusal, LitmusLineComesTo};
 ghost use Rattle.commands.specs.Perform.{IsMigrateLineRefusal, MigrationComesTo};
 ghost use Rattle.event_text.specs.Sinking.{HasPut};
 ghost use Rattle.commands.specs.Written.{IsWritten};
 
-use crate::explain::perform_explain;
-use crate::explain_beside::tell_beside;
+use crate::explain_line::read_and_explain;
+use crate::labelling::labels_for;
 use crate::list::perform_list;
+use crate::naming::{names_where, wants_names};
+use crate::runs::perform_runs;
+use crate::settings::settings_with;
+use crate::two_cores::are_two_cores;
 use actors::Gate;
-use command_parts::{Context, Inputs, Refused, Unread, image_of, refuse, settings_of};
+use command_parts::{Context, Inputs, Refused, Unread, image_of, lines_where, refuse, settings_of};
 use core_commands::{
-    Wanted, perform_chart, perform_check, perform_migrate, perform_run, perform_script,
-    perform_step, perform_stress,
+    Wanted, perform_chart, perform_check, perform_migrate, perform_script, perform_step,
 };
 use elf_image::Image;
 use plain_commands::{
     perform_litmus, perform_outcomes, perform_plain, perform_rounds, perform_schedule, rounds_of,
 };
-use sim_inputs::{
-    Beside, Command, ExplainCommand, Line, LitmusCommand, ProgramCommand, RunCommand, Settings,
-};
+use sim_inputs::{Command, HartCount, Line, LitmusCommand, ProgramCommand, Settings};
 use smt_core::Predict;
+use source_lines::SourceLines;
 use std::alloc::Global;
 use std::io::Write;
 use std::sync::Wait;
 use std::thread::Threads;
 use stress_runs::EndFiles;
+use symbols::Symbols;
 
 /// Does all that the program does once its files are read, and answers its exit status: how the harts
 /// stand, 0 for a listing, a schedule, a script, a chart, a litmus test and a migration, 2 for a refused
 /// input, 4 for a refused trace, 5 where memory, a thread or a file failed. A refusal is one line on `err`.
-/// The configuration is looked at first, then the image, then the script, the order or the trace; a file
-/// that couldn't be read is refused where it is looked at. All that is printed is flushed. The context keeps
-/// why the line was refused, if it was.
+/// The configuration is looked at first, then the image, then of a trace whether it names its core beside harts of the
+/// line, then the lines of the image's sources, and then the script, the order or the trace; a file that couldn't be
+/// read is refused where it is looked at. All that is printed is flushed. The context keeps why the line was refused,
+/// if it was.
 ///
 /// The trace of a core goes into `files`, a sink that hasn't failed, where the line names a file for it:
 /// behind the last ask, and before the tables and the report, and its file is finished. Where the sink fails,
@@ -67,15 +70,16 @@ pub fn perform<
     ensures known { IsTrue (says_harts result) ⊎ (result ≡ 2) ⊎ (result ≡ 4) ⊎ (result ≡ 5) }
     ensures unset { IfErr inputs.now.config (λ why. result ≡ 5) }
     ensures refused { says_harts result ≡ false → (reason : AnyRefused)
-        × (exit_status_of reason ≡ result) × IsRefusal line.now.command
-        (as_read inputs.now.config) (as_read inputs.now.program) (as_read inputs.now.second) reason }
-    ensures ended { IsTrue (says_harts result) → LineComesTo line.now.command
+        × (exit_status_of reason ≡ result) × IsRefusal line.now.harts line.now.command
         (as_read inputs.now.config) (as_read inputs.now.program) (as_read inputs.now.second)
+        (as_read inputs.now.lines) reason }
+    ensures ended { IsTrue (says_harts result) → LineComesTo line.now.harts line.now.command
+        (as_read inputs.now.config) (as_read inputs.now.program) (as_read inputs.now.second) (as_read inputs.now.lines)
         (IsWritten S.begins S.written S.has_failed context.old.files context.new.files) (W.contents context.old.out)
         (W.contents context.new.out) result }
     ensures left { says_harts result ≡ false → (reason : AnyRefused)
-        × (exit_status_of reason ≡ result) × IsRefusal line.now.command (as_read inputs.now.config)
-        (as_read inputs.now.program) (as_read inputs.now.second) reason
+        × (exit_status_of reason ≡ result) × IsRefusal line.now.harts line.now.command (as_read inputs.now.config)
+        (as_read inputs.now.program) (as_read inputs.now.second) (as_read inputs.now.lines) reason
         × IsLeft line.now.command context.old.files context.new.files reason }
     ensures finished { IsTrue (says_harts result) → S.is_finished context.new.files ≡ true }
     ensures unwanted { writes_file line.now.command ≡ false → context.new.files ≡ context.old.files }
@@ -116,10 +120,10 @@ fn perform_line<
     requires works { S.has_failed context.old.files ≡ false }
     requires finished { S.is_finished context.old.files ≡ true }
     ensures unset { IfErr inputs.now.config (λ why. result ≡ Err (refusal_of why)) }
-    ensures refused { IfErr result (IsRefusal line.now.command (as_read inputs.now.config)
-        (as_read inputs.now.program) (as_read inputs.now.second)) }
-    ensures ended { IfOk result (LineComesTo line.now.command (as_read inputs.now.config)
-        (as_read inputs.now.program) (as_read inputs.now.second)
+    ensures refused { IfErr result (IsRefusal line.now.harts line.now.command (as_read inputs.now.config)
+        (as_read inputs.now.program) (as_read inputs.now.second) (as_read inputs.now.lines)) }
+    ensures ended { IfOk result (LineComesTo line.now.harts line.now.command (as_read inputs.now.config)
+        (as_read inputs.now.program) (as_read inputs.now.second) (as_read inputs.now.lines)
         (IsWritten S.begins S.written S.has_failed context.old.files context.new.files) (W.contents context.old.out)
         (W.contents context.new.out)) }
     ensures left { IfErr result (IsLeft line.now.command context.old.files context.new.files) }
@@ -130,9 +134,10 @@ fn perform_line<
 {
     let alloc = context.alloc;
     match &line.command {
-        Command::OfProgram(command) => read_and_perform(context, command, inputs),
+        Command::OfProgram(command) => read_and_perform(context, command, &line.harts, inputs),
         Command::Explain(explain) => read_and_explain(
             explain,
+            &line.harts,
             inputs,
             &mut context.predict,
             &mut context.out,
@@ -147,61 +152,6 @@ fn perform_line<
             alloc,
         ),
         Command::Migrate(_) => read_and_migrate(inputs, &mut context.files, alloc),
-    }
-}
-
-/// The exit status of a line that explains its files, with all flushed that it prints of them. Configuration and
-/// image are taken before they are refused. What is explained beside them is looked at where both are accepted.
-fn read_and_explain<P: Predict, W: Write>(
-    explain: &ExplainCommand<'_>,
-    inputs: &Inputs<'_>,
-    predict: &mut P,
-    out: &mut W,
-    alloc: Global,
-) -> Result<u8, Refused>
-    ensures unset { IfErr inputs.now.config (λ why. result ≡ Err (refusal_of why)) }
-    ensures refused { IfErr result (IsExplainLineRefusal explain.now.beside (as_read inputs.now.config)
-        (as_read inputs.now.program) (as_read inputs.now.second)) }
-    ensures ended { IfOk result (ExplainLineComesTo explain.now.beside (as_read inputs.now.config)
-        (as_read inputs.now.program) (as_read inputs.now.second) (W.contents out.old) (W.contents out.new)) }
-{
-    let text = inputs.config?;
-    // Handed on as it is: a `?` would leave the prover to find what the refusal becomes.
-    let status = match perform_explain(text, inputs.program, out, alloc) {
-        Ok(status) => status,
-        Err(refused) => return Err(refused),
-    };
-    match explain.beside {
-        None => Ok(status),
-        Some(beside) => {
-            read_and_tell(beside, text, inputs, predict, out, alloc)?;
-            Ok(status)
-        }
-    }
-}
-
-/// Says what there is to say of the text beside an image and the text of a configuration.
-fn read_and_tell<P: Predict, W: Write>(
-    beside: Beside<'_>,
-    config: &[u8],
-    inputs: &Inputs<'_>,
-    predict: &mut P,
-    out: &mut W,
-    alloc: Global,
-) -> Result<(), Refused>
-    ensures refused { IfErr result (IsExplainLineRefusal (Some beside.entry) (Ok config.now)
-        (as_read inputs.now.program) (as_read inputs.now.second)) }
-    ensures told { OnOk result (OfProgram (Ok config.now) (as_read inputs.now.program)
-        (λ settings program. HasToldBeside (Some beside.entry) settings program (as_read inputs.now.second)
-        (W.contents out.old) (W.contents out.new))) }
-{
-    let settings = settings_of(config, alloc)?;
-    let bytes = inputs.program?;
-    let image = image_of(bytes, settings.ram, alloc)?;
-    let text = inputs.second?;
-    match tell_beside(beside, text, &settings, &image, predict, out, alloc) {
-        Ok(()) => Ok(()),
-        Err(refused) => Err(refused),
     }
 }
 
@@ -274,15 +224,16 @@ fn read_and_perform<
 >(
     context: &mut Context<'_, R, G, P, S, W>,
     command: &ProgramCommand<'_>,
+    harts: &Option<HartCount>,
     inputs: &Inputs<'_>,
 ) -> Result<u8, Refused>
     requires works { S.has_failed context.old.files ≡ false }
     requires finished { S.is_finished context.old.files ≡ true }
     ensures unset { IfErr inputs.now.config (λ why. result ≡ Err (refusal_of why)) }
-    ensures refused { IfErr result (IsProgramRefusal command.now (as_read inputs.now.config)
-        (as_read inputs.now.program) (as_read inputs.now.second)) }
-    ensures ended { IfOk result (ProgramComesTo command.now (as_read inputs.now.config)
-        (as_read inputs.now.program) (as_read inputs.now.second)
+    ensures refused { IfErr result (IsProgramRefusal harts.now command.now (as_read inputs.now.config)
+        (as_read inputs.now.program) (as_read inputs.now.second) (as_read inputs.now.lines)) }
+    ensures ended { IfOk result (ProgramComesTo harts.now command.now (as_read inputs.now.config)
+        (as_read inputs.now.program) (as_read inputs.now.second) (as_read inputs.now.lines)
         (IsWritten S.begins S.written S.has_failed context.old.files context.new.files) (W.contents context.old.out)
         (W.contents context.new.out)) }
     ensures finished { OnOk result (S.is_finished context.new.files ≡ true) }
@@ -291,12 +242,30 @@ fn read_and_perform<
         (as_read inputs.now.second) (W.contents context.old.out) (W.contents context.new.out) }
 {
     let config = inputs.config?;
-    let settings = settings_of(config, context.alloc)?;
+    let own = settings_of(config, context.alloc)?;
+    let ram = own.ram;
+    let settings = settings_with(own, harts);
     let file = inputs.program?;
-    let image = image_of(file, settings.ram, context.alloc)?;
-    let second = inputs.second;
+    let image = image_of(file, ram, context.alloc)?;
+    if command.reads_trace() && are_two_cores(harts, inputs.second) {
+        return Err(Refused::Harts);
+    }
+    let names = names_where(wants_names(command), file, context.alloc)?;
+    let wants_lines = command.lines().is_some();
+    let lines = match lines_where(wants_lines, inputs.lines, &image, context.alloc) {
+        Ok(lines) => lines,
+        Err(refused) => return Err(refused),
+    };
     // Handed on as it is: a `?` would leave the prover to find what the refusal becomes.
-    let status = match perform_command(context, command, &settings, &image, second) {
+    let status = match perform_command(
+        context,
+        command,
+        &settings,
+        &image,
+        &names,
+        &lines,
+        inputs.second,
+    ) {
         Ok(status) => status,
         Err(refused) => return Err(refused),
     };
@@ -306,7 +275,8 @@ fn read_and_perform<
     }
 }
 
-/// Does what a command of a program asks for, of its settings, its image and its second file.
+/// Does what a command of a program asks for, of its settings, its image with the names and the lines that it
+/// wants, and its second file.
 fn perform_command<
     G: Gate + Sync,
     P: Predict + Copy + Send,
@@ -318,29 +288,41 @@ fn perform_command<
     command: &ProgramCommand<'_>,
     settings: &Settings,
     image: &Image,
+    names: &Symbols<'_>,
+    lines: &Option<SourceLines<'_>>,
     second: Result<&[u8], Unread>,
 ) -> Result<u8, Refused>
     requires works { S.has_failed context.old.files ≡ false }
     requires finished { S.is_finished context.old.files ≡ true }
     ensures { IsPerformed S.begins S.is_finished S.written S.has_failed context.old.files context.new.files command.now
-        settings.now image.now (as_read second.entry) (W.contents context.old.out) (W.contents context.new.out) result }
+        settings.now image.now (table_of names.now) (origins_in lines.now)
+        (as_read second.entry) (W.contents context.old.out) (W.contents context.new.out) result }
 {
     let alloc = context.alloc;
+    let labels = &labels_for(command, names, lines);
     match command {
         ProgramCommand::Step(step) => {
             let wanted = Wanted::of_step(step);
             let script = second?;
-            perform_step(context, image, settings, script, step.why, wanted)
+            perform_step(context, image, settings, script, step.why, wanted, labels)
         }
-        ProgramCommand::Run(run) => perform_runs(context, image, settings, run),
+        ProgramCommand::Run(run) => perform_runs(context, image, settings, run, labels),
         ProgramCommand::Check(check) => {
             let wanted = Wanted::of_check(check);
             let text = second?;
-            perform_check(image, settings, text, wanted, &mut context.out, alloc)
+            perform_check(
+                image,
+                settings,
+                text,
+                wanted,
+                labels,
+                &mut context.out,
+                alloc,
+            )
         }
         ProgramCommand::Plain(plain) => {
             if let Some(rounds) = rounds_of(plain) {
-                return perform_rounds(context, image, settings, rounds, plain.records);
+                return perform_rounds(context, image, settings, rounds, plain.records, labels);
             }
             let order = second?;
             perform_plain(
@@ -348,6 +330,7 @@ fn perform_command<
                 settings,
                 order,
                 plain.records,
+                labels,
                 &mut context.out,
                 alloc,
             )
@@ -360,38 +343,13 @@ fn perform_command<
             let text = second?;
             perform_script(image, settings, text, &mut context.out, alloc)
         }
-        ProgramCommand::List(_) => perform_list(image, &mut context.out),
-        ProgramCommand::Outcomes(outcomes) => perform_outcomes(context, image, settings, outcomes),
+        ProgramCommand::List(_) => perform_list(image, labels, &mut context.out),
+        ProgramCommand::Outcomes(outcomes) => {
+            perform_outcomes(context, image, settings, names, outcomes)
+        }
         ProgramCommand::Chart(chart) => {
             let text = second?;
-            perform_chart(context, image, settings, text, chart)
+            perform_chart(context, image, settings, text, chart, names)
         }
     }
-}
-
-/// Runs an image once, or as often as is asked for.
-fn perform_runs<
-    G: Gate + Sync,
-    P: Predict + Copy + Send,
-    S: EndFiles,
-    W: Write,
-    R: Threads + Wait + Sync,
->(
-    context: &mut Context<'_, R, G, P, S, W>,
-    image: &Image,
-    settings: &Settings,
-    run: &RunCommand<'_>,
-) -> Result<u8, Refused>
-    requires works { S.has_failed context.old.files ≡ false }
-    requires finished { S.is_finished context.old.files ≡ true }
-    ensures { (second : Read) → IsPerformed S.begins S.is_finished S.written S.has_failed context.old.files context.new.files
-        (Run run.now) settings.now image.now second (W.contents context.old.out) (W.contents context.new.out)
-        result }
-{
-    if let Some(times) = run.times {
-        let keep = run.keep.is_some();
-        return perform_stress(context, image, settings, times, keep);
-    }
-    let wanted = Wanted::of_run(run);
-    perform_run(context, image, settings, wanted)
 }

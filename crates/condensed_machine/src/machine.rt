@@ -2,6 +2,7 @@ ghost use Rattle.std.specs.Prelude.{◌≡◌, ◌↔◌, ◌<◌, ◌≤◌, �
 ghost use Rattle.numbers.specs.Sizes.{most_harts};
 ghost use Rattle.sc_machine.specs.Steps.{are_harts};
 ghost use Rattle.sc_machine.specs.declared.refused.PlainRefused.TheVariants.{Harts};
+ghost use Rattle.rv_execute.specs.Access.{IsSize};
 ghost use Rattle.smt_model.specs.Bytes.{number_at};
 ghost use Rattle.smt_model.specs.Faults.{read_fault};
 ghost use Rattle.condensed_machine.specs.Decoded.{Knows, decoded, hart_in, state_of};
@@ -112,22 +113,24 @@ impl CondensedMachine {
         self.hart(state, hart).registers[usize::from(register)]
     }
 
-    /// The word at an address in a state, where a load of it has no fault.
-    pub fn word(&self, state: State, addr: u32) -> u32
+    /// The number that 1, 2 or 4 bytes are in a state, where a load of them has no fault.
+    pub fn number(&self, state: State, addr: u32, size: u8) -> u32
         requires known { Knows self.now state }
-        requires no_fault { read_fault self.now.program.image addr 4 ≡ None }
-        ensures { result ≡ number_at (state_of self.now state).bytes addr 4 }
+        requires size { IsSize size }
+        requires no_fault { read_fault self.now.program.image addr size ≡ None }
+        ensures { result ≡ number_at (state_of self.now state).bytes addr size }
     {
-        self.shared(state).word(self.program.start(), addr)
+        self.shared(state).number(self.program.start(), addr, size)
     }
 
-    /// Whether a word can be loaded at an address.
-    pub fn is_word(&self, addr: u32) -> bool
-        ensures { IsTrue result ↔ (read_fault self.now.program.image addr 4 ≡ None) }
+    /// Whether 1, 2 or 4 bytes can be loaded at an address.
+    pub fn can_load(&self, addr: u32, size: u8) -> bool
+        requires { IsSize size }
+        ensures { IsTrue result ↔ (read_fault self.now.program.image addr size ≡ None) }
     {
         self.program
             .start()
-            .fault(addr, 4, AccessKind::Load)
+            .fault(addr, size, AccessKind::Load)
             .is_none()
     }
 

@@ -8,3 +8,5 @@ pub mod OfCheck
 pub mod OfScript
 pub mod OfChart
 mod OfTold
+mod OfEnds
+mod OfNamedAsks

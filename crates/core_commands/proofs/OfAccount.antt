@@ -10,6 +10,7 @@ use Rattle.smt_model.specs.{Account.records, Basics.how_many, Touched.looks}
 use Rattle.events.specs.declared.effect.Record.{Record}
 use Rattle.history_counts.specs.{declared.counts.Counts.Counts}
 use Rattle.history_counts.proofs.Listing.{how_many-reverse}
+use Rattle.address_labels.specs.Labels.{Marks}
 use Rattle.report_lines.specs.Lines.{records_text, status_number}
 use Rattle.reports.specs.Report.{is_load_record, looks_line}
 use Rattle.text_fields.proofs.Appending.{appends_more}
@@ -39,13 +40,15 @@ looked_is true core n rs is_looks is_records =
 looked_is false core n rs is_looks is_records = refl
 
 -- An account that is this core's, and how its harts stand.
-module _ (core : CoreView) (wanted : Wanted) (rs : List Record) (events lent : ℕ) (statuses : List Status)
-    (put : List ℕ) (counts : Option Counts) (idle : List ℕ) (is_records : rs ≡ retired_of core) (is_events : events ≡ length core.past)
+module _ (core : CoreView) (wanted : Wanted) (marks : Marks) (rs : List Record) (events lent : ℕ)
+    (statuses : List Status)
+    (put : List ℕ) (counts : Option Counts) (idle : List ℕ) (is_records : rs ≡ retired_of core)
+    (is_events : events ≡ length core.past)
     (is_lent : lent ≡ open_job_count core.setup core.past) (is_statuses : statuses ≡ statuses_of core)
     (is_put : put ≡ output core.past) (are_counts : counts ≡ counts_in wanted.counts core) where
   same_text : (ends : List ℕ)
-      → records_text wanted.records rs ++ body_text wanted.json events rs lent statuses put counts idle ends
-      ≡ records_text wanted.records (retired_of core) ++ body_of wanted.json wanted.counts core idle ends
+      → records_text wanted.records marks rs ++ body_text wanted.json events rs lent statuses put counts idle ends
+      ≡ records_text wanted.records marks (retired_of core) ++ body_of wanted.json wanted.counts core idle ends
   same_text ends = rw (is_records, is_events, is_lent, is_statuses, is_put, are_counts) refl
 
   -- Its tables were printed, and then its report.
@@ -54,14 +57,15 @@ module _ (core : CoreView) (wanted : Wanted) (rs : List Record) (events lent : �
       → AreTables (is_some wanted.ends) ends → bytes ≡ tables → Appends old mid bytes
       → looked ≡ looks_of wanted.looks core → Appends mid behind looked
       → Appends behind new
-      (records_text wanted.records rs ++ body_text wanted.json events rs lent statuses put counts idle ends)
+      (records_text wanted.records marks rs ++ body_text wanted.json events rs lent statuses put counts idle ends)
       → stand ≡ statuses → exit_status ≡ status_number stand
-      → IsReported core idle wanted old new exit_status
+      → IsReported core idle wanted marks old new exit_status
   reported old mid behind new tables bytes looked ends stand exit_status are are_ends same first is_looked second next
       is_stand harts = record {
         printed = (
           tables ++ (looked
-              ++ (records_text wanted.records rs ++ body_text wanted.json events rs lent statuses put counts idle ends)),
+              ++ (records_text wanted.records marks rs ++ body_text wanted.json events rs lent statuses put counts
+              idle ends)),
           record {
             tables = tables;
             are_tables = are;
@@ -69,10 +73,12 @@ module _ (core : CoreView) (wanted : Wanted) (rs : List Record) (events lent : �
             are_ends = are_ends;
             whole = ap (λ t. tables ++ (looked ++ t)) (same_text ends)
                 ∙ ap (λ l. tables ++ (l
-                ++ (records_text wanted.records (retired_of core) ++ body_of wanted.json wanted.counts core idle ends)))
+                ++ (records_text wanted.records marks
+                (retired_of core) ++ body_of wanted.json wanted.counts core idle ends)))
                 is_looked;
           },
-          appends_more old mid new _ _ (subst (Appends old mid) same first) (appends_more mid behind new _ _ second next),
+          appends_more old mid new _ _ (subst (Appends old mid) same first)
+              (appends_more mid behind new _ _ second next),
         );
         harts = harts ∙ ap status_number (is_stand ∙ is_statuses);
       }

@@ -1,18 +1,105 @@
 -- The command `chart`: the events of a trace that was checked are a history of some core.
-use Rattle.std.specs.Prelude.{◌≡◌}
-use Rattle.std.proofs.Common.{subst, ap}
+use Rattle.std.specs.Prelude.{◌≡◌, ◌⊎◌, ℕ, List, reverse, true, Result, Ok, Err, IfOk}
+use Rattle.std.proofs.Common.{subst, ap, ◌∙◌, inl, inr, Option}
 use Rattle.elf_image.specs.Image.{ProgramImage}
 use Rattle.event_text.specs.{Contents.TraceContent}
-use Rattle.smt_model.specs.Rules.{is_legal}
+use Rattle.smt_model.specs.{Rules.is_legal, Setup.Setup, declared.config.Config.Config}
+use Rattle.core_state.specs.Setup.{setup_of}
+use Rattle.event_text.specs.declared.head.TraceHead.{TraceHead}
 use Rattle.core_state.specs.View.{CoreView}
 use Rattle.smt_core.specs.Shown.{Shown}
-use Rattle.charts.specs.Rows.{AreHistory}
+use Rattle.charts.specs.Rows.{AreRows, AreHistory as AreSomeHistory}
 use Rattle.sim_inputs.specs.declared.settings.Settings.{Settings}
+use Rattle.sim_inputs.specs.declared.line.ChartCommand.{ChartCommand}
+use Rattle.symbols.specs.Tables.{Table, table_of}
+use Rattle.command_parts.specs.declared.refused.Refused.{Refused}
+use Rattle.command_parts.specs.declared.refused.Refused.TheVariants as refused
+use Rattle.core_commands.specs.declared.chart_ends.Drawn.{Drawn}
+use Rattle.core_commands.specs.Check.{IsTraceOf, AreHistory, setup_by}
+use Rattle.core_commands.specs.Chart.{hart_fits, IsDrawnOf, OfDrawn, IsDrawingRefusal, IsChartRefusal, ChartComesTo}
+use Rattle.core_commands.specs.ChartEnds.{HasEnds, IsEndRefusal}
 use Rattle.core_commands.proofs.OfCheck.{following}
 
 pub history_of : (settings : Settings) (image : ProgramImage) (read : TraceContent) (core : CoreView)
-    → core ≡ following settings image read → Shown core → AreHistory read.events
+    → core ≡ following settings image read → Shown core → AreSomeHistory read.events
 history_of settings image read core whole shown = (
   core.setup,
   subst (λ past. is_legal core.setup past) (ap (λ (u : CoreView). u.past) whole) shown.legal,
 )
+
+-- ---- What is drawn of it
+
+-- Of an end's fault nothing else is refused.
+neither : {A : Type 0} → ⊥ ⊎ (A × ⊥) → ⊥
+neither (inl is) = is
+neither (inr (first, is)) = is
+
+pub fits_of : (settings : Settings) (image : ProgramImage) (head other : TraceHead) (config : Config) (hart : Option ℕ)
+    → ((program : ProgramImage) → setup_of program config ≡ setup_by settings program other) → other ≡ head
+    → hart_fits config.harts hart ≡ true → hart_fits (setup_by settings image head).harts hart ≡ true
+fits_of settings image head other config hart same is fits =
+    subst (λ (n : ℕ). hart_fits n hart ≡ true)
+    (ap (λ (s : Setup). s.harts) (same image ∙ ap (setup_by settings image) is)) fits
+
+pub drawn_of : (settings : Settings) (image : ProgramImage) (trace : List ℕ) (chart : ChartCommand) (names : Table)
+    (read : TraceContent) (drawn : Drawn) → AreRows (reverse read.events) drawn.rows.now
+    → drawn.events.now ≡ read.events → drawn.hart ≡ chart.hart → table_of drawn.names.now ≡ names
+    → IsDrawnOf (setup_by settings image read.head) read.events chart names drawn
+drawn_of settings image trace chart names read drawn rows events hart same =
+    record { rows = rows; events_are = events; hart = hart; names_are = same }
+
+-- A trace of a history of the core, and what is drawn of it.
+module _ (settings : Settings) (image : ProgramImage) (trace : List ℕ) (chart : ChartCommand) (names : Table)
+    (read : TraceContent) (is_trace : IsTraceOf trace read)
+    (history : AreHistory (setup_by settings image read.head) read.events) (drawn : Drawn)
+    (is_drawn : IsDrawnOf (setup_by settings image read.head) read.events chart names drawn) where
+  of_drawn : (P : Drawn → Type 0) → P drawn → OfDrawn settings image trace chart names P
+  of_drawn P holds = (read, is_trace, (history, (drawn, is_drawn, holds)))
+
+  pub drawing_refusal : (reason : Refused) → IsDrawingRefusal chart drawn reason
+      → IsChartRefusal settings image trace chart names reason
+  drawing_refusal (refused.Picture last) is = ((read, is_trace, history), is)
+  drawing_refusal refused.Memory is = tt
+  drawing_refusal (refused.NamesNothing option) is =
+      of_drawn (λ one. IsEndRefusal chart one (refused.NamesNothing option)) is
+  drawing_refusal (refused.NamesSeveral option) is =
+      of_drawn (λ one. IsEndRefusal chart one (refused.NamesSeveral option)) is
+  drawing_refusal (refused.NeverFetched option) is =
+      of_drawn (λ one. IsEndRefusal chart one (refused.NeverFetched option)) is
+  drawing_refusal (refused.Turned from to) is = of_drawn (λ one. IsEndRefusal chart one (refused.Turned from to)) is
+  drawing_refusal (refused.Image number) is = absurd (neither is)
+  drawing_refusal refused.Config is = absurd (neither is)
+  drawing_refusal refused.Harts is = absurd (neither is)
+  drawing_refusal (refused.Script number) is = absurd (neither is)
+  drawing_refusal (refused.Order index) is = absurd (neither is)
+  drawing_refusal (refused.Step index why) is = absurd (neither is)
+  drawing_refusal (refused.Trace line rule) is = absurd (neither is)
+  drawing_refusal refused.Version is = absurd (neither is)
+  drawing_refusal (refused.Event index rule) is = absurd (neither is)
+  drawing_refusal (refused.Prediction index) is = absurd (neither is)
+  drawing_refusal (refused.Register index) is = absurd (neither is)
+  drawing_refusal (refused.NoUnit kind) is = absurd (neither is)
+  drawing_refusal (refused.Limit least) is = absurd (neither is)
+  drawing_refusal (refused.NoHart hart) is = absurd (neither is)
+  drawing_refusal (refused.Lines number fault) is = absurd (neither is)
+  drawing_refusal (refused.Watch why) is = absurd (neither is)
+  drawing_refusal (refused.Condition why) is = absurd (neither is)
+  drawing_refusal refused.ManyWatched is = absurd (neither is)
+  drawing_refusal (refused.NoWord bytes) is = absurd (neither is)
+  drawing_refusal (refused.NoOutcome number) is = absurd (neither is)
+  drawing_refusal refused.NotStuck is = absurd (neither is)
+  drawing_refusal (refused.Litmus place fault) is = absurd (neither is)
+  drawing_refusal refused.NothingToDraw is = absurd (neither is)
+  drawing_refusal refused.Thread is = absurd (neither is)
+  drawing_refusal refused.File is = absurd (neither is)
+  drawing_refusal refused.Output is = absurd (neither is)
+
+  pub comes_to : (answer : Result ℕ Refused) → hart_fits (setup_by settings image read.head).harts chart.hart ≡ true
+      → HasEnds chart drawn → IfOk answer (λ status. status ≡ 0)
+      → IfOk answer (ChartComesTo settings image trace chart names)
+  comes_to (Err why) fits ends zero = tt
+  comes_to (Ok status) fits ends zero = record {
+    history = (read, is_trace, (history, fits));
+    ends = of_drawn (HasEnds chart) ends;
+    zero = zero;
+  }

@@ -10,6 +10,7 @@ use Rattle.smt_core.specs.Shown.{Shown}
 use Rattle.sim_inputs.specs.declared.settings.Settings.{Settings}
 use Rattle.command_parts.specs.declared.refused.Refused.{Refused}
 use Rattle.command_parts.specs.declared.refused.Refused.TheVariants.{Memory, Output}
+use Rattle.address_labels.specs.Labels.{Marks}
 use Rattle.core_commands.specs.{Account.IsReported, declared.wanted.Wanted.Wanted}
 use Rattle.core_commands.specs.Check.{IsCheckRefusal, IsTraceOf, setup_by}
 use Rattle.core_commands.specs.Check.{CheckComesTo}
@@ -52,13 +53,13 @@ pub report_untold : (reason : Refused) → (reason ≡ Memory) ⊎ (reason ≡ O
 report_untold reason (inl memory) of = subst IsOfTrace memory of
 report_untold reason (inr output) of = subst IsOfTrace output of
 
-pub comes_to : (settings : Settings) (image : ProgramImage) (trace : List ℕ) (wanted : Wanted)
+pub comes_to : (settings : Settings) (image : ProgramImage) (trace : List ℕ) (wanted : Wanted) (marks : Marks)
     (read : TraceContent) (core : CoreView) (old new : Option (List ℕ)) (exit_status : ℕ)
     → IsTraceOf trace read → core ≡ following settings image read
-    → is_accepted core.setup core.limit ≡ true → Shown core → IsReported core [] wanted old new exit_status
-    → CheckComesTo settings image trace wanted old new exit_status
-comes_to settings image trace wanted read core old new exit_status is_trace is_core accepted shown reported =
-    let report = subst (λ (u : CoreView). IsReported u [] wanted old new exit_status) is_core reported in
+    → is_accepted core.setup core.limit ≡ true → Shown core → IsReported core [] wanted marks old new exit_status
+    → CheckComesTo settings image trace wanted marks old new exit_status
+comes_to settings image trace wanted marks read core old new exit_status is_trace is_core accepted shown reported =
+    let report = subst (λ (u : CoreView). IsReported u [] wanted marks old new exit_status) is_core reported in
     record {
       read = read;
       is_trace = is_trace;

@@ -9,6 +9,7 @@ use Rattle.scripts.specs.{Script.pieces, Lines.words_in}
 use Rattle.prompts.specs.{declared.prompting.Ended.Ended, Prompted.IsPrompted}
 use Rattle.sim_inputs.specs.{declared.settings.Settings.Settings}
 use Rattle.text_fields.proofs.Appending.{appends_more}
+use Rattle.address_labels.specs.Labels.{Marks}
 use Rattle.core_commands.specs.{declared.wanted.Wanted.Wanted}
 use Rattle.core_commands.specs.{Account.IsReported, Account.idle_of}
 use Rattle.command_parts.specs.{Refused.AreAccepted, Refused.AreRefused}
@@ -29,13 +30,15 @@ pub refused_all : (settings : Settings) (image : ProgramImage)
 refused_all settings image is = λ other. is
 
 module _ {P : Type 0} (predicts : P → ℕ → ℕ → ℕ → ℕ → P → Type 0) (before : P) (settings : Settings)
-    (input : Option (List ℕ)) (wanted : Wanted) (Traced : CoreView → Type 0) where
+    (input : Option (List ℕ)) (wanted : Wanted) (marks : Marks) (Traced : CoreView → Type 0) where
   -- The lines were answered, and then the account was printed.
-  pub prompt_comes_to : (image : ProgramImage) (ended : Ended) (core : CoreView) (idle : List ℕ) (old mid new : Option (List ℕ))
+  pub prompt_comes_to : (image : ProgramImage) (ended : Ended) (core : CoreView) (idle : List ℕ)
+      (old mid new : Option (List ℕ))
       (status : ℕ) → AreAccepted settings
       → IsPrompted predicts before (setup_of image settings.config) settings.limit input ended core idle
-      → Prints old mid (λ text. Unit {0}) → Traced core → IsReported core (idle_of core idle) wanted mid new status
-      → PromptComesTo predicts before settings image input wanted Traced old new status
+      → Prints old mid (λ text. Unit {0}) → Traced core
+      → IsReported core (idle_of core idle) wanted marks mid new status
+      → PromptComesTo predicts before settings image input wanted marks Traced old new status
   prompt_comes_to image ended core idle old mid new status accepted prompted answered traced reported = record {
     accepted = accepted;
     ended = ended;

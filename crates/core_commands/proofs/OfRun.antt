@@ -13,6 +13,7 @@ use Rattle.sim_inputs.specs.declared.settings.Settings.{Settings}
 use Rattle.command_parts.specs.declared.refused.Refused.{Refused}
 use Rattle.command_parts.specs.declared.refused.Refused.TheVariants.{Image, Memory, Output}
 use Rattle.command_parts.specs.Refused.{AreAccepted}
+use Rattle.address_labels.specs.Labels.{Marks}
 use Rattle.core_commands.specs.{Account.IsReported, Account.idle_of, declared.wanted.Wanted.Wanted}
 use Rattle.core_commands.specs.Run.{IsRunRefusal, RunComesTo, LackARole, run_refusal}
 
@@ -92,13 +93,15 @@ report_refusal settings reason accepted manned (inr same) =
 pub never_image : (settings : Settings) (number : ℕ) → IsRunRefusal settings (Image number) → ⊥
 never_image settings number is = is
 
-pub comes_to : (settings : Settings) (image : ProgramImage) (wanted : Wanted) (core : CoreView) (idle : List ℕ)
+pub comes_to : (settings : Settings) (image : ProgramImage) (wanted : Wanted) (marks : Marks) (core : CoreView)
+    (idle : List ℕ)
     (Traced : CoreView → Type 0) (old new : Option (List ℕ)) (exit_status : ℕ)
     → AreAccepted settings → (LackARole settings → ⊥)
     → core.setup ≡ setup_of image settings.config → core.limit ≡ settings.limit → Shown core
-    → Traced core → IsReported core (idle_of core idle) wanted old new exit_status
-    → RunComesTo settings image wanted Traced old new exit_status
-comes_to settings image wanted core idle Traced old new exit_status accepted manned setup limit shown traced reported =
+    → Traced core → IsReported core (idle_of core idle) wanted marks old new exit_status
+    → RunComesTo settings image wanted marks Traced old new exit_status
+comes_to settings image wanted marks core idle Traced old new exit_status accepted manned setup limit shown traced
+    reported =
     record {
       accepted = accepted;
       manned = manned;

@@ -107,7 +107,8 @@ module _ {S : Type 0} (begins : S → ℕ → Part → S → Type 0) (written : 
         tallied = once.counted (map end_of all) short so_far.tallied;
       }
 
-pub same_many : (settings : Settings) (image : ProgramImage) (Kept : List CoreView → Type 0) (m n : ℕ) (tally : TallyView)
+pub same_many : (settings : Settings) (image : ProgramImage) (Kept : List CoreView
+    → Type 0) (m n : ℕ) (tally : TallyView)
     → m ≡ n → HasTallied settings image Kept m tally → HasTallied settings image Kept n tally
 same_many settings image Kept m n tally same so =
     subst (λ runs. HasTallied settings image Kept runs tally) same so

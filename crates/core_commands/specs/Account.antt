@@ -10,6 +10,7 @@ use Rattle.event_text.specs.{Sinking.HasPut}
 use Rattle.text_fields.specs.{Printing.Prints}
 use Rattle.smt_model.specs.Touched.{looks, loads}
 use Rattle.history_counts.specs.{declared.counts.Counts.Counts, Numbers.counts_of}
+use Rattle.address_labels.specs.Labels.{Marks}
 use Rattle.report_lines.specs.Lines.{records_text, status_number}
 use Rattle.reports.specs.Report.{looks_line, report_text}
 use Rattle.reports.specs.{CountLines.count_lines, Counts.idle_lines, Json.json_text, Traces.trace_of}
@@ -61,22 +62,23 @@ body_of as_json with_counts core idle ends =
     (statuses_of core) (output core.past) (counts_in with_counts core) idle ends
 
 -- What is printed of a core behind the lines of the asks: its tables, how many loads looked again
--- and its records, where they are wanted, and its report, with what else is wanted; of the actors' asks
+-- and its records, where they are wanted, with these marks beside them, and its report, with what else is wanted; of
+-- the actors' asks
 -- so many were answered idle.
-pub record IsAccount (core : CoreView) (idle : List ℕ) (wanted : Wanted) (text : List ℕ) : Type 0 where
+pub record IsAccount (core : CoreView) (idle : List ℕ) (wanted : Wanted) (marks : Marks) (text : List ℕ) : Type 0 where
   pub tables : List ℕ
   pub are_tables : AreTables wanted.tables tables
   pub ends : List ℕ
   pub are_ends : AreTables (is_some wanted.ends) ends
   pub whole : text
       ≡ tables ++ (looks_of wanted.looks core
-      ++ (records_text wanted.records (retired_of core)
+      ++ (records_text wanted.records marks (retired_of core)
       ++ body_of wanted.json wanted.counts core idle ends))
 
 -- The account of a core is printed, and the exit status is that of its harts.
-pub record IsReported (core : CoreView) (idle : List ℕ) (wanted : Wanted) (old new : Option (List ℕ))
+pub record IsReported (core : CoreView) (idle : List ℕ) (wanted : Wanted) (marks : Marks) (old new : Option (List ℕ))
     (exit_status : ℕ) : Type 0 where
-  pub printed : Prints old new (IsAccount core idle wanted)
+  pub printed : Prints old new (IsAccount core idle wanted marks)
   pub harts : exit_status ≡ status_number (statuses_of core)
 
 -- Where the trace of a core is wanted, a sink took all of it, and hasn't failed; else nothing went

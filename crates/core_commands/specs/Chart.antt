@@ -1,10 +1,16 @@
 -- The command `chart`: the pipeline of a trace, drawn. (This project's own choice.)
-use Rattle.std.specs.Prelude.{◌≡◌, ◌≤◌, ℕ, Bool, true, nat_lt, List, Option, Some, None, is_some}
+use Rattle.std.specs.Prelude.{◌≡◌, ◌≤◌, ℕ, Bool, true, nat_lt, List, reverse, Option, Some, None, is_some}
 use Rattle.elf_image.specs.Image.{ProgramImage}
 use Rattle.sim_inputs.specs.{declared.line.ChartCommand.ChartCommand}
 use Rattle.sim_inputs.specs.{declared.settings.Settings.Settings}
 use Rattle.command_parts.specs.{declared.refused.Refused.Refused}
 use Rattle.command_parts.specs.declared.refused.Refused.TheVariants as refused
+use Rattle.smt_model.specs.Setup.{Setup}
+use Rattle.events.specs.{declared.event.Event.Event}
+use Rattle.charts.specs.Rows.{AreRows}
+use Rattle.symbols.specs.Tables.{Table, table_of}
+use Rattle.core_commands.specs.declared.chart_ends.Drawn.{Drawn}
+use Rattle.core_commands.specs.ChartEnds.{HasEnds, IsEndRefusal}
 use Rattle.core_commands.specs.Check.{IsCheckRefusal, OfEvents, AreHistory}
 
 -- A core of so many harts has the one that is to be drawn.
@@ -23,25 +29,48 @@ IsPictureRefusal chart (refused.Picture last) = is_some chart.svg ≡ true
 IsPictureRefusal chart refused.Memory = Unit {0}
 IsPictureRefusal chart _ = ⊥
 
-abbrev pub IsDrawingRefusal : ℕ → ChartCommand → Refused → Type 0
-IsDrawingRefusal harts chart (refused.NoHart one) = (chart.hart ≡ Some one) × (harts ≤ one)
-IsDrawingRefusal harts chart (refused.Picture last) = is_some chart.svg ≡ true
-IsDrawingRefusal harts chart refused.Memory = Unit {0}
-IsDrawingRefusal harts chart _ = ⊥
+-- What is drawn: the rows of a history, its events and the names of its program, of all harts or of the one that is
+-- named.
+pub record IsDrawnOf (setup : Setup) (events : List Event) (chart : ChartCommand) (names : Table)
+    (drawn : Drawn) : Type 0 where
+  pub rows : AreRows (reverse events) drawn.rows.now
+  pub events_are : drawn.events.now ≡ events
+  pub hart : drawn.hart ≡ chart.hart
+  pub names_are : table_of drawn.names.now ≡ names
+
+-- The refusals behind the hart's: of its ends, and of a picture.
+abbrev pub IsDrawingRefusal : ChartCommand → Drawn → Refused → Type 0
+IsDrawingRefusal chart drawn (refused.Picture last) = is_some chart.svg ≡ true
+IsDrawingRefusal chart drawn refused.Memory = Unit {0}
+IsDrawingRefusal chart drawn reason = IsEndRefusal chart drawn reason
+
+-- The trace is that of a history of the core, and this holds of what is drawn of it.
+abbrev pub OfDrawn : Settings → ProgramImage → List ℕ → ChartCommand → Table → (Drawn → Type 0) → Type 0
+OfDrawn settings image trace chart names P = OfEvents settings image trace (λ setup events. AreHistory setup events
+    × ((drawn : Drawn) × IsDrawnOf setup events chart names drawn × P drawn))
 
 -- When each refusal comes: what `check` refuses comes first.
-abbrev pub IsChartRefusal : Settings → ProgramImage → List ℕ → ChartCommand → Refused → Type 0
-IsChartRefusal settings image trace chart (refused.NoHart one) =
+abbrev pub IsChartRefusal : Settings → ProgramImage → List ℕ → ChartCommand → Table → Refused → Type 0
+IsChartRefusal settings image trace chart names (refused.NoHart one) =
     OfEvents settings image trace (λ setup events. AreHistory setup events × (setup.harts ≤ one))
     × (chart.hart ≡ Some one)
-IsChartRefusal settings image trace chart (refused.Picture last) =
+IsChartRefusal settings image trace chart names (refused.Picture last) =
     OfEvents settings image trace AreHistory × (is_some chart.svg ≡ true)
-IsChartRefusal settings image trace chart reason = IsCheckRefusal settings image trace reason
+IsChartRefusal settings image trace chart names (refused.NamesNothing option) =
+    OfDrawn settings image trace chart names (λ drawn. IsEndRefusal chart drawn (refused.NamesNothing option))
+IsChartRefusal settings image trace chart names (refused.NamesSeveral option) =
+    OfDrawn settings image trace chart names (λ drawn. IsEndRefusal chart drawn (refused.NamesSeveral option))
+IsChartRefusal settings image trace chart names (refused.NeverFetched option) =
+    OfDrawn settings image trace chart names (λ drawn. IsEndRefusal chart drawn (refused.NeverFetched option))
+IsChartRefusal settings image trace chart names (refused.Turned from to) =
+    OfDrawn settings image trace chart names (λ drawn. IsEndRefusal chart drawn (refused.Turned from to))
+IsChartRefusal settings image trace chart names reason = IsCheckRefusal settings image trace reason
 
 -- What the command comes to: the trace is that of a history of the core, which has the hart that is to
--- be drawn; and the exit status is 0.
+-- be drawn, and what is to be drawn begins and ends somewhere in it; and the exit status is 0.
 pub record ChartComesTo (settings : Settings) (image : ProgramImage) (trace : List ℕ)
-    (chart : ChartCommand) (exit_status : ℕ) : Type 0 where
+    (chart : ChartCommand) (names : Table) (exit_status : ℕ) : Type 0 where
   pub history : OfEvents settings image trace
       (λ setup events. AreHistory setup events × (hart_fits setup.harts chart.hart ≡ true))
+  pub ends : OfDrawn settings image trace chart names (HasEnds chart)
   pub zero : exit_status ≡ 0

@@ -14,6 +14,7 @@ use Rattle.sim_inputs.specs.{declared.settings.Settings.Settings}
 use Rattle.report_lines.specs.Lines.{status_number}
 use Rattle.command_parts.specs.{declared.refused.Refused.Refused}
 use Rattle.command_parts.specs.declared.refused.Refused.TheVariants as refused
+use Rattle.address_labels.specs.Labels.{Marks}
 use Rattle.core_commands.specs.declared.wanted.Wanted.{Wanted}
 use Rattle.core_commands.specs.Account.{IsAccount, statuses_of}
 
@@ -77,7 +78,7 @@ IsHistoryRefusal setup events _ = ⊥
 -- its history is legal. What was printed is what is printed of this core, which nobody has asked; the
 -- exit status is that of its harts.
 pub record CheckComesTo (settings : Settings) (image : ProgramImage) (trace : List ℕ)
-    (wanted : Wanted) (old new : Option (List ℕ)) (exit_status : ℕ) : Type 0 where
+    (wanted : Wanted) (marks : Marks) (old new : Option (List ℕ)) (exit_status : ℕ) : Type 0 where
   pub read : TraceContent
   pub is_trace : IsTraceOf trace read
   pub core : CoreView
@@ -86,5 +87,5 @@ pub record CheckComesTo (settings : Settings) (image : ProgramImage) (trace : Li
   pub past : core.past ≡ reverse read.events
   pub accepted : is_accepted core.setup core.limit ≡ true
   pub shown : Shown core
-  pub printed : Prints old new (IsAccount core [] wanted)
+  pub printed : Prints old new (IsAccount core [] wanted marks)
   pub harts : exit_status ≡ status_number (statuses_of core)

@@ -1,12 +1,14 @@
 pub mod Account
 pub mod Wanted
 pub mod Step
+pub mod NamedAsks
 pub mod Prompt
 pub mod Run
 pub mod Stress
 pub mod Check
 pub mod Script
 pub mod Chart
+pub mod ChartEnds
 pub mod Migrate
 pub mod Told
 pub mod Judgement

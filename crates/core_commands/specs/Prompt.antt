@@ -7,23 +7,26 @@ use Rattle.scripts.specs.{Script.IsScript, Session.AreCounted, Lines.words_in}
 use Rattle.prompts.specs.{declared.prompting.Ended.Ended, Prompted.IsPrompted}
 use Rattle.sim_inputs.specs.declared.settings.Settings.{Settings}
 use Rattle.report_lines.specs.Lines.{status_number}
+use Rattle.address_labels.specs.Labels.{Marks}
 use Rattle.core_commands.specs.declared.wanted.Wanted.{Wanted}
 use Rattle.command_parts.specs.{Refused.AreAccepted}
 use Rattle.core_commands.specs.Account.{IsAccount, idle_of, statuses_of}
 
 -- What the lines were answered, and then what is printed of a core.
-pub record AreAnswersAndAccount (core : CoreView) (idle : List ℕ) (wanted : Wanted) (text : List ℕ) : Type 0 where
+pub record AreAnswersAndAccount (core : CoreView) (idle : List ℕ) (wanted : Wanted) (marks : Marks)
+    (text : List ℕ) : Type 0 where
   pub answers : List ℕ
   pub account : List ℕ
-  pub is_account : IsAccount core (idle_of core idle) wanted account
+  pub is_account : IsAccount core (idle_of core idle) wanted marks account
   pub both : text ≡ answers ++ account
 
 -- What the command comes to. The lines of an input were read and answered up to their end, and there is
 -- the core that was asked the words of those that were kept. Of a script of these words it is the core
--- that `step` comes to, and as many asks of each actor were answered idle. Its trace is written where that is wanted (`Traced`). What was printed are the
+-- that `step` comes to, and as many asks of each actor were answered idle. Its trace is written where that is wanted
+-- (`Traced`). What was printed are the
 -- answers, and then what is printed of the core; the exit status is that of its harts.
 pub record PromptComesTo {P : Type 0} (predicts : P → ℕ → ℕ → ℕ → ℕ → P → Type 0) (before : P)
-    (settings : Settings) (image : ProgramImage) (input : Option (List ℕ)) (wanted : Wanted)
+    (settings : Settings) (image : ProgramImage) (input : Option (List ℕ)) (wanted : Wanted) (marks : Marks)
     (Traced : CoreView → Type 0) (old new : Option (List ℕ)) (exit_status : ℕ) : Type 0 where
   pub accepted : AreAccepted settings
   pub ended : Ended
@@ -33,5 +36,5 @@ pub record PromptComesTo {P : Type 0} (predicts : P → ℕ → ℕ → ℕ → 
   pub as_step : (script : List ℕ) → IsScript script (words_in prompted.kept)
       → AreCounted script core idle prompted.lines
   pub traced : Traced core
-  pub printed : Prints old new (AreAnswersAndAccount core idle wanted)
+  pub printed : Prints old new (AreAnswersAndAccount core idle wanted marks)
   pub harts : exit_status ≡ status_number (statuses_of core)

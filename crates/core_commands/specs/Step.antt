@@ -1,5 +1,5 @@
 -- The command `step`: a script's asks, made of a core. (This project's own choice.)
-use Rattle.std.specs.Prelude.{◌≡◌, ℕ, Bool, true, false, List, ◌++◌, Option}
+use Rattle.std.specs.Prelude.{◌≡◌, ℕ, Bool, true, false, ◌||◌, List, ◌++◌, Option, is_some}
 use Rattle.elf_image.specs.Image.{ProgramImage}
 use Rattle.core_state.specs.{Setup.setup_of, View.CoreView}
 use Rattle.smt_core.specs.Shown.{Shown}
@@ -11,6 +11,8 @@ use Rattle.command_parts.specs.declared.refused.Refused.{Refused}
 use Rattle.command_parts.specs.declared.refused.Refused.TheVariants.{Config, Script, Memory, Output}
 use Rattle.command_parts.specs.Refused.{AreAccepted, AreRefused}
 use Rattle.report_lines.specs.Lines.{status_number}
+use Rattle.address_labels.specs.Labels.{Marks}
+use Rattle.core_commands.specs.NamedAsks.{IsNamedText}
 use Rattle.core_commands.specs.declared.wanted.Wanted.{Wanted}
 use Rattle.core_commands.specs.Account.{IsAccount, idle_of, statuses_of}
 
@@ -40,14 +42,26 @@ abbrev pub ArePrinted : Bool → List ℕ → CoreView → List ℕ → List ℕ
 ArePrinted false script core idle text = AreCounted script core idle text
 ArePrinted true script core idle text = (lines : List ℕ) × AreCounted script core idle lines
 
+-- A text of asks as it is printed: with what is wanted beside the pcs of its fetches, where something is.
+abbrev pub IsMarkedIf : Bool → Marks → List ℕ → List ℕ → Type 0
+IsMarkedIf true marks text marked = IsNamedText marks text marked
+IsMarkedIf false marks text marked = marked ≡ text
+
+abbrev pub IsMarked : Marks → List ℕ → List ℕ → Type 0
+IsMarked marks text marked = IsMarkedIf (is_some marks.names || is_some marks.lines) marks text marked
+
+abbrev pub AreMarked : Bool → Marks → List ℕ → CoreView → List ℕ → List ℕ → Type 0
+AreMarked with_why marks script core idle marked =
+    (text : List ℕ) × ArePrinted with_why script core idle text × IsMarked marks text marked
+
 -- The lines of all that a script has asked of a core, and then what is printed of it.
 pub record AreAsksAndAccount (core : CoreView) (script : List ℕ)
-    (with_why : Bool) (wanted : Wanted) (text : List ℕ) : Type 0 where
+    (with_why : Bool) (wanted : Wanted) (marks : Marks) (text : List ℕ) : Type 0 where
   pub asks : List ℕ
   pub account : List ℕ
   pub idle : List ℕ
-  pub are_printed : ArePrinted with_why script core idle asks
-  pub is_account : IsAccount core (idle_of core idle) wanted account
+  pub are_printed : AreMarked with_why marks script core idle asks
+  pub is_account : IsAccount core (idle_of core idle) wanted marks account
   pub both : text ≡ asks ++ account
 
 -- What the command comes to. There is a core of this image and these settings, one of those that
@@ -55,7 +69,7 @@ pub record AreAsksAndAccount (core : CoreView) (script : List ℕ)
 -- answers to the script's asks, or what explains them, and then what is printed of it; the exit
 -- status is that of its harts.
 pub record StepComesTo (settings : Settings) (image : ProgramImage) (script : List ℕ)
-    (with_why : Bool) (wanted : Wanted) (Traced : CoreView → Type 0) (old new : Option (List ℕ))
+    (with_why : Bool) (wanted : Wanted) (marks : Marks) (Traced : CoreView → Type 0) (old new : Option (List ℕ))
     (exit_status : ℕ) : Type 0 where
   pub accepted : AreAccepted settings
   pub is_asking : IsAsking script
@@ -64,5 +78,5 @@ pub record StepComesTo (settings : Settings) (image : ProgramImage) (script : Li
   pub limit : core.limit ≡ settings.limit
   pub shown : Shown core
   pub traced : Traced core
-  pub printed : Prints old new (AreAsksAndAccount core script with_why wanted)
+  pub printed : Prints old new (AreAsksAndAccount core script with_why wanted marks)
   pub harts : exit_status ≡ status_number (statuses_of core)

@@ -6,6 +6,7 @@ ghost use Rattle.std.specs.Prelude.{◌≡◌, ◌++◌, OnOk, IfOk, IfErr, ◌�
 ghost use Rattle.std.specs.Prelude.{is_some, [], if◌then◌else◌, length};
 ghost use Rattle.std.specs.Io.KnownBytes.{Appends};
 ghost use Rattle.smt_model.specs.Basics.{how_many};
+ghost use Rattle.address_labels.specs.Labels.{marks_of};
 ghost use Rattle.report_lines.specs.Lines.{records_text};
 ghost use Rattle.reports.specs.Report.{is_load_record, looks_line};
 ghost use Rattle.command_parts.specs.declared.refused.Refused.TheVariants.{Memory, Output};
@@ -15,6 +16,7 @@ ghost use Rattle.reports.specs.CountLines.{count_lines};
 ghost use Rattle.reports.specs.Counts.{idle_lines};
 
 use crate::wanted::Wanted;
+use address_labels::Labels;
 use command_parts::Refused;
 use events::Record;
 use history_counts::{Counts, counts_of};
@@ -32,8 +34,8 @@ use std::io::Write;
 use stress_runs::{EndFiles, put_trace_file};
 
 /// Writes the trace of a core where it is wanted, and then what else is wanted of it and its report.
-/// `idle` says how many asks of each actor were answered idle. Answers the exit status: how the harts
-/// stand.
+/// `idle` says how many asks of each actor were answered idle; `labels` stand beside the pcs of the records. Answers
+/// the exit status: how the harts stand.
 ///
 /// `Output` is answered where the sink or `out` took no more, `Memory` where there is none for what
 /// is made before it is written. Where the sink failed, nothing is written.
@@ -41,6 +43,7 @@ pub(crate) fn write_account<S: EndFiles, W: Write>(
     core: &Core,
     idle: &[u64],
     wanted: Wanted,
+    labels: &Labels<'_>,
     trace: &mut S,
     out: &mut W,
     alloc: Global,
@@ -51,7 +54,7 @@ pub(crate) fn write_account<S: EndFiles, W: Write>(
     ensures traced { OnOk result (IsTraceWritten S.written S.has_failed trace.old trace.new
         wanted.trace core.now) }
     ensures reported { IfOk result
-        (IsReported core.now idle.now wanted (W.contents out.old) (W.contents out.new)) }
+        (IsReported core.now idle.now wanted (marks_of labels.now) (W.contents out.old) (W.contents out.new)) }
     ensures unwanted { wanted.trace ≡ false → trace.new ≡ trace.old }
     ensures unbroken { OnOk result (S.has_failed trace.new ≡ false) }
     ensures finished { OnOk result (S.is_finished trace.new ≡ true) }
@@ -59,7 +62,7 @@ pub(crate) fn write_account<S: EndFiles, W: Write>(
         → W.contents out.new ≡ W.contents out.old }
 {
     write_trace(core, wanted.trace, trace)?;
-    report_core(core, idle, wanted, out, alloc)
+    report_core(core, idle, wanted, labels, out, alloc)
 }
 
 /// Puts the trace of a core into a sink and finishes its file, where it is wanted. `Output` is answered
@@ -89,15 +92,16 @@ pub(crate) fn report_core<W: Write>(
     core: &Core,
     idle: &[u64],
     wanted: Wanted,
+    labels: &Labels<'_>,
     out: &mut W,
     alloc: Global,
 ) -> Result<u8, Refused>
     ensures refused { IfErr result (λ reason. (reason ≡ Memory) ⊎ (reason ≡ Output)) }
     ensures reported { IfOk result
-        (IsReported core.now idle.now wanted (W.contents out.old) (W.contents out.new)) }
+        (IsReported core.now idle.now wanted (marks_of labels.now) (W.contents out.old) (W.contents out.new)) }
 {
     match made_of(core, wanted, alloc) {
-        Ok(made) => write_made(core, idle, wanted, &made, out),
+        Ok(made) => write_made(core, idle, wanted, labels, &made, out),
         Err(AllocError) => Err(Refused::Memory),
     }
 }
@@ -131,6 +135,7 @@ fn write_made<W: Write>(
     core: &Core,
     idle: &[u64],
     wanted: Wanted,
+    labels: &Labels<'_>,
     made: &Made,
     out: &mut W,
 ) -> Result<u8, Refused>
@@ -139,14 +144,14 @@ fn write_made<W: Write>(
     requires ends { AreTables (is_some wanted.ends) made.now.ends.items }
     ensures refused { IfErr result (λ reason. reason ≡ Output) }
     ensures reported { IfOk result
-        (IsReported core.now idle.now wanted (W.contents out.old) (W.contents out.new)) }
+        (IsReported core.now idle.now wanted (marks_of labels.now) (W.contents out.old) (W.contents out.new)) }
 {
     if out.write_all(made.tables.as_slice()).is_err() {
         return Err(Refused::Output);
     }
     let account = core.account();
     write_looks(wanted.looks, core.looks(), account.records, out)?;
-    match write_report(&account, idle, wanted, made, out) {
+    match write_report(&account, idle, wanted, labels, made, out) {
         Ok(()) => Ok(status_of(account.statuses.as_slice())),
         Err(_) => Err(Refused::Output),
     }
@@ -157,15 +162,16 @@ fn write_report<W: Write>(
     account: &Account<'_>,
     idle: &[u64],
     wanted: Wanted,
+    labels: &Labels<'_>,
     made: &Made,
     out: &mut W,
 ) -> io::Result<()>
     ensures { OnOk result (Appends (W.contents out.old) (W.contents out.new)
-        (records_text wanted.records account.now.records.now
+        (records_text wanted.records (marks_of labels.now) account.now.records.now
         ++ body_text wanted.json account.now.events account.now.records.now account.now.lent
         account.now.statuses.items account.now.output.now made.now.counts idle.now made.now.ends.items)) }
 {
-    report_records(wanted.records, account.records, out)?;
+    report_records(wanted.records, account.records, labels, out)?;
     if wanted.json {
         return write_object(account, idle, made, out);
     }
@@ -198,7 +204,7 @@ fn write_lines<W: Write>(
         (body_text false account.now.events account.now.records.now account.now.lent
         account.now.statuses.items account.now.output.now made.now.counts idle.now made.now.ends.items)) }
 {
-    report(account, false, out)?;
+    report(account, false, &Labels::none(), out)?;
     write_numbers(account, idle, &made.counts, out)?;
     out.write_all(made.ends.as_slice())
 }

@@ -1,31 +1,37 @@
 //! The command `chart`: the pipeline of a trace, drawn.
 
-ghost use Rattle.std.specs.Prelude.{◌≡◌, IfOk, IfErr, OnOk, is_some, reverse, true, false};
+ghost use Rattle.std.specs.Prelude.{◌≡◌, ◌≤◌, None, IfOk, IfErr, OnOk, is_some, length, reverse, true, false};
+ghost use Rattle.numbers.specs.Sizes.{most_events};
 ghost use Rattle.sim_inputs.specs.Files.{written_chart};
 ghost use Rattle.charts.specs.Rows.{AreRows};
 ghost use Rattle.command_parts.specs.declared.refused.Refused.TheVariants.{Output};
 ghost use Rattle.core_commands.specs.Check.{IsHistoryRefusal, AreHistory, setup_by};
 ghost use Rattle.core_commands.specs.Chart.{IsChartRefusal, ChartComesTo, IsDrawingRefusal};
 ghost use Rattle.core_commands.specs.Chart.{hart_fits, IsHartRefusal, IsPictureRefusal};
+ghost use Rattle.core_commands.specs.ChartEnds.{HasEnds};
+ghost use Rattle.symbols.specs.Tables.{table_of};
+ghost use Rattle.address_labels.specs.Labels.{marks_of, marks_where};
 
+use crate::chart_ends::{Drawn, ends_of};
 use crate::check::{config_by, follow_all, read_events};
+use address_labels::Labels;
 use charts::{Row, View, last_pictured, rows_of, write_kanata, write_svg, write_text};
 use command_parts::{Context, Refused, put_text};
 use elf_image::Image;
 use event_text::Trace;
-use events::Event;
 use sim_inputs::{ChartCommand, Settings};
 use std::alloc::{AllocError, Global};
 use std::io::Write;
 use stress_runs::EndFiles;
+use symbols::Symbols;
 
 /// Checks a trace as `perform_check` does, and draws its history: as text on `out`, or as a picture
 /// or a log into `files`. Answers the exit status, 0.
 ///
-/// Refused are, in this order, what `perform_check` refuses, a hart that the core hasn't, and a
-/// picture of too many instructions; then nothing is written. So it is where there isn't enough
-/// memory: the whole chart is made before any of it is written. `Output` is answered where `out` or
-/// `files` failed.
+/// Refused are, in this order, what `perform_check` refuses, a hart that the core hasn't, a name in the program of
+/// which nothing is drawn, and a picture of too many instructions; then nothing is written. So it is where there isn't
+/// enough memory: the whole chart is made before any of it is written. `Output` is answered where `out` or `files`
+/// failed.
 #[inline(never)]
 pub fn perform_chart<R, G, P, S: EndFiles, W: Write>(
     context: &mut Context<'_, R, G, P, S, W>,
@@ -33,11 +39,12 @@ pub fn perform_chart<R, G, P, S: EndFiles, W: Write>(
     settings: &Settings,
     trace: &[u8],
     chart: &ChartCommand<'_>,
+    names: &Symbols<'_>,
 ) -> Result<u8, Refused>
     requires works { S.has_failed context.old.files ≡ false }
     requires finished { S.is_finished context.old.files ≡ true }
-    ensures refused { IfErr result (IsChartRefusal settings.now image.now trace.now chart.now) }
-    ensures ended { IfOk result (ChartComesTo settings.now image.now trace.now chart.now) }
+    ensures refused { IfErr result (IsChartRefusal settings.now image.now trace.now chart.now (table_of names.now)) }
+    ensures ended { IfOk result (ChartComesTo settings.now image.now trace.now chart.now (table_of names.now)) }
     ensures unwanted { is_some (written_chart chart.now) ≡ false → context.new.files ≡ context.old.files }
     ensures unbroken { OnOk result (S.has_failed context.new.files ≡ false) }
     ensures finished { OnOk result (S.is_finished context.new.files ≡ true) }
@@ -48,7 +55,17 @@ pub fn perform_chart<R, G, P, S: EndFiles, W: Write>(
     let trace = read_events(trace, alloc)?;
     let rows = history_rows(image, settings, &trace, alloc)?;
     let harts = config_by(settings, trace.head()).harts;
-    let text = drawn(rows.as_slice(), trace.events(), chart, harts, alloc)?;
+    let drawn = Drawn {
+        rows: rows.as_slice(),
+        events: trace.events(),
+        hart: hart_in(chart.hart, harts)?,
+        names,
+    };
+    // Handed on as it is: a `?` would leave the prover to find what the refusal becomes.
+    let text = match text_of(&drawn, chart, alloc) {
+        Ok(text) => text,
+        Err(refused) => return Err(refused),
+    };
     put_chart(text.as_slice(), chart, &mut context.files, &mut context.out)
 }
 
@@ -61,6 +78,7 @@ fn history_rows(
 ) -> Result<Vec<Row>, Refused>
     ensures history { OnOk result
         (AreHistory (setup_by settings.now image.now trace.now.head) trace.now.events) }
+    ensures few { OnOk result (length trace.now.events ≤ most_events) }
     ensures rows { IfOk result (λ rows. AreRows (reverse trace.now.events) rows.items) }
     ensures refused { IfErr result
         (IsHistoryRefusal (setup_by settings.now image.now trace.now.head) trace.now.events) }
@@ -72,25 +90,21 @@ fn history_rows(
     }
 }
 
-/// The text of a chart, or of the file of one, of the rows of a history of so many harts.
-fn drawn(
-    rows: &[Row],
-    events: &[Event],
-    chart: &ChartCommand<'_>,
-    harts: u8,
-    alloc: Global,
-) -> Result<Vec<u8>, Refused>
-    ensures there { OnOk result (hart_fits harts chart.now.hart ≡ true) }
-    ensures refused { IfErr result (IsDrawingRefusal harts chart.now) }
+/// The text of a chart, or of the file of one.
+fn text_of(drawn: &Drawn<'_>, chart: &ChartCommand<'_>, alloc: Global) -> Result<Vec<u8>, Refused>
+    requires few { length drawn.now.events.now ≤ most_events }
+    ensures ends { OnOk result (HasEnds chart.now drawn.now) }
+    ensures refused { IfErr result (IsDrawingRefusal chart.now drawn.now) }
 {
-    let hart = hart_in(chart.hart, harts)?;
-    let view = View::new(chart.from, chart.to, hart, events.len());
-    draw(rows, events, chart, &view, alloc)
+    let (from, to) = ends_of(chart, drawn)?;
+    let view = View::new(from, to, drawn.hart, drawn.events.len());
+    draw(drawn, chart, &view, alloc)
 }
 
 /// The hart that is to be drawn, of a core of so many; all of them, where none is named.
 fn hart_in(hart: Option<u32>, harts: u8) -> Result<Option<u8>, Refused>
     ensures there { OnOk result (hart_fits harts hart ≡ true) }
+    ensures same { IfOk result (λ one. one ≡ hart) }
     ensures refused { IfErr result (IsHartRefusal harts hart) }
 {
     match hart {
@@ -102,8 +116,7 @@ fn hart_in(hart: Option<u32>, harts: u8) -> Result<Option<u8>, Refused>
 
 /// The text of what is to be drawn, of which this view is shown.
 fn draw(
-    rows: &[Row],
-    events: &[Event],
+    drawn: &Drawn<'_>,
     chart: &ChartCommand<'_>,
     view: &View,
     alloc: Global,
@@ -111,20 +124,30 @@ fn draw(
     ensures { IfErr result (IsPictureRefusal chart.now) }
 {
     let mut text = Vec::new(alloc);
+    let (rows, events) = (drawn.rows, drawn.events);
+    let labels = &labels_of(chart, drawn);
     let made = if chart.svg.is_some() {
         if let Some(last) = last_pictured(rows, view) {
             return Err(Refused::Picture(last));
         }
-        write_svg(rows, events, view, chart.width, &mut text)
+        write_svg(rows, events, view, chart.width, labels, &mut text)
     } else if chart.kanata.is_some() {
-        write_kanata(rows, events, view, &mut text, alloc)
+        write_kanata(rows, events, view, labels, &mut text, alloc)
     } else {
-        write_text(rows, view, chart.width, &mut text)
+        write_text(rows, view, chart.width, labels, &mut text)
     };
     match made {
         Ok(()) => Ok(text),
         Err(_) => Err(Refused::Memory),
     }
+}
+
+/// What is wanted beside the pcs of a chart.
+fn labels_of<'a>(chart: &ChartCommand<'_>, drawn: &Drawn<'a>) -> Labels<'a>
+    ensures { marks_of result ≡ marks_where chart.now.names (table_of drawn.now.names.now) None }
+{
+    let names = if chart.names { Some(drawn.names) } else { None };
+    Labels { names, lines: None }
 }
 
 /// Writes the text of a chart, on `out` or into its file. Answers the exit status, 0.

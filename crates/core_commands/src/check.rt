@@ -9,11 +9,13 @@ ghost use Rattle.core_state.specs.Setup.{setup_of};
 ghost use Rattle.command_parts.specs.declared.refused.Refused.TheVariants.{Output};
 ghost use Rattle.core_commands.specs.Check.{IsCheckRefusal, CheckComesTo, IsTraceOf};
 ghost use Rattle.core_commands.specs.Check.{IsTraceRefusal, IsHistoryRefusal, setup_by};
+ghost use Rattle.address_labels.specs.Labels.{marks_of};
 ghost use Rattle.core_commands.specs.Told.{IsCheckRefusalWith, IsJudged, IsToldOn};
 
 use crate::account::report_core;
 use crate::wanted::Wanted;
 use crate::why::refuse_trace;
+use address_labels::Labels;
 use command_parts::Refused;
 use elf_image::Image;
 use event_text::{Trace, TraceHead, TraceRefused, read_trace};
@@ -37,6 +39,7 @@ pub fn perform_check<W: Write>(
     settings: &Settings,
     trace: &[u8],
     wanted: Wanted,
+    labels: &Labels<'_>,
     out: &mut W,
     alloc: Global,
 ) -> Result<u8, Refused>
@@ -44,7 +47,7 @@ pub fn perform_check<W: Write>(
         (IsCheckRefusalWith (is_some wanted.ends) settings.now image.now trace.now) }
     ensures told { IfErr result (IsToldOn (is_some wanted.ends) settings.now image.now trace.now
         (W.contents out.old) (W.contents out.new)) }
-    ensures ended { IfOk result (CheckComesTo settings.now image.now trace.now wanted
+    ensures ended { IfOk result (CheckComesTo settings.now image.now trace.now wanted (marks_of labels.now)
         (W.contents out.old) (W.contents out.new)) }
 {
     let checked = match judge(image, settings, trace, alloc) {
@@ -54,7 +57,7 @@ pub fn perform_check<W: Write>(
             return Err(refuse_trace(image, settings, trace, refused, why, out, alloc));
         }
     };
-    report_core(checked.core(), &[], wanted, out, alloc)
+    report_core(checked.core(), &[], wanted, labels, out, alloc)
 }
 
 /// The core that has followed the events of a trace's text.

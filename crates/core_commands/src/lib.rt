@@ -8,9 +8,11 @@
 
 mod account;
 mod chart;
+mod chart_ends;
 mod check;
 mod judgement;
 mod migrate;
+mod named_asks;
 mod prompt;
 mod run;
 mod script;

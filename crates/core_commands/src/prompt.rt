@@ -1,12 +1,14 @@
 //! The command `step` with a script that is typed: each of its words is asked as it comes.
 
 ghost use Rattle.std.specs.Prelude.{◌≡◌, [], IfOk, IfErr, OnOk, true, false};
+ghost use Rattle.address_labels.specs.Labels.{marks_of};
 ghost use Rattle.core_commands.specs.Account.{IsTraceWritten};
 ghost use Rattle.core_commands.specs.Prompt.{PromptComesTo};
 ghost use Rattle.core_commands.specs.Step.{IsStepRefusal};
 
 use crate::account::{idle_of, write_account};
 use crate::wanted::Wanted;
+use address_labels::Labels;
 use command_parts::{Context, Refused};
 use elf_image::Image;
 use prompts::{PromptRefused, Simulation, prompt};
@@ -28,13 +30,14 @@ pub fn perform_prompt<R, G, P: Predict + Copy, B: BufRead, S: EndFiles, W: Write
     settings: &Settings,
     why: bool,
     wanted: Wanted,
+    labels: &Labels<'_>,
     reader: &mut B,
 ) -> Result<u8, Refused>
     requires works { S.has_failed context.old.files ≡ false }
     requires finished { S.is_finished context.old.files ≡ true }
     ensures refused { IfErr result (IsStepRefusal settings.now []) }
     ensures ended { IfOk result (PromptComesTo P.predicts context.old.predict settings.now image.now
-        (B.remaining reader.old) wanted
+        (B.remaining reader.old) wanted (marks_of labels.now)
         (IsTraceWritten S.written S.has_failed context.old.files context.new.files wanted.trace)
         (W.contents context.old.out) (W.contents context.new.out)) }
     ensures unwanted { wanted.trace ≡ false → context.new.files ≡ context.old.files }
@@ -59,6 +62,7 @@ pub fn perform_prompt<R, G, P: Predict + Copy, B: BufRead, S: EndFiles, W: Write
         &prompted.core,
         idle,
         wanted,
+        labels,
         &mut context.files,
         &mut context.out,
         context.alloc,

@@ -6,12 +6,14 @@ ghost use Rattle.core_state.specs.Setup.{setup_of};
 ghost use Rattle.smt_core.specs.Shown.{Shown};
 ghost use Rattle.smt_core.specs.Counts.{AreCounts};
 ghost use Rattle.command_parts.specs.Refused.{PassesAll, AreAccepted, BehindImage};
+ghost use Rattle.address_labels.specs.Labels.{marks_of};
 ghost use Rattle.core_commands.specs.Run.{IsRunRefusal, RunComesTo, LackARole, run_refusal};
 ghost use Rattle.core_commands.specs.Account.{IsTraceWritten};
 
 use crate::account::{idle_of, write_account};
 use crate::wanted::Wanted;
 use actors::{Gate, RunRefused};
+use address_labels::Labels;
 use command_parts::{Context, Refused, image_of};
 use elf_image::Image;
 use sim_inputs::Settings;
@@ -109,11 +111,12 @@ pub fn perform_run<
     image: &Image,
     settings: &Settings,
     wanted: Wanted,
+    labels: &Labels<'_>,
 ) -> Result<u8, Refused>
     requires works { S.has_failed context.old.files ≡ false }
     requires finished { S.is_finished context.old.files ≡ true }
     ensures refused { IfErr result (IsRunRefusal settings.now) }
-    ensures ended { IfOk result (RunComesTo settings.now image.now wanted
+    ensures ended { IfOk result (RunComesTo settings.now image.now wanted (marks_of labels.now)
         (IsTraceWritten S.written S.has_failed context.old.files context.new.files wanted.trace)
         (W.contents context.old.out) (W.contents context.new.out)) }
     ensures unwanted { wanted.trace ≡ false → context.new.files ≡ context.old.files }
@@ -135,6 +138,7 @@ pub fn perform_run<
         &finished.core,
         idle,
         wanted,
+        labels,
         &mut context.files,
         &mut context.out,
         context.alloc,

@@ -12,11 +12,14 @@ ghost use Rattle.scripts.specs.Script.{IsScript, IsInRange};
 ghost use Rattle.scripts.specs.Session.{AreAskedWith, AreCounted};
 ghost use Rattle.command_parts.specs.Refused.{PassesAll, AreAccepted, BehindImage, IsCoreRefusal};
 ghost use Rattle.core_commands.specs.Step.{IsStepRefusal, StepComesTo, IsAsking, IsScriptRefusal};
-ghost use Rattle.core_commands.specs.Step.{ArePrinted};
+ghost use Rattle.core_commands.specs.Step.{AreMarked, IsMarked};
+ghost use Rattle.address_labels.specs.Labels.{marks_of};
 ghost use Rattle.core_commands.specs.Account.{IsTraceWritten};
 
 use crate::account::{idle_of, write_account};
+use crate::named_asks::write_named;
 use crate::wanted::Wanted;
+use address_labels::Labels;
 use command_parts::{Context, Refused, image_of};
 use elf_image::Image;
 use explained_asks::explain;
@@ -24,6 +27,7 @@ use scripts::{ScriptRefused, ScriptWord, Unwritten, read_script, run_script};
 use sim_inputs::Settings;
 use smt_core::{Core, CoreRefused, Finished, Predict};
 use std::alloc::{AllocError, Global};
+use std::io;
 use std::io::Write;
 use stress_runs::EndFiles;
 
@@ -137,13 +141,14 @@ fn words_of(script: &[u8], alloc: Global) -> Result<Vec<ScriptWord>, Refused>
 }
 
 /// Makes the asks of a script of one core of an image, and prints their lines, explained where that
-/// is wanted.
+/// is wanted, and with what is wanted beside the pcs of fetches.
 fn print_asks<R, G, P: Predict, S, W: Write>(
     context: &mut Context<'_, R, G, P, S, W>,
     image: &Image,
     settings: &Settings,
     script: &[u8],
     why: bool,
+    labels: &Labels<'_>,
 ) -> Result<Finished, Refused>
     ensures refused { IfErr result (IsStepRefusal settings.now script.now) }
     ensures accepted { OnOk result (AreAccepted settings.now) }
@@ -154,37 +159,14 @@ fn print_asks<R, G, P: Predict, S, W: Write>(
     ensures shown { IfOk result (λ finished. Shown finished.core) }
     ensures printed { IfOk result
         (λ finished. Prints (W.contents context.old.out) (W.contents context.new.out)
-        (ArePrinted why script.now finished.core finished.idle)) }
+        (AreMarked why (marks_of labels.now) script.now finished.core finished.idle)) }
     ensures unwritten { context.new.files ≡ context.old.files }
 {
+    let alloc = context.alloc;
     let (predict, out) = (&mut context.predict, &mut context.out);
-    if why {
-        explain_asks(image, settings, script, predict, out, context.alloc)
-    } else {
-        step_image(image, settings, script, predict, out, context.alloc)
+    if !why && labels.are_none() {
+        return step_image(image, settings, script, predict, out, alloc);
     }
-}
-
-/// Makes the asks, and prints what explains them.
-fn explain_asks<P: Predict, W: Write>(
-    image: &Image,
-    settings: &Settings,
-    script: &[u8],
-    predict: &mut P,
-    out: &mut W,
-    alloc: Global,
-) -> Result<Finished, Refused>
-    ensures refused { IfErr result (IsStepRefusal settings.now script.now) }
-    ensures accepted { OnOk result (AreAccepted settings.now) }
-    ensures script { OnOk result (IsAsking script.now) }
-    ensures setup { IfOk result
-        (λ finished. finished.core.setup ≡ setup_of image.now settings.now.config) }
-    ensures limit { IfOk result (λ finished. finished.core.limit ≡ settings.now.limit) }
-    ensures shown { IfOk result (λ finished. Shown finished.core) }
-    ensures printed { IfOk result
-        (λ finished. Prints (W.contents out.old) (W.contents out.new)
-        (ArePrinted true script.now finished.core finished.idle)) }
-{
     let mut lines = Vec::new(alloc);
     let finished = match step_image(image, settings, script, predict, &mut lines, alloc) {
         Ok(finished) => finished,
@@ -192,18 +174,41 @@ fn explain_asks<P: Predict, W: Write>(
         Err(Refused::Output) => return Err(Refused::Memory),
         Err(refused) => return Err(refused),
     };
-    let text = explained(
-        image,
-        settings,
-        script,
-        lines.as_slice(),
-        &finished.core,
-        alloc,
-    )?;
-    match out.write_all(text.as_slice()) {
+    let text = told(why, image, settings, script, lines, &finished.core, alloc)?;
+    match put_asks(text.as_slice(), labels, out) {
         Ok(()) => Ok(finished),
         Err(_) => Err(Refused::Output),
     }
+}
+
+/// The lines of a script's asks, which have left this core; or what explains them, where that is wanted.
+fn told(
+    why: bool,
+    image: &Image,
+    settings: &Settings,
+    script: &[u8],
+    lines: Vec<u8>,
+    core: &Core,
+    alloc: Global,
+) -> Result<Vec<u8>, Refused>
+    ensures refused { IfErr result (IsStepRefusal settings.now script.now) }
+    ensures same { IfOk result (λ text. why ≡ false → text.items ≡ lines.items) }
+{
+    if !why {
+        return Ok(lines);
+    }
+    explained(image, settings, script, lines.as_slice(), core, alloc)
+}
+
+/// Writes the lines of asks.
+fn put_asks<W: Write>(lines: &[u8], labels: &Labels<'_>, out: &mut W) -> io::Result<()>
+    ensures { OnOk result (Prints (W.contents out.old) (W.contents out.new)
+        (IsMarked (marks_of labels.now) lines.now)) }
+{
+    if labels.are_none() {
+        return out.write_all(lines);
+    }
+    write_named(lines, labels, out)
 }
 
 /// What explains the lines of a script's asks, which have left this core.
@@ -235,25 +240,28 @@ pub fn perform_step<R, G, P: Predict + Copy, S: EndFiles, W: Write>(
     script: &[u8],
     why: bool,
     wanted: Wanted,
+    labels: &Labels<'_>,
 ) -> Result<u8, Refused>
     requires works { S.has_failed context.old.files ≡ false }
     requires finished { S.is_finished context.old.files ≡ true }
     ensures refused { IfErr result (IsStepRefusal settings.now script.now) }
-    ensures ended { IfOk result (StepComesTo settings.now image.now script.now why wanted
+    ensures ended { IfOk result (StepComesTo settings.now image.now script.now why wanted (marks_of labels.now)
         (IsTraceWritten S.written S.has_failed context.old.files context.new.files wanted.trace)
         (W.contents context.old.out) (W.contents context.new.out)) }
     ensures unwanted { wanted.trace ≡ false → context.new.files ≡ context.old.files }
     ensures unbroken { OnOk result (S.has_failed context.new.files ≡ false) }
     ensures finished { OnOk result (S.is_finished context.new.files ≡ true) }
     ensures unreported { S.has_failed context.new.files ≡ true → (core : CoreView) × (idle : List ℕ)
-        × Prints (W.contents context.old.out) (W.contents context.new.out) (ArePrinted why script.now core idle) }
+        × Prints (W.contents context.old.out) (W.contents context.new.out) (AreMarked why
+        (marks_of labels.now) script.now core idle) }
 {
-    let finished = print_asks(context, image, settings, script, why)?;
+    let finished = print_asks(context, image, settings, script, why, labels)?;
     let idle = idle_of(&finished.core, &finished.idle);
     write_account(
         &finished.core,
         idle,
         wanted,
+        labels,
         &mut context.files,
         &mut context.out,
         context.alloc,

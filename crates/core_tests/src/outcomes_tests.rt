@@ -7,7 +7,7 @@ use outcomes::{Outcomes, OutcomesRefused, find_outcomes};
 use smt_model::Status;
 use std::alloc::Global;
 use test_support::{file_of, image_of};
-use watched_outcomes::{Watch, WatchedRegister};
+use watched_outcomes::{Watch, WatchedBytes, WatchedRegister, Width};
 
 /// `lui x5,0x80001`, `lw x7,0(x5)`, `addi x7,x7,1`, `sw x7,0(x5)`, `addi x10,x7,0`, `addi x17,x0,93`, `ecall`:
 /// a hart adds one to a word, and ends with what it has written.
@@ -36,7 +36,10 @@ fn image_with(words: &[u32], alloc: Global) -> Option<Image> {
 /// A word that is watched.
 fn watching(word: u32) -> Watch {
     let mut words = ArrayVec::new();
-    words.push(word);
+    words.push(WatchedBytes {
+        address: word,
+        width: Width::Word,
+    });
     Watch {
         registers: ArrayVec::new(),
         words,
@@ -71,8 +74,24 @@ fn two_harts_that_count(rt: HostRuntime) {
             holds(&rt, "second", is_row(&found, 2, COUNTED[2]));
             holds(&rt, "states", found.states() > 0);
             holds(&rt, "stuck", matches!(found.stuck(rt.alloc()), Ok(None)));
+            holds(&rt, "written", !found.is_unwritten(0));
         }
         _ => holds(&rt, "found", false),
+    }
+}
+
+/// The word behind the one that they count on.
+#[test]
+fn a_word_that_nobody_writes(rt: HostRuntime) {
+    let Some(image) = image_with(&COUNTER, rt.alloc()) else {
+        return holds(&rt, "image", false);
+    };
+    match find_outcomes(&image, 2, &watching(0x8000_1004), 1000, &(), rt.alloc()) {
+        Ok(found) => {
+            holds(&rt, "unwritten", found.is_unwritten(0));
+            holds(&rt, "no other", !found.is_unwritten(1));
+        }
+        Err(_) => holds(&rt, "found", false),
     }
 }
 
@@ -134,7 +153,10 @@ fn watching_swap() -> Watch {
         register: 10,
     });
     let mut words = ArrayVec::new();
-    words.push(0x8000_1000);
+    words.push(WatchedBytes {
+        address: 0x8000_1000,
+        width: Width::Word,
+    });
     Watch { registers, words }
 }
 
@@ -185,7 +207,10 @@ fn watching_the_last() -> Watch {
         register: 10,
     });
     let mut words = ArrayVec::new();
-    words.push(0x8000_1024);
+    words.push(WatchedBytes {
+        address: 0x8000_1024,
+        width: Width::Word,
+    });
     Watch { registers, words }
 }
 
@@ -240,7 +265,10 @@ fn watching_written() -> Watch {
         register: 10,
     });
     let mut words = ArrayVec::new();
-    words.push(0x8000_0014);
+    words.push(WatchedBytes {
+        address: 0x8000_0014,
+        width: Width::Word,
+    });
     Watch { registers, words }
 }
 

@@ -4,6 +4,7 @@ use Rattle.std.specs.Prelude.{◌≡◌, ℕ, Bool, List, is_some, unwrap_or, Re
 use Rattle.text_fields.specs.Splitting.{field}
 use Rattle.events.specs.{declared.event.Event.Event}
 use Rattle.event_text.specs.{declared.head.TraceHead.TraceHead}
+use Rattle.event_text.specs.{declared.head.LaterVersion.LaterVersion}
 use Rattle.event_text.specs.declared.head.LaterVersion.TheVariants.{Third}
 use Rattle.event_text.specs.declared.head.TraceHead.TheVariants.{First, Later}
 use Rattle.event_text.specs.{declared.trace.reading.TraceRefused.TraceRefused}
@@ -28,6 +29,10 @@ Gives head events result =
 -- the text names version 3 in its first line, whether or not a newline ends it
 abbrev pub IsNewest : List ℕ → Type 0
 IsNewest text = field 10 text ≡ later_header Third
+
+-- the first line of the text names a version whose traces say of what core they are, whether or not a newline ends it
+abbrev pub NamesCore : List ℕ → Type 0
+NamesCore text = (version : LaterVersion) × (field 10 text ≡ later_header version)
 
 -- it is a trace, which says of its core or not
 pub record IsTelling (text : List ℕ) (told : Bool) : Type 0 where

@@ -1,15 +1,17 @@
 //! How a trace begins: its version, and of what core a trace of version 2 or 3 says that it is.
 
-ghost use Rattle.std.specs.Prelude.{◌≡◌, ◌≢◌, length, false, IfSome, IfNone};
+ghost use Rattle.std.specs.Prelude.{◌≡◌, ◌≢◌, length, false, IfSome, IfNone, Decides};
 ghost use Rattle.event_text.specs.declared.head.LaterVersion.{LaterVersion as AnyVersion};
 ghost use Rattle.numbers.specs.Sizes.{are_core_sizes};
 ghost use Rattle.event_text.specs.Core.{AreCoreSizes};
 ghost use Rattle.event_text.specs.Heads.{head_count, later_header};
+ghost use Rattle.event_text.specs.Refusals.{NamesCore};
 
 use arrayvec::ArrayVec;
 use events::{Role, copied_roles};
 use numbers::sizes::{MOST_ACTORS, are_core_sizes};
 use std::marker::Model;
+use text_fields::split_field;
 
 /// What a trace of a later version says of its core: harts, extra registers, entries of the issue
 /// queue, and the role of each actor. A core may have these sizes.
@@ -110,6 +112,14 @@ impl LaterVersion {
         }
         None
     }
+}
+
+/// Whether the first line of a text names a version whose traces say of what core they are. Any bytes may come.
+pub fn names_core(text: &[u8]) -> bool
+    ensures { Decides result (NamesCore text.now) }
+{
+    let (line, _) = split_field(text, b'\n');
+    LaterVersion::named(line).is_some()
 }
 
 /// How a trace begins.

@@ -15,7 +15,7 @@ pub mod read;
 pub mod sink;
 pub mod trace;
 
-pub use head::{LaterVersion, TraceHead, TraceHeader};
+pub use head::{LaterVersion, TraceHead, TraceHeader, names_core};
 pub use print::{Line, print_event, print_record, push_event, push_record};
 pub use ranges::{FIRST_RANGES, Ranges, SECOND_RANGES, THIRD_RANGES};
 pub use read::{Rule, read_event_within};

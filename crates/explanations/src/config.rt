@@ -5,7 +5,7 @@ ghost use Rattle.explanations.specs.Explained.{Begins, IsConfigExplained, IsTold
 
 use crate::config_fault::write_config_fault;
 use crate::lines::joined;
-use sim_inputs::{ConfigFault, Settings, read_config_or_fault};
+use sim_inputs::{ConfigFault, HartCount, Settings, read_config_or_fault};
 use smt_model::Role;
 use std::alloc::{AllocError, Global};
 use std::io;
@@ -20,14 +20,18 @@ pub struct ConfigExplained {
     pub text: Vec<u8>,
 }
 
-/// Says of a configuration's text which settings it makes, or why it is refused. Fails only for want
-/// of memory.
-pub fn explain_config(text: &[u8], alloc: Global) -> Result<ConfigExplained, AllocError>
+/// Says of a configuration's text which settings it makes, with so many harts in place of its own where that is
+/// given, or why it is refused. The settings that are answered are the text's own. Fails only for want of memory.
+pub fn explain_config(
+    text: &[u8],
+    harts: Option<HartCount>,
+    alloc: Global,
+) -> Result<ConfigExplained, AllocError>
     ensures { IfOk result (IsConfigExplained text.now) }
 {
     match read_config_or_fault(text, alloc) {
         Ok(settings) => {
-            let text = accepted_text(&settings, alloc)?;
+            let text = accepted_text(&settings, harts, alloc)?;
             Ok(ConfigExplained {
                 settings: Some(settings),
                 text,
@@ -44,11 +48,15 @@ pub fn explain_config(text: &[u8], alloc: Global) -> Result<ConfigExplained, All
 }
 
 /// What is said where it is accepted.
-fn accepted_text(settings: &Settings, alloc: Global) -> Result<Vec<u8>, AllocError>
+fn accepted_text(
+    settings: &Settings,
+    harts: Option<HartCount>,
+    alloc: Global,
+) -> Result<Vec<u8>, AllocError>
     ensures { IfOk result (λ text. Begins (codes "config accepted\n") text.items) }
 {
     let mut rest = Vec::new(alloc);
-    match write_settings(settings, &mut rest) {
+    match write_settings(settings, harts, &mut rest) {
         Ok(()) => joined(b"config accepted\n", &rest, alloc),
         Err(_) => Err(AllocError),
     }
@@ -66,10 +74,18 @@ fn refused_text(fault: &ConfigFault, text: &[u8], alloc: Global) -> Result<Vec<u
     }
 }
 
-/// Writes each setting under its key, the actors by number.
-fn write_settings<W: Write>(settings: &Settings, out: &mut W) -> io::Result<()> {
+/// Writes each setting under its key, the actors by number; these harts in place of its own where that is given.
+fn write_settings<W: Write>(
+    settings: &Settings,
+    harts: Option<HartCount>,
+    out: &mut W,
+) -> io::Result<()> {
     let config = &settings.config;
-    writeln!(out, "harts {}", config.harts)?;
+    let count = match harts {
+        Some(harts) => harts.count(),
+        None => config.harts,
+    };
+    writeln!(out, "harts {count}")?;
     writeln!(out, "extra {}", config.extra)?;
     writeln!(out, "queue {}", config.queue)?;
     writeln!(out, "ram {}", settings.ram.bytes())?;

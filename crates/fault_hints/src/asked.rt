@@ -2,7 +2,8 @@
 
 use crate::inside_text::add_line;
 use crate::line_fault::LineFault;
-use crate::named_files::{add_config, add_program};
+use crate::named::add_named;
+use crate::named_files::{add_config, add_program, add_second};
 use crate::order_words::add_harts;
 use elf_image::RAM_START;
 use hints::{Hint, Part};
@@ -11,11 +12,12 @@ use outcome_queries::QueryRefused;
 use rv_instr::{UnitKind, unit_name};
 use sim_inputs::{Command, ProgramCommand, read_config};
 use std::alloc::{AllocError, Global};
+use watched_outcomes::{WatchedBytes, Width};
 
 /// Adds the unit that a schedule needs.
 pub(crate) fn add_unit(
     kind: UnitKind,
-    fault: &LineFault<'_>,
+    fault: &LineFault<'_, '_>,
     hint: &mut Hint,
     alloc: Global,
 ) -> Result<(), AllocError> {
@@ -32,7 +34,7 @@ pub(crate) fn add_unit(
 /// Adds the limit that a schedule needs.
 pub(crate) fn add_limit(
     least: u64,
-    fault: &LineFault<'_>,
+    fault: &LineFault<'_, '_>,
     hint: &mut Hint,
     alloc: Global,
 ) -> Result<(), AllocError> {
@@ -48,7 +50,7 @@ pub(crate) fn add_limit(
 /// Adds the hart that an option names.
 pub(crate) fn add_hart(
     hart: u32,
-    fault: &LineFault<'_>,
+    fault: &LineFault<'_, '_>,
     hint: &mut Hint,
     alloc: Global,
 ) -> Result<(), AllocError> {
@@ -65,6 +67,20 @@ pub(crate) fn add_hart(
     hint.add(Part::Cause, b"the core of the trace has no such hart")
 }
 
+/// Adds that harts were asked for of a core that the trace names itself.
+pub(crate) fn add_two_cores(
+    fault: &LineFault<'_, '_>,
+    hint: &mut Hint,
+    alloc: Global,
+) -> Result<(), AllocError> {
+    add_second(fault, hint, alloc)?;
+    hint.add(Part::Cause, b"the trace names its core, with its harts")?;
+    hint.add(
+        Part::Expected,
+        b"no --harts beside a trace of version 2 or 3",
+    )
+}
+
 /// Adds that a picture would have too many instructions.
 pub(crate) fn add_picture(last: u32, hint: &mut Hint, alloc: Global) -> Result<(), AllocError> {
     hint.add(
@@ -78,12 +94,12 @@ pub(crate) fn add_picture(last: u32, hint: &mut Hint, alloc: Global) -> Result<(
 /// Adds where a list of what is watched is misspelled.
 pub(crate) fn add_watch(
     why: QueryRefused,
-    fault: &LineFault<'_>,
+    fault: &LineFault<'_, '_>,
     hint: &mut Hint,
     alloc: Global,
 ) -> Result<(), AllocError> {
     if let Command::OfProgram(ProgramCommand::Outcomes(asked)) = fault.line.command {
-        return add_query("--watch", asked.watch, why, hint, alloc);
+        return add_query("--watch", asked.watch, why, fault, hint, alloc);
     }
     Ok(())
 }
@@ -91,12 +107,12 @@ pub(crate) fn add_watch(
 /// Adds where a condition is misspelled.
 pub(crate) fn add_condition(
     why: QueryRefused,
-    fault: &LineFault<'_>,
+    fault: &LineFault<'_, '_>,
     hint: &mut Hint,
     alloc: Global,
 ) -> Result<(), AllocError> {
     if let Command::OfProgram(ProgramCommand::Outcomes(asked)) = fault.line.command {
-        return add_query("--exists", asked.exists, why, hint, alloc);
+        return add_query("--exists", asked.exists, why, fault, hint, alloc);
     }
     Ok(())
 }
@@ -106,6 +122,7 @@ fn add_query(
     option: &str,
     text: Option<&str>,
     why: QueryRefused,
+    fault: &LineFault<'_, '_>,
     hint: &mut Hint,
     alloc: Global,
 ) -> Result<(), AllocError> {
@@ -115,17 +132,19 @@ fn add_query(
     let text = text.unwrap_or("").as_bytes();
     let rest = text.get(column.saturating_sub(1)..).unwrap_or(b"");
     hint.add(Part::Word, rest)?;
-    let expected = expected.to_string(alloc)?;
-    hint.add(Part::Expected, expected.as_bytes())
+    let text = expected.to_string(alloc)?;
+    hint.add(Part::Expected, text.as_bytes())?;
+    add_named(rest, expected, fault, hint, alloc)
 }
 
-/// Adds that a word that is watched isn't there.
+/// Adds that a word that is watched isn't there, or a half or a byte.
 pub(crate) fn add_absent_word(
-    address: u32,
-    fault: &LineFault<'_>,
+    bytes: WatchedBytes,
+    fault: &LineFault<'_, '_>,
     hint: &mut Hint,
     alloc: Global,
 ) -> Result<(), AllocError> {
+    let address = bytes.address;
     let word = format!(in alloc; "{address:08x} in --exists or --watch")?;
     hint.add(Part::Word, word.as_bytes())?;
     let Ok(text) = fault.inputs.config else {
@@ -134,8 +153,14 @@ pub(crate) fn add_absent_word(
     let Ok(settings) = read_config(text, alloc) else {
         return Ok(());
     };
-    let last = RAM_START.wrapping_add(settings.ram.bytes()).wrapping_sub(4);
-    let expected = format!(in alloc; "a multiple of 4 from {RAM_START:08x} to {last:08x}")?;
+    let size = bytes.width.bytes();
+    let last = RAM_START
+        .wrapping_add(settings.ram.bytes())
+        .wrapping_sub(u32::from(size));
+    let expected = match bytes.width {
+        Width::Byte => format!(in alloc; "an address from {RAM_START:08x} to {last:08x}")?,
+        _ => format!(in alloc; "a multiple of {size} from {RAM_START:08x} to {last:08x}")?,
+    };
     hint.add(Part::Expected, expected.as_bytes())
 }
 
@@ -158,7 +183,7 @@ pub(crate) fn add_absent_outcome(
 pub(crate) fn add_litmus(
     place: Place,
     why: Fault,
-    fault: &LineFault<'_>,
+    fault: &LineFault<'_, '_>,
     hint: &mut Hint,
     alloc: Global,
 ) -> Result<(), AllocError> {

@@ -12,14 +12,14 @@ use std::io::Write;
 
 /// Adds what `explain` says of the configuration, or why it is refused though it is one.
 pub(crate) fn add_config_fault(
-    fault: &LineFault<'_>,
+    fault: &LineFault<'_, '_>,
     hint: &mut Hint,
     alloc: Global,
 ) -> Result<(), AllocError> {
     let Ok(text) = fault.inputs.config else {
         return Ok(());
     };
-    let said = explain_config(text, alloc)?;
+    let said = explain_config(text, fault.line.harts, alloc)?;
     if said.settings.is_some() {
         return add_unfit_config(fault, hint, alloc);
     }
@@ -33,7 +33,7 @@ pub(crate) fn add_config_fault(
 
 /// Adds why a configuration doesn't fit its command.
 fn add_unfit_config(
-    fault: &LineFault<'_>,
+    fault: &LineFault<'_, '_>,
     hint: &mut Hint,
     alloc: Global,
 ) -> Result<(), AllocError> {
@@ -52,7 +52,7 @@ fn add_unfit_config(
 
 /// Adds what `explain` says of the image.
 pub(crate) fn add_image_fault(
-    fault: &LineFault<'_>,
+    fault: &LineFault<'_, '_>,
     hint: &mut Hint,
     alloc: Global,
 ) -> Result<(), AllocError> {
@@ -72,7 +72,7 @@ pub(crate) fn add_image_fault(
 }
 
 /// Whether the command itself has said why.
-fn is_explained(fault: &LineFault<'_>) -> bool {
+fn is_explained(fault: &LineFault<'_, '_>) -> bool {
     matches!(fault.line.command, Command::Explain(_))
 }
 
@@ -100,7 +100,11 @@ fn part_of(line: &[u8]) -> (Part, &[u8]) {
 }
 
 /// Adds the command that explains the files of the line, as it is to be typed.
-fn add_explain(fault: &LineFault<'_>, hint: &mut Hint, alloc: Global) -> Result<(), AllocError> {
+fn add_explain(
+    fault: &LineFault<'_, '_>,
+    hint: &mut Hint,
+    alloc: Global,
+) -> Result<(), AllocError> {
     let files = fault.line.files();
     let image = match fault.line.command {
         // What is refused is its configuration, and its file is no image.

@@ -8,6 +8,7 @@ pub struct FileFaults {
     pub config: Option<FileFault>,
     pub program: Option<FileFault>,
     pub second: Option<FileFault>,
+    pub lines: Option<FileFault>,
     /// The file that is written, or one of those of ends.
     pub written: Option<FileFault>,
     /// Standard output.
@@ -16,9 +17,9 @@ pub struct FileFaults {
 
 /// A fault of a line, and all that its hint is made of.
 #[derive(Clone, Copy, Drop)]
-pub struct LineFault<'a> {
+pub struct LineFault<'line, 'inputs> {
     pub refused: Refused,
-    pub line: Line<'a>,
-    pub inputs: Inputs<'a>,
+    pub line: &'line Line<'line>,
+    pub inputs: Inputs<'inputs>,
     pub files: FileFaults,
 }

@@ -43,7 +43,7 @@ fn written_role(line: &Line<'_>) -> &'static str {
 
 /// Adds the file of the configuration, if the line names one.
 pub(crate) fn add_config(
-    fault: &LineFault<'_>,
+    fault: &LineFault<'_, '_>,
     hint: &mut Hint,
     alloc: Global,
 ) -> Result<(), AllocError> {
@@ -55,24 +55,36 @@ pub(crate) fn add_config(
 
 /// Adds the program of the line.
 pub(crate) fn add_program(
-    fault: &LineFault<'_>,
+    fault: &LineFault<'_, '_>,
     hint: &mut Hint,
     alloc: Global,
 ) -> Result<(), AllocError> {
     match fault.line.files().program {
-        Some(name) => add_read(name, program_role(&fault.line), hint, alloc),
+        Some(name) => add_read(name, program_role(fault.line), hint, alloc),
         None => Ok(()),
     }
 }
 
 /// Adds the second file of the line.
 pub(crate) fn add_second(
-    fault: &LineFault<'_>,
+    fault: &LineFault<'_, '_>,
     hint: &mut Hint,
     alloc: Global,
 ) -> Result<(), AllocError> {
     match fault.line.files().second {
-        Some(name) => add_read(name, second_role(&fault.line), hint, alloc),
+        Some(name) => add_read(name, second_role(fault.line), hint, alloc),
+        None => Ok(()),
+    }
+}
+
+/// Adds the source lines of the line.
+pub(crate) fn add_lines(
+    fault: &LineFault<'_, '_>,
+    hint: &mut Hint,
+    alloc: Global,
+) -> Result<(), AllocError> {
+    match fault.line.files().lines {
+        Some(name) => add_read(name, "the source lines", hint, alloc),
         None => Ok(()),
     }
 }
@@ -100,7 +112,7 @@ fn add_named(
 
 /// Adds which file can't be read, and why: the first that is needed.
 pub(crate) fn add_unread(
-    fault: &LineFault<'_>,
+    fault: &LineFault<'_, '_>,
     hint: &mut Hint,
     alloc: Global,
 ) -> Result<(), AllocError> {
@@ -112,6 +124,9 @@ pub(crate) fn add_unread(
     } else if is_refused(inputs.program, Unread::File) {
         add_program(fault, hint, alloc)?;
         (named.program, files.program)
+    } else if is_refused(inputs.lines, Unread::File) {
+        add_lines(fault, hint, alloc)?;
+        (named.lines, files.lines)
     } else {
         add_second(fault, hint, alloc)?;
         (named.second, files.second)
@@ -132,7 +147,7 @@ fn reading(name: Option<&str>) -> Doing {
 
 /// Adds for which file there isn't enough memory, if it is one.
 pub(crate) fn add_memory(
-    fault: &LineFault<'_>,
+    fault: &LineFault<'_, '_>,
     hint: &mut Hint,
     alloc: Global,
 ) -> Result<(), AllocError> {
@@ -141,6 +156,8 @@ pub(crate) fn add_memory(
         add_config(fault, hint, alloc)?;
     } else if is_refused(inputs.program, Unread::Memory) {
         add_program(fault, hint, alloc)?;
+    } else if is_refused(inputs.lines, Unread::Memory) {
+        add_lines(fault, hint, alloc)?;
     } else if is_refused(inputs.second, Unread::Memory) {
         add_second(fault, hint, alloc)?;
     } else {
@@ -159,7 +176,7 @@ fn is_refused(file: Result<&[u8], Unread>, why: Unread) -> bool {
 
 /// Adds what takes no more, and why: a file that is written, or standard output.
 pub(crate) fn add_unwritten(
-    fault: &LineFault<'_>,
+    fault: &LineFault<'_, '_>,
     hint: &mut Hint,
     alloc: Global,
 ) -> Result<(), AllocError> {
@@ -170,7 +187,7 @@ pub(crate) fn add_unwritten(
             None => Ok(()),
         };
     };
-    let line = &fault.line;
+    let line = fault.line;
     if let Command::OfProgram(ProgramCommand::Run(run)) = line.command {
         if let Some(folder) = run.keep {
             add_named(folder, "written", "the folder of the ends", hint, alloc)?;

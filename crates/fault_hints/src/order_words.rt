@@ -12,7 +12,7 @@ use std::alloc::{AllocError, Global};
 /// Adds the word of the order with this number, from 0, that names no hart.
 pub(crate) fn add_order_word(
     number: usize,
-    fault: &LineFault<'_>,
+    fault: &LineFault<'_, '_>,
     hint: &mut Hint,
     alloc: Global,
 ) -> Result<(), AllocError> {
@@ -30,7 +30,7 @@ pub(crate) fn add_order_word(
 pub(crate) fn add_step(
     number: usize,
     why: Stopped,
-    fault: &LineFault<'_>,
+    fault: &LineFault<'_, '_>,
     hint: &mut Hint,
     alloc: Global,
 ) -> Result<(), AllocError> {
@@ -44,26 +44,32 @@ pub(crate) fn add_step(
 
 /// Adds which harts there are.
 pub(crate) fn add_harts(
-    fault: &LineFault<'_>,
+    fault: &LineFault<'_, '_>,
     hint: &mut Hint,
     alloc: Global,
 ) -> Result<(), AllocError> {
     hint.add(Part::Cause, b"there is no such hart")?;
+    if let Some(harts) = fault.line.harts {
+        let count = harts.count();
+        let expected = format!(in alloc; "a number below {count}, as --harts says")?;
+        return hint.add(Part::Expected, expected.as_bytes());
+    }
     let Ok(text) = fault.inputs.config else {
         return Ok(());
     };
     let Ok(settings) = read_config(text, alloc) else {
         return Ok(());
     };
-    let harts = settings.config.harts;
-    let expected = format!(in alloc; "a number below {harts}, the harts of the configuration")?;
-    hint.add(Part::Expected, expected.as_bytes())
+    let count = settings.config.harts;
+    let expected = format!(in alloc; "a number below {count}, the harts of the configuration")?;
+    hint.add(Part::Expected, expected.as_bytes())?;
+    hint.add(Part::Usually, b"too few harts: --harts N makes more")
 }
 
 /// Adds the order and a word of it, and answers the word.
 fn add_word<'a>(
     number: usize,
-    fault: &LineFault<'a>,
+    fault: &LineFault<'_, 'a>,
     hint: &mut Hint,
     alloc: Global,
 ) -> Result<Option<&'a [u8]>, AllocError> {

@@ -14,7 +14,7 @@ const MOST_BYTES: usize = 32;
 /// Adds the word of the script with this number, from 1.
 pub(crate) fn add_script_word(
     number: usize,
-    fault: &LineFault<'_>,
+    fault: &LineFault<'_, '_>,
     hint: &mut Hint,
     alloc: Global,
 ) -> Result<(), AllocError> {

@@ -2,7 +2,10 @@
 
 use crate::asked::{
     add_absent_outcome, add_absent_word, add_condition, add_hart, add_limit, add_litmus,
-    add_picture, add_unit, add_watch,
+    add_picture, add_two_cores, add_unit, add_watch,
+};
+use crate::chart_names::{
+    add_never_fetched, add_nothing_named, add_several_named, add_source_line, add_turned,
 };
 use crate::explained::{add_config_fault, add_image_fault};
 use crate::line_fault::LineFault;
@@ -16,7 +19,7 @@ use std::alloc::{AllocError, Global};
 
 /// Adds to a hint what there is to say of a fault of a line. Fails only for want of memory.
 pub fn add_line_fault(
-    fault: &LineFault<'_>,
+    fault: &LineFault<'_, '_>,
     hint: &mut Hint,
     alloc: Global,
 ) -> Result<(), AllocError> {
@@ -41,7 +44,7 @@ pub fn add_line_fault(
 
 /// Adds what there is to say of a trace that is refused.
 fn add_trace_fault(
-    fault: &LineFault<'_>,
+    fault: &LineFault<'_, '_>,
     hint: &mut Hint,
     alloc: Global,
 ) -> Result<(), AllocError> {
@@ -64,7 +67,7 @@ fn add_trace_fault(
 
 /// Adds what there is to say of what options ask for, and of a litmus test.
 fn add_asked_fault(
-    fault: &LineFault<'_>,
+    fault: &LineFault<'_, '_>,
     hint: &mut Hint,
     alloc: Global,
 ) -> Result<(), AllocError> {
@@ -72,14 +75,20 @@ fn add_asked_fault(
         Refused::NoUnit(kind) => add_unit(kind, fault, hint, alloc),
         Refused::Limit(least) => add_limit(least, fault, hint, alloc),
         Refused::NoHart(hart) => add_hart(hart, fault, hint, alloc),
+        Refused::Harts => add_two_cores(fault, hint, alloc),
         Refused::Picture(last) => add_picture(last, hint, alloc),
+        Refused::Lines { line, fault: why } => add_source_line(line, why, fault, hint, alloc),
+        Refused::NamesNothing(option) => add_nothing_named(option, fault, hint, alloc),
+        Refused::NamesSeveral(option) => add_several_named(option, fault, hint, alloc),
+        Refused::NeverFetched(option) => add_never_fetched(option, fault, hint, alloc),
+        Refused::Turned { from, to } => add_turned(from, to, fault, hint, alloc),
         Refused::Watch(why) => add_watch(why, fault, hint, alloc),
         Refused::Condition(why) => add_condition(why, fault, hint, alloc),
         Refused::ManyWatched => hint.add(
             Part::Cause,
             b"--watch and --exists name more than 64 registers and words",
         ),
-        Refused::NoWord(address) => add_absent_word(address, fault, hint, alloc),
+        Refused::NoWord(bytes) => add_absent_word(bytes, fault, hint, alloc),
         Refused::NoOutcome(number) => add_absent_outcome(number, hint, alloc),
         Refused::NotStuck => hint.add(
             Part::Cause,

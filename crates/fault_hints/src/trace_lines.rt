@@ -14,7 +14,7 @@ const VERSION_1: &[u8] = b"smt-trace 1";
 pub(crate) fn add_trace_line(
     number: usize,
     rule: u8,
-    fault: &LineFault<'_>,
+    fault: &LineFault<'_, '_>,
     hint: &mut Hint,
     alloc: Global,
 ) -> Result<(), AllocError> {
@@ -63,7 +63,7 @@ fn form_of(number: usize, line: &[u8], rule: u8) -> &'static str {
 pub(crate) fn add_event(
     index: u32,
     rule: u8,
-    fault: &LineFault<'_>,
+    fault: &LineFault<'_, '_>,
     hint: &mut Hint,
     alloc: Global,
 ) -> Result<(), AllocError> {
@@ -76,7 +76,7 @@ pub(crate) fn add_event(
 pub(crate) fn add_other_event(
     index: u32,
     expected: &str,
-    fault: &LineFault<'_>,
+    fault: &LineFault<'_, '_>,
     hint: &mut Hint,
     alloc: Global,
 ) -> Result<(), AllocError> {
@@ -87,7 +87,7 @@ pub(crate) fn add_other_event(
 /// Adds the line of an event, and answers its letter.
 fn add_event_line(
     index: u32,
-    fault: &LineFault<'_>,
+    fault: &LineFault<'_, '_>,
     hint: &mut Hint,
     alloc: Global,
 ) -> Result<u8, AllocError> {

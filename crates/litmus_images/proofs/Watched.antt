@@ -9,7 +9,8 @@ use Rattle.litmus_tests.specs.declared.condition.Observed.{Observed}
 use Rattle.litmus_tests.specs.declared.condition.Observed.TheVariants.{Register, Location}
 use Rattle.litmus_tests.specs.declared.test.LitmusTest.{LitmusTest}
 use Rattle.litmus_tests.specs.WellFormed.{IsObserved, IsWellFormed}
-use Rattle.litmus_images.specs.Watching.{location_of, words_observed}
+use Rattle.litmus_images.specs.Watching.{location_of, word_of, words_observed}
+use Rattle.watched_outcomes.specs.declared.watch.{WatchedBytes.WatchedBytes, Width.TheVariants.Word}
 
 -- one thing more, which is of the kind, or isn't
 more_by : {X Y : Type 0} (h : X → Option Y) (xs : List X) (i : ℕ) (d : X) → i < length xs
@@ -28,14 +29,15 @@ none_more h xs i d inside is =
     sym (append-nil (filter_map h (take i xs))) ∙ ap (λ o. filter_map h (take i xs) ++ cons_option o []) is
     ∙ more_by h xs i d inside
 
-pub word_more : (observed : List Observed) (i : ℕ) (d : Observed) (index address : ℕ) (old : List ℕ)
+pub word_more : (observed : List Observed) (i : ℕ) (d : Observed) (index address : ℕ) (old : List WatchedBytes)
     → i < length observed → Some index ≡ location_of (get_or observed i d) → address ≡ address_of index
     → old ≡ words_observed (take i observed)
-    → old ++ address ∷ [] ≡ words_observed (take (i + 1) observed)
+    → old ++ (record { address = address; width = Word }) ∷ [] ≡ words_observed (take (i + 1) observed)
 word_more observed i d index address old inside is at so_far =
-    ap (λ l. l ++ address ∷ []) so_far ∙ ap (λ a. words_observed (take i observed) ++ a ∷ []) at
-    ∙ sym (map-append address_of (filter_map location_of (take i observed)) (index ∷ []))
-    ∙ ap (map address_of) (some_more location_of observed i d index inside is)
+    ap (λ l. l ++ (record { address = address; width = Word }) ∷ []) so_far
+    ∙ ap (λ a. words_observed (take i observed) ++ (record { address = a; width = Word }) ∷ []) at
+    ∙ sym (map-append word_of (filter_map location_of (take i observed)) (index ∷ []))
+    ∙ ap (map word_of) (some_more location_of observed i d index inside is)
 
 -- room for one more
 option_short : {Y : Type 0} (o : Option Y) (ys : List Y) → length (cons_option o ys) ≤ 1 + length ys

@@ -2,6 +2,7 @@
 use Rattle.std.specs.Prelude.{ℕ, ◌==◌, ◌&&◌, List, map, position, slice_get, Option, Some, None, unwrap_or}
 use Rattle.std.specs.{Prelude.option_and_then, List.filter_map}
 use Rattle.watched_outcomes.specs.{Endings.Ending, declared.watch.WatchedRegister.WatchedRegister}
+use Rattle.watched_outcomes.specs.declared.watch.{WatchedBytes.WatchedBytes, Width.TheVariants.Word}
 use Rattle.litmus_tests.specs.declared.condition.Observed.{Observed}
 use Rattle.litmus_tests.specs.declared.condition.Observed.TheVariants.{Register, Location}
 use Rattle.litmus_tests.specs.declared.test.LitmusTest.{LitmusTest}
@@ -24,8 +25,11 @@ abbrev pub locations_observed : List Observed → List ℕ
 locations_observed observed = filter_map location_of observed
 
 -- The words of these locations.
-abbrev pub words_observed : List Observed → List ℕ
-words_observed observed = map address_of (locations_observed observed)
+abbrev pub word_of : ℕ → WatchedBytes
+word_of index = record { address = address_of index; width = Word }
+
+abbrev pub words_observed : List Observed → List WatchedBytes
+words_observed observed = map word_of (locations_observed observed)
 
 -- The number at a place, where there is one, else 0.
 abbrev pub number_at_place : List ℕ → Option ℕ → ℕ

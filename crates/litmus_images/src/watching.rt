@@ -9,7 +9,7 @@ ghost use Rattle.litmus_images.specs.Watching.{words_observed};
 use crate::constants::address_of;
 use arrayvec::ArrayVec;
 use litmus_tests::{LitmusTest, Observed};
-use watched_outcomes::{MOST_WATCHED, Watch, WatchedRegister};
+use watched_outcomes::{MOST_WATCHED, Watch, WatchedBytes, WatchedRegister, Width};
 
 /// How many harts the test has: 1 to `MOST_HARTS`.
 pub fn harts_of(test: &LitmusTest) -> u8
@@ -66,15 +66,18 @@ fn registers_watched(observed: &[Observed]) -> ArrayVec<WatchedRegister, MOST_WA
 }
 
 /// The words of the locations that are looked at, in order.
-fn words_watched(observed: &[Observed]) -> ArrayVec<u32, MOST_WATCHED>
+fn words_watched(observed: &[Observed]) -> ArrayVec<WatchedBytes, MOST_WATCHED>
     requires few { length observed.now ≤ most_observed }
     requires there { All (λ each. IfSome (location_of each) (λ index. index < most_locations)) observed.now }
     ensures { result.items ≡ words_observed observed.now }
 {
-    let mut words = ArrayVec::<u32, MOST_WATCHED>::new();
+    let mut words = ArrayVec::<WatchedBytes, MOST_WATCHED>::new();
     for each in observed {
         match location_of(*each) {
-            Some(index) => words.push(address_of(index)),
+            Some(index) => words.push(WatchedBytes {
+                address: address_of(index),
+                width: Width::Word,
+            }),
             None => {}
         }
     }

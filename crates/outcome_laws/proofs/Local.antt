@@ -176,7 +176,7 @@ of_local setup h s local =
     second_of (not (code_writable setup.image)) (is_local_of (op_at_pc setup s h) (computes setup s h)) local
 
 -- Behind a local step of another hart, memory, output and reservations are the same.
-same_bytes : (setup : Setup) (h : ℕ) (s : Plain)
+pub same_bytes : (setup : Setup) (h : ℕ) (s : Plain)
     → IsQuiet (op_at_pc setup s h) (computes setup s h).addr (effect_at setup s h)
     → (stepped setup h s).bytes ≡ s.bytes
 same_bytes setup h s quiet = ap (λ w. λ a. byte_after w a (s.bytes a)) quiet.write
@@ -191,7 +191,7 @@ same_reserved : (setup : Setup) (h : ℕ) (s : Plain)
     → (stepped setup h s).reserved ≡ s.reserved
 same_reserved setup h s quiet = fun_ext (λ k. quiet.reserved (k == h) (s.reserved k))
 
-quiet_at : (setup : Setup) (h : ℕ) (s : Plain) → is_local setup h s ≡ true
+pub quiet_at : (setup : Setup) (h : ℕ) (s : Plain) → is_local setup h s ≡ true
     → IsQuiet (op_at_pc setup s h) (computes setup s h).addr (effect_at setup s h)
 quiet_at setup h s local =
     let op = op_at_pc setup s h in

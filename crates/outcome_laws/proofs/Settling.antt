@@ -7,9 +7,9 @@ use Rattle.smt_laws.proofs.{Done.some_one}
 use Rattle.outcome_laws.specs.Paths.{can_step, stepped, path, HasItsCode, IsEnd}
 use Rattle.outcome_laws.specs.{Local.is_local, Live.AreAlike, Live.IsLiveTable}
 use Rattle.outcome_laws.specs.Search.{IsLocalPath, Settles, Visited, IsWay, HasWay, IsEnough}
-use Rattle.outcome_laws.specs.Search.{CanEnd, EachCanEnd}
+use Rattle.outcome_laws.specs.Search.{CanEnd, EachCanEnd, SettlesAt, EachMemoryIsVisited}
 use Rattle.outcome_laws.proofs.Holding.{first_of, has_next, has_path, has_local, has_alike}
-use Rattle.outcome_laws.proofs.Local.{flipped, can_still, local_still, commutes}
+use Rattle.outcome_laws.proofs.Local.{flipped, can_still, local_still, commutes, same_bytes, quiet_at}
 use Rattle.outcome_laws.proofs.Live.{alike_states_step_alike}
 use Rattle.outcome_laws.proofs.Search.{can_alike, flip, join, goes_alike, path_on, local_leads}
 
@@ -138,6 +138,16 @@ module _ (setup : Setup) (watched : ℕ → Bool) (live : ℕ → ℕ → Bool) 
       let split = first_of (can_step setup h s) (path setup order (stepped setup h s)) u leads in
       each_settles order (stepped setup h s) u (has_next setup h s holds) (next_settles h s holds bound split.0) split.1
 
+  -- So does what an order leads to from a state that settles in the first place.
+  behind_first : (s : Plain) → HasItsCode setup s → SettlesAt setup watched live visited from s → (order : List ℕ)
+      (u : Plain) → path setup order s ≡ Some u → IsBound setup watched live visited from u
+  behind_first s holds begins order u leads =
+      each_settles order s u holds (record {
+        state = begins.state;
+        reached = record { place = from; way = []; leads = refl; at = begins.at };
+        settles = begins.settles;
+      }) leads
+
 -- ---- What is alike can end alike
 
 pub end_alike : (setup : Setup) (watched : ℕ → Bool) (live : ℕ → ℕ → Bool) → IsLiveTable setup.image live
@@ -164,12 +174,7 @@ ends_alike setup watched live table (h ∷ order) s t e holds alike leads end =
 
 pub each_can_end : EachCanEnd
 each_can_end setup watched live table visited enough from s holds begins can order u leads =
-    let first : IsBound setup watched live visited from s = record {
-      state = begins.state;
-      reached = record { place = from; way = []; leads = refl; at = begins.at };
-      settles = begins.settles;
-    } in
-    let there = each_settles setup watched live table visited enough from order s u holds first leads in
+    let there = behind_first setup watched live table visited enough from s holds begins order u leads in
     let way = there.settles in
     let ends = can there.state there.reached in
     let holds_u = has_path setup order s u holds leads in
@@ -183,4 +188,22 @@ each_can_end setup watched live table visited enough from s holds begins can ord
       leads = path_on setup way.order rest.order u way.there (local_leads setup way.order u way.there way.local)
           ∙ rest.leads;
       is_end = rest.is_end;
+    }
+
+-- ---- What memory holds
+
+-- Local steps write nothing.
+pub local_bytes : (setup : Setup) (order : List ℕ) (s t : Plain) → IsLocalPath setup order s t → s.bytes ≡ t.bytes
+local_bytes setup [] s t same = ap (λ (z : Plain). z.bytes) same
+local_bytes setup (h ∷ order) s t way =
+    sym (same_bytes setup h s (quiet_at setup h s way.1)) ∙ local_bytes setup order (stepped setup h s) t way.2
+
+pub each_memory_is_visited : EachMemoryIsVisited
+each_memory_is_visited setup watched live table visited enough from s holds begins order u leads =
+    let there = behind_first setup watched live table visited enough from s holds begins order u leads in
+    let way = there.settles in
+    record {
+      state = there.state;
+      reached = there.reached;
+      bytes = λ a. ap (λ (b : ℕ → ℕ). b a) (local_bytes setup way.order u way.there way.local) ∙ way.alike.bytes a;
     }

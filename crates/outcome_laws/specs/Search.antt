@@ -118,3 +118,14 @@ abbrev pub EachCanEnd : Type 0
 EachCanEnd = InEachSearch (λ setup watched live visited from s.
     ((a : Plain) → HasWay visited from a → CanEnd setup a)
     → (order : List ℕ) (u : Plain) → path setup order s ≡ Some u → CanEnd setup u)
+
+-- A visited state to which a way leads, with the memory of this one.
+pub record HasMemory (visited : Visited) (from : ℕ) (u : Plain) : Type 0 where
+  pub state : Plain
+  pub reached : HasWay visited from state
+  pub bytes : (a : ℕ) → u.bytes a ≡ state.bytes a
+
+-- Whatever order leads to a state, one with its memory was visited: local steps write nothing.
+abbrev pub EachMemoryIsVisited : Type 0
+EachMemoryIsVisited = InEachSearch (λ setup watched live visited from s.
+    (order : List ℕ) (u : Plain) → path setup order s ≡ Some u → HasMemory visited from u)

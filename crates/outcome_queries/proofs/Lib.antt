@@ -1,4 +1,9 @@
+pub mod FirstNames
+pub mod Marked
+pub mod Outside
+pub mod Placing
 pub mod Reading
-pub mod TermReading
 pub mod Separating
+pub mod Spelled
+pub mod TermReading
 pub mod WatchLists

@@ -1,21 +1,24 @@
 -- What is watched, read where its text is cut.
-use Rattle.std.proofs.Common.{◌≡◌, ◌≢◌, ℕ, ◌-◌, ◌*◌, ◌^◌, ◌≤◌, ◌<◌, ◌⊎◌, Bool, true, false, nat_lt, ◌==◌}
-use Rattle.std.proofs.Common.{if◌then◌else◌, List, [], ◌∷◌, ◌++◌, length, Result, Ok, Err, inl, inr, refl, sym, ap, subst, ◌∙◌}
-use Rattle.std.proofs.Common.{arith, codes, not}
+use Rattle.std.proofs.Common.{◌≡◌, ◌≢◌, ℕ, ◌-◌, ◌^◌, ◌≤◌, ◌<◌, ◌⊎◌, Bool, true, false, nat_lt, ◌==◌}
+use Rattle.std.proofs.Common.{if◌then◌else◌, List, [], ◌∷◌, ◌++◌, length, Ok, Err, inl, inr, refl, sym, ap, subst, ◌∙◌}
+use Rattle.std.proofs.Common.{arith, not, Option, Some, None, ◌+◌}
 use Rattle.std.specs.{Char.is_ascii_digit, List.list_all}
 use Rattle.std.specs.Fmt.{decimal}
 use Rattle.text_fields.specs.{Reading.decimal_field, Reading.hex_field, Reading.is_hex_digit, Spelling.hex}
 use Rattle.text_fields.specs.Splitting.{field, rest, Lacks}
 use Rattle.text_fields.proofs.{DecimalLaws.decimal_field-decimal, DecimalLaws.decimal_field_only}
 use Rattle.text_fields.proofs.{HexLaws.hex_field-hex, HexLaws.hex_field_only}
-use Rattle.text_fields.proofs.{LacksLaws.Lacks-decimal, LacksLaws.Lacks-hex}
-use Rattle.text_fields.proofs.{SplittingLaws.field-cut, SplittingLaws.rest-cut, SplittingLaws.cut_where, SplittingLaws.parts_at}
+use Rattle.text_fields.proofs.{LacksLaws.Lacks-decimal}
+use Rattle.text_fields.proofs.{SplittingLaws.field-cut, SplittingLaws.rest-cut, SplittingLaws.cut_where}
+use Rattle.text_fields.proofs.{SplittingLaws.parts_at}
 use Rattle.text_fields.proofs.ValueLaws.{no_number}
 use Rattle.text_fields.specs.declared.read.FieldError.{FieldError}
 use Rattle.rv_text.specs.Registers.{abi_name, x_name, lettered, pointer_name, IsNameOf}
-use Rattle.outcome_queries.specs.Watched.{Spells, SpellsRegister, SpellsWord}
-use Rattle.outcome_queries.specs.declared.watched.Watched.{Watched}
-use Rattle.outcome_queries.specs.declared.watched.Watched.TheVariants as watched
+use Rattle.outcome_queries.specs.Watched.{SpellsRegister, SpellsBytes}
+use Rattle.watched_outcomes.specs.declared.watch.{WatchedBytes.WatchedBytes, Width.Width}
+use Rattle.outcome_queries.specs.Widths.{width_text}
+use Rattle.outcome_queries.proofs.Outside.{same_begin}
+use Rattle.std.proofs.lemmas.List.{length-append}
 
 -- a byte that stands in no name, no number and no address
 pub record IsMark (s : ℕ) : Type 0 where
@@ -29,8 +32,8 @@ at_mark = record { digit = refl; hex = refl; letters = refl }
 pub equals_mark : IsMark 61
 equals_mark = record { digit = refl; hex = refl; letters = refl }
 
-pub and_mark : IsMark 38
-and_mark = record { digit = refl; hex = refl; letters = refl }
+pub quote_mark : IsMark 39
+quote_mark = record { digit = refl; hex = refl; letters = refl }
 
 test_lacks : (s : ℕ) (b : Bool) (x y : List ℕ) → Lacks s x → Lacks s y → Lacks s (if b then x else y)
 test_lacks s true x y first second = first
@@ -120,32 +123,40 @@ register_parts text h r is =
     let others : rest 64 text ≡ decimal h = rw is.spelled (rest-cut 64 is.name (decimal h) lacks) in
     (rw first is.names, rw others (decimal_field-decimal 255 h is.in_range (grind arith)))
 
--- the word at an address
-pub word_is : (text : List ℕ) (a : ℕ) → rest 58 text ≡ codes "4" → hex_field 8 (field 58 text) ≡ Ok a
-    → SpellsWord text a
-word_is text a behind read =
-    let some : rest 58 text ≢ [] = λ none. let nothing = rw behind at none in cc in
-    let number = hex_field_only 8 a (field 58 text) read in
-    let cut : text ≡ field 58 text ++ 58 ∷ codes "4" =
-    subst (λ t. text ≡ field 58 text ++ 58 ∷ t) behind (cut_where 58 text some) in
+-- the bytes at an address
+pub bytes_found : (text before : List ℕ) (width : Option Width) (a : ℕ) (w : Width) → text ≡ before ++ width_text width
+    → width ≡ Some w → Ok a ≡ hex_field 8 before → SpellsBytes text (record { address = a; width = w })
+bytes_found text before width a w cut is read =
+    let number = hex_field_only 8 a before (sym read) in
     record {
       in_range = number.0;
-      spelled = subst (λ t. text ≡ t ++ 58 ∷ codes "4") number.1 cut;
+      spelled = cut ∙ ap (λ o. before ++ width_text o) is ∙ ap (λ t. t ++ width_text (Some w)) number.1;
     }
 
-pub word_parts : (text : List ℕ) (a : ℕ) (is : SpellsWord text a)
-    → (rest 58 text ≡ codes "4") × (hex_field 8 (field 58 text) ≡ Ok a)
-word_parts text a is =
-    let lacks : Lacks 58 (hex 8 a) = Lacks-hex 58 8 a refl in
-    let first : field 58 text ≡ hex 8 a = rw is.spelled (field-cut 58 (hex 8 a) (codes "4") lacks) in
-    let others : rest 58 text ≡ codes "4" = rw is.spelled (rest-cut 58 (hex 8 a) (codes "4") lacks) in
-    (others, rw first (hex_field-hex 8 a is.in_range))
+width_long : (w : Width) → length (width_text (Some w)) ≡ 2
+width_long w = refl
 
--- a text that is none of both
-pub spells_none : (text : List ℕ) → ((h r : ℕ) → SpellsRegister text h r → ⊥)
-    → ((a : ℕ) → SpellsWord text a → ⊥) → (one : Watched) → Spells text one → ⊥
-spells_none text no_register no_word (watched.Register h r) is = no_register h r is
-spells_none text no_register no_word (watched.Word a) is = no_word a is
+address_is : (text before : List ℕ) (width : Option Width) (w : Width) (b : WatchedBytes)
+    → text ≡ before ++ width_text width → width ≡ Some w → (is : SpellsBytes text b) → before ≡ hex 8 b.address
+address_is text before width w b cut some is =
+    let whole : text ≡ before ++ width_text (Some w) = cut ∙ ap (λ o. before ++ width_text o) some in
+    let one : length text ≡ length before + 2 = ap length whole ∙ length-append before (width_text (Some w)) in
+    let two : length text ≡ length (hex 8 b.address) + 2 =
+    ap length is.spelled ∙ length-append (hex 8 b.address) (width_text (Some b.width)) in
+    (same_begin before (width_text (Some w)) (hex 8 b.address) (width_text (Some b.width)) (omega (arith, one, two))
+    (sym whole ∙ is.spelled)).0
+
+pub no_width : (text : List ℕ) (width : Option Width) → (width ≡ None → (before : List ℕ) (w : Width)
+    → text ≡ before ++ width_text (Some w) → ⊥) → width ≡ None → (b : WatchedBytes) → SpellsBytes text b → ⊥
+no_width text width lacks none b is = lacks none (hex 8 b.address) b.width is.spelled
+
+pub no_address : (text before : List ℕ) (width : Option Width) (w : Width) (error : FieldError)
+    → text ≡ before ++ width_text width → width ≡ Some w → Err error ≡ hex_field 8 before → (b : WatchedBytes)
+    → SpellsBytes text b → ⊥
+no_address text before width w error cut some read b is =
+    let number : hex_field 8 before ≡ Ok b.address =
+    rw (address_is text before width w b cut some is) (hex_field-hex 8 b.address is.in_range) in
+    let never : Err error ≡ Ok b.address = read ∙ number in cc
 
 -- what the readers' own cuts say of it
 pub no_register_named : (text name : List ℕ) → name ≡ field 64 text → ((r : ℕ) → IsNameOf r name → ⊥)
@@ -163,18 +174,3 @@ pub register_found : (text name hart : List ℕ) (h r : ℕ) → name ≡ field 
     → IsNameOf r name → Ok h ≡ decimal_field 255 hart → SpellsRegister text h r
 register_found text name hart h r first others named read =
     register_is text hart h r others (subst (λ t. IsNameOf r t) first named) (sym read)
-
-pub no_size : (text size : List ℕ) → size ≡ rest 58 text → (size ≡ codes "4" → ⊥)
-    → (a : ℕ) → SpellsWord text a → ⊥
-no_size text size cut other a is = other (cut ∙ (word_parts text a is).0)
-
-pub no_address : (text address : List ℕ) (error : FieldError) → address ≡ field 58 text
-    → Err error ≡ hex_field 8 address → (a : ℕ) → SpellsWord text a → ⊥
-no_address text address error cut read a is =
-    let number : hex_field 8 address ≡ Ok a = rw cut (word_parts text a is).1 in
-    let never : Err error ≡ Ok a = read ∙ number in cc
-
-pub word_found : (text address size : List ℕ) (a : ℕ) → address ≡ field 58 text → size ≡ rest 58 text
-    → size ≡ codes "4" → Ok a ≡ hex_field 8 address → SpellsWord text a
-word_found text address size a first others is read =
-    word_is text a (sym others ∙ is) (rw (← first) (sym read))

@@ -3,14 +3,19 @@ use Rattle.std.specs.Prelude.{◌≡◌, ◌<◌, ℕ, nat_lt, if◌then◌else�
 use Rattle.std.specs.Option.{option_or}
 use Rattle.outcome_queries.specs.declared.{term.Term.Term}
 use Rattle.outcome_queries.specs.declared.term.Term.TheVariants as terms
+use Rattle.outcome_queries.specs.declared.watched.Watched.{Watched}
 use Rattle.outcome_queries.specs.declared.watched.Watched.TheVariants as watched
 
--- The hart that a term names; none where it names a word.
+-- The hart of a register; none of a place in memory.
+abbrev pub hart_watched : Watched → Option ℕ
+hart_watched (watched.Register hart register) = Some hart
+hart_watched (watched.Bytes bytes) = None
+
+-- The hart that a term names; none where it names a place in memory.
 abbrev pub hart_named : Term → Option ℕ
 hart_named (terms.Ended hart number) = Some hart
 hart_named (terms.Stopped hart cause) = Some hart
-hart_named (terms.Holds (watched.Register hart register) value) = Some hart
-hart_named (terms.Holds (watched.Word address) value) = None
+hart_named (terms.Holds asked value) = hart_watched asked.watched
 
 -- The hart, unless it is one of so many.
 abbrev pub unless_there : ℕ → Option ℕ → Option ℕ

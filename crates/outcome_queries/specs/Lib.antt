@@ -1,6 +1,12 @@
+pub mod Asking
+pub mod AtName
 pub mod Harts
 pub mod Holding
 pub mod Lists
+pub mod Naming
+pub mod Placed
+pub mod Quoted
 pub mod Terms
 pub mod Watched
 pub mod Watches
+pub mod Widths

@@ -7,7 +7,7 @@ use crate::term::Term;
 use crate::watched::Watched;
 
 /// The first hart that a condition names and that isn't one of so many; none where each is.
-pub fn absent_hart(terms: &[Term], harts: u8) -> Option<u8>
+pub fn absent_hart(terms: &[Term<'_>], harts: u8) -> Option<u8>
     ensures first { result ≡ absent_hart harts terms.now }
     ensures there { result ≡ None → All (IsHartThere harts) terms.now }
 {
@@ -17,15 +17,15 @@ pub fn absent_hart(terms: &[Term], harts: u8) -> Option<u8>
     }
 }
 
-/// The hart that a term names; none where it names a word.
-fn hart_named(term: Term) -> Option<u8>
-    ensures { result ≡ hart_named term }
+/// The hart that a term names; none where it names a place in memory.
+fn hart_named(term: Term<'_>) -> Option<u8>
+    ensures { result ≡ hart_named term.entry }
 {
     match term {
         Term::Ended { hart, .. } | Term::Stopped { hart, .. } => Some(hart),
-        Term::Holds { watched, .. } => match watched {
+        Term::Holds { asked, .. } => match asked.watched {
             Watched::Register { hart, .. } => Some(hart),
-            Watched::Word(_) => None,
+            Watched::Bytes(_) => None,
         },
     }
 }

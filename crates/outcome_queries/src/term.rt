@@ -1,53 +1,59 @@
-ghost use Rattle.std.specs.Prelude.{◌≡◌, ℕ, [], true, false, codes, IfSome, IfNone};
+ghost use Rattle.std.specs.Prelude.{◌≡◌, ℕ, [], true, false, codes, IfOk, IfErr, IfSome, IfNone};
+ghost use Rattle.symbols.specs.Tables.{table_of};
 ghost use Rattle.outcome_queries.specs.declared.term.Term.{Term as AnyTerm};
-ghost use Rattle.outcome_queries.specs.Terms.{Means, IsOfEnd, IsOfWatched, SpellsTerm, SpellsHart};
-ghost use Rattle.outcome_queries.specs.Terms.{SpellsCause, trimmed};
+ghost use Rattle.outcome_queries.specs.Terms.{Means, IsOfEnd, HoldsNothing, IsNoTerm, SaysTerm, SpellsHart};
+ghost use Rattle.outcome_queries.specs.Terms.{SpellsCause, of_term, trimmed};
 
-use crate::watched::{Watched, read_watched};
+use crate::quoted::split_outside;
+use crate::refused::Expected;
+use crate::watched::{Asked, read_watched};
+use symbols::Symbols;
 use text_fields::{read_decimal, read_value, split_field};
 
 /// What a condition says of an end, in part.
 #[derive(Clone, Copy, Drop)]
-pub enum Term {
+pub enum Term<'a> {
     /// The hart has ended with this number.
     Ended { hart: u8, number: u32 },
     /// The hart has stopped with this cause.
     Stopped { hart: u8, cause: u8 },
-    /// What is watched has this number.
-    Holds { watched: Watched, value: u32 },
+    /// What is asked for has this number.
+    Holds { asked: Asked<'a>, value: u32 },
 }
 
-impl Default for Term {
-    fn default() -> Term {
+impl Default for Term<'_> {
+    fn default() -> Self {
         Term::Ended { hart: 0, number: 0 }
     }
 }
 
-/// What a text says: `h0=1` that a hart ended with a number, `h0=stopped 4` that it stopped with a cause,
-/// `a0@1=2` and `80001000:4=0x2` what is watched. White space may stand around it.
-pub(crate) fn read_term(text: &[u8]) -> Option<Term>
-    ensures found { IfSome result (SpellsTerm text.now) }
-    ensures none { IfNone result ((term : AnyTerm) → SpellsTerm text.now term → ⊥) }
+/// What a text says: `h0=1` that a hart ended with a number, `h0=stopped 4` that it stopped with a cause, `a0@1=2`,
+/// `counter=2` and `80001000:4=0x2` what is watched. White space may stand around it.
+pub(crate) fn read_term<'a>(text: &'a [u8], names: &Symbols<'_>) -> Result<Term<'a>, Expected>
+    ensures found { IfOk result (SaysTerm (table_of names.now) text.now) }
+    ensures refused { IfErr result (IsNoTerm (table_of names.now) text.now) }
 {
-    let (left, right) = split_field(trimmed(text), b'=');
+    let Some((left, right)) = split_outside(trimmed(text), b'=') else {
+        return Err(Expected::Term);
+    };
     match read_end(left, right) {
-        Some(end) => Some(end),
-        None => read_holds(left, right),
+        Some(end) => Ok(end),
+        None => read_holds(left, right, names),
     }
 }
 
 /// The text without the white space around it.
-fn trimmed(text: &[u8]) -> &[u8]
+pub(crate) fn trimmed(text: &[u8]) -> &[u8]
     ensures { result.now ≡ trimmed text.now }
 {
     text.trim_ascii()
 }
 
 /// How a hart ends, of what stands before and behind the equals sign.
-fn read_end(left: &[u8], right: &[u8]) -> Option<Term>
-    ensures found { IfSome result (λ term. IsOfEnd term × Means left.now right.now term) }
+fn read_end<'a>(left: &[u8], right: &[u8]) -> Option<Term<'a>>
+    ensures found { IfSome result (λ term. IsOfEnd term × ((names : _) → Means names left.now right.now term)) }
     ensures none { IfNone result
-        ((term : AnyTerm) → IsOfEnd term → Means left.now right.now term → ⊥) }
+        ((names : _) (term : AnyTerm) → IsOfEnd term → Means names left.now right.now term → ⊥) }
 {
     let Some(hart) = read_hart(left) else {
         return None;
@@ -61,18 +67,34 @@ fn read_end(left: &[u8], right: &[u8]) -> Option<Term>
     }
 }
 
-/// What is watched and its number, of what stands before and behind the equals sign.
-fn read_holds(left: &[u8], right: &[u8]) -> Option<Term>
-    ensures found { IfSome result (λ term. IsOfWatched term × Means left.now right.now term) }
-    ensures none { IfNone result
-        ((term : AnyTerm) → IsOfWatched term → Means left.now right.now term → ⊥) }
+/// What is watched and its number, of what stands before and behind the equals sign. Where both are misspelled, the
+/// term is.
+fn read_holds<'a>(left: &'a [u8], right: &[u8], names: &Symbols<'_>) -> Result<Term<'a>, Expected>
+    ensures found { IfOk result (Means (table_of names.now) left.now right.now) }
+    ensures refused { IfErr result (HoldsNothing (table_of names.now) left.now right.now) }
 {
-    let Some(watched) = read_watched(left) else {
-        return None;
+    let Some(value) = read_value(right) else {
+        return Err(Expected::Term);
     };
-    match read_value(right) {
-        Some(value) => Some(Term::Holds { watched, value }),
-        None => None,
+    match read_watched(left, names) {
+        Ok(watched) => Ok(Term::Holds {
+            asked: Asked {
+                watched,
+                spelled: left,
+            },
+            value,
+        }),
+        Err(expected) => Err(of_term(expected)),
+    }
+}
+
+/// What was expected of a term, where this was expected of what it names.
+fn of_term(expected: Expected) -> Expected
+    ensures { result ≡ of_term expected }
+{
+    match expected {
+        Expected::Watched => Expected::Term,
+        other => other,
     }
 }
 

@@ -5,9 +5,10 @@ use Rattle.std.specs.{Fmt.decimal, List.list_all, List.list_any}
 use Rattle.report_lines.specs.Lines.{count_line}
 use Rattle.outcomes.specs.{Found.Told, Found.Found}
 use Rattle.watched_outcomes.specs.{declared.watch.Watch.Watch}
+use Rattle.outcome_queries.specs.declared.watched.Asked.{Asked}
 use Rattle.outcome_queries.specs.{declared.term.Term.Term, Holding.term_holds}
 use Rattle.text_fields.specs.Each.{each_from}
-use Rattle.outcome_text.specs.Line.{outcome_line}
+use Rattle.outcome_text.specs.{Line.outcome_line, Unwritten.unwritten_text}
 
 -- The condition holds of the outcome: all its terms do.
 abbrev pub holds_of : Watch → List Term → Told → Bool
@@ -35,14 +36,15 @@ ends_text true = codes "stuck\n"
 ends_text false = codes "always can end\n"
 
 -- The whole text: a line for each outcome, how many there are, how many states were looked at, that these
--- are all, and whether there is a state that can't go on to an end.
-abbrev pub told_line : Watch → ℕ → Told → List ℕ
-told_line watch index told = outcome_line watch told.ending
+-- are all, whether there is a state that can't go on to an end, and which places are watched for nothing.
+abbrev pub told_line : List Asked → List Asked → ℕ → Told → List ℕ
+told_line registers words index told = outcome_line registers words told.ending
 
-unfoldable pub outcomes_text : Watch → Found → Bool → List ℕ
-outcomes_text watch found is_stuck = each_from (told_line watch) 0 found.listed
+unfoldable pub outcomes_text : List Asked → List Asked → Found → Bool → List ℕ
+outcomes_text registers words found is_stuck = each_from (told_line registers words) 0 found.listed
     ++ (count_line (codes "outcomes") (length found.listed)
-    ++ (count_line (codes "states") found.states ++ (codes "complete\n" ++ ends_text is_stuck)))
+    ++ (count_line (codes "states") found.states
+    ++ (codes "complete\n" ++ (ends_text is_stuck ++ each_from (unwritten_text found.unwritten) 0 words))))
 
 -- What is printed where there are more states than were to be looked at.
 unfoldable pub incomplete_text : ℕ → List ℕ

@@ -20,7 +20,7 @@ use watched_outcomes::Watch;
 pub fn write_exists<W: Write>(
     outcomes: &Outcomes,
     watch: &Watch,
-    terms: &[Term],
+    terms: &[Term<'_>],
     out: &mut W,
 ) -> io::Result<()>
     ensures { OnOk result (Appends (W.contents out.old) (W.contents out.new)
@@ -37,7 +37,7 @@ pub fn write_exists<W: Write>(
 fn write_yes<W: Write>(
     outcomes: &Outcomes,
     watch: &Watch,
-    terms: &[Term],
+    terms: &[Term<'_>],
     out: &mut W,
 ) -> io::Result<()>
     ensures { OnOk result (Appends (W.contents out.old) (W.contents out.new)
@@ -49,7 +49,7 @@ fn write_yes<W: Write>(
 }
 
 /// Whether a condition holds of an outcome.
-fn holds_of_any(outcomes: &Outcomes, watch: &Watch, terms: &[Term]) -> bool
+fn holds_of_any(outcomes: &Outcomes, watch: &Watch, terms: &[Term<'_>]) -> bool
     ensures { result ≡ list_any (holds_of watch.now terms.now) outcomes.now.listed }
 {
     for index in 0..outcomes.count() {
@@ -61,7 +61,7 @@ fn holds_of_any(outcomes: &Outcomes, watch: &Watch, terms: &[Term]) -> bool
 }
 
 /// Whether a condition holds of the outcome with this index.
-fn holds_at(outcomes: &Outcomes, watch: &Watch, terms: &[Term], index: usize) -> bool
+fn holds_at(outcomes: &Outcomes, watch: &Watch, terms: &[Term<'_>], index: usize) -> bool
     requires { index < length outcomes.now.listed }
     ensures { (told : Told) → slice_get outcomes.now.listed index ≡ Some told
         → result ≡ holds_of watch.now terms.now told }
@@ -75,7 +75,7 @@ fn holds_at(outcomes: &Outcomes, watch: &Watch, terms: &[Term], index: usize) ->
 fn write_places<W: Write>(
     outcomes: &Outcomes,
     watch: &Watch,
-    terms: &[Term],
+    terms: &[Term<'_>],
     out: &mut W,
 ) -> io::Result<()>
     ensures { OnOk result (Appends (W.contents out.old) (W.contents out.new)

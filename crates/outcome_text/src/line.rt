@@ -5,34 +5,39 @@ ghost use Rattle.std.specs.Io.KnownBytes.{Appends};
 ghost use Rattle.arrayvec.specs.ArrayString.{array_string_len};
 ghost use Rattle.text_fields.specs.Spelling.{hex};
 ghost use Rattle.text_fields.specs.Each.{each_from};
-ghost use Rattle.outcome_text.specs.Line.{status_words, status_text, comma_of, semicolon_of};
-ghost use Rattle.outcome_text.specs.Line.{register_text, registers_text, word_text, words_text};
-ghost use Rattle.outcome_text.specs.Line.{word_lead, output_lead, output_text, outcome_line};
+ghost use Rattle.outcome_text.specs.Line.{status_words, status_text, comma_of};
+ghost use Rattle.outcome_text.specs.Line.{column_lead, column_text, columns_text};
+ghost use Rattle.outcome_text.specs.Line.{output_lead, output_text, outcome_line};
 
 use arrayvec::ArrayString;
+use outcome_queries::{Asked, Columns};
 use report_lines::write_bytes;
-use rv_text::push_abi_name;
+use shown_text::write_shown;
 use smt_model::Status;
 use std::io;
 use std::io::Write;
-use text_fields::{push_ascii, push_decimal, push_hex, push_small_number};
-use watched_outcomes::{Outcome, Watch, WatchedRegister};
+use text_fields::{push_ascii, push_decimal};
+use watched_outcomes::Outcome;
 
 /// Room for a part of a line.
 type Part = ArrayString<64>;
 
-/// Writes the line of an outcome: how each hart has ended, what is watched, and the bytes that were put
-/// out, in hexadecimal. What isn't there is left out.
+/// Writes the line of an outcome: how each hart has ended, what is watched by what asked for it, and the bytes that were
+/// put out, in hexadecimal. What isn't there is left out.
 #[tactic(auto, unfolding(crate::specs::Line::outcome_line))]
-pub(crate) fn write_line<W: Write>(watch: &Watch, outcome: &Outcome, out: &mut W) -> io::Result<()>
+pub(crate) fn write_line<W: Write>(
+    columns: &Columns<'_>,
+    outcome: &Outcome,
+    out: &mut W,
+) -> io::Result<()>
     ensures { OnOk result (Appends (W.contents out.old) (W.contents out.new)
-        (outcome_line watch.now outcome.now)) }
+        (outcome_line columns.now.registers.items columns.now.words.items outcome.now)) }
 {
-    let registers = watch.registers.as_slice();
-    let words = watch.words.as_slice();
+    let registers = columns.registers.as_slice();
+    let words = columns.words.as_slice();
     write_statuses(outcome.statuses.as_slice(), out)?;
-    write_registers(registers, outcome.registers.as_slice(), out)?;
-    write_words(registers.len(), words, outcome.words.as_slice(), out)?;
+    write_columns(0, registers, outcome.registers.as_slice(), out)?;
+    write_columns(registers.len(), words, outcome.words.as_slice(), out)?;
     write_output(outcome.output.as_slice(), out)?;
     out.write_all(b"\n")
 }
@@ -82,16 +87,18 @@ fn push_status(part: &mut Part, status: Status)
     }
 }
 
-fn write_registers<W: Write>(
-    registers: &[WatchedRegister],
+/// Writes columns behind so many others.
+fn write_columns<W: Write>(
+    before: usize,
+    columns: &[Asked<'_>],
     numbers: &[u32],
     out: &mut W,
 ) -> io::Result<()>
     ensures { OnOk result (Appends (W.contents out.old) (W.contents out.new)
-        (registers_text registers.now numbers.now)) }
+        (columns_text before columns.now numbers.now)) }
 {
-    for (index, register) in registers.iter().enumerate() {
-        write_register(index, *register, number_at(numbers, index), out)?;
+    for (index, asked) in columns.iter().enumerate() {
+        write_column(before, index, *asked, number_at(numbers, index), out)?;
     }
     Ok(())
 }
@@ -106,77 +113,34 @@ fn number_at(numbers: &[u32], index: usize) -> u32
     0
 }
 
-fn write_register<W: Write>(
+fn write_column<W: Write>(
+    before: usize,
     index: usize,
-    register: WatchedRegister,
+    asked: Asked<'_>,
     number: u32,
     out: &mut W,
 ) -> io::Result<()>
     ensures { OnOk result (Appends (W.contents out.old) (W.contents out.new)
-        (register_text index register number)) }
+        (column_text before index asked.entry number)) }
 {
+    out.write_all(column_lead(before, index).as_bytes())?;
+    write_shown(asked.spelled, out)?;
     let mut part = Part::new();
-    part.push_str(semicolon_of(index));
-    push_abi_name(&mut part, register.register);
-    push_ascii(&mut part, b'@');
-    push_small_number(&mut part, register.hart);
     push_ascii(&mut part, b'=');
-    push_hex(&mut part, number, 8);
+    push_decimal(&mut part, number);
     out.write_all(part.as_bytes())
 }
 
-/// What stands before what is watched.
-fn semicolon_of(index: usize) -> &'static str
-    ensures lead { result.now ≡ semicolon_of index }
-    ensures short { length result.now ≤ 2 }
+/// What stands before a column, behind so many others and those before it.
+#[tactic(auto, unfolding(crate::specs::Line::column_lead))]
+fn column_lead(before: usize, index: usize) -> &'static str
+    ensures { result.now ≡ column_lead before index }
 {
-    if index == 0 { "; " } else { ", " }
-}
-
-/// Writes words behind so many registers.
-fn write_words<W: Write>(
-    registers: usize,
-    addresses: &[u32],
-    numbers: &[u32],
-    out: &mut W,
-) -> io::Result<()>
-    ensures { OnOk result (Appends (W.contents out.old) (W.contents out.new)
-        (words_text registers addresses.now numbers.now)) }
-{
-    for (index, address) in addresses.iter().enumerate() {
-        write_word(registers, index, *address, number_at(numbers, index), out)?;
+    if before == 0 && index == 0 {
+        "; "
+    } else {
+        ", "
     }
-    Ok(())
-}
-
-fn write_word<W: Write>(
-    registers: usize,
-    index: usize,
-    address: u32,
-    number: u32,
-    out: &mut W,
-) -> io::Result<()>
-    ensures { OnOk result (Appends (W.contents out.old) (W.contents out.new)
-        (word_text registers index address number)) }
-{
-    let mut part = Part::new();
-    part.push_str(word_lead(registers, index));
-    push_hex(&mut part, address, 8);
-    push_ascii(&mut part, b'=');
-    push_hex(&mut part, number, 8);
-    out.write_all(part.as_bytes())
-}
-
-/// What stands before a word, behind so many registers.
-#[tactic(auto, unfolding(crate::specs::Line::word_lead))]
-fn word_lead(registers: usize, index: usize) -> &'static str
-    ensures lead { result.now ≡ word_lead registers index }
-    ensures short { length result.now ≤ 2 }
-{
-    if registers == 0 {
-        return semicolon_of(index);
-    }
-    semicolon_of(registers)
 }
 
 fn write_output<W: Write>(output: &[u8], out: &mut W) -> io::Result<()>

@@ -7,32 +7,34 @@ ghost use Rattle.text_fields.specs.Each.{each_from};
 ghost use Rattle.outcome_text.specs.Listing.{told_line, ends_text, outcomes_text, incomplete_text};
 
 use crate::line::write_line;
+use crate::unwritten::write_unwritten;
 use arrayvec::ArrayString;
+use outcome_queries::Columns;
 use outcomes::Outcomes;
 use report_lines::report_count;
 use std::io;
 use std::io::Write;
 use text_fields::push_decimal;
-use watched_outcomes::Watch;
 
-/// Writes all outcomes of a program, of which these registers and words were watched: a line for each, how
-/// many there are, how many states were looked at, and whether one of them can't go on to an end. Where it
-/// answers Ok, it has written exactly these lines.
+/// Writes all outcomes of a program, of which this was watched: a line for each, how
+/// many there are, how many states were looked at, whether one of them can't go on to an end, and a line for each
+/// place in memory that is watched for nothing. Where it answers Ok, it has written exactly these lines.
 #[tactic(auto, unfolding(crate::specs::Listing::outcomes_text))]
 pub fn write_outcomes<W: Write>(
     outcomes: &Outcomes,
-    watch: &Watch,
+    columns: &Columns<'_>,
     is_stuck: bool,
     out: &mut W,
 ) -> io::Result<()>
     ensures { OnOk result (Appends (W.contents out.old) (W.contents out.new)
-        (outcomes_text watch.now outcomes.now is_stuck)) }
+        (outcomes_text columns.now.registers.items columns.now.words.items outcomes.now is_stuck)) }
 {
-    write_lines(outcomes, watch, out)?;
+    write_lines(outcomes, columns, out)?;
     report_count("outcomes", outcomes.count() as u64, out)?;
     report_count("states", u64::from(outcomes.states()), out)?;
     out.write_all(b"complete\n")?;
-    out.write_all(ends_text(is_stuck).as_bytes())
+    out.write_all(ends_text(is_stuck).as_bytes())?;
+    write_unwritten(outcomes, columns.words.as_slice(), out)
 }
 
 /// Writes that there are more states than these, which were to be looked at.
@@ -57,12 +59,12 @@ fn ends_text(is_stuck: bool) -> &'static str
     }
 }
 
-fn write_lines<W: Write>(outcomes: &Outcomes, watch: &Watch, out: &mut W) -> io::Result<()>
+fn write_lines<W: Write>(outcomes: &Outcomes, columns: &Columns<'_>, out: &mut W) -> io::Result<()>
     ensures { OnOk result (Appends (W.contents out.old) (W.contents out.new)
-        (each_from (told_line watch.now) 0 outcomes.now.listed)) }
+        (each_from (told_line columns.now.registers.items columns.now.words.items) 0 outcomes.now.listed)) }
 {
     for index in 0..outcomes.count() {
-        write_line_at(outcomes, watch, index, out)?;
+        write_line_at(outcomes, columns, index, out)?;
     }
     Ok(())
 }
@@ -70,16 +72,16 @@ fn write_lines<W: Write>(outcomes: &Outcomes, watch: &Watch, out: &mut W) -> io:
 /// Writes the line of the outcome with this index.
 fn write_line_at<W: Write>(
     outcomes: &Outcomes,
-    watch: &Watch,
+    columns: &Columns<'_>,
     index: usize,
     out: &mut W,
 ) -> io::Result<()>
     requires { index < length outcomes.now.listed }
     ensures { OnOk result ((told : Told) → slice_get outcomes.now.listed index ≡ Some told
-        → Appends (W.contents out.old) (W.contents out.new) (told_line watch.now index told)) }
+        → Appends (W.contents out.old) (W.contents out.new) (told_line columns.now.registers.items columns.now.words.items index told)) }
 {
     match outcomes.outcome(index) {
-        Some(outcome) => write_line(watch, outcome, out),
+        Some(outcome) => write_line(columns, outcome, out),
         None => Ok(()),
     }
 }

@@ -1,18 +1,18 @@
 -- Every core that runs a program to its end ends as some order of the plain machine does.
 use Rattle.std.specs.Prelude.{◌≡◌, ℕ, ◌<◌, Bool, true, false, ◌&&◌, nat_lt, List, Some, map, option_map, reverse, unwrap_or, slice_get}
-use Rattle.std.proofs.Common.{◌∙◌, refl, sym, ap, ap₂, subst, inl, inr, arith}
+use Rattle.std.proofs.Common.{◌∙◌, refl, sym, ap, ap₂, inl, inr, arith}
 use Rattle.std.proofs.{lemmas.Bool.cases_Bool, lemmas.Bool.Decides.nat_tests, Math.Path.fun_ext}
 use Rattle.events.specs.declared.event.Event.{Event}
-use Rattle.smt_model.specs.{Setup.Setup, Plain.Plain, Plain.Run, Plain.run, Plain.start, Plain.is_going_status}
+use Rattle.smt_model.specs.{Setup.Setup, Plain.Run, Plain.start, Plain.is_going_status}
 use Rattle.smt_model.specs.{declared.config.Status.Status}
-use Rattle.smt_model.specs.{Basics.below, Bytes.number_at, Rules.is_legal, Account.order}
-use Rattle.smt_model.specs.Memory.{byte_at, output, status}
+use Rattle.smt_model.specs.{Basics.below, Bytes.number_at, Account.order}
+use Rattle.smt_model.specs.Memory.{output}
 use Rattle.smt_laws.specs.Sequential.{IsSequential, EachIsSequential}
-use Rattle.outcome_laws.specs.Paths.{path, can_step, IsEnd, RunsArePaths}
+use Rattle.outcome_laws.specs.Paths.{path, IsEnd, RunsArePaths}
 use Rattle.watched_outcomes.specs.declared.watch.{Watch.Watch, WatchedRegister.WatchedRegister}
-use Rattle.watched_outcomes.specs.{Endings.Ending, Endings.ending_of, Endings.watched_in, Endings.word_in, Watching.AreThere}
-use Rattle.watched_outcomes.specs.{Watching.is_register_there}
-use Rattle.outcomes.specs.Found.{Found, EndsSo, ListsAll, AllAreOver, CoversCores, committed_in, core_word, core_ending}
+use Rattle.watched_outcomes.specs.{Endings.Ending, Endings.ending_of, Endings.watched_in, Watching.AreThere}
+use Rattle.watched_outcomes.specs.{declared.watch.WatchedBytes.WatchedBytes, Watching.bytes_of}
+use Rattle.outcomes.specs.Found.{Found, ListsAll, AllAreOver, CoversCores, committed_in, core_word, core_ending}
 use Rattle.outcomes.proofs.{Endings.map_members, Graph.none_behind}
 
 last_false : (a b : Bool) → b ≡ false → (a && b) ≡ false
@@ -40,7 +40,7 @@ module _ (setup : Setup) (watch : Watch) (there : AreThere setup.harts watch) (p
       (sym (fun_ext is.statuses))
       (sym (map_members (watched_in is.ran.state) (committed_in setup past) watch.registers.items register_same))
       ∙ ap₂ (λ (b : ℕ → ℕ) o. made (map is.ran.state.statuses (below setup.harts))
-      (map (watched_in is.ran.state) watch.registers.items) (map (λ a. number_at b a 4) watch.words.items) o)
+      (map (watched_in is.ran.state) watch.registers.items) (map (λ (w : WatchedBytes). number_at b w.address (bytes_of w.width)) watch.words.items) o)
       (sym (fun_ext is.bytes)) (sym is.output)
 
   pub end_of_core : AllAreOver setup past → IsEnd setup is.ran.state

@@ -1,14 +1,14 @@
 -- Alike states end alike.
-use Rattle.std.specs.Prelude.{◌≡◌, ℕ, suc, ◌<◌, Bool, true, ◌&&◌, ◌||◌, nat_lt, List, [], ◌∷◌, map, Some, slice_get}
-use Rattle.std.specs.List.{slice_index_or}
-use Rattle.std.proofs.Common.{◌∙◌, refl, sym, ap, ap₂, subst, arith}
+use Rattle.std.specs.Prelude.{◌≡◌, ℕ, suc, ◌<◌, Bool, true, List, [], ◌∷◌, map, Some, slice_get}
+use Rattle.std.proofs.Common.{◌∙◌, refl, ap₂, arith}
 use Rattle.std.proofs.{lemmas.Bool.Decides.nat_tests, Math.Path.fun_ext}
 use Rattle.smt_model.specs.{declared.config.Status.Status}
 use Rattle.smt_model.specs.{Basics.below, Plain.Plain, Bytes.number_at}
 use Rattle.outcome_laws.specs.Live.{AreAlike}
 use Rattle.condensed_machine.specs.Resting.{is_watched}
 use Rattle.watched_outcomes.specs.declared.{watch.Watch.Watch, watch.WatchedRegister.WatchedRegister}
-use Rattle.watched_outcomes.specs.{Endings.Ending, Endings.ending_of, Endings.watched_in, Endings.word_in}
+use Rattle.watched_outcomes.specs.{Endings.ending_of, Endings.watched_in, Endings.word_in}
+use Rattle.watched_outcomes.specs.{declared.watch.WatchedBytes.WatchedBytes, Watching.bytes_of}
 use Rattle.outcomes.specs.{Refusals.AreWatched}
 use Rattle.watched_outcomes.specs.{Watching.AreThere, Watching.is_register_there}
 
@@ -32,7 +32,7 @@ parts_same h watch s t statuses registers bytes output =
     ∙ ap₂ (λ (b : ℕ → ℕ) o. record {
       statuses = map t.statuses (below h);
       registers = map (watched_in t) watch.registers.items;
-      words = map (λ a. number_at b a 4) watch.words.items;
+      words = map (λ (w : WatchedBytes). number_at b w.address (bytes_of w.width)) watch.words.items;
       output = o;
     }) bytes output
 

@@ -1,22 +1,22 @@
 -- The graph of a search is enough: its ends are all there are, and the orders of its origins lead to its states.
-use Rattle.std.specs.Prelude.{◌≡◌, ◌⊎◌, ℕ, zero, suc, ◌+◌, ◌<◌, ◌≤◌, Bool, true, false, ◌&&◌, nat_lt, if◌then◌else◌}
+use Rattle.std.specs.Prelude.{◌≡◌, ◌⊎◌, ℕ, zero, suc, ◌<◌, Bool, true, false, ◌&&◌, nat_lt, if◌then◌else◌}
 use Rattle.std.specs.Prelude.{List, [], ◌∷◌, ◌++◌, replicate, length, Option, Some, None, option_map, slice_get, Contains}
-use Rattle.std.proofs.Common.{◌∙◌, refl, sym, ap, ap₂, subst, inl, inr, arith}
+use Rattle.std.proofs.Common.{refl, sym, ap, subst, inl, inr, arith}
 use Rattle.std.proofs.lemmas.Bool.{cases_Bool, Decides.nat_tests}
 use Rattle.std.proofs.lemmas.Option.{slice_get_within, slice_get_cases}
 use Rattle.std.proofs.lemmas.List.{append-nil, append_assoc}
 use Rattle.smt_model.specs.{Setup.Setup, Plain.Plain, Plain.start}
 use Rattle.live_registers.specs.Table.{live_of}
-use Rattle.outcome_laws.specs.{Paths.can_step, Paths.stepped, Paths.path, Paths.IsEnd, Paths.HasItsCode}
+use Rattle.outcome_laws.specs.{Paths.can_step, Paths.path, Paths.IsEnd, Paths.HasItsCode}
 use Rattle.outcome_laws.specs.{Live.AreAlike, Live.IsLiveTable}
-use Rattle.outcome_laws.specs.Search.{Settles, Visited, IsWay, GoesOn, IsEnough, HasWay, SettlesAt, IsReached, CanEnd}
+use Rattle.outcome_laws.specs.Search.{Visited, IsWay, GoesOn, IsEnough, HasWay, SettlesAt, IsReached, CanEnd}
 use Rattle.outcome_laws.proofs.Holding.{has_alike, has_path, paths_keep_code}
 use Rattle.outcome_laws.proofs.Search.{flip, local_leads, what_settles_is_reached, no_end_is_reached}
 use Rattle.outcome_laws.proofs.Settling.{end_alike, each_can_end}
 use Rattle.searches.specs.Found.{Found, IsGraph, IsEdge, Follows, edge_at, moves_at}
 use Rattle.searches.specs.{Orders.Leads, Ending.CanEnd as GraphCanEnd, Ending.IsLeastStuck}
-use Rattle.searches.specs.declared.{moves.Move.Move, step.Step.Step}
-use Rattle.searches.proofs.Places.{same_element, contains_at, place_of}
+use Rattle.searches.specs.declared.{moves.Move.Move}
+use Rattle.searches.proofs.Places.{same_element}
 use Rattle.condensed_machine.specs.{Machine.Machine, Machine.IsSound, Resting.is_watched, Decoded.state_of}
 use Rattle.condensed_machine.specs.Steps.{Steps, MakesStep, HasBegun, turns}
 use Rattle.condensed_machine.specs.declared.{begun.Begun.Begun, state.State.State}

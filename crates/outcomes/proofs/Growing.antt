@@ -1,7 +1,6 @@
 -- A machine that has learned has begun as it had.
-use Rattle.std.specs.Prelude.{◌≡◌, ℕ}
 use Rattle.std.proofs.Common.{sym, subst}
-use Rattle.smt_model.specs.{Setup.Setup, Plain.start}
+use Rattle.smt_model.specs.{Plain.start}
 use Rattle.condensed_machine.specs.Machine.{Machine, Program, Grows, InEachSetup}
 use Rattle.condensed_machine.specs.{Decoded.state_of, Decoded.Knows, Learning.state_same}
 use Rattle.condensed_machine.specs.Steps.{SettlesBy, HasBegun, turns}

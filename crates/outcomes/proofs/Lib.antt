@@ -4,6 +4,7 @@ mod Endings
 mod Watching
 mod Growing
 mod Collected
+mod Throughout
 mod Telling
 mod Cores
 mod Reading

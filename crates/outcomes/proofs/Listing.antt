@@ -8,7 +8,6 @@ use Rattle.std.proofs.lemmas.Option.{slice_get-map, slice_get-get_or, get_or_fro
 use Rattle.std.proofs.lemmas.List.{length-map}
 use Rattle.searches.proofs.Places.{contains_at, place_of}
 use Rattle.outcomes.specs.{Found.Told, Lists.HasEnding, Lists.IsPut, Lists.AreOnce}
-use Rattle.watched_outcomes.specs.{Endings.Ending}
 use Rattle.outcomes.specs.declared.listed.Listed.{Listed}
 
 pub contains_map : {X Y : Type 0} (f : X → Y) (xs : List X) (x : X) → Contains xs x → Contains (map f xs) (f x)

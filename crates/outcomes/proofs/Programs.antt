@@ -2,7 +2,6 @@
 use Rattle.std.specs.Prelude.{◌≡◌, ℕ, Result, Ok, Err, IfOk, IfErr}
 use Rattle.std.proofs.Common.{sym, subst}
 use Rattle.elf_image.specs.Image.{ProgramImage}
-use Rattle.condensed_machine.specs.Machine.{Program}
 use Rattle.watched_outcomes.specs.declared.{watch.Watch.Watch}
 use Rattle.outcomes.specs.declared.refused.OutcomesRefused.{OutcomesRefused}
 use Rattle.outcomes.specs.declared.refused.OutcomesRefused.TheVariants.{Memory}

@@ -1,7 +1,6 @@
 -- What is read of the outcomes found.
-use Rattle.std.specs.Prelude.{◌≡◌, ℕ, ◌<◌, List, map, length, Option, Some, option_map, slice_get, slice_index_or}
-use Rattle.std.specs.Prelude.{Contains, Result, Ok, Err, IfOk}
-use Rattle.std.proofs.Common.{◌∙◌, refl, sym, ap, subst, arith}
+use Rattle.std.specs.Prelude.{◌≡◌, ℕ, ◌<◌, length, Some, option_map, slice_get, slice_index_or}
+use Rattle.std.proofs.Common.{◌∙◌, sym, ap, arith}
 use Rattle.std.proofs.lemmas.List.{length-map}
 use Rattle.std.proofs.lemmas.Option.{slice_get-map, slice_get-get_or}
 use Rattle.outcomes.specs.declared.{listed.Listed.Listed, outcomes.Outcomes.TheInside.Inside}

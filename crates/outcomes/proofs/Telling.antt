@@ -1,6 +1,6 @@
 -- What a search has found is all that there is.
-use Rattle.std.specs.Prelude.{◌≡◌, ℕ, ◌<◌, List, Contains, Option, Some, None, IfSome, map, option_map, length}
-use Rattle.std.proofs.Common.{◌∙◌, refl, sym, ap, subst}
+use Rattle.std.specs.Prelude.{◌≡◌, ℕ, ◌<◌, Bool, List, Option, Some, None, IfSome, map, option_map, length}
+use Rattle.std.proofs.Common.{◌∙◌, sym, ap, subst}
 use Rattle.smt_model.specs.{Setup.Setup, Plain.Plain, Plain.start}
 use Rattle.outcome_laws.specs.Paths.{IsEnd}
 use Rattle.outcome_laws.proofs.Holding.{paths_keep_code}
@@ -14,10 +14,10 @@ use Rattle.outcomes.specs.declared.{listed.Listed.Listed}
 use Rattle.watched_outcomes.specs.declared.{watch.Watch.Watch}
 use Rattle.outcomes.specs.{Lists.HasEnding, Refusals.AreWatched}
 use Rattle.watched_outcomes.specs.{Endings.Ending, Endings.ending_of, Watching.AreThere}
-use Rattle.outcomes.specs.Collected.{ending_at, IsOfEnd, AreOutcomes}
+use Rattle.outcomes.specs.Collected.{ending_at, is_unwritten, IsOfEnd, AreOutcomes}
 use Rattle.outcomes.specs.Found.{Found, Told, EndsSo, HasOutcome, ListsAll, IsSound, IsExactList}
 use Rattle.outcomes.specs.Told.{told_of, order_at}
-use Rattle.outcomes.proofs.{Listing.contains_map, Listing.mapped_from, Endings.alike_ends}
+use Rattle.outcomes.proofs.{Listing.contains_map, Listing.mapped_from, Endings.alike_ends, Throughout.unwritten_told}
 use Rattle.outcomes.proofs.Graph.{watched, live, visited, table, enough, start_settles, state_at, is_listed, is_end}
 use Rattle.outcomes.proofs.Graph.{reached, stuck_told}
 
@@ -26,12 +26,14 @@ module _ (setup : Setup) (m : Machine) (begun : Begun) (graph_of : Graph State �
     (image : setup.image ≡ m.program.image) (harts : setup.harts ≡ m.program.harts)
     (watch : Watch) (marked : AreWatched m.program.watched watch) (there : AreThere m.program.harts watch)
     (listed : List Listed) (outcomes : AreOutcomes m watch graph_of.states graph_of.ends listed)
-    (stuck : Option ℕ) (least : IsLeastStuck graph_of stuck) where
+    (stuck : Option ℕ) (least : IsLeastStuck graph_of stuck) (unwritten : List Bool)
+    (are : unwritten ≡ map (is_unwritten m graph_of.states) watch.words.items) where
   abbrev found : Found
   found = record {
     listed = map (told_of begun.ways m.program.harts graph_of.origins) listed;
     states = length graph_of.states;
     stuck = option_map (order_at begun.ways m.program.harts graph_of.origins) stuck;
+    unwritten = unwritten;
   }
 
   same_harts : (s : Plain) → ending_of setup.harts watch s ≡ ending_of m.program.harts watch s
@@ -97,6 +99,7 @@ module _ (setup : Setup) (m : Machine) (begun : Begun) (graph_of : Graph State �
     complete = complete;
     sound = is_sound;
     stuck = stuck_told setup m begun graph_of sound graph begins image harts stuck least;
+    unwritten = unwritten_told setup m begun graph_of sound graph begins image harts watch unwritten are;
   }
 
 -- It is so for whoever counts the harts alike.
@@ -105,19 +108,24 @@ pub all_told : (setup : Setup) (m : Machine) (begun : Begun) (graph_of : Graph S
     → setup.harts ≡ m.program.harts → (watch : Watch) → AreWatched m.program.watched watch
     → AreThere m.program.harts watch → (listed : List Listed)
     → AreOutcomes m watch graph_of.states graph_of.ends listed → (stuck : Option ℕ) → IsLeastStuck graph_of stuck
+    → (unwritten : List Bool) → unwritten ≡ map (is_unwritten m graph_of.states) watch.words.items
     → (n : ℕ) → n ≡ m.program.harts
     → IsExactList setup watch (record {
       listed = map (told_of begun.ways n graph_of.origins) listed;
       states = length graph_of.states;
       stuck = option_map (order_at begun.ways n graph_of.origins) stuck;
+      unwritten = unwritten;
     })
-all_told setup m begun graph_of sound graph begins image harts watch marked there listed outcomes stuck least n same =
+all_told setup m begun graph_of sound graph begins image harts watch marked there listed outcomes stuck least unwritten
+    are n same =
     subst (λ k. IsExactList setup watch (record {
       listed = map (told_of begun.ways k graph_of.origins) listed;
       states = length graph_of.states;
       stuck = option_map (order_at begun.ways k graph_of.origins) stuck;
+      unwritten = unwritten;
     })) (sym same)
-    (are_all setup m begun graph_of sound graph begins image harts watch marked there listed outcomes stuck least)
+    (are_all setup m begun graph_of sound graph begins image harts watch marked there listed outcomes stuck least
+    unwritten are)
 
 pub stuck_inside : (graph_of : Graph State ℕ) (stuck : Option ℕ) → IsLeastStuck graph_of stuck
     → IfSome stuck (λ place. place < length graph_of.states)

@@ -1,10 +1,11 @@
--- The outcomes of a search's ends.
-use Rattle.std.specs.Prelude.{◌≡◌, ℕ, List, Contains, Some, slice_get}
+-- The outcomes of a search's ends, and what its states have in memory.
+use Rattle.std.specs.Prelude.{◌≡◌, ℕ, ◌==◌, Bool, List, Contains, Some, slice_get}
+use Rattle.std.specs.List.{list_all}
 use Rattle.condensed_machine.specs.{Machine.Machine, Decoded.state_of, declared.state.State.State}
 use Rattle.outcomes.specs.declared.{listed.Listed.Listed}
-use Rattle.watched_outcomes.specs.declared.{watch.Watch.Watch}
+use Rattle.watched_outcomes.specs.declared.{watch.Watch.Watch, watch.WatchedBytes.WatchedBytes}
 use Rattle.outcomes.specs.{Lists.HasEnding}
-use Rattle.watched_outcomes.specs.{Endings.Ending, Endings.ending_of}
+use Rattle.watched_outcomes.specs.{Endings.Ending, Endings.ending_of, Endings.word_in}
 
 -- What a state is as an end.
 abbrev pub ending_at : Machine → Watch → State → Ending
@@ -23,3 +24,10 @@ pub record AreOutcomes (m : Machine) (watch : Watch) (states : List State) (ends
   pub all : (place : ℕ) (s : State) → Contains ends place → slice_get states place ≡ Some s
       → HasEnding listed (ending_at m watch s)
   pub each : (l : Listed) → Contains listed l → IsOfEnd m watch states ends l
+
+-- 0 is at a place in a state; and in all of them.
+abbrev pub is_zero : Machine → WatchedBytes → State → Bool
+is_zero m w s = word_in (state_of m s) w == 0
+
+abbrev pub is_unwritten : Machine → List State → WatchedBytes → Bool
+is_unwritten m states w = list_all (is_zero m w) states

@@ -1,7 +1,8 @@
 -- What a search for all outcomes finds, and what is claimed of it. [Lamport 1979: the ends are those of all
 -- orders of whole instructions; Clarke, Grumberg and Peled 1999, "Model Checking": all of them, by a search
 -- over the states]
-use Rattle.std.specs.Prelude.{◌≡◌, ◌≢◌, ℕ, ◌<◌, false, List, Contains, AllPairs, Option, Some, None, map, unwrap_or}
+use Rattle.std.specs.Prelude.{◌≡◌, ◌≢◌, ℕ, ◌<◌, Bool, true, false, List, Contains, AllPairs, Option, Some, None, map}
+use Rattle.std.specs.Prelude.{unwrap_or, length, slice_get, slice_index_or}
 use Rattle.elf_image.specs.Image.{ProgramImage}
 use Rattle.events.specs.declared.event.Event.{Event}
 use Rattle.smt_model.specs.{Setup.Setup, Plain.Plain, Plain.start, Plain.is_going_status, Rules.is_legal}
@@ -9,19 +10,21 @@ use Rattle.smt_model.specs.{Basics.below, Bytes.number_at, Registers.committed, 
 use Rattle.smt_model.specs.Memory.{byte_at, output, status}
 use Rattle.outcome_laws.specs.{Paths.path, Paths.IsEnd, Search.CanEnd}
 use Rattle.watched_outcomes.specs.declared.{watch.Watch.Watch, watch.WatchedRegister.WatchedRegister}
-use Rattle.watched_outcomes.specs.Endings.{Ending, ending_of}
+use Rattle.watched_outcomes.specs.{declared.watch.WatchedBytes.WatchedBytes, Watching.bytes_of}
+use Rattle.watched_outcomes.specs.Endings.{Ending, ending_of, word_in}
 
 -- An outcome, and an order of harts that leads to it, the first step first.
 pub record Told : Type 0 where
   pub ending : Ending
   pub order : List ℕ
 
--- The outcomes, how many states were visited, and an order to a state that has no way to an end, where
--- there is one.
+-- The outcomes, how many states were visited, an order to a state that has no way to an end, where there is one,
+-- and of each place in memory that is watched whether it is unwritten.
 pub record Found : Type 0 where
   pub listed : List Told
   pub states : ℕ
   pub stuck : Option (List ℕ)
+  pub unwritten : List Bool
 
 -- It is so of each setup with this image and so many harts.
 abbrev pub InEachSetup : ProgramImage → ℕ → (Setup → Type 0) → Type 0
@@ -56,11 +59,26 @@ IsStuckTold setup None = (order : List ℕ) (s : Plain) → path setup order (st
 IsStuckTold setup (Some order) =
     (s : Plain) × (path setup order (start setup) ≡ Some s) × (CanEnd setup s → ⊥)
 
+-- A place is unwritten: 0 is there in whatever state an order leads to, so at the start, and none writes another number.
+-- Or it isn't: some order leads to a state with another one.
+abbrev pub IsUnwrittenTold : Setup → WatchedBytes → Bool → Type 0
+IsUnwrittenTold setup w true =
+    (order : List ℕ) (s : Plain) → path setup order (start setup) ≡ Some s → word_in s w ≡ 0
+IsUnwrittenTold setup w false =
+    (order : List ℕ) × (s : Plain) × (path setup order (start setup) ≡ Some s) × (word_in s w ≢ 0)
+
+-- So it is told of each that is watched.
+pub record AreUnwrittenTold (setup : Setup) (watch : Watch) (unwritten : List Bool) : Type 0 where
+  pub long : length unwritten ≡ length watch.words.items
+  pub each : (k : ℕ) (w : WatchedBytes) → slice_get watch.words.items k ≡ Some w
+      → IsUnwrittenTold setup w (slice_index_or unwritten k false)
+
 -- All of it.
 pub record IsExactList (setup : Setup) (watch : Watch) (found : Found) : Type 0 where
   pub complete : ListsAll setup watch found
   pub sound : IsSound setup watch found
   pub stuck : IsStuckTold setup found.stuck
+  pub unwritten : AreUnwrittenTold setup watch found.unwritten
 
 -- ---- A core
 
@@ -72,8 +90,8 @@ AllAreOver setup past = (h : ℕ) → h < setup.harts → is_going_status (statu
 abbrev pub committed_in : Setup → List Event → WatchedRegister → ℕ
 committed_in setup past w = unwrap_or (value setup past (committed past w.hart w.register)) 0
 
-abbrev pub core_word : Setup → List Event → ℕ → ℕ
-core_word setup past addr = number_at (byte_at setup past) addr 4
+abbrev pub core_word : Setup → List Event → WatchedBytes → ℕ
+core_word setup past w = number_at (byte_at setup past) w.address (bytes_of w.width)
 
 abbrev pub core_ending : Setup → Watch → List Event → Ending
 core_ending setup watch past = record {

@@ -1,5 +1,5 @@
 -- Lists of outcomes.
-use Rattle.std.specs.Prelude.{◌≡◌, ◌≢◌, ◌⊎◌, ℕ, List, Contains, AllPairs}
+use Rattle.std.specs.Prelude.{◌≡◌, ◌≢◌, ◌⊎◌, List, Contains, AllPairs}
 use Rattle.watched_outcomes.specs.{Endings.Ending}
 use Rattle.outcomes.specs.declared.listed.Listed.{Listed}
 

@@ -1,6 +1,5 @@
 -- When outcomes aren't found.
-use Rattle.std.specs.Prelude.{◌≡◌, ◌≢◌, ℕ, ◌<◌, true, false, List, Bool, None, Some, length, slice_get, slice_index}
-use Rattle.std.specs.Prelude.{slice_index_or}
+use Rattle.std.specs.Prelude.{◌≡◌, ℕ, ◌<◌, true, false, List, Bool, None, Some, slice_get, slice_index_or}
 use Rattle.elf_image.specs.Image.{ProgramImage}
 use Rattle.smt_model.specs.Faults.{read_fault}
 use Rattle.sc_machine.specs.Steps.{are_harts}
@@ -11,22 +10,25 @@ use Rattle.condensed_machine.specs.declared.begun.Begun.{Begun}
 use Rattle.watched_outcomes.specs.declared.{watch.Watch.Watch, watch.WatchedRegister.WatchedRegister}
 use Rattle.outcomes.specs.declared.refused.OutcomesRefused.{OutcomesRefused}
 use Rattle.outcomes.specs.declared.refused.OutcomesRefused.TheVariants.{Harts, Register, Word, Budget, Memory}
-use Rattle.watched_outcomes.specs.Watching.{IsAbsentRegister}
+use Rattle.watched_outcomes.specs.declared.watch.WatchedBytes.{WatchedBytes}
+use Rattle.watched_outcomes.specs.Watching.{IsAbsentRegister, bytes_of}
 
--- A word can be loaded at each address that is watched.
+-- These bytes can be loaded; and so can all that are watched.
+abbrev pub CanLoad : ProgramImage → WatchedBytes → Type 0
+CanLoad image w = read_fault image w.address (bytes_of w.width) ≡ None
+
 abbrev pub AreWords : ProgramImage → Watch → Type 0
-AreWords image watch = (k : ℕ) → k < length watch.words.items
-    → read_fault image (slice_index watch.words.items k) 4 ≡ None
+AreWords image watch = (k : ℕ) (w : WatchedBytes) → slice_get watch.words.items k ≡ Some w → CanLoad image w
 
 -- The number of each watched register is marked.
 abbrev pub AreWatched : List Bool → Watch → Type 0
 AreWatched watched watch = (k : ℕ) (w : WatchedRegister) → slice_get watch.registers.items k ≡ Some w
     → w.register < 32 → slice_index_or watched w.register false ≡ true
 
--- No word can be loaded at the address that is watched at an index.
+-- The bytes can't be loaded that are watched at an index.
 abbrev pub IsAbsentWord : ProgramImage → Watch → ℕ → Type 0
 IsAbsentWord image watch index =
-    (index < length watch.words.items) × (read_fault image (slice_index watch.words.items index) 4 ≢ None)
+    (w : WatchedBytes) × (slice_get watch.words.items index ≡ Some w) × (CanLoad image w → ⊥)
 
 -- More states than the budget, pairwise different, can be reached.
 abbrev pub IsBeyond : ProgramImage → ℕ → ℕ → Type 0

@@ -1,5 +1,5 @@
 -- What callers see of the outcomes that a search has found.
-use Rattle.std.specs.Prelude.{◌≡◌, ℕ, ◌<◌, ◌≤◌, List, ◌∷◌, ◌++◌, Contains, replicate, map, flat_map, length}
+use Rattle.std.specs.Prelude.{ℕ, ◌<◌, ◌≤◌, List, ◌∷◌, ◌++◌, Contains, replicate, map, flat_map, length}
 use Rattle.std.specs.Prelude.{option_map, slice_get, IfSome, Option}
 use Rattle.numbers.specs.Sizes.{most_harts}
 use Rattle.searches.specs.declared.{moves.Move.Move, origin.Origin.Origin}
@@ -27,6 +27,7 @@ found_of a = record {
   listed = map (told_of a.ways a.harts a.search.origins) a.listed.items;
   states = length a.search.states;
   stuck = option_map (order_at a.ways a.harts a.search.origins) a.stuck;
+  unwritten = a.unwritten.items;
 }
 
 -- The states are there, of which it tells.

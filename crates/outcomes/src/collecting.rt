@@ -1,10 +1,10 @@
 //! The outcomes of the ends that a search has found.
 
-ghost use Rattle.std.specs.Prelude.{◌≡◌, ◌<◌, ℕ, Contains, None, IfOk, length, slice_index, map};
+ghost use Rattle.std.specs.Prelude.{◌≡◌, ◌<◌, ℕ, Contains, None, IfOk, map};
 ghost use Rattle.smt_model.specs.Basics.{below};
 ghost use Rattle.condensed_machine.specs.Decoded.{Knows, state_of};
 ghost use Rattle.condensed_machine.specs.declared.state.State.{State};
-ghost use Rattle.smt_model.specs.Faults.{read_fault};
+ghost use Rattle.outcomes.specs.Refusals.{AreWords};
 ghost use Rattle.outcomes.specs.{Collected.AreOutcomes, Lists.AreOnce};
 ghost use Rattle.watched_outcomes.specs.Endings.{ending_of, watched_in, word_in};
 ghost use Rattle.watched_outcomes.specs.Watching.{AreThere};
@@ -16,7 +16,7 @@ use numbers::sizes::HART_ROOM;
 use searches::Search;
 use smt_model::Status;
 use std::alloc::{AllocError, Global};
-use watched_outcomes::{Outcome, Watch};
+use watched_outcomes::{Outcome, Watch, WatchedBytes};
 
 /// The outcomes of a search's ends, sorted, each with the place of the first end that has it. Errors: want of
 /// memory.
@@ -28,8 +28,7 @@ pub(crate) fn list_outcomes(
 ) -> Result<Vec<Listed>, AllocError>
     requires known { (s : State) → Contains search.now.states s → Knows machine.now s }
     requires registers { AreThere machine.now.program.harts watch.now }
-    requires words { (k : ℕ) → k < length watch.now.words.items
-        → read_fault machine.now.program.image (slice_index watch.now.words.items k) 4 ≡ None }
+    requires words { AreWords machine.now.program.image watch.now }
     ensures outcomes { IfOk result (λ listed. AreOutcomes machine.now watch.now search.now.states
         search.now.ends listed.items) }
     ensures once { IfOk result (λ listed. AreOnce listed.items) }
@@ -54,8 +53,7 @@ fn outcome_of(
 ) -> Result<Outcome, AllocError>
     requires known { Knows machine.now state }
     requires registers { AreThere machine.now.program.harts watch.now }
-    requires words { (k : ℕ) → k < length watch.now.words.items
-        → read_fault machine.now.program.image (slice_index watch.now.words.items k) 4 ≡ None }
+    requires words { AreWords machine.now.program.image watch.now }
     ensures { IfOk result (λ outcome. outcome
         ≡ ending_of machine.now.program.harts watch.now (state_of machine.now state)) }
 {
@@ -106,14 +104,14 @@ fn words_of(
     alloc: Global,
 ) -> Result<Vec<u32>, AllocError>
     requires known { Knows machine.now state }
-    requires words { (k : ℕ) → k < length watch.now.words.items
-        → read_fault machine.now.program.image (slice_index watch.now.words.items k) 4 ≡ None }
+    requires words { AreWords machine.now.program.image watch.now }
     ensures { IfOk result (λ numbers. numbers.items
         ≡ map (word_in (state_of machine.now state)) watch.now.words.items) }
 {
     let mut numbers = Vec::with_capacity(alloc, watch.words.len())?;
     for index in 0..watch.words.len() {
-        numbers.push(machine.word(state, watch.words[index]))?;
+        let WatchedBytes { address, width } = watch.words[index];
+        numbers.push(machine.number(state, address, width.bytes()))?;
     }
     Ok(numbers)
 }

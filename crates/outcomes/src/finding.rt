@@ -15,19 +15,20 @@ ghost use Rattle.watched_outcomes.specs.Watching.{AreThere};
 use crate::collecting::list_outcomes;
 use crate::outcomes::Outcomes;
 use crate::refused::OutcomesRefused;
+use crate::unwritten::list_unwritten;
 use condensed_machine::{Begun, CondensedMachine, State};
 use elf_image::Image;
 use sc_machine::PlainRefused;
 use searches::{Onlooker, Search, SearchStopped, explore};
 use std::alloc::Global;
-use watched_outcomes::Watch;
+use watched_outcomes::{Watch, WatchedBytes};
 
 /// Finds all outcomes of a program of 1 to `MOST_HARTS` harts, by a search over at most `budget` states of
 /// the plain machine. The onlooker is told now and then how far the search is.
 ///
 /// Whatever order the harts take, where it leads to an end that end is found; each that is found has an
 /// order that leads there; and every core that runs the program to its end, in whatever way, ends as one
-/// of them says.
+/// of them says. Of each watched place in memory it is found too whether any order writes there.
 pub fn find_outcomes<O: Onlooker>(
     image: &Image,
     harts: u8,
@@ -118,7 +119,8 @@ fn check_watch(machine: &CondensedMachine, watch: &Watch) -> Result<(), Outcomes
         return Err(OutcomesRefused::Register(index));
     }
     for index in 0..watch.words.len() {
-        if !machine.is_word(watch.words[index]) {
+        let WatchedBytes { address, width } = watch.words[index];
+        if !machine.can_load(address, width.bytes()) {
             return Err(OutcomesRefused::Word(index));
         }
     }
@@ -150,7 +152,7 @@ fn search_from<O: Onlooker>(
     }
 }
 
-/// The outcomes of a search's ends, and whether each state can go on to one.
+/// The outcomes of a search's ends, whether each state can go on to one, and what is watched for nothing.
 fn outcomes_of(
     machine: &CondensedMachine,
     begun: Begun,
@@ -178,6 +180,9 @@ fn outcomes_of(
     let Ok(stuck) = search.stuck(alloc) else {
         return Err(OutcomesRefused::Memory);
     };
+    let Ok(unwritten) = list_unwritten(machine, &search, watch, alloc) else {
+        return Err(OutcomesRefused::Memory);
+    };
     let ways = begun.ways;
     Ok(Outcomes {
         harts: machine.harts(),
@@ -185,5 +190,6 @@ fn outcomes_of(
         search,
         listed,
         stuck,
+        unwritten,
     })
 }

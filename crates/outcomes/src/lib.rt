@@ -1,8 +1,8 @@
 //! All ends of a program on the plain machine: every outcome, each with an order of harts that leads to it.
 //!
 //! Read in this order: `refused`, `listed` (the outcomes of some states, each once, in their order), `collecting`
-//! (those of a search's ends), `outcomes` (what was found), `finding` (the call that finds it). What is watched,
-//! and what one outcome says, stand in `watched_outcomes`.
+//! (those of a search's ends), `unwritten` (what is watched for nothing), `outcomes` (what was found), `finding` (the
+//! call that finds it). What is watched, and what one outcome says, stand in `watched_outcomes`.
 #![tactic(auto)]
 
 mod collecting;
@@ -11,6 +11,7 @@ mod listed;
 mod ordering;
 mod outcomes;
 mod refused;
+mod unwritten;
 
 pub use finding::find_outcomes;
 pub use outcomes::Outcomes;

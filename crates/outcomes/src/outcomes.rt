@@ -1,4 +1,5 @@
 ghost use Rattle.std.specs.Prelude.{◌≡◌, ◌<◌, ◌≤◌, ◌++◌, IfOk, OnOk, Some, length, replicate, option_map};
+ghost use Rattle.std.specs.Prelude.{false, slice_index_or};
 ghost use Rattle.numbers.specs.Sizes.{most_harts};
 ghost use Rattle.outcomes.specs.Told.{ending_listed, order_listed, order_at, moved};
 
@@ -20,6 +21,8 @@ pub struct Outcomes {
     pub(crate) listed: Vec<Listed>,
     /// The place of a state that has no way to an end.
     pub(crate) stuck: Option<u32>,
+    /// Of each place in memory that was watched, whether 0 is there in all states.
+    pub(crate) unwritten: Vec<bool>,
 }
 
 impl Model for Outcomes {
@@ -80,6 +83,17 @@ impl Outcomes {
                 Ok(Some(order))
             }
             None => Ok(None),
+        }
+    }
+
+    /// Whether the place in memory that was watched with this index holds 0 in whatever state an order leads to, from
+    /// the start on; false where none has the index.
+    pub fn is_unwritten(&self, index: usize) -> bool
+        ensures { result ≡ slice_index_or self.now.unwritten index false }
+    {
+        match self.unwritten.get(index) {
+            Some(is_unwritten) => *is_unwritten,
+            None => false,
         }
     }
 }

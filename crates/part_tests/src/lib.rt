@@ -30,6 +30,8 @@ mod litmus_cycles_tests;
 #[cfg(test)]
 mod load_store_tests;
 #[cfg(test)]
+mod outcome_queries_tests;
+#[cfg(test)]
 mod placing;
 #[cfg(test)]
 mod queue_commands_tests;
@@ -56,6 +58,7 @@ mod shared_memory_tests;
 #[cfg(test)]
 mod sizes_tests;
 #[cfg(test)]
+mod source_lines_tests;
 mod symbols_tests;
 #[cfg(test)]
 mod text_fields_tests;

@@ -1,7 +1,7 @@
 //! The names of a program, in a table of symbols laid out by hand as ELF32 has it.
 
 use std::alloc::Global;
-use symbols::{Unread, name_at, read};
+use symbols::{Meaning, Name, Symbols, Unread, file_of, meaning_of, name_at, namesakes, read};
 
 /// A file header that names three sections' headers behind it: none, a table of symbols at byte 172, and its names at
 /// byte 220.
@@ -53,4 +53,40 @@ fn names_are_read_and_given(rt: HostRuntime) {
 fn a_table_that_is_not_whole_has_no_names(rt: HostRuntime) {
     assert!(rt; matches!(read(&FILE[..171], rt.alloc()), Err(Unread::Damaged)));
     assert!(rt; matches!(read(&FILE[..231], rt.alloc()), Err(Unread::Damaged)));
+}
+
+/// The address for which a name stands, where it is one.
+fn address_of(name: &[u8], file: Option<&[u8]>, alloc: Global) -> Option<u32> {
+    let Ok(symbols) = read(&FILE, alloc) else {
+        return None;
+    };
+    match meaning_of(&symbols, &Name { file, name }) {
+        Meaning::One(symbol) => Some(symbol.address),
+        Meaning::Several | Meaning::Nothing => None,
+    }
+}
+
+/// How many symbols have a name, and whether one is of a file.
+fn symbols_of(name: &[u8], alloc: Global) -> Option<(usize, bool)> {
+    let Ok(symbols) = read(&FILE, alloc) else {
+        return None;
+    };
+    let Ok(them) = namesakes(&symbols, &Name { file: None, name }, alloc) else {
+        return None;
+    };
+    let is_of_file = them
+        .iter()
+        .any(|symbol| file_of(&symbols, symbol).is_some());
+    Some((them.len(), is_of_file))
+}
+
+#[test]
+fn a_name_has_its_address(rt: HostRuntime) {
+    assert!(rt; address_of(b"main", None, rt.alloc()) == Some(0x8000_0000));
+    assert!(rt; address_of(b"loop1", None, rt.alloc()) == Some(0x8000_0004));
+    assert!(rt; address_of(b"loop", None, rt.alloc()) == None);
+    // No entry of the table names a file.
+    assert!(rt; address_of(b"loop1", Some(b"loop.c"), rt.alloc()) == None);
+    assert!(rt; symbols_of(b"loop1", rt.alloc()) == Some((1, false)));
+    assert!(rt; Symbols::none(rt.alloc()).as_slice().is_empty());
 }

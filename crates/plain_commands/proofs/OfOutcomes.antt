@@ -1,6 +1,6 @@
 -- What is refused of a search for outcomes is refused of the command, and what is put into a file of what it found.
-use Rattle.std.specs.Prelude.{◌≡◌, ℕ, ◌+◌, ◌<◌, Bool, true, false, Option, Some, None, List, ◌++◌, length, take, get_or}
-use Rattle.std.specs.Prelude.{option_map, [], Result, Ok, Err, IfOk}
+use Rattle.std.specs.Prelude.{◌≡◌, ℕ, ◌+◌, ◌<◌, Bool, Option, Some, None, List, ◌++◌, length, take, get_or}
+use Rattle.std.specs.Prelude.{[], Result, Ok, Err, IfOk}
 use Rattle.std.specs.Io.KnownBytes.{Appends}
 use Rattle.std.proofs.Common.{inl, inr, sym, ap, subst, ◌∙◌}
 use Rattle.std.proofs.{lemmas.List.take_more, lemmas.List.flat_map_more}
@@ -16,15 +16,26 @@ use Rattle.sim_inputs.specs.{declared.settings.Settings.Settings}
 use Rattle.sim_inputs.specs.{declared.line.OutcomesCommand.OutcomesCommand}
 use Rattle.command_parts.specs.declared.refused.Refused.{Refused}
 use Rattle.command_parts.specs.declared.refused.Refused.TheVariants as reason
-use Rattle.plain_commands.specs.Outcomes.{IsAsked, IsFound, IsFiled, IsOrderPut, IsTextFor, order_wanted}
-use Rattle.plain_commands.specs.Outcomes.{IsSearchRefusal, IsConditionOf, IsHartRefusal, IsOutcomesRefusal}
+use Rattle.symbols.specs.Tables.{Table}
+use Rattle.outcome_queries.specs.{declared.watched.Asked.Asked, Watches.registers_in, Watches.words_in}
+use Rattle.plain_commands.specs.Outcomes.{IsAsked, IsWatchOf, IsFound, IsFiled, IsOrderPut, IsTextFor, order_wanted}
+use Rattle.plain_commands.specs.Outcomes.{IsSearchRefusal, IsOutcomesRefusal}
 
-module _ (settings : Settings) (image : ProgramImage) (command : OutcomesCommand) (watch : Watch) (terms : List Term)
-    (asked : IsAsked command watch terms) where
+-- What is watched for a list, as that is lent.
+pub watch_of_lent : (watch : Watch) (lent all : List Asked) → lent ≡ all → watch.registers.items ≡ registers_in lent
+    → watch.words.items ≡ words_in lent → IsWatchOf watch all
+watch_of_lent watch lent all same registers words = record {
+  registers = registers ∙ ap registers_in same;
+  words = words ∙ ap words_in same;
+}
+
+module _ (settings : Settings) (image : ProgramImage) (names : Table) (command : OutcomesCommand) (watch : Watch)
+    (terms : List Term) (all : List Asked) (asked : IsAsked names command all terms) (is_of : IsWatchOf watch all) where
   pub search_refused : (why : Refused) → IsSearchRefusal image settings.config.harts watch why
-      → IsOutcomesRefusal settings image command why
+      → IsOutcomesRefusal settings image names command why
   search_refused (reason.Image number) is = absurd is
   search_refused reason.Config is = inl is
+  search_refused reason.Harts is = absurd is
   search_refused (reason.Script number) is = absurd is
   search_refused (reason.Order index) is = absurd is
   search_refused (reason.Step index stopped) is = absurd is
@@ -38,18 +49,25 @@ module _ (settings : Settings) (image : ProgramImage) (command : OutcomesCommand
   search_refused (reason.NoHart hart) is = inr (record {
     watch = watch;
     terms = terms;
+    all = all;
     asked = asked;
+    is_of = is_of;
     watched = is.0;
     contained = is.1;
     is = is.3;
     absent = is.2;
   })
+  search_refused (reason.Lines number fault) is = absurd is
+  search_refused (reason.NamesNothing option) is = absurd is
+  search_refused (reason.NamesSeveral option) is = absurd is
+  search_refused (reason.NeverFetched option) is = absurd is
+  search_refused (reason.Turned from to) is = absurd is
   search_refused (reason.Picture last) is = absurd is
   search_refused (reason.Watch why) is = absurd is
   search_refused (reason.Condition why) is = absurd is
   search_refused reason.ManyWatched is = absurd is
   search_refused (reason.NoWord address) is =
-      record { watch = watch; terms = terms; asked = asked; contained = is.0; fault = is.1 }
+      record { watch = watch; terms = terms; all = all; asked = asked; is_of = is_of; contained = is.0; fault = is.1 }
   search_refused (reason.NoOutcome number) is = absurd is
   search_refused reason.NotStuck is = absurd is
   search_refused (reason.Litmus place fault) is = absurd is
@@ -58,38 +76,6 @@ module _ (settings : Settings) (image : ProgramImage) (command : OutcomesCommand
   search_refused reason.Thread is = absurd is
   search_refused reason.File is = absurd is
   search_refused reason.Output is = absurd is
-
--- So it is where the condition names a hart that isn't there.
-pub hart_refused : (settings : Settings) (image : ProgramImage) (command : OutcomesCommand) (terms : List Term)
-    → IsConditionOf command.exists terms → (why : Refused) → IsHartRefusal settings.config.harts terms why
-    → IsOutcomesRefusal settings image command why
-hart_refused settings image command terms condition (reason.Image number) is = absurd is
-hart_refused settings image command terms condition reason.Config is = absurd is
-hart_refused settings image command terms condition (reason.Script number) is = absurd is
-hart_refused settings image command terms condition (reason.Order index) is = absurd is
-hart_refused settings image command terms condition (reason.Step index stopped) is = absurd is
-hart_refused settings image command terms condition (reason.Trace line rule) is = absurd is
-hart_refused settings image command terms condition reason.Version is = absurd is
-hart_refused settings image command terms condition (reason.Event index rule) is = absurd is
-hart_refused settings image command terms condition (reason.Prediction index) is = absurd is
-hart_refused settings image command terms condition (reason.Register index) is = absurd is
-hart_refused settings image command terms condition (reason.NoUnit kind) is = absurd is
-hart_refused settings image command terms condition (reason.Limit least) is = absurd is
-hart_refused settings image command terms condition (reason.NoHart hart) is =
-    inl (record { terms = terms; condition = condition; first = is })
-hart_refused settings image command terms condition (reason.Picture last) is = absurd is
-hart_refused settings image command terms condition (reason.Watch why) is = absurd is
-hart_refused settings image command terms condition (reason.Condition why) is = absurd is
-hart_refused settings image command terms condition reason.ManyWatched is = absurd is
-hart_refused settings image command terms condition (reason.NoWord address) is = absurd is
-hart_refused settings image command terms condition (reason.NoOutcome number) is = absurd is
-hart_refused settings image command terms condition reason.NotStuck is = absurd is
-hart_refused settings image command terms condition (reason.Litmus place fault) is = absurd is
-hart_refused settings image command terms condition reason.NothingToDraw is = absurd is
-hart_refused settings image command terms condition reason.Memory is = absurd is
-hart_refused settings image command terms condition reason.Thread is = absurd is
-hart_refused settings image command terms condition reason.File is = absurd is
-hart_refused settings image command terms condition reason.Output is = absurd is
 
 -- A line more of an order.
 pub order_step : (old mid new : Option (List ℕ)) (order : List ℕ) (i d : ℕ) → i < length order
@@ -129,8 +115,17 @@ module _ {S : Type 0} (written : S → Option (List ℕ)) (has_failed : S → Bo
       → IsOrderPut written has_failed old new settings image command found
   stuck_put order is stuck put = order_put order (ap (λ o. order_wanted o found) is ∙ stuck) put
 
-  pub filed_so : (watch : Watch) (terms : List Term) → IsAsked command watch terms
-      → IsFound settings image watch found → IsOrderPut written has_failed old new settings image command found
-      → IsFiled written has_failed old new settings image command
-  filed_so watch terms asked is_found put =
-      record { watch = watch; terms = terms; found = found; asked = asked; is_found = is_found; filed = put }
+  pub filed_so : (names : Table) (watch : Watch) (terms : List Term) (all : List Asked)
+      → IsAsked names command all terms → IsWatchOf watch all → IsFound settings image watch found
+      → IsOrderPut written has_failed old new settings image command found
+      → IsFiled written has_failed old new settings image names command
+  filed_so names watch terms all asked is_of is_found put = record {
+    watch = watch;
+    terms = terms;
+    found = found;
+    all = all;
+    asked = asked;
+    is_of = is_of;
+    is_found = is_found;
+    filed = put;
+  }

@@ -9,6 +9,7 @@ use Rattle.plain_run.specs.Orders.{IsStoppedAt}
 use Rattle.core_state.specs.Setup.{setup_of}
 use Rattle.scripts.specs.Order.{IsOrder, IsFirstNoHart}
 use Rattle.sim_inputs.specs.{declared.settings.Settings.Settings}
+use Rattle.address_labels.specs.Labels.{Marks}
 use Rattle.report_lines.specs.Lines.{records_text, plain_report_text, status_number}
 use Rattle.command_parts.specs.{declared.refused.Refused.Refused}
 use Rattle.command_parts.specs.declared.refused.Refused.TheVariants.{Config, Order, Step, Memory, Output}
@@ -51,20 +52,21 @@ retired_by ran = reverse ran.records
 abbrev pub standing : ℕ → Run → List Status
 standing harts ran = map ran.state.statuses (below harts)
 
--- What is printed of a run of so many harts: its records, where they are wanted, and its report.
-abbrev pub plain_text : Bool → ℕ → Run → List ℕ
-plain_text with_records harts ran =
-    records_text with_records (retired_by ran)
+-- What is printed of a run of so many harts: its records, where they are wanted, with these marks beside them, and its
+-- report.
+abbrev pub plain_text : Bool → Marks → ℕ → Run → List ℕ
+plain_text with_records marks harts ran =
+    records_text with_records marks (retired_by ran)
     ++ plain_report_text (length (retired_by ran)) (standing harts ran) ran.state.output
 
 -- What the command comes to. There is a run of the definitions' machine: of this image and these
 -- settings' harts, in the order that the text says. What was printed is what is printed of it; the
 -- exit status is that of its harts.
 pub record PlainComesTo (settings : Settings) (image : ProgramImage) (order : List ℕ)
-    (with_records : Bool) (old new : Option (List ℕ)) (exit_status : ℕ) : Type 0 where
+    (with_records : Bool) (marks : Marks) (old new : Option (List ℕ)) (exit_status : ℕ) : Type 0 where
   pub harts : List ℕ
   pub is_order : IsOrder order harts
   pub ran : Run
   pub runs : run (setup_of image settings.config) (reverse harts) ≡ Some ran
-  pub printed : Appends old new (plain_text with_records settings.config.harts ran)
+  pub printed : Appends old new (plain_text with_records marks settings.config.harts ran)
   pub stands : exit_status ≡ status_number (standing settings.config.harts ran)

@@ -1,6 +1,6 @@
 -- The command `plain` with `--rounds`: harts that take turns on the plain machine. (This project's own
 -- choice.)
-use Rattle.std.specs.Prelude.{◌≡◌, ℕ, ◌^◌, max, Bool, true, false, List, Option, Some, None, option_map}
+use Rattle.std.specs.Prelude.{◌≡◌, ℕ, max, Bool, true, false, List, Option, Some, None, option_map}
 use Rattle.std.specs.Prelude.{unwrap_or}
 use Rattle.std.specs.Io.KnownBytes.{Appends}
 use Rattle.elf_image.specs.Image.{ProgramImage}
@@ -12,6 +12,7 @@ use Rattle.rounds.specs.declared.stopped.RoundsStopped.{RoundsStopped}
 use Rattle.rounds.specs.declared.stopped.RoundsStopped.TheVariants as stopped
 use Rattle.rounds.specs.{Turns.Turn, Rounds.AreRounds}
 use Rattle.sim_inputs.specs.declared.{line.PlainCommand.PlainCommand, settings.Settings.Settings}
+use Rattle.address_labels.specs.Labels.{Marks}
 use Rattle.report_lines.specs.Lines.{plain_report_text, status_number}
 use Rattle.command_parts.specs.declared.refused.Refused.{Refused}
 use Rattle.command_parts.specs.declared.refused.Refused.TheVariants.{Config, Memory, Output}
@@ -56,10 +57,10 @@ pub record IsReported (left : RoundsRun) (old new : Option (List ℕ)) (exit_sta
 -- machine, of this image and these settings' harts. What was printed is what is printed of their run;
 -- the exit status is that of its harts.
 pub record RoundsComeTo (settings : Settings) (image : ProgramImage) (rounds : Rounds)
-    (with_records : Bool) (old new : Option (List ℕ)) (exit_status : ℕ) : Type 0 where
+    (with_records : Bool) (marks : Marks) (old new : Option (List ℕ)) (exit_status : ℕ) : Type 0 where
   pub accepted : are_harts settings.config.harts ≡ true
   pub turns : List Turn
   pub ran : Run
   pub are : AreRounds (setup_of image settings.config) rounds turns ran
-  pub printed : Appends old new (plain_text with_records settings.config.harts ran)
+  pub printed : Appends old new (plain_text with_records marks settings.config.harts ran)
   pub stands : exit_status ≡ status_number (standing settings.config.harts ran)

@@ -7,6 +7,10 @@ ghost use Rattle.plain_commands.specs.Outcomes.{IsAsked, IsConditionOf, IsListOf
 ghost use Rattle.plain_commands.specs.Outcomes.{IsWatchRefusal, IsSearchRefusal, IsOrderRefusal, IsPutRefusal};
 ghost use Rattle.plain_commands.specs.Outcomes.{IsTextRefusal, condition_text, IsFiled, IsOrderPut, IsTextFor};
 ghost use Rattle.plain_commands.specs.Outcomes.{IsHartRefusal};
+ghost use Rattle.symbols.specs.Tables.{table_of};
+ghost use Rattle.watched_outcomes.specs.declared.watch.Watch.{Watch as AnyWatch};
+ghost use Rattle.outcome_queries.specs.Watches.{memory_asked, registers_asked};
+ghost use Rattle.plain_commands.specs.Outcomes.{IsWatchOf};
 ghost use Rattle.outcome_queries.specs.Harts.{IsHartThere};
 ghost use Rattle.std.specs.List.{All};
 ghost use Rattle.core_state.specs.Setup.{setup_of};
@@ -25,7 +29,8 @@ use actors::Gate;
 use command_parts::{Context, Refused, put_text};
 use elf_image::Image;
 use outcome_queries::{
-    Condition, WatchList, absent_hart, read_condition, read_watch_list, watch_of, with_terms,
+    Condition, WatchList, absent_hart, columns_of, read_condition, read_watch_list, watch_of,
+    with_terms,
 };
 use outcome_text::{write_exists, write_incomplete, write_outcomes};
 use outcomes::{Outcomes, OutcomesRefused};
@@ -34,6 +39,7 @@ use std::alloc::{AllocError, Global};
 use std::io;
 use std::io::Write;
 use stress_runs::EndFiles;
+use symbols::Symbols;
 use watched_outcomes::Watch;
 
 /// Writes a line for each outcome of an image, for as many harts as the settings say, how many there are,
@@ -50,23 +56,26 @@ pub fn perform_outcomes<R, G: Gate, P, S: EndFiles, W: Write>(
     context: &mut Context<'_, R, G, P, S, W>,
     image: &Image,
     settings: &Settings,
+    names: &Symbols<'_>,
     command: &OutcomesCommand<'_>,
 ) -> Result<u8, Refused>
     requires works { S.has_failed context.old.files ≡ false }
     requires finished { S.is_finished context.old.files ≡ true }
-    ensures refused { IfErr result (IsOutcomesRefusal settings.now image.now command.now) }
-    ensures ended { IfOk result (OutcomesComeTo settings.now image.now command.now
+    ensures refused { IfErr result (IsOutcomesRefusal settings.now image.now (table_of names.now) command.now) }
+    ensures ended { IfOk result (OutcomesComeTo settings.now image.now (table_of names.now) command.now
         (W.contents context.old.out) (W.contents context.new.out)) }
     ensures unwanted { wants_order command.now ≡ false → context.new.files ≡ context.old.files }
     ensures filed { IfOk result (λ status. status ≡ 0 → wants_order command.now ≡ true
-        → IsFiled S.written S.has_failed context.old.files context.new.files settings.now image.now command.now) }
+        → IsFiled S.written S.has_failed context.old.files context.new.files settings.now image.now
+        (table_of names.now) command.now) }
     ensures unbroken { OnOk result (S.has_failed context.new.files ≡ false) }
     ensures finished { OnOk result (S.is_finished context.new.files ≡ true) }
     ensures unreported { S.has_failed context.new.files ≡ true
         → W.contents context.new.out ≡ W.contents context.old.out }
 {
-    let terms = condition_of(command)?;
-    let watch = watch_for(command, &terms)?;
+    let terms = condition_of(command, names)?;
+    let list = watched_for(command, names, &terms)?;
+    let watch = watch_of(list.as_slice());
     let harts = settings.config.harts;
     see_harts(&terms, harts)?;
     let (gate, alloc) = (context.gate, context.alloc);
@@ -76,7 +85,7 @@ pub fn perform_outcomes<R, G: Gate, P, S: EndFiles, W: Write>(
             put_order(context, image, settings, command, &outcomes, &stuck)?;
             print_found(
                 &outcomes,
-                &watch,
+                &list,
                 stuck.is_some(),
                 command,
                 &terms,
@@ -92,21 +101,24 @@ pub fn perform_outcomes<R, G: Gate, P, S: EndFiles, W: Write>(
 }
 
 /// The terms of the condition; none where there is no condition.
-fn condition_of(command: &OutcomesCommand<'_>) -> Result<Condition, Refused>
-    ensures read { IfOk result (λ terms. IsConditionOf command.now.exists terms.items) }
-    ensures refused { IfErr result (IsConditionRefusal command.now) }
+fn condition_of<'a>(
+    command: &OutcomesCommand<'a>,
+    names: &Symbols<'_>,
+) -> Result<Condition<'a>, Refused>
+    ensures read { IfOk result (λ terms. IsConditionOf (table_of names.now) command.now.exists terms.items) }
+    ensures refused { IfErr result (IsConditionRefusal (table_of names.now) command.now) }
 {
     let Some(text) = command.exists else {
         return Ok(Condition::new());
     };
-    match read_condition(text.as_bytes()) {
+    match read_condition(text.as_bytes(), names) {
         Ok(terms) => Ok(terms),
         Err(why) => Err(Refused::Condition(why)),
     }
 }
 
 /// Refuses a condition that names a hart which isn't there.
-fn see_harts(terms: &Condition, harts: u8) -> Result<(), Refused>
+fn see_harts(terms: &Condition<'_>, harts: u8) -> Result<(), Refused>
     ensures there { OnOk result (All (IsHartThere harts) terms.now.items) }
     ensures refused { IfErr result (IsHartRefusal harts terms.now.items) }
 {
@@ -117,27 +129,31 @@ fn see_harts(terms: &Condition, harts: u8) -> Result<(), Refused>
 }
 
 /// What is watched for the list and the condition of a command.
-fn watch_for(command: &OutcomesCommand<'_>, terms: &Condition) -> Result<Watch, Refused>
-    requires { IsConditionOf command.now.exists terms.now.items }
-    ensures asked { IfOk result (λ watch. IsAsked command.now watch terms.now.items) }
-    ensures refused { IfErr result (IsWatchRefusal command.now) }
+fn watched_for<'a>(
+    command: &OutcomesCommand<'a>,
+    names: &Symbols<'_>,
+    terms: &Condition<'a>,
+) -> Result<WatchList<'a>, Refused>
+    requires { IsConditionOf (table_of names.now) command.now.exists terms.now.items }
+    ensures asked { IfOk result (λ all. IsAsked (table_of names.now) command.now all.items terms.now.items) }
+    ensures refused { IfErr result (IsWatchRefusal (table_of names.now) command.now) }
 {
-    let list = list_of(command)?;
+    let list = list_of(command, names)?;
     match with_terms(list.as_slice(), terms.as_slice()) {
-        Some(all) => Ok(watch_of(all.as_slice())),
+        Some(all) => Ok(all),
         None => Err(Refused::ManyWatched),
     }
 }
 
 /// What the list of a command names; nothing where there is no list.
-fn list_of(command: &OutcomesCommand<'_>) -> Result<WatchList, Refused>
-    ensures read { IfOk result (λ list. IsListOf command.now.watch list.items) }
-    ensures refused { IfErr result (IsWatchRefusal command.now) }
+fn list_of<'a>(command: &OutcomesCommand<'a>, names: &Symbols<'_>) -> Result<WatchList<'a>, Refused>
+    ensures read { IfOk result (λ list. IsListOf (table_of names.now) command.now.watch list.items) }
+    ensures refused { IfErr result (IsWatchRefusal (table_of names.now) command.now) }
 {
     let Some(text) = command.watch else {
         return Ok(WatchList::new());
     };
-    match read_watch_list(text.as_bytes()) {
+    match read_watch_list(text.as_bytes(), names) {
         Ok(list) => Ok(list),
         Err(why) => Err(Refused::Watch(why)),
     }
@@ -155,7 +171,7 @@ fn search_refusal(why: OutcomesRefused, watch: &Watch) -> Refused
             None => Refused::Memory,
         },
         OutcomesRefused::Word(index) => match watch.words.as_slice().get(index) {
-            Some(address) => Refused::NoWord(*address),
+            Some(bytes) => Refused::NoWord(*bytes),
             None => Refused::Memory,
         },
         OutcomesRefused::Budget | OutcomesRefused::Memory => Refused::Memory,
@@ -290,28 +306,31 @@ fn write_hart<W: Write>(hart: u8, out: &mut W) -> io::Result<()>
     writeln!(out, "{hart}")
 }
 
-/// Prints what was found.
+/// Prints what was found, of which all of a list was watched.
 fn print_found<W: Write>(
     outcomes: &Outcomes,
-    watch: &Watch,
+    list: &WatchList<'_>,
     is_stuck: bool,
     command: &OutcomesCommand<'_>,
-    terms: &Condition,
+    terms: &Condition<'_>,
     out: &mut W,
 ) -> Result<u8, Refused>
-    ensures printed { OnOk result (Appends (W.contents out.old) (W.contents out.new)
-        (outcomes_text watch.now outcomes.now is_stuck
-        ++ condition_text command.now watch.now terms.now.items outcomes.now.listed)) }
+    ensures printed { OnOk result ((watch : AnyWatch) → IsWatchOf watch list.now.items
+        → Appends (W.contents out.old) (W.contents out.new)
+        (outcomes_text (registers_asked list.now.items) (memory_asked list.now.items) outcomes.now is_stuck
+        ++ condition_text command.now watch terms.now.items outcomes.now.listed)) }
     ensures zero { IfOk result (λ status. status ≡ 0) }
     ensures refused { IfErr result (λ why. why ≡ Output) }
 {
-    let Ok(()) = write_outcomes(outcomes, watch, is_stuck, out) else {
+    let columns = columns_of(list.as_slice());
+    let Ok(()) = write_outcomes(outcomes, &columns, is_stuck, out) else {
         return Err(Refused::Output);
     };
     if command.exists.is_none() {
         return Ok(0);
     }
-    match write_exists(outcomes, watch, terms.as_slice(), out) {
+    let watch = watch_of(list.as_slice());
+    match write_exists(outcomes, &watch, terms.as_slice(), out) {
         Ok(()) => Ok(0),
         Err(_) => Err(Refused::Output),
     }

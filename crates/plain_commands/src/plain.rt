@@ -2,10 +2,12 @@
 
 ghost use Rattle.std.specs.Prelude.{IfOk, IfErr};
 ghost use Rattle.plain_run.specs.Orders.{HasLeft, OfEachSetup};
+ghost use Rattle.address_labels.specs.Labels.{marks_of};
 ghost use Rattle.scripts.specs.Order.{IsOrder};
 ghost use Rattle.plain_commands.specs.Plain.{IsPlainRefusal, PlainComesTo};
 ghost use Rattle.plain_commands.specs.Plain.{IsOrderRefusal, IsMachineRefusal};
 
+use address_labels::Labels;
 use command_parts::Refused;
 use elf_image::Image;
 use plain_run::{OrderStopped, PlainRun, run_order};
@@ -28,16 +30,17 @@ pub fn perform_plain<W: Write>(
     settings: &Settings,
     order: &[u8],
     records: bool,
+    labels: &Labels<'_>,
     out: &mut W,
     alloc: Global,
 ) -> Result<u8, Refused>
     ensures refused { IfErr result (IsPlainRefusal settings.now image.now order.now) }
     ensures ended { IfOk result (PlainComesTo settings.now image.now order.now records
-        (W.contents out.old) (W.contents out.new)) }
+        (marks_of labels.now) (W.contents out.old) (W.contents out.new)) }
 {
     let harts = harts_of(order, alloc)?;
     let ran = run_image(image, settings.config.harts, harts.as_slice(), alloc)?;
-    match report_plain(&ran, records, out) {
+    match report_plain(&ran, records, labels, out) {
         Ok(()) => Ok(status_of(ran.statuses().as_slice())),
         Err(_) => Err(Refused::Output),
     }

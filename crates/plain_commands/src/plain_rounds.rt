@@ -3,9 +3,11 @@
 ghost use Rattle.std.specs.Prelude.{◌≡◌, ◌<◌, IfOk, IfErr, IfSome, unwrap_or};
 ghost use Rattle.plain_commands.specs.PlainRounds.{rounds_of, rounds_refusal, IsReported};
 ghost use Rattle.plain_commands.specs.PlainRounds.{IsRoundsRefusal, RoundsComeTo};
+ghost use Rattle.address_labels.specs.Labels.{marks_of};
 ghost use Rattle.command_parts.specs.declared.refused.Refused.TheVariants.{Output};
 
 use actors::Gate;
+use address_labels::Labels;
 use command_parts::{Context, Refused};
 use elf_image::Image;
 use report_lines::{report_standing, status_of};
@@ -73,11 +75,12 @@ pub fn perform_rounds<R, G: Gate, P, S, W: Write>(
     settings: &Settings,
     rounds: Rounds,
     records: bool,
+    labels: &Labels<'_>,
 ) -> Result<u8, Refused>
     requires { 0 < rounds.each }
     ensures refused { IfErr result (IsRoundsRefusal settings.now) }
     ensures ended { IfOk result (RoundsComeTo settings.now image.now rounds records
-        (W.contents context.old.out) (W.contents context.new.out)) }
+        (marks_of labels.now) (W.contents context.old.out) (W.contents context.new.out)) }
     ensures unwritten { context.new.files ≡ context.old.files }
 {
     let harts = settings.config.harts;
@@ -92,6 +95,7 @@ pub fn perform_rounds<R, G: Gate, P, S, W: Write>(
         harts,
         rounds,
         records,
+        labels,
         &mut shown,
         &mut context.out,
         context.alloc,

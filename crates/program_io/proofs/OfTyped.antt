@@ -38,43 +38,59 @@ typed_command at_terminal (commands.Litmus litmus) step is = absurd (cc)
 typed_command at_terminal (commands.Migrate migrate) step is = absurd (cc)
 
 -- It is performed with its other files as they were read, and refused as an empty script is.
-pub typed_performed : (at_terminal : Bool) (line : Line) (step : StepCommand) (status : ℕ) (config image : Read)
+pub typed_performed : (at_terminal : Bool) (line : Line) (step : StepCommand) (status : ℕ) (config image lines : Read)
     → typed_step at_terminal line.command ≡ Some step
     → IsReadAs (files_of line).config config → IsReadAs (files_of line).program image
+    → IsReadAs (files_of line).lines lines
     → (says_harts status ≡ false → (reason : Refused) × (exit_status_of reason ≡ status)
-    × IsRefusal (commands.OfProgram (program.Step step)) config image (Ok []) reason)
+    × IsRefusal line.harts (commands.OfProgram (program.Step step)) config image (Ok []) lines reason)
     → HasPerformed at_terminal line status
-typed_performed at_terminal line step status config image typed has_config has_program refused = record {
-  config = config;
-  program = image;
-  second = Ok [];
-  has_config = has_config;
-  has_program = has_program;
-  has_second = rw typed refl;
-  refused = λ none.
-      let why = refused none in
-      let same = typed_command at_terminal line.command step typed in
-      (why.0, why.1, subst (λ c. IsRefusal c config image (uncommented_for c (Ok [])) why.0) (sym same) why.2);
-}
+typed_performed at_terminal line step status config image lines typed has_config has_program has_lines refused =
+    record {
+      config = config;
+      program = image;
+      second = Ok [];
+      lines = lines;
+      has_config = has_config;
+      has_program = has_program;
+      has_second = rw typed refl;
+      has_lines = has_lines;
+      refused = λ none.
+          let why = refused none in
+          let same = typed_command at_terminal line.command step typed in (
+            why.0,
+            why.1,
+            subst (λ c. IsRefusal line.harts c config image (uncommented_for c (Ok [])) lines why.0)
+                (sym same) why.2,
+          );
+    }
 
 -- Where no script is typed, a line is performed with all its files as they were read, a script or an order without
 -- its comments.
 pub read_performed : (at_terminal : Bool) (line : Line) (typed : Option StepCommand) (status : ℕ)
-    (config image second text : Read) → typed ≡ typed_step at_terminal line.command → typed ≡ None
+    (config image second lines text : Read) → typed ≡ typed_step at_terminal line.command → typed ≡ None
     → IsReadAs (files_of line).config config → IsReadAs (files_of line).program image
-    → IsReadAs (files_of line).second second → text ≡ uncommented_for line.command second
+    → IsReadAs (files_of line).second second → IsReadAs (files_of line).lines lines
+    → text ≡ uncommented_for line.command second
     → (says_harts status ≡ false → (reason : Refused) × (exit_status_of reason ≡ status)
-    × IsRefusal line.command config image text reason)
+    × IsRefusal line.harts line.command config image text lines reason)
     → HasPerformed at_terminal line status
-read_performed at_terminal line typed status config image second text found none has_config has_program has_second blanked refused =
+read_performed at_terminal line typed status config image second lines text found none has_config has_program
+    has_second has_lines blanked refused =
     record {
       config = config;
       program = image;
       second = second;
+      lines = lines;
       has_config = has_config;
       has_program = has_program;
       has_second = rw (sym found ∙ none) has_second;
+      has_lines = has_lines;
       refused = λ harts.
-          let why = refused harts in
-          (why.0, why.1, subst (λ (r : Read). IsRefusal line.command config image r why.0) blanked why.2);
+          let why = refused harts in (
+            why.0,
+            why.1,
+            subst (λ (r : Read). IsRefusal line.harts line.command config image r lines why.0) blanked
+                why.2,
+          );
     }

@@ -48,12 +48,14 @@ pub record HasPerformed (at_terminal : Bool) (line : Line) (status : ℕ) : Type
   pub config : Read
   pub program : Read
   pub second : Read
+  pub lines : Read
   pub has_config : IsReadAs (files_of line).config config
   pub has_program : IsReadAs (files_of line).program program
   pub has_second : IsReadAs (second_of at_terminal line) second
+  pub has_lines : IsReadAs (files_of line).lines lines
   pub refused : says_harts status ≡ false → (reason : Refused)
       × (exit_status_of reason ≡ status)
-      × IsRefusal line.command config program (uncommented_for line.command second) reason
+      × IsRefusal line.harts line.command config program (uncommented_for line.command second) lines reason
 
 -- Words asked for a line, and it was performed with this exit status.
 pub record HavePerformed (at_terminal : Bool) (words : List (List ℕ)) (status : ℕ) : Type 0 where

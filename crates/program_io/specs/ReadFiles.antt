@@ -14,3 +14,4 @@ IsNamed file path = is_named (option_map (λ name. name.now) file) path ≡ true
 -- One of the files that are read has just this name.
 abbrev pub IsReadAsNamed : ReadFiles → List ℕ → Type 0
 IsReadAsNamed read path = IsNamed read.config path ⊎ IsNamed read.program path ⊎ IsNamed read.second path
+    ⊎ IsNamed read.lines path

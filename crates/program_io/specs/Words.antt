@@ -10,8 +10,9 @@ abbrev pub words_refused : ErrorKind → WordsRefused
 words_refused OutOfMemory = words.Memory
 words_refused _ = words.Refused
 
--- The exit status of words that ask for no line: 0 for help, or 5 where the output takes no more.
+-- The exit status of words that ask for no line: 0 for help and the version, or 5 where the output takes no more.
 abbrev pub IsWordsStatus : WordsRefused → ℕ → Type 0
 IsWordsStatus (words.Help text) status = (status ≡ 0) ⊎ (status ≡ 5)
+IsWordsStatus (words.Version text) status = (status ≡ 0) ⊎ (status ≡ 5)
 IsWordsStatus words.Refused status = status ≡ 2
 IsWordsStatus words.Memory status = status ≡ 5

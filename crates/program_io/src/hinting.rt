@@ -1,10 +1,11 @@
-//! The hint behind a fault, made and written. One that can't be made, since there isn't enough memory for it,
-//! is left out, and so is one that can't be written.
+//! The hint behind a fault, or of names that aren't there, made and written. One that can't be made, since there isn't
+//! enough memory for it, is left out, and so is one that can't be written.
 
 use crate::words::texts;
-use fault_hints::{LineFault, WordsFault, add_line_fault, add_words_fault};
-use hints::{Form, Hint};
-use sim_inputs::hints_asked;
+use command_parts::Inputs;
+use fault_hints::{LineFault, WordsFault, add_line_fault, add_words_fault, why_nameless};
+use hints::{Form, Hint, Part};
+use sim_inputs::{Line, hints_asked};
 use std::alloc::{AllocError, Global};
 use std::io::Write;
 
@@ -18,11 +19,30 @@ pub(crate) struct Hinting {
 
 impl Hinting {
     /// Writes the hint of a fault of a line, where one is wanted.
-    pub(crate) fn tell_line<E: Write>(&self, fault: &LineFault<'_>, err: &mut E) {
+    pub(crate) fn tell_line<E: Write>(&self, fault: &LineFault<'_, '_>, err: &mut E) {
         let Some(form) = fault.line.hints.form(self.on_terminal) else {
             return;
         };
         if let Ok(text) = line_hint(form, fault, self.alloc) {
+            let _ = err.write_all(text.as_slice());
+        }
+    }
+
+    /// Writes, where hints are wanted, that a line which shows names has an image that has none.
+    pub(crate) fn tell_nameless<E: Write>(
+        &self,
+        line: &Line<'_>,
+        inputs: &Inputs<'_>,
+        status: u8,
+        err: &mut E,
+    ) {
+        let Some(form) = line.hints.form(self.on_terminal) else {
+            return;
+        };
+        let Some(why) = why_nameless(line, inputs, self.alloc) else {
+            return;
+        };
+        if let Ok(text) = nameless_hint(form, why, status, self.alloc) {
             let _ = err.write_all(text.as_slice());
         }
     }
@@ -43,11 +63,18 @@ impl Hinting {
 }
 
 /// The text of the hint of a fault of a line.
-fn line_hint(form: Form, fault: &LineFault<'_>, alloc: Global) -> Result<Vec<u8>, AllocError> {
+fn line_hint(form: Form, fault: &LineFault<'_, '_>, alloc: Global) -> Result<Vec<u8>, AllocError> {
     let said = fault.refused.to_string(alloc)?;
     let status = fault.refused.exit_status();
     let mut hint = Hint::new(form, said.as_str(), status, alloc)?;
     add_line_fault(fault, &mut hint, alloc)?;
+    hint.finish()
+}
+
+/// The text of the hint of names that aren't there.
+fn nameless_hint(form: Form, why: &str, status: u8, alloc: Global) -> Result<Vec<u8>, AllocError> {
+    let mut hint = Hint::new(form, "no names", status, alloc)?;
+    hint.add(Part::Cause, why.as_bytes())?;
     hint.finish()
 }
 

@@ -44,6 +44,17 @@ impl<W: Write> Write for Noting<W> {
         }
     }
 
+    // The writer's own way, which may take all of them at once.
+    fn write_all(&mut self, bytes: &[u8]) -> io::Result<()> {
+        match self.writer.write_all(bytes) {
+            Ok(()) => Ok(()),
+            Err(error) => {
+                self.failure = Some(error.kind());
+                Err(error)
+            }
+        }
+    }
+
     fn flush(&mut self) -> io::Result<()> {
         match self.writer.flush() {
             Ok(()) => Ok(()),

@@ -52,7 +52,7 @@ pub struct Program<'a, S, G, P> {
 }
 
 /// Does all that the program does with its words, its own name first, and answers its exit status:
-/// what the words ask for is printed on `out`, and why it isn't on `err`. 0 for help, 2 for a wrong
+/// what the words ask for is printed on `out`, and why it isn't on `err`. 0 for help and the version, 2 for a wrong
 /// command line, 5 for want of memory and where `out` fails; else that of the command that is
 /// performed. Words that are no text are a wrong command line. A trace is written to the file that the
 /// words name. The file named by a dash is standard input; a script is typed there, and asked as it comes,
@@ -212,8 +212,8 @@ impl<S: Files + Input + Threads + Wait + Sync, G: Gate + Sync, P: Predict + Copy
         requires finished { not (is_some context.old.files.current) ≡ true }
         ensures known { IsTrue (says_harts result) ⊎ (result ≡ 2) ⊎ (result ≡ 4) ⊎ (result ≡ 5) }
         ensures refused { says_harts result ≡ false → (reason : AnyRefused)
-            × (exit_status_of reason ≡ result) × IsRefusal line.now.command (read_of read.now.config)
-            (read_of read.now.program) (read_of read.now.second) reason }
+            × (exit_status_of reason ≡ result) × IsRefusal line.now.harts line.now.command (read_of read.now.config)
+            (read_of read.now.program) (read_of read.now.second) (read_of read.now.lines) reason }
     {
         let inputs = read.lent();
         let status = perform(context, line, &inputs, err);
@@ -221,6 +221,8 @@ impl<S: Files + Input + Threads + Wait + Sync, G: Gate + Sync, P: Predict + Copy
         if let Some(refused) = context.refused {
             let files = read.faults_with(context.files.fault(), context.out.failure());
             self.hint_of_line(refused, line, inputs, files, err);
+        } else {
+            self.hinting().tell_nameless(line, &inputs, status, err);
         }
         status
     }
@@ -236,7 +238,7 @@ impl<S: Files + Input + Threads + Wait + Sync, G: Gate + Sync, P: Predict + Copy
     ) {
         let fault = LineFault {
             refused,
-            line: *line,
+            line,
             inputs,
             files,
         };
@@ -288,16 +290,18 @@ impl<S: Files + Input + Threads + Wait + Sync, G: Gate + Sync, P: Predict + Copy
         requires finished { not (is_some context.old.files.current) ≡ true }
         ensures known { IsTrue (says_harts result) ⊎ (result ≡ 2) ⊎ (result ≡ 4) ⊎ (result ≡ 5) }
         ensures refused { says_harts result ≡ false → (reason : AnyRefused)
-            × (exit_status_of reason ≡ result) × IsRefusal (OfProgram (Step step.now))
-            (read_of read.now.config) (read_of read.now.program) (Ok []) reason }
+            × (exit_status_of reason ≡ result) × IsRefusal line.now.harts (OfProgram (Step step.now))
+            (read_of read.now.config) (read_of read.now.program) (Ok []) (read_of read.now.lines) reason }
     {
         let mut reader = self.system.reader();
         let inputs = read.lent();
-        let status = perform_typed(context, step, &inputs, &mut reader, err);
+        let status = perform_typed(context, step, line.harts, &inputs, &mut reader, err);
         context.files.discard();
         if let Some(refused) = context.refused {
             let files = read.faults_with(context.files.fault(), context.out.failure());
             self.hint_of_line(refused, line, inputs, files, err);
+        } else {
+            self.hinting().tell_nameless(line, &inputs, status, err);
         }
         status
     }

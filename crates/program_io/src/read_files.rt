@@ -17,6 +17,7 @@ pub struct ReadFiles<'a> {
     config: Option<&'a str>,
     program: Option<&'a str>,
     second: Option<&'a str>,
+    lines: Option<&'a str>,
 }
 
 impl<'a> ReadFiles<'a> {
@@ -26,6 +27,7 @@ impl<'a> ReadFiles<'a> {
             config: files.config,
             program: files.program,
             second: files.second,
+            lines: files.lines,
         }
     }
 }
@@ -41,7 +43,10 @@ pub(crate) fn is_read<S: Files>(files: &S, read: &ReadFiles<'_>, path: &str) -> 
     if is_one(files, read.program, path) {
         return true;
     }
-    is_one(files, read.second, path)
+    if is_one(files, read.second, path) {
+        return true;
+    }
+    is_one(files, read.lines, path)
 }
 
 /// Whether the file that would be written is this one, which is read; none is.

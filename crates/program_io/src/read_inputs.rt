@@ -19,6 +19,7 @@ pub(crate) struct ReadInputs {
     config: Result<Vec<u8>, ReadRefused>,
     program: Result<Vec<u8>, ReadRefused>,
     second: Result<Vec<u8>, ReadRefused>,
+    lines: Result<Vec<u8>, ReadRefused>,
 }
 
 impl ReadInputs {
@@ -31,11 +32,13 @@ impl ReadInputs {
         ensures config { IsReadAs files.now.config (read_of result.config) }
         ensures program { IsReadAs files.now.program (read_of result.program) }
         ensures second { IsReadAs files.now.second (read_of result.second) }
+        ensures lines { IsReadAs files.now.lines (read_of result.lines) }
     {
         ReadInputs {
             config: read_named(system, files.config, alloc),
             program: read_named(system, files.program, alloc),
             second: read_named(system, files.second, alloc),
+            lines: read_named(system, files.lines, alloc),
         }
     }
 
@@ -43,6 +46,7 @@ impl ReadInputs {
     pub(crate) fn blank_comments(&mut self, command: &Command<'_>)
         ensures config { self.new.config ≡ self.old.config }
         ensures program { self.new.program ≡ self.old.program }
+        ensures lines { self.new.lines ≡ self.old.lines }
         ensures second { read_of self.new.second ≡ uncommented_for command.now (read_of self.old.second) }
     {
         if !command.reads_words() {
@@ -63,6 +67,7 @@ impl ReadInputs {
             config: fault_in(&self.config),
             program: fault_in(&self.program),
             second: fault_in(&self.second),
+            lines: fault_in(&self.lines),
             written,
             output: match output {
                 Some(kind) => Some(FileFault::System(kind)),
@@ -76,11 +81,13 @@ impl ReadInputs {
         ensures config { as_read result.config ≡ read_of self.now.config }
         ensures program { as_read result.program ≡ read_of self.now.program }
         ensures second { as_read result.second ≡ read_of self.now.second }
+        ensures lines { as_read result.lines ≡ read_of self.now.lines }
     {
         Inputs {
             config: lent(&self.config),
             program: lent(&self.program),
             second: lent(&self.second),
+            lines: lent(&self.lines),
         }
     }
 }

@@ -63,24 +63,24 @@ pub fn texts<'a>(words: &'a [String], alloc: Global) -> Result<Vec<&'a str>, All
     Ok(texts)
 }
 
-/// What a hint is of where words are refused for this, which were read or not, and their help isn't printed.
+/// What a hint is of where words are refused for this, which were read or not, and their help or version isn't printed.
 pub(crate) fn fault_of(refused: &WordsRefused, are_read: bool) -> WordsFault {
     match refused {
-        WordsRefused::Help(_) => WordsFault::Output(None),
+        WordsRefused::Help(_) | WordsRefused::Version(_) => WordsFault::Output(None),
         WordsRefused::Refused if are_read => WordsFault::Refused,
         WordsRefused::Refused => WordsFault::Unread,
         WordsRefused::Memory => WordsFault::Memory,
     }
 }
 
-/// Prints the help that was asked for, or says on one line why nothing is done. Answers the exit
-/// status: 0 for help, 2 for words that ask for nothing, 5 for want of memory and where `out` fails.
+/// Prints the help or the version that was asked for, or says on one line why nothing is done. Answers the exit
+/// status: 0 for these, 2 for words that ask for nothing, 5 for want of memory and where `out` fails.
 pub fn refuse_words<W: Write, E: Write>(refused: WordsRefused, out: &mut W, err: &mut E) -> u8
     ensures known { IsTrue (says_harts result) ⊎ (result ≡ 2) ⊎ (result ≡ 4) ⊎ (result ≡ 5) }
     ensures status { IsWordsStatus refused result }
 {
     match refused {
-        WordsRefused::Help(text) => match print(text.as_str(), out) {
+        WordsRefused::Help(text) | WordsRefused::Version(text) => match print(text.as_str(), out) {
             Ok(()) => 0,
             Err(_) => refuse(Refused::Output, err),
         },

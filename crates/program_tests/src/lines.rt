@@ -1,15 +1,16 @@
 //! Lines of the program, as their words are read. None names a configuration.
 
 use sim_inputs::{
-    Beside, ChartCommand, CheckCommand, Command, ExplainCommand, HintsWanted, Line, ListCommand,
-    LitmusCommand, MigrateCommand, OutcomesCommand, PlainCommand, ProgramCommand, RunCommand,
-    ScheduleCommand, ScriptCommand, StepCommand,
+    Beside, ChartCommand, ChartEnd, CheckCommand, Command, ExplainCommand, HintsWanted, Line,
+    ListCommand, LitmusCommand, MigrateCommand, OutcomesCommand, PlainCommand, ProgramCommand,
+    RunCommand, ScheduleCommand, ScriptCommand, StepCommand,
 };
 
 macro_rules! line {
     ($command:expr) => {
         Line {
             config: None,
+            harts: None,
             hints: HintsWanted::Auto,
             command: $command,
         }
@@ -31,6 +32,8 @@ pub fn step_line(records: bool, show: bool, trace: Option<&'static str>) -> Line
         counts: false,
         json: false,
         looks: false,
+        lines: None,
+        names: false,
         records,
         show,
         why: false,
@@ -46,6 +49,8 @@ pub fn looks_line() -> Line<'static> {
         counts: false,
         json: false,
         looks: true,
+        lines: None,
+        names: false,
         records: false,
         show: false,
         why: false,
@@ -59,6 +64,8 @@ pub fn run_line(records: bool, trace: Option<&'static str>) -> Line<'static> {
         trace,
         counts: false,
         json: false,
+        lines: None,
+        names: false,
         records,
         why: false,
         times: None,
@@ -73,6 +80,8 @@ pub fn stress_line(times: u32) -> Line<'static> {
         trace: None,
         counts: false,
         json: false,
+        lines: None,
+        names: false,
         records: false,
         why: false,
         times: Some(times),
@@ -87,6 +96,8 @@ pub fn check_line(records: bool) -> Line<'static> {
         trace: "trace",
         counts: false,
         json: false,
+        lines: None,
+        names: false,
         records,
         why: false,
     },))
@@ -108,6 +119,8 @@ pub fn plain_line(records: bool) -> Line<'static> {
         rounds: None,
         steps: None,
         seed: None,
+        lines: None,
+        names: false,
         records,
     },))
 }
@@ -129,9 +142,10 @@ pub fn chart_line(svg: Option<&'static str>, kanata: Option<&'static str>) -> Li
     program_line!(ProgramCommand::Chart(ChartCommand {
         image: "image",
         trace: "trace",
-        from: 0,
-        to: 16_777_215,
+        from: ChartEnd::Event(0),
+        to: ChartEnd::Event(16_777_215),
         hart: None,
+        names: false,
         width: 120,
         svg,
         kanata,
@@ -139,7 +153,11 @@ pub fn chart_line(svg: Option<&'static str>, kanata: Option<&'static str>) -> Li
 }
 
 /// The listing of an image's code.
-pub const LIST: Line<'static> = program_line!(ProgramCommand::List(ListCommand { image: "image" }));
+pub const LIST: Line<'static> = program_line!(ProgramCommand::List(ListCommand {
+    image: "image",
+    lines: None,
+    names: false
+}));
 
 /// What is said of a configuration and of an image.
 pub const EXPLAIN: Line<'static> = line!(Command::Explain(ExplainCommand {

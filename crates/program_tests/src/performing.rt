@@ -80,6 +80,7 @@ pub fn inputs_of<'a>(
         config: Ok(config),
         program: Ok(image),
         second,
+        lines: Ok(b""),
     }
 }
 

@@ -1,6 +1,7 @@
 //! Rounds of the plain machine, against lines worked by hand.
 
 use crate::rows::{shows, text_of};
+use address_labels::Labels;
 use rounds::{Rounds, Unobserved, run_rounds};
 use std::alloc::Global;
 use test_support::{file_of, image_of};
@@ -23,7 +24,16 @@ fn lines_of(seed: Option<u32>, alloc: Global) -> Vec<u8> {
         steps: 3,
         seed,
     };
-    let _ = run_rounds(&image, 2, rounds, true, &mut Unobserved, &mut lines, alloc);
+    let _ = run_rounds(
+        &image,
+        2,
+        rounds,
+        true,
+        &Labels::none(),
+        &mut Unobserved,
+        &mut lines,
+        alloc,
+    );
     lines
 }
 

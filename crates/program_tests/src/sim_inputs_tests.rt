@@ -1,15 +1,16 @@
 //! The words of a line: what they ask for; and in the modules beside it words that are refused, the
-//! configuration and the help.
+//! configuration, harts and the help.
 
 mod configuration;
+mod harts;
 mod help;
 mod refused_words;
 
 use crate::rows::holds;
 use sim_inputs::{
-    Beside, ChartCommand, CheckCommand, Command, ExplainCommand, HintsWanted, Line, ListCommand,
-    LitmusCommand, MigrateCommand, OutcomesCommand, PlainCommand, ProgramCommand, RunCommand,
-    ScheduleCommand, ScriptCommand, StepCommand, read_words,
+    Beside, ChartCommand, ChartEnd, CheckCommand, Command, ExplainCommand, HintsWanted, Line,
+    ListCommand, LitmusCommand, MigrateCommand, OutcomesCommand, PlainCommand, ProgramCommand,
+    RunCommand, ScheduleCommand, ScriptCommand, StepCommand, read_words,
 };
 use std::alloc::{AllocError, Global};
 
@@ -23,18 +24,20 @@ fn words_of(text: &str, alloc: Global) -> Result<Vec<&str>, AllocError> {
 }
 
 /// Words, and what they ask for.
-static LINES: [(&str, Line<'_>); 41] = [
+const LINES: [(&str, Line<'_>); 41] = [
     (
         "smtsim chart a t",
         Line {
             config: None,
+            harts: None,
             hints: HintsWanted::Auto,
             command: Command::OfProgram(ProgramCommand::Chart(ChartCommand {
                 image: "a",
                 trace: "t",
-                from: 0,
-                to: 16_777_215,
+                from: ChartEnd::Event(0),
+                to: ChartEnd::Event(16_777_215),
                 hart: None,
+                names: false,
                 width: 120,
                 svg: None,
                 kanata: None,
@@ -45,13 +48,15 @@ static LINES: [(&str, Line<'_>); 41] = [
         "smtsim chart --from 7 a --to 7 --hart=7 t --width 1 --svg p --config c",
         Line {
             config: Some("c"),
+            harts: None,
             hints: HintsWanted::Auto,
             command: Command::OfProgram(ProgramCommand::Chart(ChartCommand {
                 image: "a",
                 trace: "t",
-                from: 7,
-                to: 7,
+                from: ChartEnd::Event(7),
+                to: ChartEnd::Event(7),
                 hart: Some(7),
+                names: false,
                 width: 1,
                 svg: Some("p"),
                 kanata: None,
@@ -62,6 +67,7 @@ static LINES: [(&str, Line<'_>); 41] = [
         "smtsim step first.elf first.script",
         Line {
             config: None,
+            harts: None,
             hints: HintsWanted::Auto,
             command: Command::OfProgram(ProgramCommand::Step(StepCommand {
                 image: "first.elf",
@@ -70,6 +76,8 @@ static LINES: [(&str, Line<'_>); 41] = [
                 counts: false,
                 json: false,
                 looks: false,
+                lines: None,
+                names: false,
                 records: false,
                 show: false,
                 why: false,
@@ -80,6 +88,7 @@ static LINES: [(&str, Line<'_>); 41] = [
         "smtsim step a b --config c",
         Line {
             config: Some("c"),
+            harts: None,
             hints: HintsWanted::Auto,
             command: Command::OfProgram(ProgramCommand::Step(StepCommand {
                 image: "a",
@@ -88,6 +97,8 @@ static LINES: [(&str, Line<'_>); 41] = [
                 counts: false,
                 json: false,
                 looks: false,
+                lines: None,
+                names: false,
                 records: false,
                 show: false,
                 why: false,
@@ -98,6 +109,7 @@ static LINES: [(&str, Line<'_>); 41] = [
         "smtsim step --config=c a b",
         Line {
             config: Some("c"),
+            harts: None,
             hints: HintsWanted::Auto,
             command: Command::OfProgram(ProgramCommand::Step(StepCommand {
                 image: "a",
@@ -106,6 +118,8 @@ static LINES: [(&str, Line<'_>); 41] = [
                 counts: false,
                 json: false,
                 looks: false,
+                lines: None,
+                names: false,
                 records: false,
                 show: false,
                 why: false,
@@ -116,6 +130,7 @@ static LINES: [(&str, Line<'_>); 41] = [
         "smtsim step a --records b",
         Line {
             config: None,
+            harts: None,
             hints: HintsWanted::Auto,
             command: Command::OfProgram(ProgramCommand::Step(StepCommand {
                 image: "a",
@@ -124,6 +139,8 @@ static LINES: [(&str, Line<'_>); 41] = [
                 counts: false,
                 json: false,
                 looks: false,
+                lines: None,
+                names: false,
                 records: true,
                 show: false,
                 why: false,
@@ -134,6 +151,7 @@ static LINES: [(&str, Line<'_>); 41] = [
         "smtsim step --show a b",
         Line {
             config: None,
+            harts: None,
             hints: HintsWanted::Auto,
             command: Command::OfProgram(ProgramCommand::Step(StepCommand {
                 image: "a",
@@ -142,6 +160,8 @@ static LINES: [(&str, Line<'_>); 41] = [
                 counts: false,
                 json: false,
                 looks: false,
+                lines: None,
+                names: false,
                 records: false,
                 show: true,
                 why: false,
@@ -152,6 +172,7 @@ static LINES: [(&str, Line<'_>); 41] = [
         "smtsim step a b --trace t",
         Line {
             config: None,
+            harts: None,
             hints: HintsWanted::Auto,
             command: Command::OfProgram(ProgramCommand::Step(StepCommand {
                 image: "a",
@@ -160,6 +181,8 @@ static LINES: [(&str, Line<'_>); 41] = [
                 counts: false,
                 json: false,
                 looks: false,
+                lines: None,
+                names: false,
                 records: false,
                 show: false,
                 why: false,
@@ -170,6 +193,7 @@ static LINES: [(&str, Line<'_>); 41] = [
         "smtsim step --show a --config c --trace=t b --records",
         Line {
             config: Some("c"),
+            harts: None,
             hints: HintsWanted::Auto,
             command: Command::OfProgram(ProgramCommand::Step(StepCommand {
                 image: "a",
@@ -178,6 +202,8 @@ static LINES: [(&str, Line<'_>); 41] = [
                 counts: false,
                 json: false,
                 looks: false,
+                lines: None,
+                names: false,
                 records: true,
                 show: true,
                 why: false,
@@ -188,6 +214,7 @@ static LINES: [(&str, Line<'_>); 41] = [
         "smtsim step a --looks b",
         Line {
             config: None,
+            harts: None,
             hints: HintsWanted::Auto,
             command: Command::OfProgram(ProgramCommand::Step(StepCommand {
                 image: "a",
@@ -196,6 +223,8 @@ static LINES: [(&str, Line<'_>); 41] = [
                 counts: false,
                 json: false,
                 looks: true,
+                lines: None,
+                names: false,
                 records: false,
                 show: false,
                 why: false,
@@ -206,12 +235,15 @@ static LINES: [(&str, Line<'_>); 41] = [
         "smtsim run a",
         Line {
             config: None,
+            harts: None,
             hints: HintsWanted::Auto,
             command: Command::OfProgram(ProgramCommand::Run(RunCommand {
                 image: "a",
                 trace: None,
                 counts: false,
                 json: false,
+                lines: None,
+                names: false,
                 records: false,
                 why: false,
                 times: None,
@@ -223,12 +255,15 @@ static LINES: [(&str, Line<'_>); 41] = [
         "smtsim run --records --config c a",
         Line {
             config: Some("c"),
+            harts: None,
             hints: HintsWanted::Auto,
             command: Command::OfProgram(ProgramCommand::Run(RunCommand {
                 image: "a",
                 trace: None,
                 counts: false,
                 json: false,
+                lines: None,
+                names: false,
                 records: true,
                 why: false,
                 times: None,
@@ -240,12 +275,15 @@ static LINES: [(&str, Line<'_>); 41] = [
         "smtsim run --trace t a",
         Line {
             config: None,
+            harts: None,
             hints: HintsWanted::Auto,
             command: Command::OfProgram(ProgramCommand::Run(RunCommand {
                 image: "a",
                 trace: Some("t"),
                 counts: false,
                 json: false,
+                lines: None,
+                names: false,
                 records: false,
                 why: false,
                 times: None,
@@ -257,12 +295,15 @@ static LINES: [(&str, Line<'_>); 41] = [
         "smtsim check a t",
         Line {
             config: None,
+            harts: None,
             hints: HintsWanted::Auto,
             command: Command::OfProgram(ProgramCommand::Check(CheckCommand {
                 image: "a",
                 trace: "t",
                 counts: false,
                 json: false,
+                lines: None,
+                names: false,
                 records: false,
                 why: false,
             })),
@@ -272,12 +313,15 @@ static LINES: [(&str, Line<'_>); 41] = [
         "smtsim check --records a --config c t",
         Line {
             config: Some("c"),
+            harts: None,
             hints: HintsWanted::Auto,
             command: Command::OfProgram(ProgramCommand::Check(CheckCommand {
                 image: "a",
                 trace: "t",
                 counts: false,
                 json: false,
+                lines: None,
+                names: false,
                 records: true,
                 why: false,
             })),
@@ -287,6 +331,7 @@ static LINES: [(&str, Line<'_>); 41] = [
         "smtsim plain a b",
         Line {
             config: None,
+            harts: None,
             hints: HintsWanted::Auto,
             command: Command::OfProgram(ProgramCommand::Plain(PlainCommand {
                 image: "a",
@@ -294,6 +339,8 @@ static LINES: [(&str, Line<'_>); 41] = [
                 rounds: None,
                 steps: None,
                 seed: None,
+                lines: None,
+                names: false,
                 records: false,
             })),
         },
@@ -302,6 +349,7 @@ static LINES: [(&str, Line<'_>); 41] = [
         "smtsim plain --config c a --records b",
         Line {
             config: Some("c"),
+            harts: None,
             hints: HintsWanted::Auto,
             command: Command::OfProgram(ProgramCommand::Plain(PlainCommand {
                 image: "a",
@@ -309,6 +357,8 @@ static LINES: [(&str, Line<'_>); 41] = [
                 rounds: None,
                 steps: None,
                 seed: None,
+                lines: None,
+                names: false,
                 records: true,
             })),
         },
@@ -317,6 +367,7 @@ static LINES: [(&str, Line<'_>); 41] = [
         "smtsim schedule a b",
         Line {
             config: None,
+            harts: None,
             hints: HintsWanted::Auto,
             command: Command::OfProgram(ProgramCommand::Schedule(ScheduleCommand {
                 image: "a",
@@ -328,6 +379,7 @@ static LINES: [(&str, Line<'_>); 41] = [
         "smtsim schedule a --config c b",
         Line {
             config: Some("c"),
+            harts: None,
             hints: HintsWanted::Auto,
             command: Command::OfProgram(ProgramCommand::Schedule(ScheduleCommand {
                 image: "a",
@@ -339,6 +391,7 @@ static LINES: [(&str, Line<'_>); 41] = [
         "smtsim script a t",
         Line {
             config: None,
+            harts: None,
             hints: HintsWanted::Auto,
             command: Command::OfProgram(ProgramCommand::Script(ScriptCommand {
                 image: "a",
@@ -350,6 +403,7 @@ static LINES: [(&str, Line<'_>); 41] = [
         "smtsim script a --config c t",
         Line {
             config: Some("c"),
+            harts: None,
             hints: HintsWanted::Auto,
             command: Command::OfProgram(ProgramCommand::Script(ScriptCommand {
                 image: "a",
@@ -361,28 +415,41 @@ static LINES: [(&str, Line<'_>); 41] = [
         "smtsim list list.elf",
         Line {
             config: None,
+            harts: None,
             hints: HintsWanted::Auto,
-            command: Command::OfProgram(ProgramCommand::List(ListCommand { image: "list.elf" })),
+            command: Command::OfProgram(ProgramCommand::List(ListCommand {
+                image: "list.elf",
+                lines: None,
+                names: false,
+            })),
         },
     ),
     (
         "smtsim list --config c.toml list.elf",
         Line {
             config: Some("c.toml"),
+            harts: None,
             hints: HintsWanted::Auto,
-            command: Command::OfProgram(ProgramCommand::List(ListCommand { image: "list.elf" })),
+            command: Command::OfProgram(ProgramCommand::List(ListCommand {
+                image: "list.elf",
+                lines: None,
+                names: false,
+            })),
         },
     ),
     (
         "smtsim run --times 1000000 a --keep=f",
         Line {
             config: None,
+            harts: None,
             hints: HintsWanted::Auto,
             command: Command::OfProgram(ProgramCommand::Run(RunCommand {
                 image: "a",
                 trace: None,
                 counts: false,
                 json: false,
+                lines: None,
+                names: false,
                 records: false,
                 why: false,
                 times: Some(1_000_000),
@@ -394,12 +461,15 @@ static LINES: [(&str, Line<'_>); 41] = [
         "smtsim run --why --counts --json a",
         Line {
             config: None,
+            harts: None,
             hints: HintsWanted::Auto,
             command: Command::OfProgram(ProgramCommand::Run(RunCommand {
                 image: "a",
                 trace: None,
                 counts: true,
                 json: true,
+                lines: None,
+                names: false,
                 records: false,
                 why: true,
                 times: None,
@@ -411,12 +481,15 @@ static LINES: [(&str, Line<'_>); 41] = [
         "smtsim check --counts a --why - --json",
         Line {
             config: None,
+            harts: None,
             hints: HintsWanted::Auto,
             command: Command::OfProgram(ProgramCommand::Check(CheckCommand {
                 image: "a",
                 trace: "-",
                 counts: true,
                 json: true,
+                lines: None,
+                names: false,
                 records: false,
                 why: true,
             })),
@@ -426,6 +499,7 @@ static LINES: [(&str, Line<'_>); 41] = [
         "smtsim step - b --json --counts",
         Line {
             config: None,
+            harts: None,
             hints: HintsWanted::Auto,
             command: Command::OfProgram(ProgramCommand::Step(StepCommand {
                 image: "-",
@@ -434,6 +508,8 @@ static LINES: [(&str, Line<'_>); 41] = [
                 counts: true,
                 json: true,
                 looks: false,
+                lines: None,
+                names: false,
                 records: false,
                 show: false,
                 why: false,
@@ -444,6 +520,7 @@ static LINES: [(&str, Line<'_>); 41] = [
         "smtsim plain a --rounds 4294967295 --steps 0 --seed 7 --config -",
         Line {
             config: Some("-"),
+            harts: None,
             hints: HintsWanted::Auto,
             command: Command::OfProgram(ProgramCommand::Plain(PlainCommand {
                 image: "a",
@@ -451,6 +528,8 @@ static LINES: [(&str, Line<'_>); 41] = [
                 rounds: Some(4_294_967_295),
                 steps: Some(0),
                 seed: Some(7),
+                lines: None,
+                names: false,
                 records: false,
             })),
         },
@@ -459,6 +538,7 @@ static LINES: [(&str, Line<'_>); 41] = [
         "smtsim plain --rounds=1 a --records",
         Line {
             config: None,
+            harts: None,
             hints: HintsWanted::Auto,
             command: Command::OfProgram(ProgramCommand::Plain(PlainCommand {
                 image: "a",
@@ -466,6 +546,8 @@ static LINES: [(&str, Line<'_>); 41] = [
                 rounds: Some(1),
                 steps: None,
                 seed: None,
+                lines: None,
+                names: false,
                 records: true,
             })),
         },
@@ -474,6 +556,7 @@ static LINES: [(&str, Line<'_>); 41] = [
         "smtsim explain --config c a",
         Line {
             config: Some("c"),
+            harts: None,
             hints: HintsWanted::Auto,
             command: Command::Explain(ExplainCommand {
                 image: "a",
@@ -485,6 +568,7 @@ static LINES: [(&str, Line<'_>); 41] = [
         "smtsim explain a --script s",
         Line {
             config: None,
+            harts: None,
             hints: HintsWanted::Auto,
             command: Command::Explain(ExplainCommand {
                 image: "a",
@@ -496,6 +580,7 @@ static LINES: [(&str, Line<'_>); 41] = [
         "smtsim explain --order=- a",
         Line {
             config: None,
+            harts: None,
             hints: HintsWanted::Auto,
             command: Command::Explain(ExplainCommand {
                 image: "a",
@@ -507,6 +592,7 @@ static LINES: [(&str, Line<'_>); 41] = [
         "smtsim explain a --trace t",
         Line {
             config: None,
+            harts: None,
             hints: HintsWanted::Auto,
             command: Command::Explain(ExplainCommand {
                 image: "a",
@@ -518,6 +604,7 @@ static LINES: [(&str, Line<'_>); 41] = [
         "smtsim outcomes a",
         Line {
             config: None,
+            harts: None,
             hints: HintsWanted::Auto,
             command: Command::OfProgram(ProgramCommand::Outcomes(OutcomesCommand {
                 image: "a",
@@ -535,6 +622,7 @@ static LINES: [(&str, Line<'_>); 41] = [
         "smtsim outcomes --states 4294967295 a --config c --watch a0@1 --exists=h0=1 --outcome 2 --witness w",
         Line {
             config: Some("c"),
+            harts: None,
             hints: HintsWanted::Auto,
             command: Command::OfProgram(ProgramCommand::Outcomes(OutcomesCommand {
                 image: "a",
@@ -552,6 +640,7 @@ static LINES: [(&str, Line<'_>); 41] = [
         "smtsim outcomes --stuck - --script s --states 1",
         Line {
             config: None,
+            harts: None,
             hints: HintsWanted::Auto,
             command: Command::OfProgram(ProgramCommand::Outcomes(OutcomesCommand {
                 image: "-",
@@ -569,6 +658,7 @@ static LINES: [(&str, Line<'_>); 41] = [
         "smtsim litmus a",
         Line {
             config: None,
+            harts: None,
             hints: HintsWanted::Auto,
             command: Command::Litmus(LitmusCommand {
                 test: "a",
@@ -583,6 +673,7 @@ static LINES: [(&str, Line<'_>); 41] = [
         "smtsim litmus --why a --config c --states 5 --svg s",
         Line {
             config: Some("c"),
+            harts: None,
             hints: HintsWanted::Auto,
             command: Command::Litmus(LitmusCommand {
                 test: "a",
@@ -597,6 +688,7 @@ static LINES: [(&str, Line<'_>); 41] = [
         "smtsim litmus --image i -",
         Line {
             config: None,
+            harts: None,
             hints: HintsWanted::Auto,
             command: Command::Litmus(LitmusCommand {
                 test: "-",
@@ -611,6 +703,7 @@ static LINES: [(&str, Line<'_>); 41] = [
         "smtsim migrate t o",
         Line {
             config: None,
+            harts: None,
             hints: HintsWanted::Auto,
             command: Command::Migrate(MigrateCommand {
                 trace: "t",
@@ -622,6 +715,7 @@ static LINES: [(&str, Line<'_>); 41] = [
         "smtsim migrate - --config c o",
         Line {
             config: Some("c"),
+            harts: None,
             hints: HintsWanted::Auto,
             command: Command::Migrate(MigrateCommand {
                 trace: "-",
@@ -709,14 +803,46 @@ fn numbers_of<'a>(line: &Line<'a>) -> ([Option<u32>; 3], Option<&'a str>) {
 fn view_of(line: &Line<'_>) -> Option<(u32, u32, Option<u32>, u32, bool)> {
     match line.command {
         Command::OfProgram(ProgramCommand::Chart(chart)) => Some((
-            chart.from,
-            chart.to,
+            event_of(chart.from),
+            event_of(chart.to),
             chart.hart,
             chart.width,
             chart.svg.is_some(),
         )),
         _ => None,
     }
+}
+
+/// The event at which a chart begins or ends; one that there can't be where it is a function.
+fn event_of(end: ChartEnd<'_>) -> u32 {
+    match end {
+        ChartEnd::Event(place) => place,
+        ChartEnd::Function(_) => u32::MAX,
+    }
+}
+
+/// Where a chart of these words begins and ends, as functions.
+fn functions_of<'a>(words: &'a [&'a str], alloc: Global) -> Option<(&'a str, &'a str)> {
+    let Ok(line) = read_words(words, alloc) else {
+        return None;
+    };
+    let Command::OfProgram(ProgramCommand::Chart(chart)) = line.command else {
+        return None;
+    };
+    match (chart.from, chart.to) {
+        (ChartEnd::Function(from), ChartEnd::Function(to)) => Some((from, to)),
+        _ => None,
+    }
+}
+
+#[test]
+fn a_chart_goes_from_function_to_function(rt: HostRuntime) {
+    let words = ["smtsim", "chart", "a", "t", "--from", "lock", "--to", "'7'"];
+    assert!(rt; functions_of(&words, rt.alloc()) == Some(("lock", "7")));
+    let digit = ["smtsim", "chart", "a", "t", "--from", "7x"];
+    assert!(rt; read_words(&digit, rt.alloc()).is_err());
+    let quote = ["smtsim", "chart", "a", "t", "--from", "'lock"];
+    assert!(rt; read_words(&quote, rt.alloc()).is_err());
 }
 
 /// The texts of a line that asks for outcomes, and whether its file is a script.
@@ -756,17 +882,19 @@ fn each_line_is_read_with_its_files_and_options(rt: HostRuntime) {
 }
 
 /// A line of each command, and its files.
-static NAMED: [(Line<'_>, Named<'_>); 14] = [
+const NAMED: [(Line<'_>, Named<'_>); 14] = [
     (
         Line {
             config: Some("c"),
+            harts: None,
             hints: HintsWanted::Auto,
             command: Command::OfProgram(ProgramCommand::Chart(ChartCommand {
                 image: "a",
                 trace: "t",
-                from: 0,
-                to: 9,
+                from: ChartEnd::Event(0),
+                to: ChartEnd::Event(9),
                 hart: None,
+                names: false,
                 width: 80,
                 svg: None,
                 kanata: Some("k"),
@@ -777,6 +905,7 @@ static NAMED: [(Line<'_>, Named<'_>); 14] = [
     (
         Line {
             config: Some("c"),
+            harts: None,
             hints: HintsWanted::Auto,
             command: Command::OfProgram(ProgramCommand::Step(StepCommand {
                 image: "a",
@@ -785,6 +914,8 @@ static NAMED: [(Line<'_>, Named<'_>); 14] = [
                 counts: false,
                 json: false,
                 looks: false,
+                lines: None,
+                names: false,
                 records: true,
                 show: true,
                 why: false,
@@ -795,12 +926,15 @@ static NAMED: [(Line<'_>, Named<'_>); 14] = [
     (
         Line {
             config: Some("c"),
+            harts: None,
             hints: HintsWanted::Auto,
             command: Command::OfProgram(ProgramCommand::Run(RunCommand {
                 image: "a",
                 trace: Some("t"),
                 counts: false,
                 json: false,
+                lines: None,
+                names: false,
                 records: true,
                 why: false,
                 times: None,
@@ -812,12 +946,15 @@ static NAMED: [(Line<'_>, Named<'_>); 14] = [
     (
         Line {
             config: Some("c"),
+            harts: None,
             hints: HintsWanted::Auto,
             command: Command::OfProgram(ProgramCommand::Check(CheckCommand {
                 image: "a",
                 trace: "t",
                 counts: false,
                 json: false,
+                lines: None,
+                names: false,
                 records: true,
                 why: false,
             })),
@@ -827,6 +964,7 @@ static NAMED: [(Line<'_>, Named<'_>); 14] = [
     (
         Line {
             config: Some("c"),
+            harts: None,
             hints: HintsWanted::Auto,
             command: Command::OfProgram(ProgramCommand::Plain(PlainCommand {
                 image: "a",
@@ -834,6 +972,8 @@ static NAMED: [(Line<'_>, Named<'_>); 14] = [
                 rounds: None,
                 steps: None,
                 seed: None,
+                lines: None,
+                names: false,
                 records: false,
             })),
         },
@@ -842,6 +982,7 @@ static NAMED: [(Line<'_>, Named<'_>); 14] = [
     (
         Line {
             config: Some("c"),
+            harts: None,
             hints: HintsWanted::Auto,
             command: Command::OfProgram(ProgramCommand::Schedule(ScheduleCommand {
                 image: "a",
@@ -853,6 +994,7 @@ static NAMED: [(Line<'_>, Named<'_>); 14] = [
     (
         Line {
             config: Some("c"),
+            harts: None,
             hints: HintsWanted::Auto,
             command: Command::OfProgram(ProgramCommand::Script(ScriptCommand {
                 image: "a",
@@ -864,14 +1006,20 @@ static NAMED: [(Line<'_>, Named<'_>); 14] = [
     (
         Line {
             config: Some("c"),
+            harts: None,
             hints: HintsWanted::Auto,
-            command: Command::OfProgram(ProgramCommand::List(ListCommand { image: "a" })),
+            command: Command::OfProgram(ProgramCommand::List(ListCommand {
+                image: "a",
+                lines: None,
+                names: false,
+            })),
         },
         (Some("c"), Some("a"), None, None),
     ),
     (
         Line {
             config: None,
+            harts: None,
             hints: HintsWanted::Auto,
             command: Command::Explain(ExplainCommand {
                 image: "a",
@@ -883,6 +1031,7 @@ static NAMED: [(Line<'_>, Named<'_>); 14] = [
     (
         Line {
             config: None,
+            harts: None,
             hints: HintsWanted::Auto,
             command: Command::OfProgram(ProgramCommand::Outcomes(OutcomesCommand {
                 image: "a",
@@ -900,6 +1049,7 @@ static NAMED: [(Line<'_>, Named<'_>); 14] = [
     (
         Line {
             config: Some("c"),
+            harts: None,
             hints: HintsWanted::Auto,
             command: Command::OfProgram(ProgramCommand::Outcomes(OutcomesCommand {
                 image: "a",
@@ -917,6 +1067,7 @@ static NAMED: [(Line<'_>, Named<'_>); 14] = [
     (
         Line {
             config: None,
+            harts: None,
             hints: HintsWanted::Auto,
             command: Command::Litmus(LitmusCommand {
                 test: "a",
@@ -931,6 +1082,7 @@ static NAMED: [(Line<'_>, Named<'_>); 14] = [
     (
         Line {
             config: Some("c"),
+            harts: None,
             hints: HintsWanted::Auto,
             command: Command::Litmus(LitmusCommand {
                 test: "a",
@@ -945,6 +1097,7 @@ static NAMED: [(Line<'_>, Named<'_>); 14] = [
     (
         Line {
             config: Some("c"),
+            harts: None,
             hints: HintsWanted::Auto,
             command: Command::Migrate(MigrateCommand {
                 trace: "t",

@@ -11,6 +11,7 @@ ghost use Rattle.prompts.specs.declared.session.Complaint.TheVariants.{Memory};
 
 use crate::command::{Command, read_command};
 use crate::simulation::{Asked, Simulation};
+use address_labels::Labels;
 use charts::{View, rows_of, write_text};
 use events::{Event, History};
 use explained_asks::explain;
@@ -311,7 +312,7 @@ fn chart_of(core: &Core, alloc: Global) -> Result<Vec<u8>, AllocError> {
     let rows = rows_of(events.as_slice(), alloc)?;
     let view = View::new(0, u32::MAX, None, events.len());
     let mut text = Vec::new(alloc);
-    match write_text(rows.as_slice(), &view, COLUMNS, &mut text) {
+    match write_text(rows.as_slice(), &view, COLUMNS, &Labels::none(), &mut text) {
         Ok(()) => Ok(text),
         Err(_) => Err(AllocError),
     }

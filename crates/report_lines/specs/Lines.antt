@@ -1,11 +1,13 @@
 -- The lines of records, counts, harts and output. (This project's own choice.)
-use Rattle.std.specs.Prelude.{ℕ, ◌+◌, Bool, false, ◌==◌, if◌then◌else◌, List, [], ◌∷◌, ◌++◌}
+use Rattle.std.specs.Prelude.{ℕ, Bool, false, ◌==◌, if◌then◌else◌, List, [], ◌∷◌, ◌++◌}
 use Rattle.std.specs.Prelude.{codes, flat_map}
 use Rattle.std.specs.{List.list_any, List.list_all, Fmt.decimal}
 use Rattle.text_fields.specs.Spelling.{hex}
 use Rattle.text_fields.specs.Each.{each_from}
 use Rattle.events.specs.{declared.effect.Record.Record}
 use Rattle.event_text.specs.{Line.record_text_of}
+use Rattle.address_labels.specs.{Labels.Marks, Texts.labels_text}
+use Rattle.address_labels.specs.declared.writing.Form.TheVariants.{Word}
 use Rattle.smt_model.specs.{declared.config.Status.Status, declared.config.Status.TheVariants.Going}
 use Rattle.smt_model.specs.{declared.config.Status.TheVariants.Ended}
 use Rattle.smt_model.specs.{declared.config.Status.TheVariants.Stopped, Plain.is_going_status}
@@ -48,12 +50,12 @@ bytes_text (byte ∷ others) = flat_map (hex 2) (byte ∷ others)
 abbrev pub output_line : List ℕ → List ℕ
 output_line output = codes "output " ++ (bytes_text output ++ 10 ∷ [])
 
--- A line for each record, where they are wanted.
-abbrev pub record_line : Record → List ℕ
-record_line r = record_text_of r ++ 10 ∷ []
+-- A line for each record, where they are wanted: what is wanted beside its pc stands behind its own fields.
+abbrev pub record_line : Marks → Record → List ℕ
+record_line marks r = record_text_of r ++ (labels_text Word marks r.pc ++ 10 ∷ [])
 
-abbrev pub records_text : Bool → List Record → List ℕ
-records_text wanted records = if wanted then flat_map record_line records else []
+abbrev pub records_text : Bool → Marks → List Record → List ℕ
+records_text wanted marks records = if wanted then flat_map (record_line marks) records else []
 
 -- How a simulation has ended: how each hart stands, and the bytes that were put out.
 abbrev pub end_text : List Status → List ℕ → List ℕ

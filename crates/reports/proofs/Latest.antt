@@ -1,7 +1,7 @@
 -- The last member of a list that passes a test, as a loop finds it.
-use Rattle.std.specs.Prelude.{◌≡◌, ℕ, ◌+◌, ◌<◌, ◌≤◌, Bool, List, [], ◌∷◌, ◌++◌, length, Option, Some, find, reverse}
+use Rattle.std.specs.Prelude.{◌≡◌, ℕ, ◌+◌, ◌<◌, ◌≤◌, Bool, List, [], ◌∷◌, length, Option, Some, find, reverse}
 use Rattle.std.specs.Prelude.{take, if◌then◌else◌}
-use Rattle.std.proofs.Common.{get_or, refl, sym, ap, ◌∙◌, inl, inr}
+use Rattle.std.proofs.Common.{get_or, refl, ap, ◌∙◌, inl, inr}
 use Rattle.std.proofs.lemmas.{Bool.cases_Bool, List.take_more, List.take_all, List.reverse-append}
 
 pub last_step : {A : Type 0} (test : A → Bool) (xs : List A) (i : ℕ) (d : A) (last : Option A) → i < length xs

@@ -1,11 +1,11 @@
 -- Whose turn comes: a hart that goes, and none only where none goes.
-use Rattle.std.proofs.Common.{◌≡◌, ℕ, ◌+◌, ◌*◌, ◌/◌, ◌%◌, ◌^◌, ◌<◌, ◌≤◌, Bool, true, false, zero, suc, List, [], ◌∷◌, ◌++◌}
+use Rattle.std.proofs.Common.{◌≡◌, ℕ, ◌+◌, ◌*◌, ◌/◌, ◌^◌, ◌<◌, ◌≤◌, Bool, true, false, zero, suc, List, [], ◌∷◌, ◌++◌}
 use Rattle.std.proofs.Common.{Option, Some, None, length, refl, ap, sym, subst, ◌∙◌, inl, inr, arith, lit<, add-one, length-append}
 use Rattle.std.proofs.Math.Nat.{div-lt_iff_lt-mul, mul-lt-mul_of_pos_right, mod-lt}
 use Rattle.std.specs.Prelude.{slice_get, filter, find, option_map, nat_lt, if◌then◌else◌}
 use Rattle.std.proofs.{lemmas.Bool.cases_Bool, lemmas.List.Elements.filter-append, lemmas.List.length_push}
 use Rattle.smt_model.specs.{Basics.below, Setup.Setup, Plain.Plain, Plain.is_going_status}
-use Rattle.rounds.specs.Turns.{Turn, going, next_number, number_for, or_else, in_turn, drawn, chosen}
+use Rattle.rounds.specs.Turns.{Turn, going, next_number, number_for, or_else, drawn, chosen}
 
 -- ---- A hart that goes
 

@@ -1,6 +1,6 @@
 -- The steps of a turn, one after another; and why there is none.
-use Rattle.std.proofs.Common.{◌≡◌, ◌≢◌, ℕ, ◌+◌, ◌<◌, ◌≤◌, Bool, true, false, List, [], ◌∷◌, ◌++◌, Option, Some, None}
-use Rattle.std.proofs.Common.{length, reverse, replicate, refl, ap, sym, subst, ◌∙◌, add-one, arith}
+use Rattle.std.proofs.Common.{◌≡◌, ℕ, ◌+◌, ◌<◌, Bool, true, false, List, [], Option, Some, None}
+use Rattle.std.proofs.Common.{length, replicate, refl, ap, sym, subst, ◌∙◌, add-one, arith}
 use Rattle.std.specs.Prelude.{not, ◌&&◌, if◌then◌else◌, nat_lt, nat_le, is_some, Result, Ok, Err, OnOk, is_err}
 use Rattle.std.proofs.lemmas.Bool.Decides.{nat_tests}
 use Rattle.std.specs.Io.KnownBytes.{Appends}
@@ -11,7 +11,8 @@ use Rattle.sc_machine.specs.{Machine.Machine, Machine.Agrees, Machine.InEachStat
 use Rattle.sc_machine.specs.{Steps.run_on, Refusals.refusal}
 use Rattle.sc_machine.specs.declared.refused.Stopped.{Stopped}
 use Rattle.sc_machine.specs.declared.refused.Stopped.TheVariants.{NotGoing, OutputFull, NoHart}
-use Rattle.report_lines.specs.Lines.{record_line, records_text}
+use Rattle.address_labels.specs.Labels.{Marks}
+use Rattle.report_lines.specs.Lines.{record_line}
 use Rattle.rounds.specs.Steps.{HasMade}
 use Rattle.rounds.proofs.Printing.{printed_more}
 
@@ -36,10 +37,10 @@ agrees_with_room setup s m new room same agrees =
     subst (λ x. Agrees setup s x) (sym same) there
 
 -- More room changes no step.
-pub roomier : (setup : Setup) (before : Run) (hart made room : ℕ) (wanted : Bool) (old now : Option (List ℕ))
-    (m roomy new : Machine) → HasMade setup before hart made wanted old now m → roomy ≡ record m { room = room }
-    → new ≡ roomy → HasMade setup before hart made wanted old now new
-roomier setup before hart made room wanted old now m roomy new has same unchanged =
+pub roomier : (setup : Setup) (before : Run) (hart made room : ℕ) (wanted : Bool) (marks : Marks) (old now : Option (List ℕ))
+    (m roomy new : Machine) → HasMade setup before hart made wanted marks old now m → roomy ≡ record m { room = room }
+    → new ≡ roomy → HasMade setup before hart made wanted marks old now new
+roomier setup before hart made room wanted marks old now m roomy new has same unchanged =
     record {
       after = has.after;
       runs = has.runs;
@@ -50,9 +51,9 @@ roomier setup before hart made room wanted old now m roomy new has same unchange
 
 -- ---- One more step
 
-pub made_none : (setup : Setup) (before : Run) (hart : ℕ) (wanted : Bool) (now : Option (List ℕ)) (m : Machine)
-    → Agrees setup before.state m → HasMade setup before hart 0 wanted now now m
-made_none setup before hart wanted now m agrees = record {
+pub made_none : (setup : Setup) (before : Run) (hart : ℕ) (wanted : Bool) (marks : Marks) (now : Option (List ℕ)) (m : Machine)
+    → Agrees setup before.state m → HasMade setup before hart 0 wanted marks now now m
+made_none setup before hart wanted marks now m agrees = record {
   after = before;
   runs = refl;
   agrees = agrees;
@@ -60,12 +61,12 @@ made_none setup before hart wanted now m agrees = record {
   printed = λ origin shown. shown;
 }
 
-pub made_more : (setup : Setup) (before : Run) (hart made room : ℕ) (wanted : Bool) (old mid new : Option (List ℕ))
-    (said : Record) (m roomy after : Machine) → HasMade setup before hart made wanted old mid m
+pub made_more : (setup : Setup) (before : Run) (hart made room : ℕ) (wanted : Bool) (marks : Marks) (old mid new : Option (List ℕ))
+    (said : Record) (m roomy after : Machine) → HasMade setup before hart made wanted marks old mid m
     → roomy ≡ record m { room = room } → InEachRun roomy (λ setup ran. IsStep setup roomy.room ran hart said after)
-    → Appends mid new (if wanted then record_line said else [])
-    → HasMade setup before hart (made + 1) wanted old new after
-made_more setup before hart made room wanted old mid new said m roomy after has same steps line =
+    → Appends mid new (if wanted then record_line marks said else [])
+    → HasMade setup before hart (made + 1) wanted marks old new after
+made_more setup before hart made room wanted marks old mid new said m roomy after has same steps line =
     let one = steps setup has.after (agrees_with_room setup has.after.state m roomy room same has.agrees) in
     let next = advance setup hart has.after in
     record {
@@ -75,9 +76,9 @@ made_more setup before hart made room wanted old mid new said m roomy after has 
       agrees = one.agrees;
       count = omega (arith, has.count);
       printed = λ origin shown.
-          printed_more wanted origin mid new has.after.records (record_at setup has.after.state hart)
+          printed_more wanted marks origin mid new has.after.records (record_at setup has.after.state hart)
           (has.printed origin shown)
-          (subst (λ r. Appends mid new (if wanted then record_line r else [])) one.said_is line);
+          (subst (λ r. Appends mid new (if wanted then record_line marks r else [])) one.said_is line);
     }
 
 -- ---- No more steps

@@ -5,6 +5,7 @@ use Rattle.std.specs.Io.KnownBytes.{Appends}
 use Rattle.smt_model.specs.{Basics.below, Setup.Setup, Plain.Run, Plain.run}
 use Rattle.smt_model.specs.{Plain.is_going_status}
 use Rattle.sc_machine.specs.Machine.{Agrees}
+use Rattle.address_labels.specs.Labels.{Marks}
 use Rattle.report_lines.specs.Lines.{records_text}
 use Rattle.rounds.specs.declared.{rules.Rounds.Rounds, running.RoundsRun.RoundsRun}
 use Rattle.rounds.specs.Turns.{Turn, order_of, going, whose}
@@ -39,8 +40,8 @@ pub record AreRounds (setup : Setup) (rounds : Rounds) (turns : List Turn) (ran 
 
 -- What a run in rounds leaves: there are rounds. The steps are counted; the harts stand as their run
 -- leaves them, and the machine agrees with it; the lines of its records were printed, where they are
--- wanted.
-pub record HasLeft (setup : Setup) (rounds : Rounds) (wanted : Bool) (old new : Option (List ℕ))
+-- wanted, with what is wanted beside them.
+pub record HasLeft (setup : Setup) (rounds : Rounds) (wanted : Bool) (marks : Marks) (old new : Option (List ℕ))
     (left : RoundsRun) : Type 0 where
   pub turns : List Turn
   pub ran : Run
@@ -48,4 +49,4 @@ pub record HasLeft (setup : Setup) (rounds : Rounds) (wanted : Bool) (old new : 
   pub retired : left.retired ≡ length ran.records
   pub statuses : left.statuses.items ≡ map ran.state.statuses (below setup.harts)
   pub agrees : Agrees setup ran.state left.machine
-  pub printed : Appends old new (records_text wanted (reverse ran.records))
+  pub printed : Appends old new (records_text wanted marks (reverse ran.records))

@@ -3,6 +3,7 @@
 ghost use Rattle.std.specs.Prelude.{◌≡◌, ◌<◌, ◌↔◌, Err, false, IfOk};
 ghost use Rattle.sc_machine.specs.Steps.{are_harts};
 ghost use Rattle.plain_run.specs.Orders.{OfEachSetup};
+ghost use Rattle.address_labels.specs.Labels.{marks_of};
 ghost use Rattle.rounds.specs.Rounds.{HasLeft};
 ghost use Rattle.rounds.specs.Steps.{IsAtAStart, OfEachStart, HaveMade};
 ghost use Rattle.rounds.specs.declared.stopped.RoundsStopped.TheVariants.{Harts};
@@ -12,6 +13,7 @@ use crate::observer::StepObserver;
 use crate::rules::Rounds;
 use crate::stopped::{Broken, RoundsStopped};
 use crate::turn::take_turn;
+use address_labels::Labels;
 use arrayvec::ArrayVec;
 use elf_image::Image;
 use numbers::sizes::HART_ROOM;
@@ -33,7 +35,7 @@ pub struct RoundsRun {
 }
 
 /// Runs the plain machine of an image: the harts take turns, until none of them goes or all steps are
-/// made. The record of each step is written as it is made, where that is wanted, and not kept. Before
+/// made. The record of each step is written as it is made, with its labels, where that is wanted, and not kept. Before
 /// each step the machine is shown to `observer`.
 ///
 /// Refused are no harts and more than `MOST_HARTS`, before any memory is taken. Room for the output is
@@ -43,13 +45,14 @@ pub fn run_rounds<T: StepObserver, W: Write>(
     harts: u8,
     rounds: Rounds,
     records: bool,
+    labels: &Labels<'_>,
     observer: &mut T,
     out: &mut W,
     alloc: Global,
 ) -> Result<RoundsRun, RoundsStopped>
     requires { 0 < rounds.each }
     ensures ran { IfOk result (λ left. OfEachSetup image.now harts (λ setup. HasLeft setup rounds
-        records (W.contents out.old) (W.contents out.new) left)) }
+        records (marks_of labels.now) (W.contents out.old) (W.contents out.new) left)) }
     ensures harts { (result ≡ Err Harts) ↔ (are_harts harts ≡ false) }
 {
     let mut machine = match Plain::new(image, harts, 0, alloc) {
@@ -57,7 +60,7 @@ pub fn run_rounds<T: StepObserver, W: Write>(
         Err(PlainRefused::Harts) => return Err(RoundsStopped::Harts),
         Err(PlainRefused::Memory) => return Err(RoundsStopped::Memory),
     };
-    let retired = match take_turns(&mut machine, rounds, records, observer, out) {
+    let retired = match take_turns(&mut machine, rounds, records, labels, observer, out) {
         Ok(made) => made,
         Err(Broken::Memory) => return Err(RoundsStopped::Memory),
         Err(Broken::Output) => return Err(RoundsStopped::Output),
@@ -75,13 +78,14 @@ fn take_turns<T: StepObserver, W: Write>(
     machine: &mut Plain,
     rounds: Rounds,
     records: bool,
+    labels: &Labels<'_>,
     observer: &mut T,
     out: &mut W,
 ) -> Result<u64, Broken>
     requires some { 0 < rounds.each }
     requires start { IsAtAStart machine.old }
     ensures { IfOk result (λ made. OfEachStart machine.old (λ setup. HaveMade setup rounds records
-        (W.contents out.old) (W.contents out.new) made machine.new)) }
+        (marks_of labels.now) (W.contents out.old) (W.contents out.new) made machine.new)) }
 {
     let mut left = rounds.steps;
     let mut last = None;
@@ -91,7 +95,7 @@ fn take_turns<T: StepObserver, W: Write>(
             return Ok(rounds.steps - left);
         };
         let limit = left.min(u64::from(rounds.each));
-        left -= take_turn(machine, hart, limit, records, observer, out)?;
+        left -= take_turn(machine, hart, limit, records, labels, observer, out)?;
         last = Some(hart);
         number = following(number);
     }

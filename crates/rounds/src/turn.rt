@@ -6,10 +6,12 @@ ghost use Rattle.smt_model.specs.Plain.{is_going_status};
 ghost use Rattle.sc_machine.specs.Machine.{InEachState};
 ghost use Rattle.sc_machine.specs.Steps.{InEachRun};
 ghost use Rattle.report_lines.specs.Lines.{record_line};
+ghost use Rattle.address_labels.specs.Labels.{marks_of};
 ghost use Rattle.rounds.specs.Steps.{HasMade};
 
 use crate::observer::StepObserver;
 use crate::stopped::Broken;
+use address_labels::Labels;
 use events::Record;
 use report_lines::write_record;
 use sc_machine::Plain;
@@ -22,12 +24,13 @@ pub fn take_turn<T: StepObserver, W: Write>(
     hart: u8,
     limit: u64,
     records: bool,
+    labels: &Labels<'_>,
     observer: &mut T,
     out: &mut W,
 ) -> Result<u64, Broken>
     ensures within { IfOk result (λ made. made ≤ limit) }
     ensures made { IfOk result (λ made. InEachRun machine.old (λ setup before. HasMade setup before
-        hart made records (W.contents out.old) (W.contents out.new) machine.new)) }
+        hart made records (marks_of labels.now) (W.contents out.old) (W.contents out.new) machine.new)) }
     ensures stands { IfOk result (λ made. made < limit → InEachState machine.new
         (λ setup s. hart < setup.harts → is_going_status (s.statuses hart) ≡ false)) }
 {
@@ -37,7 +40,7 @@ pub fn take_turn<T: StepObserver, W: Write>(
             return Err(Broken::Memory);
         }
         match machine.step(hart) {
-            Ok(record) => show(&record, records, out)?,
+            Ok(record) => show(&record, records, labels, out)?,
             Err(_) => return Ok(made),
         }
     }
@@ -45,14 +48,19 @@ pub fn take_turn<T: StepObserver, W: Write>(
 }
 
 /// Writes the line of a record where it is wanted.
-fn show<W: Write>(record: &Record, wanted: bool, out: &mut W) -> Result<(), Broken>
+fn show<W: Write>(
+    record: &Record,
+    wanted: bool,
+    labels: &Labels<'_>,
+    out: &mut W,
+) -> Result<(), Broken>
     ensures { OnOk result (Appends (W.contents out.old) (W.contents out.new)
-        (if wanted then record_line record.now else [])) }
+        (if wanted then record_line (marks_of labels.now) record.now else [])) }
 {
     if !wanted {
         return Ok(());
     }
-    match write_record(record, out) {
+    match write_record(record, labels, out) {
         Ok(()) => Ok(()),
         Err(_) => Err(Broken::Output),
     }

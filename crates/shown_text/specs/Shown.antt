@@ -12,3 +12,10 @@ shown_byte byte = if is_control byte then 92 ∷ 120 ∷ hex 2 byte else byte �
 
 abbrev pub shown : List ℕ → List ℕ
 shown text = flat_map shown_byte text
+
+-- A name is shown as one word: a blank is `\x20`.
+abbrev pub shown_name_byte : ℕ → List ℕ
+shown_name_byte byte = if byte == 32 then 92 ∷ 120 ∷ hex 2 byte else shown_byte byte
+
+abbrev pub shown_name : List ℕ → List ℕ
+shown_name name = flat_map shown_name_byte name

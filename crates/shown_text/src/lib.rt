@@ -8,4 +8,4 @@ mod shell;
 mod shown;
 
 pub use shell::write_file_name;
-pub use shown::write_shown;
+pub use shown::{write_name, write_shown};

@@ -3,7 +3,7 @@
 ghost use Rattle.std.specs.Prelude.{◌≡◌, ◌∷◌, OnOk};
 ghost use Rattle.std.specs.Io.KnownBytes.{Appends};
 ghost use Rattle.text_fields.specs.Spelling.{hex};
-ghost use Rattle.shown_text.specs.Shown.{is_control, shown_byte, shown};
+ghost use Rattle.shown_text.specs.Shown.{is_control, shown_byte, shown, shown_name, shown_name_byte};
 
 use arrayvec::ArrayString;
 use std::io;
@@ -29,6 +29,25 @@ fn write_byte<W: Write>(byte: u8, out: &mut W) -> io::Result<()>
     } else {
         out.write_all(&[byte])
     }
+}
+
+/// Writes a name as one word: as `write_shown` does, and a blank is `\x20`.
+pub fn write_name<W: Write>(name: &[u8], out: &mut W) -> io::Result<()>
+    ensures { OnOk result (Appends (W.contents out.old) (W.contents out.new) (shown_name name.now)) }
+{
+    for byte in name {
+        write_name_byte(*byte, out)?;
+    }
+    Ok(())
+}
+
+fn write_name_byte<W: Write>(byte: u8, out: &mut W) -> io::Result<()>
+    ensures { OnOk result (Appends (W.contents out.old) (W.contents out.new) (shown_name_byte byte)) }
+{
+    if byte == b' ' {
+        return out.write_all(escape_of(byte).as_bytes());
+    }
+    write_byte(byte, out)
 }
 
 /// Whether a byte is a control character of ASCII.

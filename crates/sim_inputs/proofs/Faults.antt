@@ -1,14 +1,13 @@
 -- Which key of a document no configuration has, and that no settings are the document's then.
 use Rattle.std.proofs.Common.{◌≡◌, ℕ, ◌<◌, true, List, [], ◌∷◌, map, length, All, Contains, String, Global, ◌∙◌}
-use Rattle.std.proofs.Common.{Option, Some, None, Bor, string_bytes, refl, ap, sym, arith, MatchOption}
+use Rattle.std.proofs.Common.{Option, Some, None, Bor, string_bytes, refl, ap, arith, MatchOption}
 use Rattle.std.specs.{List.HoldsAt, List.AllWithin, Map.keys_of}
 use Rattle.std.proofs.lemmas.List.{length-map, get_or-map}
 use Rattle.std.proofs.lemmas.List.Elements.{All-contains, Contains-from_at}
 use Rattle.toml.specs.{Data.Members, View.members_view, declared.value.Value.Value}
-use Rattle.sim_inputs.specs.{declared.settings.Settings.Settings}
 use Rattle.sim_inputs.specs.{declared.explained.fault.ConfigFault.ConfigFault}
 use Rattle.sim_inputs.specs.declared.explained.fault.ConfigFault.TheVariants as faults
-use Rattle.sim_inputs.specs.Configuration.{known_keys, keys_in, Sets}
+use Rattle.sim_inputs.specs.Configuration.{known_keys, keys_in}
 use Rattle.sim_inputs.specs.Explained.{IsUnknown, IsUnknownIn, IsUnknownFault, AreNoSettings}
 use Rattle.sim_inputs.proofs.Keys.{IsKnown, all_known}
 

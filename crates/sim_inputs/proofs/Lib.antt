@@ -1,8 +1,12 @@
+pub mod ChartEnds
+pub mod Charts
 pub mod Described
 pub mod Faults
 pub mod Found
+pub mod Harts
 pub mod Keys
 pub mod Names
 pub mod Refusals
 pub mod Rows
 pub mod Subcommand
+pub mod Written

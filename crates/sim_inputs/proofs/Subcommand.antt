@@ -29,3 +29,9 @@ pub found_in : (m : ArgMatches) (name : Text) (rows : List Row) (line : Line) �
     → option_map (λ (p : Text × List Row). p.1) (subcommand_rows_of m) ≡ Some rows → IsLineOf name rows line →
     Names (subcommand_rows_of m) line
 found_in m name rows line named has is = rw (named_rows m name rows named has) is
+
+-- and the one that was found is that of this subcommand
+pub is_line : (m : ArgMatches) (name : Text) (rows : List Row) (line : Line) → subcommand_name_of m ≡ Some name
+    → option_map (λ (p : Text × List Row). p.1) (subcommand_rows_of m) ≡ Some rows → Names (subcommand_rows_of m) line →
+    IsLineOf name rows line
+is_line m name rows line named has names = rw (named_rows m name rows named has) at names

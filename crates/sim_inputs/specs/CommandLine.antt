@@ -2,16 +2,16 @@
 use Rattle.std.specs.Prelude.{None, ◌≡◌, ◌≢◌, ℕ, ◌-◌, ◌^◌, nat_le, not, ◌&&◌, ◌||◌, Bool, true, false, List, [], ◌∷◌}
 use Rattle.std.specs.Prelude.{Option, Some, is_some, length, ◌==◌}
 use Rattle.std.specs.Prelude.{IsSomeAnd, option_map, codes, if◌then◌else◌}
-use Rattle.std.specs.{Borrow.Bor, List.fold, Option.option_map_or, Result.result_ok, Str.bytes_eq}
+use Rattle.std.specs.{Borrow.Bor, Option.option_map_or, Result.result_ok, Str.bytes_eq}
 use Rattle.numbers.specs.Sizes.{most_events, most_harts}
 use Rattle.text_fields.specs.Reading.{decimal_field}
 use Rattle.clap.specs.Words.{App, Row, Rule, Text, IsAmong, app_of, rule_of, fault_of, first_of}
-use Rattle.clap.specs.Words.{new_app, new_rule, subcommand_of, with_rule, with_subcommand}
+use Rattle.clap.specs.Words.{subcommand_of}
 use Rattle.clap.specs.{declared.builder.arg.Arg.Arg, declared.builder.command.Command.Command}
 use Rattle.clap.specs.{declared.builder.command.Command.TheViews.out-Command}
-use Rattle.clap.specs.{declared.builder.action.ArgAction.TheVariants.SetTrue}
 use Rattle.clap.specs.{declared.error.kind.ErrorKind.ErrorKind}
 use Rattle.clap.specs.{declared.error.kind.ErrorKind.TheVariants.DisplayHelp}
+use Rattle.clap.specs.{declared.error.kind.ErrorKind.TheVariants.DisplayVersion}
 use Rattle.clap.specs.{declared.error.kind.ErrorKind.TheVariants.OutOfMemory}
 use Rattle.sim_inputs.specs.{declared.line.Line.Line, declared.line.WordsRefused.WordsRefused}
 use Rattle.sim_inputs.specs.declared.line.Command.{Command as LineCommand}
@@ -24,12 +24,16 @@ use Rattle.sim_inputs.specs.declared.line.{ScheduleCommand.ScheduleCommand}
 use Rattle.sim_inputs.specs.declared.line.{ScriptCommand.ScriptCommand, ListCommand.ListCommand}
 use Rattle.sim_inputs.specs.declared.line.{ChartCommand.ChartCommand, ExplainCommand.ExplainCommand}
 use Rattle.sim_inputs.specs.{declared.line.WordsRefused.TheVariants.Help}
+use Rattle.sim_inputs.specs.{declared.line.WordsRefused.TheVariants.Version}
 use Rattle.sim_inputs.specs.{declared.line.WordsRefused.TheVariants.Refused}
 use Rattle.sim_inputs.specs.{declared.line.WordsRefused.TheVariants.Memory}
 use Rattle.sim_inputs.specs.declared.line.OutcomesCommand.{OutcomesCommand}
 use Rattle.sim_inputs.specs.declared.line.{LitmusCommand.LitmusCommand, MigrateCommand.MigrateCommand}
 use Rattle.sim_inputs.specs.declared.line.{Beside.Beside}
 use Rattle.sim_inputs.specs.declared.line.Beside.TheVariants as beside
+use Rattle.sim_inputs.specs.declared.line.{ChartEnd.ChartEnd}
+use Rattle.sim_inputs.specs.declared.line.ChartEnd.TheVariants as ends
+use Rattle.sim_inputs.specs.ChartEnds.{do_ends_rise, IsEndOf}
 use Rattle.sim_inputs.specs.Rules.{smtsim}
 use Rattle.sim_inputs.specs.Files.{is_standard_input, reads_input_once, writes_no_dash}
 use Rattle.sim_inputs.specs.HintsWanted.{hints_in}
@@ -109,6 +113,11 @@ number_in greatest (Some text) = option_map (λ number. Some number) (result_ok 
 abbrev IsNumberOption : List Row → Text → ℕ → Option ℕ → Type 0
 IsNumberOption rows name greatest number = number_in greatest (first_of name rows) ≡ Some number
 
+-- So many harts are asked for, where that was found.
+pub record AreHarts (rows : List Row) (harts : Option ℕ) : Type 0 where
+  pub found : IsNumberOption rows (codes "harts") most_harts harts
+  pub some : option_map_or (λ count. nat_le 1 count) harts true ≡ true
+
 -- What was found for a subcommand's arguments and options is the command.
 pub record IsStep (rows : List Row) (step : StepCommand) : Type 0 where
   pub image : IsFile rows (codes "IMAGE") step.image
@@ -117,6 +126,8 @@ pub record IsStep (rows : List Row) (step : StepCommand) : Type 0 where
   pub counts : IsFlag rows (codes "counts") step.counts
   pub json : IsFlag rows (codes "json") step.json
   pub looks : IsFlag rows (codes "looks") step.looks
+  pub lines : IsFileOption rows (codes "lines") step.lines
+  pub names : IsFlag rows (codes "names") step.names
   pub records : IsFlag rows (codes "records") step.records
   pub show : IsFlag rows (codes "show") step.show
   pub why : IsFlag rows (codes "why") step.why
@@ -124,7 +135,7 @@ pub record IsStep (rows : List Row) (step : StepCommand) : Type 0 where
 -- A run has an option of its report. Many runs have none, and a folder of theirs has a name, which is no dash; there
 -- is one at least, and one alone has no folder.
 abbrev pub is_reported : RunCommand → Bool
-is_reported run = is_some run.trace || run.counts || run.json || run.records || run.why
+is_reported run = is_some run.trace || run.counts || run.json || is_some run.lines || run.names || run.records || run.why
 
 abbrev pub has_named_folder : RunCommand → Bool
 has_named_folder run =
@@ -139,6 +150,8 @@ pub record IsRun (rows : List Row) (run : RunCommand) : Type 0 where
   pub trace : IsFileOption rows (codes "trace") run.trace
   pub counts : IsFlag rows (codes "counts") run.counts
   pub json : IsFlag rows (codes "json") run.json
+  pub lines : IsFileOption rows (codes "lines") run.lines
+  pub names : IsFlag rows (codes "names") run.names
   pub records : IsFlag rows (codes "records") run.records
   pub why : IsFlag rows (codes "why") run.why
   pub times : IsNumberOption rows (codes "times") most_times run.times
@@ -150,6 +163,8 @@ pub record IsCheck (rows : List Row) (check : CheckCommand) : Type 0 where
   pub trace : IsFile rows (codes "TRACE") check.trace
   pub counts : IsFlag rows (codes "counts") check.counts
   pub json : IsFlag rows (codes "json") check.json
+  pub lines : IsFileOption rows (codes "lines") check.lines
+  pub names : IsFlag rows (codes "names") check.names
   pub records : IsFlag rows (codes "records") check.records
   pub why : IsFlag rows (codes "why") check.why
 
@@ -166,6 +181,8 @@ pub record IsPlain (rows : List Row) (plain : PlainCommand) : Type 0 where
   pub rounds : IsNumberOption rows (codes "rounds") most_rounds plain.rounds
   pub steps : IsNumberOption rows (codes "steps") most_rounds plain.steps
   pub seed : IsNumberOption rows (codes "seed") most_rounds plain.seed
+  pub lines : IsFileOption rows (codes "lines") plain.lines
+  pub names : IsFlag rows (codes "names") plain.names
   pub records : IsFlag rows (codes "records") plain.records
   pub together : can_be_plain plain ≡ true
 
@@ -179,19 +196,31 @@ pub record IsScript (rows : List Row) (script : ScriptCommand) : Type 0 where
 
 pub record IsList (rows : List Row) (list : ListCommand) : Type 0 where
   pub image : IsFile rows (codes "IMAGE") list.image
+  pub lines : IsFileOption rows (codes "lines") list.lines
+  pub names : IsFlag rows (codes "names") list.names
 
--- The last event that is drawn isn't before the first, a line has room, and there's one file at most.
+-- The last event that is drawn isn't before the first, where both are numbers; a line has room, and there's one file at
+-- most.
 abbrev pub can_be_drawn : ChartCommand → Bool
 can_be_drawn chart =
-    (nat_le chart.from chart.to && nat_le 1 chart.width)
+    (do_ends_rise chart.from chart.to && nat_le 1 chart.width)
     && not (is_some chart.svg && is_some chart.kanata)
+
+-- Where a chart begins or ends: at the default event, where the option isn't given, or where its word says.
+abbrev pub IsEndIn : Option Text → ℕ → ℕ → ChartEnd → Type 0
+IsEndIn None default greatest end = end ≡ ends.Event default
+IsEndIn (Some word) default greatest end = IsEndOf word greatest end
+
+abbrev pub IsEnd : List Row → Text → ℕ → ℕ → ChartEnd → Type 0
+IsEnd rows name default greatest end = IsEndIn (first_of name rows) default greatest end
 
 pub record IsChart (rows : List Row) (chart : ChartCommand) : Type 0 where
   pub image : IsFile rows (codes "IMAGE") chart.image
   pub trace : IsFile rows (codes "TRACE") chart.trace
-  pub from : IsNumber rows (codes "from") 0 last_place chart.from
-  pub to : IsNumber rows (codes "to") last_place last_place chart.to
+  pub from : IsEnd rows (codes "from") 0 last_place chart.from
+  pub to : IsEnd rows (codes "to") last_place last_place chart.to
   pub hart : IsNumberOption rows (codes "hart") last_hart chart.hart
+  pub names : IsFlag rows (codes "names") chart.names
   pub width : IsNumber rows (codes "width") usual_columns most_columns chart.width
   pub svg : IsFileOption rows (codes "svg") chart.svg
   pub kanata : IsFileOption rows (codes "kanata") chart.kanata
@@ -279,11 +308,12 @@ IsCommandOf name rows (commands.Explain explain) = (name ≡ codes "explain") ×
 IsCommandOf name rows (commands.Litmus litmus) = (name ≡ codes "litmus") × IsLitmus rows litmus
 IsCommandOf name rows (commands.Migrate migrate) = (name ≡ codes "migrate") × IsMigrate rows migrate
 
--- A subcommand of this name, with what was found for it, is the line: its command, and the
--- configuration and the word of `--hints`, which every command may have. One of its files at most is standard input,
--- and none that is written is named by a dash.
+-- A subcommand of this name, with what was found for it, is the line: its command, and the configuration and the word
+-- of `--hints`, which every command may have, and the harts that most may have. One of its files at most is standard
+-- input, and none that is written is named by a dash.
 pub record IsLineOf (name : Text) (rows : List Row) (line : Line) : Type 0 where
   pub config : IsFileOption rows (codes "config") line.config
+  pub harts : AreHarts rows line.harts
   pub command : IsCommandOf name rows line.command
   pub hints : hints_in (first_of (codes "hints") rows) ≡ Some line.hints
   pub once : reads_input_once line ≡ true
@@ -299,19 +329,22 @@ pub record Asks (words : List Text) (line : Line) : Type 0 where
   pub taken : fault_of smtsim words ≡ []
   pub holds : Names (subcommand_of smtsim words) line
 
--- The words ask for nothing: for no line, and not just for help.
+-- The words ask for nothing: for no line, and not just for help or the version.
 pub record AsksNothing (words : List Text) : Type 0 where
   pub no_line : (line : Line) → Asks words line → ⊥
   pub no_help : fault_of smtsim words ≢ DisplayHelp ∷ []
+  pub no_version : fault_of smtsim words ≢ DisplayVersion ∷ []
 
 -- When each refusal comes.
 abbrev pub AreWordsRefusedFor : List Text → WordsRefused → Type 0
 AreWordsRefusedFor words (Help text) = IsAmong DisplayHelp (fault_of smtsim words)
+AreWordsRefusedFor words (Version text) = IsAmong DisplayVersion (fault_of smtsim words)
 AreWordsRefusedFor words Refused = AsksNothing words
 AreWordsRefusedFor words Memory = Unit {0}
 
 -- What is made of an error of this kind.
 abbrev pub IsRefusalOf : ErrorKind → WordsRefused → Type 0
 IsRefusalOf kind (Help text) = kind ≡ DisplayHelp
-IsRefusalOf kind Refused = (kind ≢ DisplayHelp) × (kind ≢ OutOfMemory)
+IsRefusalOf kind (Version text) = kind ≡ DisplayVersion
+IsRefusalOf kind Refused = (kind ≢ DisplayHelp) × (kind ≢ DisplayVersion) × (kind ≢ OutOfMemory)
 IsRefusalOf kind Memory = Unit {0}

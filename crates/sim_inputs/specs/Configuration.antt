@@ -1,8 +1,8 @@
 -- What a configuration says: the keys that it may have, and the settings that it makes. (This
 -- project's own choice.)
 use Rattle.std.specs.Prelude.{◌≡◌, ℕ, ◌≤◌, ◌&&◌, nat_le, pos, true, List, [], ◌∷◌, map, length}
-use Rattle.std.specs.Prelude.{Option, Some, None, All, Contains, IsUtf8, codes}
-use Rattle.numbers.specs.Sizes.{most_events}
+use Rattle.std.specs.Prelude.{Option, Some, None, All, Contains, IsUtf8, codes, unwrap_or}
+use Rattle.numbers.specs.Sizes.{most_events, most_harts}
 use Rattle.toml.specs.Data.{Data, string, integer, array, Members, no_members, member, get_member}
 use Rattle.toml.specs.{View.items_of, Parse.parse_document, Errors.IsBlank}
 use Rattle.elf_image.specs.Image.{IsRamSize}
@@ -34,6 +34,15 @@ abbrev pub AreRoles : Option Data → List Role → Type 0
 AreRoles None roles =
     roles ≡ role.Fetch ∷ role.Front ∷ role.Retire ∷ role.Alu ∷ role.Mul ∷ role.Mem ∷ []
 AreRoles (Some found) roles = found ≡ array (items_of (map (λ r. string (role_name r)) roles))
+
+-- So many harts may there be.
+abbrev pub IsHartCount : ℕ → Type 0
+IsHartCount count = (1 ≤ count) × (count ≤ most_harts)
+
+-- Settings with so many harts in place of their own, where that is given.
+abbrev pub with_harts : Option ℕ → Settings → Settings
+with_harts harts settings =
+    record settings { config = record settings.config { harts = unwrap_or harts settings.config.harts } }
 
 -- The settings are those that a simulation may have: a core is made of the sizes and the limit, the
 -- memory has a size that it may have, and there are at most 10^18 turns.

@@ -58,6 +58,29 @@ second_of (program.List list) = None
 second_of (program.Chart chart) = Some chart.trace
 second_of (program.Outcomes outcomes) = None
 
+-- The source lines that it reads beside them; and whether it shows the names of its program.
+abbrev pub lines_of : ProgramCommand → Option (Bor (List ℕ))
+lines_of (program.Step step) = step.lines
+lines_of (program.Run run) = run.lines
+lines_of (program.Check check) = check.lines
+lines_of (program.Plain plain) = plain.lines
+lines_of (program.Schedule schedule) = None
+lines_of (program.Script script) = None
+lines_of (program.List list) = list.lines
+lines_of (program.Chart chart) = None
+lines_of (program.Outcomes outcomes) = None
+
+abbrev pub shows_names : ProgramCommand → Bool
+shows_names (program.Step step) = step.names
+shows_names (program.Run run) = run.names
+shows_names (program.Check check) = check.names
+shows_names (program.Plain plain) = plain.names
+shows_names (program.Schedule schedule) = false
+shows_names (program.Script script) = false
+shows_names (program.List list) = list.names
+shows_names (program.Chart chart) = chart.names
+shows_names (program.Outcomes outcomes) = false
+
 -- The file that it writes: the trace of a core, a chart, an order or its script.
 abbrev written_by : ProgramCommand → Option (Bor (List ℕ))
 written_by (program.Step step) = step.trace
@@ -76,33 +99,37 @@ program_files config command = record {
   config = config;
   program = Some (image_of command);
   second = second_of command;
+  lines = lines_of command;
   written = written_by command;
 }
 
-abbrev files_with : Option (Bor (List ℕ)) → Command → Files
+abbrev pub files_with : Option (Bor (List ℕ)) → Command → Files
 files_with config (commands.OfProgram command) = program_files config command
 files_with config (commands.Explain explain) = record {
   config = config;
   program = Some explain.image;
   second = explained_beside explain;
+  lines = None;
   written = None;
 }
 files_with config (commands.Litmus litmus) = record {
   config = config;
   program = Some litmus.test;
   second = None;
+  lines = None;
   written = written_for_test litmus;
 }
 files_with config (commands.Migrate migrate) = record {
   config = config;
   program = None;
   second = Some migrate.trace;
+  lines = None;
   written = Some migrate.out;
 }
 
 -- The configuration, the image or the litmus test, the file that is read beside them (the script, the
--- trace that is read, or the order), and the file that is written: the trace of a core or of a migration, a
--- chart, an order or its script, or what is made of a test.
+-- trace that is read, or the order), the source lines, and the file that is written: the trace of a core or of a
+-- migration, a chart, an order or its script, or what is made of a test.
 abbrev pub files_of : Line → Files
 files_of line = files_with line.config line.command
 
@@ -127,6 +154,17 @@ reads_words (commands.Explain explain) = option_map_or is_of_words explain.besid
 reads_words (commands.Litmus litmus) = false
 reads_words (commands.Migrate migrate) = false
 
+-- The second file of a command of a program is a trace; so is what is explained.
+abbrev pub reads_trace : ProgramCommand → Bool
+reads_trace (program.Check check) = true
+reads_trace (program.Script script) = true
+reads_trace (program.Chart chart) = true
+reads_trace _ = false
+
+abbrev pub is_trace : Beside → Bool
+is_trace (beside.Trace trace) = true
+is_trace _ = false
+
 -- This names standard input in place of a file.
 abbrev pub is_standard_input : List ℕ → Bool
 is_standard_input name = bytes_eq name (codes "-")
@@ -142,7 +180,8 @@ input_count_of file = input_count (option_map (λ name. name.now) file)
 -- Standard input stands in place of one file that is read, at the most.
 abbrev pub reads_input_once : Line → Bool
 reads_input_once line = let files = files_of line in
-    nat_le (input_count_of files.config + input_count_of files.program + input_count_of files.second) 1
+    nat_le (input_count_of files.config + input_count_of files.program + input_count_of files.second
+    + input_count_of files.lines) 1
 
 -- No dash stands in place of the file that is written.
 abbrev pub writes_no_dash : Line → Bool

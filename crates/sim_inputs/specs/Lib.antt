@@ -1,3 +1,4 @@
+pub mod ChartEnds
 pub mod CommandLine
 pub mod Configuration
 pub mod Explained

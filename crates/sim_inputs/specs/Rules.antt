@@ -1,6 +1,6 @@
 -- The command line as data: its subcommands, with their arguments and options. (This project's own
 -- choice.)
-use Rattle.std.specs.Prelude.{true, List, [], ◌∷◌, Some, codes}
+use Rattle.std.specs.Prelude.{true, List, [], ◌∷◌, ◌++◌, Some, codes}
 use Rattle.std.specs.{List.fold}
 use Rattle.clap.specs.Words.{App, Rule, Text, new_app, new_rule, with_rule, with_subcommand}
 use Rattle.clap.specs.{declared.builder.action.ArgAction.TheVariants.SetTrue}
@@ -45,6 +45,12 @@ counts_rule = flag_rule (codes "counts")
 abbrev pub json_rule : Rule
 json_rule = flag_rule (codes "json")
 
+abbrev pub lines_rule : Rule
+lines_rule = file_option_rule (codes "lines")
+
+abbrev pub names_rule : Rule
+names_rule = flag_rule (codes "names")
+
 abbrev pub keep_rule : Rule
 keep_rule = file_option_rule (codes "keep")
 
@@ -67,11 +73,18 @@ written_trace_rule = file_option_rule (codes "trace")
 abbrev pub number_option_rule : Text → Rule
 number_option_rule name = record (new_rule name) { long = Some name; value_names = 1 }
 
+-- One that has a text: what is watched, a condition, or where a chart begins.
+abbrev pub text_option_rule : Text → Rule
+text_option_rule name = record (new_rule name) { long = Some name; value_names = 1 }
+
 abbrev pub from_rule : Rule
-from_rule = number_option_rule (codes "from")
+from_rule = text_option_rule (codes "from")
 
 abbrev pub to_rule : Rule
-to_rule = number_option_rule (codes "to")
+to_rule = text_option_rule (codes "to")
+
+abbrev pub harts_rule : Rule
+harts_rule = number_option_rule (codes "harts")
 
 abbrev pub hart_rule : Rule
 hart_rule = number_option_rule (codes "hart")
@@ -96,10 +109,6 @@ svg_rule = file_option_rule (codes "svg")
 
 abbrev pub kanata_rule : Rule
 kanata_rule = file_option_rule (codes "kanata")
-
--- One that has a text: what is watched, or a condition.
-abbrev pub text_option_rule : Text → Rule
-text_option_rule name = record (new_rule name) { long = Some name; value_names = 1 }
 
 abbrev pub states_rule : Rule
 states_rule = number_option_rule (codes "states")
@@ -145,56 +154,58 @@ hints_rule = text_option_rule (codes "hints")
 abbrev pub subcommand : Text → List Rule → App
 subcommand name rules = with_rule (fold with_rule (new_app name) rules) hints_rule
 
--- `step IMAGE SCRIPT`, with `--config FILE`, `--counts`, `--json`, `--looks`, `--records`, `--show`,
--- `--why` and `--trace FILE`.
+-- `step IMAGE SCRIPT`, with `--config FILE`, `--harts N`, `--counts`, `--json`, `--lines FILE`, `--looks`, `--names`,
+-- `--records`, `--show`, `--why` and `--trace FILE`.
 abbrev pub step_command : App
-step_command = subcommand (codes "step") (image_rule ∷ script_rule ∷ config_rule ∷ counts_rule ∷ json_rule
-    ∷ looks_rule ∷ records_rule ∷ show_rule ∷ why_rule ∷ written_trace_rule ∷ [])
+step_command = subcommand (codes "step") (image_rule ∷ script_rule ∷ config_rule ∷ harts_rule ∷ counts_rule ∷ json_rule
+    ∷ lines_rule ∷ looks_rule ∷ names_rule ∷ records_rule ∷ show_rule ∷ why_rule ∷ written_trace_rule ∷ [])
 
--- `run IMAGE`, with `--config FILE`, `--counts`, `--json`, `--records`, `--why`, `--times N`,
--- `--keep FOLDER` and `--trace FILE`.
+-- `run IMAGE`, with `--config FILE`, `--harts N`, `--counts`, `--json`, `--lines FILE`, `--names`, `--records`, `--why`,
+-- `--times N`, `--keep FOLDER` and `--trace FILE`.
 abbrev pub run_command : App
-run_command = subcommand (codes "run") (image_rule ∷ config_rule ∷ counts_rule ∷ json_rule ∷ records_rule
-    ∷ why_rule ∷ times_rule ∷ keep_rule ∷ written_trace_rule ∷ [])
+run_command = subcommand (codes "run") (image_rule ∷ config_rule ∷ harts_rule ∷ counts_rule ∷ json_rule ∷ lines_rule
+    ∷ names_rule ∷ records_rule ∷ why_rule ∷ times_rule ∷ keep_rule ∷ written_trace_rule ∷ [])
 
--- `check IMAGE TRACE`, with `--config FILE`, `--counts`, `--json`, `--records` and `--why`.
+-- `check IMAGE TRACE`, with `--config FILE`, `--harts N`, `--counts`, `--json`, `--lines FILE`, `--names`, `--records`
+-- and `--why`.
 abbrev pub check_command : App
-check_command = subcommand (codes "check") (image_rule ∷ trace_rule ∷ config_rule ∷ counts_rule ∷ json_rule
-    ∷ records_rule ∷ why_rule ∷ [])
+check_command = subcommand (codes "check") (image_rule ∷ trace_rule ∷ config_rule ∷ harts_rule ∷ counts_rule ∷ json_rule
+    ∷ lines_rule ∷ names_rule ∷ records_rule ∷ why_rule ∷ [])
 
--- `plain IMAGE ORDER`, with `--config FILE` and `--records`; or without the order, and with
--- `--rounds K`, `--steps N` and `--seed S`.
+-- `plain IMAGE ORDER`, with `--config FILE`, `--harts N`, `--lines FILE`, `--names` and `--records`; or without the
+-- order, and with `--rounds K`, `--steps N` and `--seed S`.
 abbrev pub plain_command : App
-plain_command = subcommand (codes "plain") (image_rule ∷ order_or_rounds_rule ∷ config_rule ∷ records_rule
-    ∷ rounds_rule ∷ steps_rule ∷ seed_rule ∷ [])
+plain_command = subcommand (codes "plain") (image_rule ∷ order_or_rounds_rule ∷ config_rule ∷ harts_rule ∷ lines_rule
+    ∷ names_rule ∷ records_rule ∷ rounds_rule ∷ steps_rule ∷ seed_rule ∷ [])
 
--- `schedule IMAGE ORDER`, with `--config FILE`.
+-- `schedule IMAGE ORDER`, with `--config FILE` and `--harts N`.
 abbrev pub schedule_command : App
-schedule_command = subcommand (codes "schedule") (image_rule ∷ order_rule ∷ config_rule ∷ [])
+schedule_command = subcommand (codes "schedule") (image_rule ∷ order_rule ∷ config_rule ∷ harts_rule ∷ [])
 
--- `script IMAGE TRACE`, with `--config FILE`.
+-- `script IMAGE TRACE`, with `--config FILE` and `--harts N`.
 abbrev pub script_command : App
-script_command = subcommand (codes "script") (image_rule ∷ trace_rule ∷ config_rule ∷ [])
+script_command = subcommand (codes "script") (image_rule ∷ trace_rule ∷ config_rule ∷ harts_rule ∷ [])
 
--- `list IMAGE`, with `--config FILE`.
+-- `list IMAGE`, with `--config FILE`, `--lines FILE` and `--names`.
 abbrev pub list_command : App
-list_command = subcommand (codes "list") (image_rule ∷ config_rule ∷ [])
+list_command = subcommand (codes "list") (image_rule ∷ config_rule ∷ lines_rule ∷ names_rule ∷ [])
 
--- `chart IMAGE TRACE`, with `--config FILE`, `--from N`, `--to N`, `--hart N`, `--width N`, `--svg FILE`
--- and `--kanata FILE`.
+-- `chart IMAGE TRACE`, with `--config FILE`, `--harts N`, `--from PLACE`, `--to PLACE`, `--hart N`, `--names`,
+-- `--width N`, `--svg FILE` and `--kanata FILE`.
 abbrev pub chart_command : App
-chart_command = subcommand (codes "chart") (image_rule ∷ trace_rule ∷ config_rule ∷ from_rule ∷ to_rule
-    ∷ hart_rule ∷ width_rule ∷ svg_rule ∷ kanata_rule ∷ [])
+chart_command = subcommand (codes "chart") (image_rule ∷ trace_rule ∷ config_rule ∷ harts_rule ∷ from_rule ∷ to_rule
+    ∷ hart_rule ∷ names_rule ∷ width_rule ∷ svg_rule ∷ kanata_rule ∷ [])
 
--- `explain IMAGE`, with `--config FILE`, `--script FILE`, `--order FILE` and `--trace FILE`, each of which is read.
+-- `explain IMAGE`, with `--config FILE`, `--harts N`, `--script FILE`, `--order FILE` and `--trace FILE`, each of which
+-- is read.
 abbrev pub explain_command : App
-explain_command = subcommand (codes "explain") (image_rule ∷ config_rule ∷ explained_script_rule
+explain_command = subcommand (codes "explain") (image_rule ∷ config_rule ∷ harts_rule ∷ explained_script_rule
     ∷ explained_order_rule ∷ written_trace_rule ∷ [])
 
--- `outcomes IMAGE`, with `--config FILE`, `--states N`, `--watch LIST`, `--exists CONDITION`,
+-- `outcomes IMAGE`, with `--config FILE`, `--harts N`, `--states N`, `--watch LIST`, `--exists CONDITION`,
 -- `--outcome N`, `--stuck`, `--witness FILE` and `--script FILE`.
 abbrev pub outcomes_command : App
-outcomes_command = subcommand (codes "outcomes") (image_rule ∷ config_rule ∷ states_rule ∷ watch_rule
+outcomes_command = subcommand (codes "outcomes") (image_rule ∷ config_rule ∷ harts_rule ∷ states_rule ∷ watch_rule
     ∷ exists_rule ∷ outcome_rule ∷ stuck_rule ∷ witness_rule ∷ written_script_rule ∷ [])
 
 -- `litmus TEST`, with `--config FILE`, `--states N`, `--image FILE`, `--why` and `--svg FILE`.
@@ -206,13 +217,25 @@ litmus_command = subcommand (codes "litmus") (test_rule ∷ config_rule ∷ stat
 abbrev pub migrate_command : App
 migrate_command = subcommand (codes "migrate") (trace_rule ∷ written_out_rule ∷ config_rule ∷ [])
 
--- The whole command line: one of the twelve subcommands must be there. `clap` adds `--help` and
--- `help`.
+-- The whole command line: one of the twelve subcommands must be there. `clap` adds `--help`, `help` and
+-- `--version`.
 abbrev pub top : App
 top = let app =
-    new_app (codes "smtsim") in record app { top = record app.top { subcommand_required = true } }
+    new_app (codes "smtsim") in record app { top = record app.top { subcommand_required = true; has_version = true } }
+
+abbrev pub with_command : App → App → App
+with_command app sub = with_subcommand app sub.top
+
+-- The commands that print a report, the others that have an image, and those that have none.
+abbrev pub report_commands : List App
+report_commands = step_command ∷ run_command ∷ check_command ∷ plain_command ∷ []
+
+abbrev pub image_commands : List App
+image_commands = schedule_command ∷ script_command ∷ list_command ∷ chart_command ∷ explain_command
+    ∷ outcomes_command ∷ []
+
+abbrev pub other_commands : List App
+other_commands = litmus_command ∷ migrate_command ∷ []
 
 abbrev pub smtsim : App
-smtsim = fold (λ app sub. with_subcommand app sub.top) top (step_command ∷ run_command
-    ∷ check_command ∷ plain_command ∷ schedule_command ∷ script_command ∷ list_command
-    ∷ chart_command ∷ explain_command ∷ outcomes_command ∷ litmus_command ∷ migrate_command ∷ [])
+smtsim = fold with_command top (report_commands ++ (image_commands ++ other_commands))

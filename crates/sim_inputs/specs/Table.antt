@@ -15,6 +15,7 @@ rule_by kind.Option name = file_option_rule name
 rule_by kind.Folder name = file_option_rule name
 rule_by kind.Flag name = flag_rule name
 rule_by kind.Number name = number_option_rule name
+rule_by kind.Place name = text_option_rule name
 rule_by kind.List name = text_option_rule name
 rule_by kind.Condition name = text_option_rule name
 rule_by kind.When name = text_option_rule name

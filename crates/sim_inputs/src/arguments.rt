@@ -14,6 +14,8 @@ pub(crate) enum Kind {
     Folder,
     /// `--name N`, which may be there.
     Number,
+    /// `--name PLACE`, which may be there.
+    Place,
     /// `--name LIST`, which may be there.
     List,
     /// `--name CONDITION`, which may be there.
@@ -65,6 +67,19 @@ pub(crate) const CONFIG: Argument = Argument {
     help: "The configuration, a TOML file: see smtsim --help",
 };
 
+pub(crate) const HARTS: Argument = Argument {
+    kind: Kind::Number,
+    name: "harts",
+    help: "How many harts, over those of the configuration",
+};
+
+/// So it is beside a trace that may be of a core of its own.
+pub(crate) const HARTS_BESIDE_TRACE: Argument = Argument {
+    kind: Kind::Number,
+    name: "harts",
+    help: "How many harts; not where the trace names its core",
+};
+
 pub(crate) const COUNTS: Argument = Argument {
     kind: Kind::Flag,
     name: "counts",
@@ -81,6 +96,18 @@ pub(crate) const LOOKS: Argument = Argument {
     kind: Kind::Flag,
     name: "looks",
     help: "Print how many loads looked again, after the tables",
+};
+
+pub(crate) const LINES: Argument = Argument {
+    kind: Kind::Option,
+    name: "lines",
+    help: "Put source lines behind addresses, from image.sh -g",
+};
+
+pub(crate) const NAMES: Argument = Argument {
+    kind: Kind::Flag,
+    name: "names",
+    help: "Put the name of the code behind its address",
 };
 
 pub(crate) const RECORDS: Argument = Argument {
@@ -156,15 +183,15 @@ pub(crate) const EXPLAINED_TRACE: Argument = Argument {
 };
 
 pub(crate) const FROM: Argument = Argument {
-    kind: Kind::Number,
+    kind: Kind::Place,
     name: "from",
-    help: "The first event that is drawn; 0 is the first of all",
+    help: "The first event that is drawn, or where a function begins",
 };
 
 pub(crate) const TO: Argument = Argument {
-    kind: Kind::Number,
+    kind: Kind::Place,
     name: "to",
-    help: "The last event that is drawn",
+    help: "The last event that is drawn, or where a function ends",
 };
 
 pub(crate) const HART: Argument = Argument {

@@ -13,6 +13,10 @@ pub(crate) fn refusal(error: Error, alloc: Global) -> WordsRefused
 {
     match error.kind() {
         ErrorKind::OutOfMemory => WordsRefused::Memory,
+        ErrorKind::DisplayVersion => match error.to_string(alloc) {
+            Ok(text) => WordsRefused::Version(text),
+            Err(_) => WordsRefused::Memory,
+        },
         ErrorKind::DisplayHelp => match help_in(&error, alloc) {
             Ok(text) => WordsRefused::Help(text),
             Err(_) => WordsRefused::Memory,

@@ -2,20 +2,21 @@ ghost use Rattle.std.specs.Prelude.{◌≡◌, IfOk};
 ghost use Rattle.std.specs.List.{fold};
 ghost use Rattle.clap.specs.Words.{App, app_of};
 ghost use Rattle.sim_inputs.specs.CommandLine.{IsArgument, IsCommand};
-ghost use Rattle.sim_inputs.specs.Rules.{smtsim};
+ghost use Rattle.sim_inputs.specs.Rules.{image_commands, report_commands, smtsim, top, with_command};
 ghost use Rattle.sim_inputs.specs.Table.{own_arguments_in, rule_in, subcommand_in, with_row};
 
 use crate::arguments::{
     Argument, CONFIG, COUNTS, EXISTS, EXPLAINED_ORDER, EXPLAINED_SCRIPT, EXPLAINED_TRACE, FROM,
-    HART, HINTS, IMAGE, JSON, KANATA, KEEP, Kind, LOOKS, ORDER, ORDER_OR_ROUNDS, OUTCOME, RECORDS,
-    ROUNDS, SCRIPT, SEED, SHOW, STATES, STEPS, STUCK, SVG, SVG_OF_WHY, TEST, TIMES, TO, TRACE,
-    WATCH, WHY, WHY_ENDS, WHY_NEVER, WHY_REFUSED, WIDTH, WITNESS, WRITTEN_IMAGE, WRITTEN_OUT,
-    WRITTEN_SCRIPT, WRITTEN_TRACE,
+    HART, HARTS, HARTS_BESIDE_TRACE, HINTS, IMAGE, JSON, KANATA, KEEP, Kind, LINES, LOOKS, NAMES,
+    ORDER, ORDER_OR_ROUNDS, OUTCOME, RECORDS, ROUNDS, SCRIPT, SEED, SHOW, STATES, STEPS, STUCK,
+    SVG, SVG_OF_WHY, TEST, TIMES, TO, TRACE, WATCH, WHY, WHY_ENDS, WHY_NEVER, WHY_REFUSED, WIDTH,
+    WITNESS, WRITTEN_IMAGE, WRITTEN_OUT, WRITTEN_SCRIPT, WRITTEN_TRACE,
 };
 use crate::forms::{
     CHART_FORM, CONFIGURATION_FORM, LITMUS_FORM, MIGRATE_FORM, ORDER_FORM, OUTCOMES_FORM,
     SCRIPT_FORM, TRACE_FORM,
 };
+use crate::version::VERSION;
 use clap::{Arg, ArgAction, Command};
 use std::alloc::{AllocError, Global};
 
@@ -28,8 +29,8 @@ pub(crate) struct Subcommand {
     form: &'static str,
 }
 
-/// The subcommands that have an image, in the order in which help lists them.
-static OF_IMAGES: [Subcommand; 10] = [
+/// The subcommands that print a report, in the order in which help lists them.
+static OF_REPORTS: [Subcommand; 4] = [
     Subcommand {
         name: "step",
         about: "Make a script's asks of the core in order, and print a report",
@@ -37,9 +38,12 @@ static OF_IMAGES: [Subcommand; 10] = [
             IMAGE,
             SCRIPT,
             CONFIG,
+            HARTS,
             COUNTS,
             JSON,
+            LINES,
             LOOKS,
+            NAMES,
             RECORDS,
             SHOW,
             WHY,
@@ -53,8 +57,11 @@ static OF_IMAGES: [Subcommand; 10] = [
         arguments: &[
             IMAGE,
             CONFIG,
+            HARTS,
             COUNTS,
             JSON,
+            LINES,
+            NAMES,
             RECORDS,
             WHY_ENDS,
             TIMES,
@@ -66,37 +73,75 @@ static OF_IMAGES: [Subcommand; 10] = [
     Subcommand {
         name: "check",
         about: "Check that a trace is a history of the core, and print its report",
-        arguments: &[IMAGE, TRACE, CONFIG, COUNTS, JSON, RECORDS, WHY_REFUSED],
+        arguments: &[
+            IMAGE,
+            TRACE,
+            CONFIG,
+            HARTS_BESIDE_TRACE,
+            COUNTS,
+            JSON,
+            LINES,
+            NAMES,
+            RECORDS,
+            WHY_REFUSED,
+        ],
         form: TRACE_FORM,
     },
     Subcommand {
         name: "plain",
         about: "Run the plain machine in an order of harts, and print a report",
-        arguments: &[IMAGE, ORDER_OR_ROUNDS, CONFIG, RECORDS, ROUNDS, STEPS, SEED],
+        arguments: &[
+            IMAGE,
+            ORDER_OR_ROUNDS,
+            CONFIG,
+            HARTS,
+            LINES,
+            NAMES,
+            RECORDS,
+            ROUNDS,
+            STEPS,
+            SEED,
+        ],
         form: ORDER_FORM,
     },
+];
+
+/// The others that have an image, which help lists behind them.
+static OF_IMAGES: [Subcommand; 6] = [
     Subcommand {
         name: "schedule",
         about: "Print the script that makes the core retire in an order of harts",
-        arguments: &[IMAGE, ORDER, CONFIG],
+        arguments: &[IMAGE, ORDER, CONFIG, HARTS],
         form: ORDER_FORM,
     },
     Subcommand {
         name: "script",
         about: "Print the script that makes the core have a trace's history again",
-        arguments: &[IMAGE, TRACE, CONFIG],
+        arguments: &[IMAGE, TRACE, CONFIG, HARTS_BESIDE_TRACE],
         form: TRACE_FORM,
     },
     Subcommand {
         name: "list",
         about: "Print each word of the program's code: address, word, instruction",
-        arguments: &[IMAGE, CONFIG],
+        arguments: &[IMAGE, CONFIG, LINES, NAMES],
         form: "",
     },
     Subcommand {
         name: "chart",
         about: "Draw a trace's pipeline: a row an instruction, a column an event",
-        arguments: &[IMAGE, TRACE, CONFIG, FROM, TO, HART, WIDTH, SVG, KANATA],
+        arguments: &[
+            IMAGE,
+            TRACE,
+            CONFIG,
+            HARTS_BESIDE_TRACE,
+            FROM,
+            TO,
+            HART,
+            NAMES,
+            WIDTH,
+            SVG,
+            KANATA,
+        ],
         form: CHART_FORM,
     },
     Subcommand {
@@ -105,6 +150,7 @@ static OF_IMAGES: [Subcommand; 10] = [
         arguments: &[
             IMAGE,
             CONFIG,
+            HARTS_BESIDE_TRACE,
             EXPLAINED_SCRIPT,
             EXPLAINED_ORDER,
             EXPLAINED_TRACE,
@@ -117,6 +163,7 @@ static OF_IMAGES: [Subcommand; 10] = [
         arguments: &[
             IMAGE,
             CONFIG,
+            HARTS,
             STATES,
             WATCH,
             EXISTS,
@@ -129,7 +176,7 @@ static OF_IMAGES: [Subcommand; 10] = [
     },
 ];
 
-/// Those that have none, which help lists behind them.
+/// Those that have none, which help lists last.
 static OF_OTHERS: [Subcommand; 2] = [
     Subcommand {
         name: "litmus",
@@ -149,12 +196,36 @@ static OF_OTHERS: [Subcommand; 2] = [
 pub fn describe<'a>(alloc: Global) -> Result<Command<'a>, AllocError>
     ensures { IfOk result (λ c. app_of c ≡ smtsim) }
 {
-    let command = Command::new(alloc, "smtsim")
-        .about("Simulate a simultaneous multithreading core whose harts run one RV32IMA program")
-        .after_help(CONFIGURATION_FORM)
-        .subcommand_required(true);
-    let of_images = add_subcommands(command, &OF_IMAGES, alloc)?;
+    let of_reports = add_of_reports(without_subcommands(alloc), alloc)?;
+    let of_images = add_of_images(of_reports, alloc)?;
     add_subcommands(of_images, &OF_OTHERS, alloc)
+}
+
+/// The program's command line without its subcommands.
+fn without_subcommands<'a>(alloc: Global) -> Command<'a>
+    ensures { app_of result ≡ top }
+{
+    Command::new(alloc, "smtsim")
+        .about("Simulate a simultaneous multithreading core whose harts run one RV32IMA program")
+        .version(VERSION)
+        .after_help(CONFIGURATION_FORM)
+        .subcommand_required(true)
+}
+
+/// Adds the subcommands that print a report. (The check of a function grows with the tables that it reads.)
+fn add_of_reports<'a>(command: Command<'a>, alloc: Global) -> Result<Command<'a>, AllocError>
+    ensures { (app : App) → app_of command.entry ≡ app
+        → IfOk result (λ c. app_of c ≡ fold with_command app report_commands) }
+{
+    add_subcommands(command, &OF_REPORTS, alloc)
+}
+
+/// Adds the others that have an image.
+fn add_of_images<'a>(command: Command<'a>, alloc: Global) -> Result<Command<'a>, AllocError>
+    ensures { (app : App) → app_of command.entry ≡ app
+        → IfOk result (λ c. app_of c ≡ fold with_command app image_commands) }
+{
+    add_subcommands(command, &OF_IMAGES, alloc)
 }
 
 /// Adds subcommands in turn.
@@ -207,6 +278,7 @@ fn argument_of<'a>(row: &'static Argument, alloc: Global) -> Arg<'a>
         Kind::Folder => argument.long(row.name).value_name("FOLDER"),
         Kind::Flag => argument.long(row.name).action(ArgAction::SetTrue),
         Kind::Number => argument.long(row.name).value_name("N"),
+        Kind::Place => argument.long(row.name).value_name("PLACE"),
         Kind::List => argument.long(row.name).value_name("LIST"),
         Kind::Condition => argument.long(row.name).value_name("CONDITION"),
         Kind::When => argument.long(row.name).value_name("WHEN"),

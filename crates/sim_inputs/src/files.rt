@@ -1,7 +1,7 @@
 ghost use Rattle.std.specs.Prelude.{◌≡◌, ◌≤◌, option_map};
-ghost use Rattle.sim_inputs.specs.Files.{files_of, program_files};
+ghost use Rattle.sim_inputs.specs.Files.{files_of, lines_of, program_files, shows_names};
 ghost use Rattle.sim_inputs.specs.Files.{written_chart, written_order, written_for_test};
-ghost use Rattle.sim_inputs.specs.Files.{explained_beside, reads_words};
+ghost use Rattle.sim_inputs.specs.Files.{explained_beside, reads_words, reads_trace, is_trace};
 ghost use Rattle.sim_inputs.specs.Files.{is_standard_input, input_count, reads_input_once, writes_no_dash};
 
 use crate::line::{
@@ -9,7 +9,7 @@ use crate::line::{
     ProgramCommand,
 };
 
-/// The files that a line names: three that are read, in this order, and one that is written.
+/// The files that a line names: four that are read, in this order, and one that is written.
 #[derive(Clone, Copy, Drop)]
 pub struct Files<'a> {
     /// The configuration.
@@ -18,6 +18,8 @@ pub struct Files<'a> {
     pub program: Option<&'a str>,
     /// The script, the trace that is read, or the order.
     pub second: Option<&'a str>,
+    /// The source lines of the image.
+    pub lines: Option<&'a str>,
     /// The file that is written: the trace of a core or of a migration, a chart, an order or its script,
     /// or what is made of a litmus test.
     pub written: Option<&'a str>,
@@ -93,8 +95,61 @@ impl<'a> ProgramCommand<'a> {
             config,
             program: Some(image),
             second,
+            lines: self.lines(),
             written,
         }
+    }
+
+    /// The file of source lines that the command names; none where it names none.
+    pub fn lines(&self) -> Option<&'a str>
+        ensures { result ≡ lines_of self.now }
+    {
+        match self {
+            ProgramCommand::Step(step) => step.lines,
+            ProgramCommand::Run(run) => run.lines,
+            ProgramCommand::Check(check) => check.lines,
+            ProgramCommand::Plain(plain) => plain.lines,
+            ProgramCommand::List(list) => list.lines,
+            ProgramCommand::Schedule(_) | ProgramCommand::Script(_) => None,
+            ProgramCommand::Chart(_) | ProgramCommand::Outcomes(_) => None,
+        }
+    }
+
+    /// Whether the command shows the names of its program behind addresses.
+    pub fn shows_names(&self) -> bool
+        ensures { result ≡ shows_names self.now }
+    {
+        match self {
+            ProgramCommand::Step(step) => step.names,
+            ProgramCommand::Run(run) => run.names,
+            ProgramCommand::Check(check) => check.names,
+            ProgramCommand::Plain(plain) => plain.names,
+            ProgramCommand::List(list) => list.names,
+            ProgramCommand::Chart(chart) => chart.names,
+            ProgramCommand::Schedule(_) | ProgramCommand::Script(_) => false,
+            ProgramCommand::Outcomes(_) => false,
+        }
+    }
+}
+
+impl<'a> ProgramCommand<'a> {
+    /// Whether its second file is a trace.
+    pub fn reads_trace(&self) -> bool
+        ensures { result ≡ reads_trace self.now }
+    {
+        matches!(
+            self,
+            ProgramCommand::Check(_) | ProgramCommand::Script(_) | ProgramCommand::Chart(_)
+        )
+    }
+}
+
+impl<'a> Beside<'a> {
+    /// Whether it is a trace.
+    pub fn is_trace(&self) -> bool
+        ensures { result ≡ is_trace self.now }
+    {
+        matches!(self, Beside::Trace(_))
     }
 }
 
@@ -131,6 +186,7 @@ impl<'a> Line<'a> {
             config: self.config,
             program,
             second,
+            lines: None,
             written,
         }
     }
@@ -148,7 +204,11 @@ pub(crate) fn reads_input_once(line: &Line<'_>) -> bool
     ensures { result ≡ reads_input_once line.now }
 {
     let files = line.files();
-    input_count(files.config) + input_count(files.program) + input_count(files.second) <= 1
+    input_count(files.config)
+        + input_count(files.program)
+        + input_count(files.second)
+        + input_count(files.lines)
+        <= 1
 }
 
 /// Whether no dash stands in place of the file that the line writes.

@@ -67,11 +67,14 @@ A configuration is a TOML file. Its keys, with what holds where one is absent:
 /// How what is watched and a condition are written, for the help of `outcomes`.
 pub(crate) const OUTCOMES_FORM: &str = "\
 LIST is what tells outcomes apart, beside how harts end and what they put out:
-registers at harts and words of memory, apart by commas: a0@1,x5@0,80001000:4.
+registers at harts, names of the program and words of memory, apart by commas:
+a0@1,counter,next[3],node+8,lock.c:lock,80001000:4; behind a name :2 or :1 is
+a half or a byte of it.
 CONDITION has terms joined by &, which hold together: h0=1 & a0@1=2.
   h0=1           hart 0 has ended with 1
   h0=stopped 4   hart 0 has stopped with cause 4
   a0@1=2         register a0 of hart 1 has 2 at the end
+  counter=7      the object of this name has 7
   80001000:4=7   so has the word at this address, which is hexadecimal
 Numbers are decimal, or hexadecimal behind 0x. What it names is watched too.
 Of outcomes it says: exists: yes, and which, or exists: no.";

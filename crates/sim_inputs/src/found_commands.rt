@@ -8,6 +8,7 @@ ghost use Rattle.sim_inputs.specs.CommandLine.{IsScript, IsStep, are_orders_toge
 ghost use Rattle.sim_inputs.specs.CommandLine.{can_be_plain, can_be_run, can_be_searched, can_be_tested};
 ghost use Rattle.sim_inputs.specs.CommandLine.{has_named_folder, has_one_file, is_reported};
 
+use crate::chart_ends::{chart_end, do_ends_rise};
 use crate::files::is_standard_input;
 use crate::found_values::{is_set, number, number_or, value_of};
 use crate::line::{
@@ -47,6 +48,8 @@ pub(crate) fn step_in<'a>(found: &ArgMatches<'a>) -> Option<StepCommand<'a>>
         counts: is_set(found, "counts"),
         json: is_set(found, "json"),
         looks: is_set(found, "looks"),
+        lines: value_of(found, "lines"),
+        names: is_set(found, "names"),
         records: is_set(found, "records"),
         show: is_set(found, "show"),
         why: is_set(found, "why"),
@@ -61,6 +64,8 @@ pub(crate) fn run_in<'a>(found: &ArgMatches<'a>) -> Option<RunCommand<'a>>
         trace: value_of(found, "trace"),
         counts: is_set(found, "counts"),
         json: is_set(found, "json"),
+        lines: value_of(found, "lines"),
+        names: is_set(found, "names"),
         records: is_set(found, "records"),
         why: is_set(found, "why"),
         times: number(found, "times", MOST_TIMES)?,
@@ -97,7 +102,13 @@ fn has_named_folder(run: &RunCommand<'_>) -> bool
 fn is_reported(run: &RunCommand<'_>) -> bool
     ensures { result ≡ is_reported run.now }
 {
-    run.trace.is_some() || run.counts || run.json || run.records || run.why
+    run.trace.is_some()
+        || run.counts
+        || run.json
+        || run.lines.is_some()
+        || run.names
+        || run.records
+        || run.why
 }
 
 pub(crate) fn check_in<'a>(found: &ArgMatches<'a>) -> Option<CheckCommand<'a>>
@@ -108,6 +119,8 @@ pub(crate) fn check_in<'a>(found: &ArgMatches<'a>) -> Option<CheckCommand<'a>>
         trace: value_of(found, "TRACE")?,
         counts: is_set(found, "counts"),
         json: is_set(found, "json"),
+        lines: value_of(found, "lines"),
+        names: is_set(found, "names"),
         records: is_set(found, "records"),
         why: is_set(found, "why"),
     })
@@ -122,6 +135,8 @@ pub(crate) fn plain_in<'a>(found: &ArgMatches<'a>) -> Option<PlainCommand<'a>>
         rounds: number(found, "rounds", u32::MAX)?,
         steps: number(found, "steps", u32::MAX)?,
         seed: number(found, "seed", u32::MAX)?,
+        lines: value_of(found, "lines"),
+        names: is_set(found, "names"),
         records: is_set(found, "records"),
     };
     if !can_be_plain(&plain) {
@@ -164,6 +179,8 @@ pub(crate) fn list_in<'a>(found: &ArgMatches<'a>) -> Option<ListCommand<'a>>
 {
     Some(ListCommand {
         image: value_of(found, "IMAGE")?,
+        lines: value_of(found, "lines"),
+        names: is_set(found, "names"),
     })
 }
 
@@ -196,9 +213,10 @@ pub(crate) fn chart_in<'a>(found: &ArgMatches<'a>) -> Option<ChartCommand<'a>>
     let chart = ChartCommand {
         image: value_of(found, "IMAGE")?,
         trace: value_of(found, "TRACE")?,
-        from: number_or(found, "from", 0, LAST_PLACE)?,
-        to: number_or(found, "to", LAST_PLACE, LAST_PLACE)?,
+        from: chart_end(found, "from", 0, LAST_PLACE)?,
+        to: chart_end(found, "to", LAST_PLACE, LAST_PLACE)?,
         hart: number(found, "hart", LAST_HART)?,
+        names: is_set(found, "names"),
         width: number_or(found, "width", USUAL_COLUMNS, MOST_COLUMNS)?,
         svg: value_of(found, "svg"),
         kanata: value_of(found, "kanata"),
@@ -209,12 +227,14 @@ pub(crate) fn chart_in<'a>(found: &ArgMatches<'a>) -> Option<ChartCommand<'a>>
     Some(chart)
 }
 
-/// Whether the options of a chart go together: its events rise, a line has room, and there's one file
-/// at most.
+/// Whether the options of a chart go together: its events rise where both are numbers, a line has room,
+/// and there's one file at most.
 fn can_be_drawn(chart: &ChartCommand<'_>) -> bool
     ensures { result ≡ can_be_drawn chart.now }
 {
-    chart.from <= chart.to && chart.width >= 1 && !(chart.svg.is_some() && chart.kanata.is_some())
+    do_ends_rise(chart.from, chart.to)
+        && chart.width >= 1
+        && !(chart.svg.is_some() && chart.kanata.is_some())
 }
 
 pub(crate) fn outcomes_in<'a>(found: &ArgMatches<'a>) -> Option<OutcomesCommand<'a>>

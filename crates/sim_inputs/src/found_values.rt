@@ -2,9 +2,11 @@
 
 ghost use Rattle.std.specs.Prelude.{◌≡◌, option_map};
 ghost use Rattle.clap.specs.Words.{first_of, found_of, rows_of};
-ghost use Rattle.sim_inputs.specs.CommandLine.{is_flag_set, number_in, number_or};
+ghost use Rattle.sim_inputs.specs.CommandLine.{AreHarts, Finds, is_flag_set, number_in, number_or};
 
+use crate::hart_count::HartCount;
 use clap::ArgMatches;
+use numbers::sizes::MOST_HARTS;
 use text_fields::read_decimal;
 
 /// The number that was found for an option, of at most `greatest`, or the default where it isn't
@@ -30,6 +32,16 @@ pub(crate) fn number(found: &ArgMatches<'_>, name: &str, greatest: u32) -> Optio
 {
     match value_of(found, name) {
         Some(text) => Some(Some(read_decimal(text.as_bytes(), greatest).ok()?)),
+        None => Some(None),
+    }
+}
+
+/// How many harts were asked for, if that was found; none where something else was.
+pub(crate) fn harts_in(found: &ArgMatches<'_>) -> Option<Option<HartCount>>
+    ensures { Finds (AreHarts (rows_of (found_of found.now))) result }
+{
+    match number(found, "harts", u32::from(MOST_HARTS))? {
+        Some(count) => Some(Some(HartCount::new(count)?)),
         None => Some(None),
     }
 }

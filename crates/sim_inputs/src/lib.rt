@@ -1,16 +1,18 @@
 //! What the program is asked to do, and with which settings: its words, read by `clap`, and its
 //! configuration, read by `toml`. No other crate sees `clap` or `toml`.
 //!
-//! Read in this order: `line` (what the words may ask for), `hints_wanted` (when hints are told), `files` (the
-//! files that they name), `words` (how they are read), `found_commands` (what was found for each command), `found_values`
-//! (what for one option), `clap_errors` (what is made of an error of `clap`), `refused_words`, `refused_options` and
+//! Read in this order: `line` (what the words may ask for), `hart_count` (how many harts there are), `hints_wanted`
+//! (when hints are told), `files` (the files that they name), `words` (how they are read), `found_commands` (what was
+//! found for each command), `found_values` (what for one option), `chart_ends` (where a chart begins and ends),
+//! `clap_errors` (what is made of an error of `clap`), `refused_words`, `refused_options` and
 //! `refused_together` (why words are refused, for a person), `description` (the command line as it is described to
-//! `clap`), `arguments` (its arguments and options), `forms` (what stands behind it of files), `limits` (what stands in
-//! its texts for the limits of a core); then `settings`, `configuration` (how they are read), `roles` and `ranges`
-//! (its parts), `explained` (which fault a refused configuration has).
+//! `clap`), `arguments` (its arguments and options), `forms` (what stands behind it of files), `version` (which one it
+//! is), `limits` (what stands in its texts for the limits of a core); then `settings`, `configuration` (how they are
+//! read), `roles` and `ranges` (its parts), `explained` (which fault a refused configuration has).
 #![tactic(auto)]
 
 mod arguments;
+mod chart_ends;
 mod clap_errors;
 mod configuration;
 mod description;
@@ -19,6 +21,7 @@ mod files;
 mod forms;
 mod found_commands;
 mod found_values;
+mod hart_count;
 mod hints_wanted;
 mod limits;
 mod line;
@@ -28,6 +31,7 @@ mod refused_together;
 mod refused_words;
 mod roles;
 mod settings;
+mod version;
 mod words;
 
 pub use configuration::{ConfigRefused, read_config};
@@ -35,11 +39,12 @@ pub use explained::{
     ActorsFault, ConfigFault, KNOWN_KEYS, NumberKey, ROLE_NAMES, read_config_or_fault,
 };
 pub use files::{Files, is_standard_input};
+pub use hart_count::HartCount;
 pub use hints_wanted::{HintsWanted, hints_asked};
 pub use line::{
-    Beside, ChartCommand, CheckCommand, Command, ExplainCommand, Line, ListCommand, LitmusCommand,
-    MigrateCommand, OutcomesCommand, PlainCommand, ProgramCommand, RunCommand, ScheduleCommand,
-    ScriptCommand, StepCommand, WordsRefused,
+    Beside, ChartCommand, ChartEnd, CheckCommand, Command, ExplainCommand, Line, ListCommand,
+    LitmusCommand, MigrateCommand, OutcomesCommand, PlainCommand, ProgramCommand, RunCommand,
+    ScheduleCommand, ScriptCommand, StepCommand, WordsRefused,
 };
 pub use refused_words::add_refused_words;
 pub use settings::Settings;

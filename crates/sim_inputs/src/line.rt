@@ -1,11 +1,15 @@
+use crate::hart_count::HartCount;
 use crate::hints_wanted::HintsWanted;
 use thiserror::Error;
 
-/// What the program is asked to do: a command, beside the options that every command has.
+/// What the program is asked to do: a command, beside the options that most commands have.
 #[derive(Clone, Copy, Drop)]
 pub struct Line<'a> {
     /// `--config FILE`: the file of the configuration.
     pub config: Option<&'a str>,
+    /// `--harts N`: how many harts there are, whatever the configuration says. There is none with `list`, `litmus`
+    /// and `migrate`.
+    pub harts: Option<HartCount>,
     /// `--hints WHEN`: when a hint is told behind a fault.
     pub hints: HintsWanted,
     pub command: Command<'a>,
@@ -51,6 +55,10 @@ pub struct StepCommand<'a> {
     pub json: bool,
     /// `--looks`: how many loads looked again is printed behind the tables.
     pub looks: bool,
+    /// `--lines FILE`: the file of source lines, which stand behind the lines of addresses.
+    pub lines: Option<&'a str>,
+    /// `--names`: the name of the code at each address stands behind its line.
+    pub names: bool,
     /// `--records`: a line for each record is printed before the report.
     pub records: bool,
     /// `--show`: the core's tables are printed between the asks and the report.
@@ -70,12 +78,16 @@ pub struct RunCommand<'a> {
     pub counts: bool,
     /// `--json`: the report is printed as one JSON object.
     pub json: bool,
+    /// `--lines FILE`: the file of source lines, which stand behind the lines of addresses.
+    pub lines: Option<&'a str>,
+    /// `--names`: the name of the code at each address stands behind its line.
+    pub names: bool,
     /// `--records`: a line for each record is printed before the report.
     pub records: bool,
     /// `--why`: behind the report, why each hart that hasn't ended stands where it does.
     pub why: bool,
     /// `--times N`: that many runs, 1 to `MOST_TIMES`, and a table of their ends in place of a report.
-    /// Then there is none of the five options above.
+    /// Then there is none of the seven options above.
     pub times: Option<u32>,
     /// `--keep FOLDER`: the folder for a trace and an order of each end. There is none without
     /// `times`.
@@ -92,6 +104,10 @@ pub struct CheckCommand<'a> {
     pub counts: bool,
     /// `--json`: the report is printed as one JSON object.
     pub json: bool,
+    /// `--lines FILE`: the file of source lines, which stand behind the lines of addresses.
+    pub lines: Option<&'a str>,
+    /// `--names`: the name of the code at each address stands behind its line.
+    pub names: bool,
     /// `--records`: a line for each record is printed before the report.
     pub records: bool,
     /// `--why`: behind the report, why each hart that hasn't ended stands where it does.
@@ -111,6 +127,10 @@ pub struct PlainCommand<'a> {
     pub steps: Option<u32>,
     /// `--seed S`: the turns are drawn, from this number on. There is none without rounds.
     pub seed: Option<u32>,
+    /// `--lines FILE`: the file of source lines, which stand behind the lines of addresses.
+    pub lines: Option<&'a str>,
+    /// `--names`: the name of the code at each address stands behind its line.
+    pub names: bool,
     /// `--records`: a line for each record is printed before the report.
     pub records: bool,
 }
@@ -134,6 +154,10 @@ pub struct ScriptCommand<'a> {
 #[derive(Clone, Copy, Drop)]
 pub struct ListCommand<'a> {
     pub image: &'a str,
+    /// `--lines FILE`: the file of source lines, which stand behind the lines of addresses.
+    pub lines: Option<&'a str>,
+    /// `--names`: the name of the code at each address stands behind its line.
+    pub names: bool,
 }
 
 /// `chart IMAGE TRACE`: the pipeline is drawn, an instruction a row and an event a column.
@@ -142,12 +166,14 @@ pub struct ChartCommand<'a> {
     pub image: &'a str,
     /// The file of the trace, which is read.
     pub trace: &'a str,
-    /// `--from N`: the first event that is drawn, 0 where it isn't given.
-    pub from: u32,
-    /// `--to N`: the last event that is drawn, none below `from`.
-    pub to: u32,
+    /// `--from N`: the first event that is drawn, 0 where it isn't given; or `--from F`: a function.
+    pub from: ChartEnd<'a>,
+    /// `--to N`: the last event that is drawn, none below a `from` that is a number; or `--to F`.
+    pub to: ChartEnd<'a>,
     /// `--hart H`: the one hart that is drawn.
     pub hart: Option<u32>,
+    /// `--names`: the name of the code at each address stands behind its line.
+    pub names: bool,
     /// `--width W`: how many characters a line has, or how many events a band of a picture, 1 to
     /// `MOST_COLUMNS`.
     pub width: u32,
@@ -155,6 +181,15 @@ pub struct ChartCommand<'a> {
     pub svg: Option<&'a str>,
     /// `--kanata FILE`: the file that Konata's log is written to. There is one of the two at most.
     pub kanata: Option<&'a str>,
+}
+
+/// Where what is drawn of a history begins or ends.
+#[derive(Clone, Copy, Drop)]
+pub enum ChartEnd<'a> {
+    /// At the event with this number.
+    Event(u32),
+    /// As this function begins or ends: with the first fetch of an instruction in it, or with the last event of one.
+    Function(&'a str),
 }
 
 /// `explain IMAGE`: what the image and the configuration hold, or why they are refused.
@@ -229,6 +264,9 @@ pub enum WordsRefused {
     /// The words ask for help, and this is its text.
     #[error("{0}")]
     Help(String),
+    /// The words ask for the version, and this is its line.
+    #[error("{0}")]
+    Version(String),
     #[error("command line")]
     Refused,
     #[error("memory")]

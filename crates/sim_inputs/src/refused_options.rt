@@ -1,6 +1,7 @@
 //! What the program itself refuses of options that `clap` takes: a number that doesn't fit, options that don't
 //! go together, and a dash in place of a file where it is none.
 
+use crate::chart_ends::{do_ends_rise, read_end};
 use crate::hints_wanted::HintsWanted;
 use crate::refused_together::refused_together;
 use clap::ArgMatches;
@@ -27,9 +28,8 @@ macro_rules! number_option {
 }
 
 /// The options that have a number, in the order in which they are looked at.
-static NUMBERS: [NumberOption; 10] = [
-    number_option!("from", 0, MOST_EVENTS - 1),
-    number_option!("to", 0, MOST_EVENTS - 1),
+static NUMBERS: [NumberOption; 9] = [
+    number_option!("harts", 1, MOST_HARTS as u32),
     number_option!("hart", 0, MOST_HARTS as u32 - 1),
     number_option!("width", 1, 10_000),
     number_option!("times", 1, 1_000_000),
@@ -67,6 +67,9 @@ fn add_first_refused(
     if add_hints_word(found, hint, alloc)? {
         return Ok(());
     }
+    if add_end(found, hint, alloc)? {
+        return Ok(());
+    }
     if add_number(found, hint, alloc)? {
         return Ok(());
     }
@@ -97,6 +100,30 @@ fn add_hints_word(
     Ok(true)
 }
 
+/// The last event that a chart may begin or end at.
+const LAST_PLACE: u32 = MOST_EVENTS - 1;
+
+/// Adds the first of the two ends of a chart that is no place. Answers whether there is one.
+fn add_end(found: &ArgMatches<'_>, hint: &mut Hint, alloc: Global) -> Result<bool, AllocError> {
+    for name in ["from", "to"] {
+        let Some(word) = found.get_str(name) else {
+            continue;
+        };
+        if read_end(word, LAST_PLACE).is_some() {
+            continue;
+        }
+        add_word(name, word, hint, alloc)?;
+        let mut expected = String::new(alloc);
+        write!(
+            expected,
+            "a whole number from 0 to {LAST_PLACE}, or the name of a function"
+        )?;
+        hint.add(Part::Expected, expected.as_bytes())?;
+        return Ok(true);
+    }
+    Ok(false)
+}
+
 /// Adds the first option whose number doesn't fit. Answers whether there is one.
 fn add_number(found: &ArgMatches<'_>, hint: &mut Hint, alloc: Global) -> Result<bool, AllocError> {
     for option in &NUMBERS {
@@ -121,8 +148,9 @@ fn add_turned(found: &ArgMatches<'_>, hint: &mut Hint, alloc: Global) -> Result<
     let (Some(from), Some(to)) = (found.get_str("from"), found.get_str("to")) else {
         return Ok(false);
     };
-    if number_of(from) <= number_of(to) {
-        return Ok(false);
+    match (read_end(from, LAST_PLACE), read_end(to, LAST_PLACE)) {
+        (Some(first), Some(last)) if !do_ends_rise(first, last) => {}
+        _ => return Ok(false),
     }
     let mut words = String::new(alloc);
     write!(words, "--from {from} --to {to}")?;
@@ -167,8 +195,4 @@ impl NumberOption {
             Err(_) => false,
         }
     }
-}
-
-fn number_of(text: &str) -> u32 {
-    read_decimal(text.as_bytes(), u32::MAX).unwrap_or(u32::MAX)
 }

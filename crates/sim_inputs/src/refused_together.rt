@@ -56,6 +56,10 @@ fn refused_of_runs(found: &ArgMatches<'_>) -> Option<RefusedOptions> {
         "--times --counts"
     } else if has(found, "json") {
         "--times --json"
+    } else if has(found, "lines") {
+        "--times --lines"
+    } else if has(found, "names") {
+        "--times --names"
     } else if has(found, "records") {
         "--times --records"
     } else if has(found, "why") {

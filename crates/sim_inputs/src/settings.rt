@@ -1,3 +1,7 @@
+ghost use Rattle.std.specs.Prelude.{◌≡◌};
+ghost use Rattle.sim_inputs.specs.Configuration.{AreInRange, with_harts};
+
+use crate::hart_count::HartCount;
 use crate::roles::every_role;
 use arrayvec::ArrayVec;
 use elf_image::RamSize;
@@ -14,6 +18,21 @@ pub struct Settings {
     pub limit: u32,
     /// The most turns that each actor makes; a configuration has 0 to 10^18.
     pub turns: u64,
+}
+
+impl Settings {
+    /// These settings, with so many harts in place of their own where that is given. A core that may be made of these
+    /// may be made of those.
+    pub fn with_harts(self, harts: Option<HartCount>) -> Settings
+        ensures value { result ≡ with_harts harts self }
+        ensures in_range { AreInRange self → AreInRange result }
+    {
+        let mut settings = self;
+        if let Some(harts) = harts {
+            settings.config.harts = harts.count();
+        }
+        settings
+    }
 }
 
 /// The settings where a configuration says nothing: one hart, one actor of each role, 64 extra

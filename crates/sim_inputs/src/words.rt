@@ -10,14 +10,15 @@ use crate::found_commands::{
     chart_in, check_in, explain_in, list_in, litmus_in, migrate_in, outcomes_in, plain_in, run_in,
     schedule_in, script_in, step_in,
 };
-use crate::found_values::value_of;
+use crate::found_values::{harts_in, value_of};
 use crate::hints_wanted::HintsWanted;
 use crate::line::{Command, Line, ProgramCommand, WordsRefused};
 use clap::ArgMatches;
 use std::alloc::Global;
 
 /// Reads the program's words, its own name first. `Help` is answered where `clap` answers with its
-/// help, `Refused` where the words ask for nothing, and `Memory` where there isn't enough of it.
+/// help, `Version` where it answers with the version, `Refused` where the words ask for nothing, and
+/// `Memory` where there isn't enough of it.
 pub fn read_words<'a>(words: &'a [&'a str], alloc: Global) -> Result<Line<'a>, WordsRefused>
     ensures ok { IfOk result (Asks (map (λ word. word.now) words.entry.now)) }
     ensures refused { IfErr result (AreWordsRefusedFor (map (λ word. word.now) words.entry.now)) }
@@ -25,9 +26,13 @@ pub fn read_words<'a>(words: &'a [&'a str], alloc: Global) -> Result<Line<'a>, W
     let Ok(command) = describe(alloc) else {
         return Err(WordsRefused::Memory);
     };
-    match command.try_get_matches_from(words) {
-        Ok(matches) => line_in(&matches).ok_or(WordsRefused::Refused),
-        Err(error) => Err(refusal(error, alloc)),
+    let matches = match command.try_get_matches_from(words) {
+        Ok(matches) => matches,
+        Err(error) => return Err(refusal(error, alloc)),
+    };
+    match line_in(&matches) {
+        Some(line) => Ok(line),
+        None => Err(WordsRefused::Refused),
     }
 }
 
@@ -38,9 +43,11 @@ fn line_in<'a>(matches: &ArgMatches<'a>) -> Option<Line<'a>>
     let (name, found) = matches.subcommand()?;
     let command = command_named(name, found)?;
     let config = value_of(found, "config");
+    let harts = harts_in(found)?;
     let hints = HintsWanted::of(value_of(found, "hints"))?;
     let line = Line {
         config,
+        harts,
         hints,
         command,
     };

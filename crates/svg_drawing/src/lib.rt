@@ -7,4 +7,4 @@ mod page;
 mod text;
 
 pub use page::{write_begin, write_end, write_style};
-pub use text::{write_label, write_shown_text};
+pub use text::{write_drawn_name, write_label, write_shown_text};

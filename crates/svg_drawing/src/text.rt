@@ -2,9 +2,9 @@
 
 ghost use Rattle.std.specs.Prelude.{OnOk};
 ghost use Rattle.std.specs.Io.KnownBytes.{Appends};
-ghost use Rattle.svg_drawing.specs.Text.{drawn, drawn_byte};
+ghost use Rattle.svg_drawing.specs.Text.{drawn, drawn_byte, drawn_name, drawn_name_byte};
 
-use shown_text::write_shown;
+use shown_text::{write_name, write_shown};
 use std::io;
 use std::io::Write;
 
@@ -32,6 +32,25 @@ pub fn write_shown_text<W: Write>(text: &[u8], out: &mut W) -> io::Result<()>
         write_byte(*byte, out)?;
     }
     Ok(())
+}
+
+/// Writes a name as one word of XML: as `write_shown_text` does, and a blank is `\x20`.
+pub fn write_drawn_name<W: Write>(name: &[u8], out: &mut W) -> io::Result<()>
+    ensures { OnOk result (Appends (W.contents out.old) (W.contents out.new) (drawn_name name.now)) }
+{
+    for byte in name {
+        write_name_byte(*byte, out)?;
+    }
+    Ok(())
+}
+
+fn write_name_byte<W: Write>(byte: u8, out: &mut W) -> io::Result<()>
+    ensures { OnOk result (Appends (W.contents out.old) (W.contents out.new) (drawn_name_byte byte)) }
+{
+    if byte == b' ' {
+        return write_name(&[byte], out);
+    }
+    write_byte(byte, out)
 }
 
 fn write_byte<W: Write>(byte: u8, out: &mut W) -> io::Result<()>

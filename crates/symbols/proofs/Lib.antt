@@ -1,3 +1,5 @@
 pub mod Before
 pub mod FirstOf
 pub mod Entries
+pub mod LastFile
+pub mod NameMeanings

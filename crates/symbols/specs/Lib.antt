@@ -1,3 +1,6 @@
 pub mod Sections
 pub mod Symbols
 pub mod Naming
+pub mod Tables
+pub mod Parts
+pub mod Meanings

@@ -7,7 +7,7 @@ use Rattle.smt_model.specs.Basics.{below}
 use Rattle.symbols.specs.declared.symbol.Symbol.{Symbol}
 use Rattle.symbols.specs.Sections.{section_bytes, section_link, section_offset, section_size}
 
--- The entry at a place of the file: st_name, st_value, st_size, st_info and st_shndx.
+-- The entry at a place of the file: st_name, st_value, st_size, st_info and st_shndx; and that place.
 unfoldable pub symbol_at : List ℕ → ℕ → Symbol
 symbol_at file place = record {
   name = word_at file place;
@@ -15,6 +15,7 @@ symbol_at file place = record {
   size = word_at file (place + 8);
   info = slice_index file (place + 12);
   section = half_at file (place + 14);
+  place = place;
 }
 
 -- Its name: the bytes of the names from its own place on, up to a 0.
@@ -25,6 +26,10 @@ name_of names symbol = before_first (λ byte. byte == 0) (drop symbol.name names
 -- a program. And whether all parts of the program know it: the high four bits are STB_GLOBAL, or STB_WEAK.
 abbrev pub kind_of : Symbol → ℕ
 kind_of symbol = symbol.info % 16
+
+-- STT_FILE, 4, of an entry that names the file of which the local symbols behind it are.
+abbrev pub is_file : Symbol → Bool
+is_file symbol = kind_of symbol == 4
 
 abbrev pub is_global : Symbol → Bool
 is_global symbol = nat_le 1 (symbol.info / 16) && nat_le (symbol.info / 16) 2

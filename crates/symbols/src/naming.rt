@@ -72,7 +72,7 @@ fn rank_of(symbol: Symbol) -> u8
 }
 
 /// Whether an address is one of those that a symbol names.
-fn covers(symbol: Symbol, address: u32) -> bool
+pub fn covers(symbol: Symbol, address: u32) -> bool
     ensures { result ≡ covers address symbol }
 {
     if address < symbol.address {

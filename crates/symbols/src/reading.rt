@@ -11,7 +11,8 @@ ghost use Rattle.symbols.specs.Sections.{
   section_count,
   section_link,
 };
-ghost use Rattle.symbols.specs.Symbols.{kind_of, names_among, symbols_in};
+ghost use Rattle.symbols.specs.Tables.{IsTableOf, no_names, table_of};
+ghost use Rattle.symbols.specs.Symbols.{kind_of, name_of, names_among};
 
 use crate::sections::{NAMES, Section, count_sections, section_at, symbol_section};
 use crate::symbol::{ENTRY_SIZE, Symbol, symbol_at};
@@ -33,9 +34,38 @@ pub enum Unread {
 pub struct Symbols<'a> {
     pub(crate) names: &'a [u8],
     pub(crate) symbols: Vec<Symbol>,
+    /// The file, and where in it the table begins, in bytes.
+    pub(crate) file: &'a [u8],
+    pub(crate) start: usize,
 }
 
-impl Symbols<'_> {
+impl<'a> Symbols<'a> {
+    /// No names.
+    pub fn none(alloc: Global) -> Symbols<'a>
+        ensures { table_of result ≡ no_names }
+    {
+        Symbols {
+            names: &[],
+            symbols: Vec::new(alloc),
+            file: &[],
+            start: 0,
+        }
+    }
+
+    /// All of them, in the table's order.
+    pub fn as_slice(&self) -> &[Symbol]
+        ensures { result.now ≡ self.now.symbols.items }
+    {
+        self.symbols.as_slice()
+    }
+
+    /// The name of a symbol of this table.
+    pub fn name_of(&self, symbol: &Symbol) -> &'a [u8]
+        ensures { result.now ≡ name_of self.now.names.now symbol.now }
+    {
+        symbol.name_in(self.names)
+    }
+
     /// How many functions have a name.
     pub fn functions(&self) -> usize
         ensures { result ≡ count_by (λ s. kind_of s == 2) self.now.symbols.items }
@@ -69,9 +99,7 @@ impl Symbols<'_> {
 
 /// Reads the symbols of an image's file, in the table's order.
 pub fn read(file: &[u8], alloc: Global) -> Result<Symbols<'_>, Unread>
-    ensures read { IfOk result (λ read. (n : ℕ) × HasSections file.now × IsSymbolSection file.now n
-        × IsWhole file.now n × (read.names.now ≡ section_bytes file.now (section_link file.now n))
-        × (read.symbols.items ≡ symbols_in file.now n)) }
+    ensures read { IfOk result (λ read. IsTableOf file.now (table_of read)) }
     ensures absent { result ≡ Err Unread.Absent → HasSections file.now × HasNoSymbolSection file.now }
     ensures damaged { result ≡ Err Unread.Damaged → HasSections file.now → (n : ℕ) × IsSymbolSection file.now n
         × (IsWhole file.now n → ⊥) }
@@ -83,7 +111,12 @@ pub fn read(file: &[u8], alloc: Global) -> Result<Symbols<'_>, Unread>
         return Err(Unread::Damaged);
     };
     match read_entries(file, table.offset, table.size / ENTRY_SIZE, names, alloc) {
-        Ok(symbols) => Ok(Symbols { names, symbols }),
+        Ok(symbols) => Ok(Symbols {
+            names,
+            symbols,
+            file,
+            start: table.offset,
+        }),
         Err(AllocError) => Err(Unread::Memory),
     }
 }

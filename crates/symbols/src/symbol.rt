@@ -1,7 +1,7 @@
 //! An entry of a table of symbols (ELF32, "Symbol Table").
 
 ghost use Rattle.std.specs.Prelude.{◌≡◌, ◌==◌, ◌+◌, ◌≤◌, length, position, drop};
-ghost use Rattle.symbols.specs.Symbols.{is_global, is_name, is_nameless, is_placed, kind_of, name_of, symbol_at};
+ghost use Rattle.symbols.specs.Symbols.{is_file, is_global, is_name, is_nameless, is_placed, kind_of, name_of, symbol_at};
 
 use elf_image::{read_half, read_word};
 
@@ -18,6 +18,8 @@ pub struct Symbol {
     pub size: u32,
     pub(crate) info: u8,
     pub(crate) section: u16,
+    /// Where the entry stands in the file, in bytes.
+    pub(crate) place: usize,
 }
 
 /// The entry at a place of the file.
@@ -32,6 +34,7 @@ pub(crate) fn symbol_at(file: &[u8], place: usize) -> Symbol
         size: read_word(file, place + 8),
         info: file[place + 12],
         section: read_half(file, place + 14),
+        place,
     }
 }
 
@@ -64,6 +67,13 @@ impl Symbol {
         ensures { result ≡ is_name names.now self.now }
     {
         self.info % 16 <= 2 && self.is_placed() && !is_nameless(self.name_in(names))
+    }
+
+    /// Whether it names the file of which the local symbols behind it are.
+    pub(crate) fn is_file(&self) -> bool
+        ensures { result ≡ is_file self.now }
+    {
+        self.info % 16 == 4
     }
 
     fn is_placed(&self) -> bool

@@ -2,6 +2,7 @@
 use Rattle.std.specs.Prelude.{ℕ, List, map}
 use Rattle.smt_model.specs.{Basics.below, Plain.Plain, Bytes.number_at, declared.config.Status.Status}
 use Rattle.watched_outcomes.specs.declared.watch.{Watch.Watch, WatchedRegister.WatchedRegister}
+use Rattle.watched_outcomes.specs.{declared.watch.WatchedBytes.WatchedBytes, Watching.bytes_of}
 
 -- How each hart stands, what is watched, and what was put out.
 pub record Ending : Type 0 where
@@ -13,8 +14,8 @@ pub record Ending : Type 0 where
 abbrev pub watched_in : Plain → WatchedRegister → ℕ
 watched_in s w = s.registers w.hart w.register
 
-abbrev pub word_in : Plain → ℕ → ℕ
-word_in s addr = number_at s.bytes addr 4
+abbrev pub word_in : Plain → WatchedBytes → ℕ
+word_in s w = number_at s.bytes w.address (bytes_of w.width)
 
 -- What a state of so many harts is as an end.
 abbrev pub ending_of : ℕ → Watch → Plain → Ending

@@ -2,6 +2,14 @@
 use Rattle.std.specs.Prelude.{◌≡◌, ℕ, Bool, true, false, ◌&&◌, nat_lt, Some, slice_get}
 use Rattle.watched_outcomes.specs.declared.watch.Watch.{Watch}
 use Rattle.watched_outcomes.specs.declared.watch.WatchedRegister.{WatchedRegister}
+use Rattle.watched_outcomes.specs.declared.watch.Width.{Width}
+use Rattle.watched_outcomes.specs.declared.watch.Width.TheVariants.{Byte, Half, Word}
+
+-- How many bytes a number is of.
+abbrev pub bytes_of : Width → ℕ
+bytes_of Byte = 1
+bytes_of Half = 2
+bytes_of Word = 4
 
 -- It is a register, x1 to x31, of one of so many harts.
 abbrev pub is_register_there : ℕ → WatchedRegister → Bool

@@ -6,4 +6,4 @@ mod outcome;
 mod watch;
 
 pub use outcome::Outcome;
-pub use watch::{MOST_WATCHED, Watch, WatchedRegister};
+pub use watch::{MOST_WATCHED, Watch, WatchedBytes, WatchedRegister, Width};

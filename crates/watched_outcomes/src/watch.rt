@@ -1,8 +1,9 @@
 ghost use Rattle.std.specs.Prelude.{◌≡◌, ◌<◌, ℕ, true, false, Some, None, IfSome, slice_get, slice_index_or};
-ghost use Rattle.watched_outcomes.specs.Watching.{AreThere, IsAbsentRegister, is_register_there};
+ghost use Rattle.watched_outcomes.specs.Watching.{AreThere, IsAbsentRegister, bytes_of, is_register_there};
 
 use arrayvec::ArrayVec;
 use numbers::Reg;
+use std::fmt;
 
 /// How many registers are watched at most, and how many words.
 pub const MOST_WATCHED: usize = 64;
@@ -14,12 +15,52 @@ pub struct WatchedRegister {
     pub register: Reg,
 }
 
-/// What tells outcomes apart beside how the harts end and what was put out: registers, and words of memory
-/// by their addresses.
+/// How many bytes of memory are looked at as one number.
+#[derive(Clone, Copy, Debug, PartialEq, Eq, Default, Drop)]
+pub enum Width {
+    Byte,
+    Half,
+    #[default]
+    Word,
+}
+
+impl Width {
+    /// How many bytes these are: 1, 2 or 4.
+    pub fn bytes(self) -> u8
+        ensures { result ≡ bytes_of self }
+    {
+        match self {
+            Width::Byte => 1,
+            Width::Half => 2,
+            Width::Word => 4,
+        }
+    }
+}
+
+/// Bytes of memory that are one number: a word, a half of one or a byte.
+#[derive(Clone, Copy, Debug, PartialEq, Eq, Default, Drop)]
+pub struct WatchedBytes {
+    pub address: u32,
+    pub width: Width,
+}
+
+impl fmt::Display for WatchedBytes {
+    fn fmt<W: fmt::Write>(&self, f: &mut fmt::Formatter<W>) -> fmt::Result {
+        let address = self.address;
+        match self.width {
+            Width::Byte => write!(f, "byte at {address:08x}"),
+            Width::Half => write!(f, "half at {address:08x}"),
+            Width::Word => write!(f, "word at {address:08x}"),
+        }
+    }
+}
+
+/// What tells outcomes apart beside how the harts end and what was put out: registers, and words of memory, halves and
+/// bytes.
 #[derive(Drop)]
 pub struct Watch {
     pub registers: ArrayVec<WatchedRegister, MOST_WATCHED>,
-    pub words: ArrayVec<u32, MOST_WATCHED>,
+    pub words: ArrayVec<WatchedBytes, MOST_WATCHED>,
 }
 
 impl Watch {

@@ -2,23 +2,30 @@
 
 use crate::label::instruction_of;
 use crate::row::Row;
+use address_labels::{Form, Labels, write_labels};
 use events::{Event, EventKind};
 use std::io;
 use std::io::Write;
 
 /// Where the writing of a log is.
 #[derive(Clone, Copy, Drop)]
-pub(crate) struct Log {
+pub(crate) struct Log<'a> {
     /// The cycle that was told last: the place of an event.
     cycle: u32,
     /// How many instructions have left, retired or squashed.
     left: u32,
+    /// What is wanted beside pcs.
+    labels: &'a Labels<'a>,
 }
 
-impl Log {
+impl<'a> Log<'a> {
     /// A log that begins at this cycle.
-    pub fn new(cycle: u32) -> Log {
-        Log { cycle, left: 0 }
+    pub fn new(cycle: u32, labels: &'a Labels<'a>) -> Log<'a> {
+        Log {
+            cycle,
+            left: 0,
+            labels,
+        }
     }
 
     pub fn write_head<W: Write>(&self, out: &mut W) -> io::Result<()> {
@@ -46,7 +53,7 @@ impl Log {
         out: &mut W,
     ) -> io::Result<()> {
         match event.kind() {
-            EventKind::Fetch => write_fetch(row, number, id, out),
+            EventKind::Fetch => write_fetch(row, number, id, self.labels, out),
             EventKind::Decode => write_stage(id, 'F', 'D', out),
             EventKind::Rename => write_stage(id, 'D', 'R', out),
             EventKind::Issue => write_stage(id, 'R', 'I', out),
@@ -84,11 +91,18 @@ impl Log {
 }
 
 /// An instruction comes into the log, with its label and what is told of it beside.
-fn write_fetch<W: Write>(row: &Row, number: usize, id: u32, out: &mut W) -> io::Result<()> {
+fn write_fetch<W: Write>(
+    row: &Row,
+    number: usize,
+    id: u32,
+    labels: &Labels<'_>,
+    out: &mut W,
+) -> io::Result<()> {
     let instruction = instruction_of(row);
     writeln!(out, "I\t{id}\t{number}\t{}", row.hart)?;
-    writeln!(out, "L\t{id}\t0\t{:08x}: {instruction}", row.pc)?;
-    write!(out, "L\t{id}\t1\tnumber {number} of hart {}", row.hart)?;
+    write!(out, "L\t{id}\t0\t{:08x}: {instruction}", row.pc)?;
+    write_labels(labels, Form::Word, row.pc, out)?;
+    write!(out, "\nL\t{id}\t1\tnumber {number} of hart {}", row.hart)?;
     if let Some(squash) = row.squashed {
         write!(out, ", squashed by number {}", squash.by)?;
     }

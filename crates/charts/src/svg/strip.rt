@@ -2,9 +2,10 @@
 
 use super::page::Page;
 use crate::cell::Cell;
-use crate::label::{Widths, instruction_of};
+use crate::label::{Named, Widths, instruction_of};
 use crate::row::Row;
 use crate::view::Band;
+use address_labels::write_labels;
 use events::Event;
 use std::io;
 use std::io::Write;
@@ -20,15 +21,16 @@ pub(crate) fn write_strip<W: Write>(
     band: &Band,
     page: &Page,
     widths: &Widths,
+    named: Named<'_>,
     top: u32,
     out: &mut W,
 ) -> io::Result<()> {
     let base = top.saturating_add(13);
     out.write_all(b"<g><title>")?;
-    write_title(row, number, events, out)?;
+    write_title(row, number, named, events, out)?;
     out.write_all(b"</title>\n")?;
     write!(out, "<text xml:space=\"preserve\" x=\"12\" y=\"{base}\">")?;
-    widths.write_name(row, number, out)?;
+    widths.write_name(row, number, named, out)?;
     out.write_all(b"</text>\n")?;
     write_bar(row, band, page, top, out)?;
     write_letters(row, band, page, base, out)?;
@@ -40,12 +42,15 @@ pub(crate) fn write_strip<W: Write>(
 fn write_title<W: Write>(
     row: &Row,
     number: usize,
+    named: Named<'_>,
     events: &[Event],
     out: &mut W,
 ) -> io::Result<()> {
     let instruction = instruction_of(row);
     write!(out, "number {number} of hart {}: ", row.hart)?;
-    write!(out, "{:08x} {instruction}\nfetched {}", row.pc, row.fetched)?;
+    write!(out, "{:08x} {instruction}", row.pc)?;
+    write_labels(named.labels, named.form, row.pc, out)?;
+    write!(out, "\nfetched {}", row.fetched)?;
     write_place(", decoded ", row.decoded, out)?;
     write_place(", renamed ", row.renamed, out)?;
     write_place(", issued ", row.issued, out)?;

@@ -2,7 +2,9 @@
 
 use super::traces::{HEAD, header};
 use crate::rows::{holds, holds_at};
-use event_text::{Over, TraceHeader, TraceRefused, print_trace, read_config_line, read_trace};
+use event_text::{
+    Over, TraceHeader, TraceRefused, names_core, print_trace, read_config_line, read_trace,
+};
 use events::{Event, History, Role};
 use std::alloc::{AllocError, Global};
 use std::test::Fail;
@@ -325,4 +327,24 @@ fn a_trace_may_end_behind_each_line_of_an_event_alone(rt: HostRuntime) -> Result
 fn the_header_of_these_tests_is_that_of_their_head(rt: HostRuntime) {
     let header = header().expect(&rt, "a header");
     assert!(rt; is_of(&header, 2, 64, 16, &[Role::Fetch, Role::Alu]));
+}
+
+/// Texts, and whether their first line is that of a version whose traces name their core.
+static NAMING: [(&str, bool); 9] = [
+    ("smt-trace 1\n", false),
+    ("smt-trace 2\n", true),
+    ("smt-trace 3\nconfig 17", true),
+    ("smt-trace 2", true),
+    ("smt-trace 4\n", false),
+    ("smt-trace 3 \n", false),
+    ("smt-trace 1\nsmt-trace 3\n", false),
+    ("\nsmt-trace 3\n", false),
+    ("", false),
+];
+
+#[test]
+fn a_trace_of_a_later_version_names_its_core(rt: HostRuntime) {
+    for (text, names) in &NAMING {
+        holds(&rt, text, names_core(text.as_bytes()) == *names);
+    }
 }

@@ -9,7 +9,6 @@ use crate::performing::{
 use crate::rows::{ends, shows, text_of};
 use actors::StaticPredictor;
 use event_text::Over;
-use sim_inputs::Line;
 use std::alloc::Global;
 use std::process::Abort;
 use std::sync::Wait;
@@ -56,29 +55,32 @@ E\t2\t0\tC
 R\t2\t2\t0
 ";
 
-/// What a line prints of a trace of the first program, with its exit status.
-fn printed<R: Threads + Wait + Sync>(
-    rt: &R,
-    line: &Line<'_>,
-    trace: &str,
-    alloc: Global,
-) -> Option<Performed> {
+/// What is printed of a trace of the first program, with its exit status.
+fn printed<R: Threads + Wait + Sync>(rt: &R, trace: &str, alloc: Global) -> Option<Performed> {
     let Ok(image) = file_of(ENDING, 0, alloc) else {
         return None;
     };
     let inputs = read_inputs_of(SINGLE, &image, trace.as_bytes());
-    Some(perform_whole(rt, line, &inputs, alloc))
+    let line = chart_line(None, None);
+    Some(perform_whole(rt, &line, &inputs, alloc))
 }
 
-/// What a line writes to its file, of the first example's trace; nothing where it fails.
-fn written<R: Threads + Wait + Sync>(rt: &R, line: &Line<'_>, alloc: Global) -> Vec<u8> {
+/// What is written to the file of a picture or of a log, of the first example's trace; nothing where
+/// that fails.
+fn written<R: Threads + Wait + Sync>(
+    rt: &R,
+    svg: Option<&'static str>,
+    kanata: Option<&'static str>,
+    alloc: Global,
+) -> Vec<u8> {
     let Ok(image) = file_of(ENDING, 0, alloc) else {
         return Vec::new(alloc);
     };
     let inputs = read_inputs_of(SINGLE, &image, TRACE.as_bytes());
     let files = Over::new(Vec::new(alloc));
     let mut context = context_of(rt, StaticPredictor, files, Vec::new(alloc), alloc);
-    let Ending { status, err } = perform_with(&mut context, line, &inputs);
+    let line = chart_line(svg, kanata);
+    let Ending { status, err } = perform_with(&mut context, &line, &inputs);
     if status != 0 || !err.is_empty() || !context.out.is_empty() {
         return Vec::new(alloc);
     }
@@ -87,8 +89,7 @@ fn written<R: Threads + Wait + Sync>(rt: &R, line: &Line<'_>, alloc: Global) -> 
 
 #[test]
 fn a_chart_is_printed(rt: HostRuntime) {
-    let line = chart_line(None, None);
-    let Some(made) = printed(&rt, &line, TRACE, rt.alloc()) else {
+    let Some(made) = printed(&rt, TRACE, rt.alloc()) else {
         return shows(&rt, "a chart", "no memory", false);
     };
     let is = made.status == 0 && made.err.is_empty() && text_of(&made.out) == TEXT;
@@ -97,9 +98,8 @@ fn a_chart_is_printed(rt: HostRuntime) {
 
 #[test]
 fn a_chart_of_another_trace_is_refused(rt: HostRuntime) {
-    let line = chart_line(None, None);
     let trace = "smt-trace 1\nF 0 0 1 80000000 00500513 80000004\n";
-    let Some(made) = printed(&rt, &line, trace, rt.alloc()) else {
+    let Some(made) = printed(&rt, trace, rt.alloc()) else {
         return shows(&rt, "another trace", "no memory", false);
     };
     let said = text_of(&made.err) == "smtsim: event 0 refused rule 3\n";
@@ -109,7 +109,7 @@ fn a_chart_of_another_trace_is_refused(rt: HostRuntime) {
 
 #[test]
 fn a_picture_is_written(rt: HostRuntime) {
-    let picture = written(&rt, &chart_line(Some("p"), None), rt.alloc());
+    let picture = written(&rt, Some("p"), None, rt.alloc());
     let text = text_of(&picture);
     let third = "number 2 of hart 0: 80000008 ecall\n\
 fetched 2, decoded 5, renamed 8, issued 13, completed 14, retired 17</title>";
@@ -119,7 +119,7 @@ fetched 2, decoded 5, renamed 8, issued 13, completed 14, retired 17</title>";
 
 #[test]
 fn a_log_is_written(rt: HostRuntime) {
-    let log = written(&rt, &chart_line(None, Some("k")), rt.alloc());
+    let log = written(&rt, None, Some("k"), rt.alloc());
     let text = text_of(&log);
     let start = "Kanata\t0004\nC=\t0\nI\t0\t0\t0\nL\t0\t0\t80000000: addi x10,x0,5\n";
     shows(

@@ -9,6 +9,7 @@ use crate::lines::check_line;
 use crate::performing::{Performed, inputs_of, perform_whole};
 use crate::rows::{ends, holds, text_of};
 use actors::StaticPredictor;
+use address_labels::Labels;
 use command_parts::Unread;
 use core_commands::step_bytes;
 use event_text::{Over, print_trace, read_trace};
@@ -150,7 +151,7 @@ fn trace_run(run: &TracedRun, alloc: Global) -> Option<Traced> {
     }
     let account = finished.core.account();
     let mut text = Vec::new(alloc);
-    if report(&account, true, &mut text).is_err() {
+    if report(&account, true, &Labels::none(), &mut text).is_err() {
         return None;
     }
     Some(Traced {

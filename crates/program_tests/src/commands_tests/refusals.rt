@@ -188,6 +188,7 @@ fn refuses_with<R: Threads + Wait + Abort + Sync>(
         config: refusal.config,
         program: image,
         second: refusal.second,
+        lines: Ok(b""),
     };
     let line = line_of(refusal.list);
     let Performed { status, out, err } = perform_whole(rt, &line, &inputs, alloc);

@@ -184,15 +184,21 @@ fn no_prediction_changes_an_end(rt: HostRuntime) {
     sums(&rt, Always(0xFFFF_FFFF), "the last byte", rt.alloc());
 }
 
-#[test]
-fn a_run_needs_its_image(rt: HostRuntime) {
+/// Asserts that a run whose image can't be read is refused for that.
+fn needs_its_image<R: Threads + Wait + Abort + Sync>(rt: &R, alloc: Global) {
     let inputs = Inputs {
         config: Ok(SINGLE),
         program: Err(Unread::File),
         second: Ok(b""),
+        lines: Ok(b""),
     };
     let line = run_line(false, None);
-    let Performed { status, out, err } = perform_whole(&rt, &line, &inputs, rt.alloc());
+    let Performed { status, out, err } = perform_whole(rt, &line, &inputs, alloc);
     let is = status == 5 && out.is_empty() && text_of(&err) == "smtsim: file\n";
-    ends(&rt, "no image", status, text_of(&err), is);
+    ends(rt, "no image", status, text_of(&err), is);
+}
+
+#[test]
+fn a_run_needs_its_image(rt: HostRuntime) {
+    needs_its_image(&rt, rt.alloc());
 }

@@ -2,10 +2,14 @@
 
 use super::ENDING;
 use crate::lines::stress_line;
-use crate::performing::{context_of, perform_with, read_inputs_of};
+use crate::performing::{Ending, context_of, perform_with, read_inputs_of};
 use crate::rows::text_of;
 use actors::StaticPredictor;
+use command_parts::Context;
 use event_text::Over;
+use std::alloc::Global;
+use std::sync::Wait;
+use std::thread::Threads;
 use test_support::file_of;
 
 /// All of three runs end so.
@@ -16,19 +20,35 @@ output -
 ends 1
 ";
 
+/// What three runs of the first program print and keep, and how they end.
+#[derive(Drop)]
+struct Stressed {
+    kept: Vec<u8>,
+    out: Vec<u8>,
+    ending: Ending,
+}
+
+fn perform_stress<R: Threads + Wait + Sync>(rt: &R, image: &[u8], alloc: Global) -> Stressed {
+    let inputs = read_inputs_of(b"", image, b"");
+    let kept = Over::new(Vec::new(alloc));
+    let mut context = context_of(rt, StaticPredictor, kept, Vec::new(alloc), alloc);
+    let ending = perform_with(&mut context, &stress_line(3), &inputs);
+    let Context { files, out, .. } = context;
+    Stressed {
+        kept: files.into_inner(),
+        out,
+        ending,
+    }
+}
+
 #[test]
 fn runs_of_one_end_are_counted_and_the_first_is_kept(rt: HostRuntime) {
     let image = file_of(ENDING, 0, rt.alloc()).expect(&rt, "an image");
-    let inputs = read_inputs_of(b"", &image, b"");
-    let kept = Over::new(Vec::new(rt.alloc()));
-    let out = Vec::new(rt.alloc());
-    let mut context = context_of(&rt, StaticPredictor, kept, out, rt.alloc());
-    let ending = perform_with(&mut context, &stress_line(3), &inputs);
+    let Stressed { kept, out, ending } = perform_stress(&rt, &image, rt.alloc());
     assert!(rt; ending.status == 1);
-    assert!(rt; text_of(&context.out) == TABLE);
+    assert!(rt; text_of(&out) == TABLE);
     // A trace of the one end, and behind it its order: three instructions of hart 0. What a unit
     // hands back of a squashed instruction may come behind the last retirement.
-    let kept = context.files.into_inner();
     let text = text_of(&kept);
     assert!(rt; text.starts_with("smt-trace 3\nconfig "));
     assert!(rt; text.contains("- e00000005 - - -\n"));

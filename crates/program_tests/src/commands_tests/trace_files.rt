@@ -68,35 +68,46 @@ fn perform_traced<S: EndFiles, R: Threads + Wait + Sync>(
     Traced { files, out, ending }
 }
 
-/// The trace that a line writes.
+/// Which of the two commands that may write a trace: a script's, or a run's.
+#[derive(Clone, Copy, Drop)]
+enum Writes {
+    Script,
+    Run,
+}
+
+/// The line of such a command, with the configuration that it is performed with.
+fn line_that(writes: Writes, trace: Option<&'static str>) -> (Line<'static>, &'static [u8]) {
+    match writes {
+        Writes::Script => (step_line(true, false, trace), SINGLE),
+        Writes::Run => (run_line(false, trace), b""),
+    }
+}
+
+/// The trace that a command writes.
 fn trace_of<R: Threads + Wait + Sync>(
     rt: &R,
-    line: &Line<'_>,
-    config: &[u8],
+    writes: Writes,
+    trace: Option<&'static str>,
     alloc: Global,
 ) -> Vec<u8> {
     let sink = Over::new(Vec::new(alloc));
-    perform_traced(rt, line, config, sink, alloc)
+    let (line, config) = line_that(writes, trace);
+    perform_traced(rt, &line, config, sink, alloc)
         .files
         .into_inner()
 }
 
 #[test]
 fn the_trace_of_a_script_is_its_history(rt: HostRuntime) {
-    let trace = trace_of(
-        &rt,
-        &step_line(true, false, Some("trace")),
-        SINGLE,
-        rt.alloc(),
-    );
+    let trace = trace_of(&rt, Writes::Script, Some("trace"), rt.alloc());
     shows(&rt, TRACE, text_of(&trace), text_of(&trace) == TRACE);
 }
 
 #[test]
 fn no_trace_is_written_where_none_is_wanted(rt: HostRuntime) {
-    let none = trace_of(&rt, &step_line(true, false, None), SINGLE, rt.alloc());
+    let none = trace_of(&rt, Writes::Script, None, rt.alloc());
     holds(&rt, "a script", none.is_empty());
-    let none = trace_of(&rt, &run_line(false, None), b"", rt.alloc());
+    let none = trace_of(&rt, Writes::Run, None, rt.alloc());
     holds(&rt, "a run", none.is_empty());
 }
 
@@ -110,21 +121,16 @@ fn is_history(trace: &[u8], alloc: Global) -> Option<bool> {
 
 #[test]
 fn the_trace_of_a_run_is_a_history(rt: HostRuntime) {
-    let trace = trace_of(&rt, &run_line(false, Some("trace")), b"", rt.alloc());
+    let trace = trace_of(&rt, Writes::Run, Some("trace"), rt.alloc());
     let is = is_history(&trace, rt.alloc()) == Some(true);
     shows(&rt, "a run", text_of(&trace), is);
 }
 
-/// Asserts that a line whose trace can't be written ends for that, prints this last and no report.
-fn fails<R: Threads + Wait + Abort + Sync>(
-    rt: &R,
-    line: &Line<'_>,
-    config: &[u8],
-    last: &str,
-    alloc: Global,
-) {
+/// Asserts that a command whose trace can't be written ends for that, prints this last and no report.
+fn fails<R: Threads + Wait + Abort + Sync>(rt: &R, writes: Writes, last: &str, alloc: Global) {
     let sink = Over::new(Failing(0));
-    let Traced { out, ending, .. } = perform_traced(rt, line, config, sink, alloc);
+    let (line, config) = line_that(writes, Some("trace"));
+    let Traced { out, ending, .. } = perform_traced(rt, &line, config, sink, alloc);
     let printed = text_of(&out);
     let is = ending.status == 5 && text_of(&ending.err) == "smtsim: file\n";
     ends(
@@ -139,12 +145,6 @@ fn fails<R: Threads + Wait + Abort + Sync>(
 #[test]
 fn there_is_no_report_where_the_trace_is_not_written(rt: HostRuntime) {
     let last = "done T 0 2 - e00000005 - - -\n";
-    fails(
-        &rt,
-        &step_line(true, false, Some("trace")),
-        SINGLE,
-        last,
-        rt.alloc(),
-    );
-    fails(&rt, &run_line(false, Some("trace")), b"", "", rt.alloc());
+    fails(&rt, Writes::Script, last, rt.alloc());
+    fails(&rt, Writes::Run, "", rt.alloc());
 }

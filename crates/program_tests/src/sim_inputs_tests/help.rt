@@ -16,45 +16,45 @@ static HELPS: [(&str, &str); 13] = [
     (
         "smtsim --help",
         "Usage: smtsim <COMMAND>|step|run|check|plain|schedule|script|list|chart|\
-explain|outcomes|litmus|migrate|harts|extra|queue|ram|limit|turns|actors",
+explain|outcomes|litmus|migrate|--version|harts|extra|queue|ram|limit|turns|actors",
     ),
     (
         "smtsim step --help",
-        "Usage: smtsim step [OPTIONS] <IMAGE> <SCRIPT>|--config <FILE>|--counts|--json|--looks|\
---records|--show|--why|--trace <FILE>",
+        "Usage: smtsim step [OPTIONS] <IMAGE> <SCRIPT>|--config <FILE>|--harts <N>|--counts|--json|--lines <FILE>|--looks|\
+--names|--records|--show|--why|--trace <FILE>",
     ),
     (
         "smtsim run --help",
-        "Usage: smtsim run [OPTIONS] <IMAGE>|--config <FILE>|--counts|--json|--records|--why|\
---times <N>|--keep <FOLDER>|--trace <FILE>",
+        "Usage: smtsim run [OPTIONS] <IMAGE>|--config <FILE>|--harts <N>|--counts|--json|--lines <FILE>|\
+--names|--records|--why|--times <N>|--keep <FOLDER>|--trace <FILE>",
     ),
     (
         "smtsim check --help",
-        "Usage: smtsim check [OPTIONS] <IMAGE> <TRACE>|--config <FILE>|--counts|--json|--records|\
---why|smt-trace 3|config harts extra queue role role ..|smt-trace 2|smt-trace 1|\
+        "Usage: smtsim check [OPTIONS] <IMAGE> <TRACE>|--config <FILE>|--harts <N>|--counts|--json|\
+--lines <FILE>|--names|--records|--why|smt-trace 3|config harts extra queue role role ..|smt-trace 2|smt-trace 1|\
 F actor hart number pc word predicted|T actor number value next address data out",
     ),
     (
         "smtsim plain --help",
-        "Usage: smtsim plain [OPTIONS] <IMAGE> [ORDER]|--config <FILE>|--records|--rounds <N>|\
---steps <N>|--seed <N>|0 to 255",
+        "Usage: smtsim plain [OPTIONS] <IMAGE> [ORDER]|--config <FILE>|--harts <N>|--lines <FILE>|\
+--names|--records|--rounds <N>|--steps <N>|--seed <N>|0 to 255",
     ),
     (
         "smtsim schedule --help",
-        "Usage: smtsim schedule [OPTIONS] <IMAGE> <ORDER>|--config <FILE>|0 to 255",
+        "Usage: smtsim schedule [OPTIONS] <IMAGE> <ORDER>|--config <FILE>|--harts <N>|0 to 255",
     ),
     (
         "smtsim script --help",
-        "Usage: smtsim script [OPTIONS] <IMAGE> <TRACE>|--config <FILE>|smt-trace 3|smt-trace 1",
+        "Usage: smtsim script [OPTIONS] <IMAGE> <TRACE>|--config <FILE>|--harts <N>|smt-trace 3|smt-trace 1",
     ),
     (
         "smtsim explain --help",
-        "Usage: smtsim explain [OPTIONS] <IMAGE>|--config <FILE>|--script <FILE>|--order <FILE>",
+        "Usage: smtsim explain [OPTIONS] <IMAGE>|--config <FILE>|--harts <N>|--script <FILE>|--order <FILE>",
     ),
     (
         "smtsim outcomes --help",
-        "Usage: smtsim outcomes [OPTIONS] <IMAGE>|--config <FILE>|--states <N>|--watch <LIST>|\
---exists <CONDITION>|--outcome <N>|--stuck|--witness <FILE>|--script <FILE>|a0@1,x5@0,80001000:4|\
+        "Usage: smtsim outcomes [OPTIONS] <IMAGE>|--config <FILE>|--harts <N>|--states <N>|--watch <LIST>|\
+--exists <CONDITION>|--outcome <N>|--stuck|--witness <FILE>|--script <FILE>|a0@1,counter,next[3],node+8|\
 h0=1 & a0@1=2",
     ),
     (
@@ -64,12 +64,12 @@ h0=1 & a0@1=2",
     ),
     (
         "smtsim list --help",
-        "Usage: smtsim list [OPTIONS] <IMAGE>|--config <FILE>",
+        "Usage: smtsim list [OPTIONS] <IMAGE>|--config <FILE>|--lines <FILE>|--names",
     ),
     (
         "smtsim chart --help",
-        "Usage: smtsim chart [OPTIONS] <IMAGE> <TRACE>|--config <FILE>|--from <N>|--to <N>|--hart <N>|\
---width <N>|--svg <FILE>|--kanata <FILE>",
+        "Usage: smtsim chart [OPTIONS] <IMAGE> <TRACE>|--config <FILE>|--harts <N>|--from <PLACE>|--to <PLACE>|\
+--hart <N>|--names|--width <N>|--svg <FILE>|--kanata <FILE>",
     ),
     (
         "smtsim migrate --help",

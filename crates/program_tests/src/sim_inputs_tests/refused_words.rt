@@ -20,6 +20,20 @@ smtsim step a b --config
 smtsim step a b --trace
 smtsim step --trace t --trace t a b
 smtsim --config c step a b
+smtsim step a s --harts
+smtsim run a --harts 0
+smtsim run a --harts 17
+smtsim run a --harts 01
+smtsim run a --harts -1
+smtsim run a --harts four
+smtsim run a --harts 2 --harts 2
+smtsim list a --harts 2
+smtsim litmus a --harts 2
+smtsim migrate t o --harts 2
+smtsim --harts 2 run a
+smtsim run a --version
+smtsim run a -V
+smtsim --version=1
 smtsim run
 smtsim run a b
 smtsim run --show a
@@ -106,7 +120,7 @@ smtsim chart --records a t
 smtsim chart --from 5 --to 4 a t
 smtsim chart --from 16777216 a t
 smtsim chart --from 01 a t
-smtsim chart --to x a t
+smtsim chart --to 5x a t
 smtsim chart --hart 16 a t
 smtsim chart --width 0 a t
 smtsim chart --width 10001 a t
@@ -129,6 +143,6 @@ fn other_words_are_refused(rt: HostRuntime) {
         holds(&rt, text, are_refused(text, rt.alloc()) == Ok(true));
         rows = rows.wrapping_add(1);
     }
-    assert!(rt; rows == 105);
+    assert!(rt; rows == 119);
     assert!(rt; is_refusal(read_words(&[], rt.alloc())));
 }

@@ -11,8 +11,9 @@ pub returns-in-Ok : goal.returns-in-Ok
 returns-in-Ok g c =
     let has = c.in-Ok.ensures in
     let inputs = c.args.inputs.now in
-    let says = status_says c.args.line.now.command (as_read inputs.config) (as_read inputs.program)
-    (as_read inputs.second)
+    let says = status_says c.args.line.now.harts c.args.line.now.command (as_read inputs.config)
+    (as_read inputs.program)
+    (as_read inputs.second) (as_read inputs.lines)
     (IsWritten g.S.EndFiles.begins g.S.Sink.written g.S.Sink.has_failed c.args.context.now.files
     c.perform_line.new.context.files)
     _ _ _ has.ended in

@@ -13,8 +13,9 @@ pub returns-in-Ok : goal.returns-in-Ok
 returns-in-Ok g c =
     let has = c.in-Ok.ensures in
     let inputs = c.args.inputs.now in
-    let says = typed_says g.P.Predict.predicts c.args.context.now.predict (as_read inputs.config) (as_read inputs.program) _
-    (step_wants c.args.step.now) _ _ _ _ has.ended in
+    let says = typed_says g.P.Predict.predicts c.args.context.now.predict c.args.harts c.args.step.now
+    (as_read inputs.config)
+    (as_read inputs.program) (as_read inputs.lines) _ (step_wants c.args.step.now) _ _ _ _ has.ended in
     record {
       kept = λ none. absurd (true≢false (sym says ∙ none));
       known = inl says;

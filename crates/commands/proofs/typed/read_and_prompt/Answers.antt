@@ -1,9 +1,12 @@
--- Behind what is refused, and before and behind the flush.
+-- Behind lines and asks that are refused, and before and behind the flush.
 use Rattle.std.specs.Prelude.{[], Ok}
+use Rattle.symbols.specs.Tables.{table_of}
+use Rattle.command_parts.specs.Inputs.{as_read}
 use Rattle.sim_inputs.specs.declared.line.ProgramCommand.TheVariants.{Step}
 use Rattle.command_parts.specs.declared.refused.Refused.TheVariants.{Output}
 use Rattle.core_commands.specs.Wanted.{step_wants}
-use Rattle.commands.proofs.OfLine.{accepted_of, command_refusal}
+use Rattle.commands.specs.Commands.{origins_in}
+use Rattle.commands.proofs.OfLine.{accepted_with, command_refusal, lines_refusal}
 use Rattle.core_commands.proofs.OfPrompt.{empty_asks}
 use Rattle.commands.proofs.OfTyped.{typed_flushed}
 use Rattle.commands.proofs.typed.read_and_prompt.Goals as goal
@@ -11,21 +14,39 @@ use Rattle.commands.proofs.typed.read_and_prompt.Goals as goal
 pub returns-in-Err-clause-refused : goal.returns-in-Err-clause-refused
 returns-in-Err-clause-refused g c =
     rw (c.in_ok-config.was, c.in_ok-file.was)
-    (command_refusal (Step c.args.step.now) _ _ _ _ (Ok []) c.in_ok-settings.ensures.settings
-    c.in_ok-image.ensures.passed c.in_ok-image.ensures.image c.in-Err.refused c.in-Err.ensures.refused)
+    (lines_refusal c.args.harts.now (Step c.args.step.now) _ _ _ _ (Ok [])
+    (as_read c.args.inputs.now.lines) c.in_ok-own.ensures.settings c.in_ok-image.ensures.passed
+    c.in_ok-image.ensures.image c.in-Err.refused (rw c.is_some-wants_lines.ensures at c.in-Err.ensures.refused))
+
+pub returns-in-Err-prompt_beside-clause-refused : goal.returns-in-Err-prompt_beside-clause-refused
+returns-in-Err-prompt_beside-clause-refused g c =
+    let own = c.in_ok-own.ensures.settings in
+    let with = c.settings_with-settings.ensures in
+    let in_range = rw with.value at with.in_range own.sets.in_range in
+    rw (c.in_ok-config.was, c.in_ok-file.was)
+    (command_refusal c.args.harts.now (Step c.args.step.now) _ _ _ _ (table_of c.in_ok-names.names) (Ok [])
+    (as_read c.args.inputs.now.lines) (origins_in c.in-Ok.lines) own in_range c.in_ok-image.ensures.passed
+    c.in_ok-image.ensures.image c.in_ok-names.ensures.names
+    (rw c.is_some-wants_lines.ensures at c.in-Ok.ensures.lines) c.in-Err-prompt_beside.refused
+    (rw with.value at c.in-Err-prompt_beside.ensures.refused))
 
 pub returns-clause-refused : goal.returns-clause-refused
 returns-clause-refused g c =
-    let configured = c.in_ok-settings.ensures.settings in
+    let own = c.in_ok-own.ensures.settings in
+    let with = c.settings_with-settings.ensures in
+    let in_range = rw with.value at with.in_range own.sets.in_range in
     rw (c.in_ok-config.was, c.in_ok-file.was)
-    (command_refusal (Step c.args.step.now) _ _ _ _ (Ok []) configured
-    c.in_ok-image.ensures.passed c.in_ok-image.ensures.image Output (accepted_of _ _ configured, empty_asks))
+    (command_refusal c.args.harts.now (Step c.args.step.now) _ _ _ _ (table_of c.in_ok-names.names) (Ok [])
+    (as_read c.args.inputs.now.lines) (origins_in c.in-Ok.lines) own in_range c.in_ok-image.ensures.passed
+    c.in_ok-image.ensures.image c.in_ok-names.ensures.names
+    (rw c.is_some-wants_lines.ensures at c.in-Ok.ensures.lines) Output (accepted_with _ in_range, empty_asks))
 
 pub returns-in-Ok-flush-clause-ended : goal.returns-in-Ok-flush-clause-ended
 returns-in-Ok-flush-clause-ended g c =
-    let ended = rw c.of_step-wanted.ensures at c.in-Ok.ensures.ended in
+    let ended = rw c.settings_with-settings.ensures.value at c.in-Ok-prompt_beside.ensures.ended in
     rw (c.in_ok-config.was, c.in_ok-file.was)
-    (typed_flushed g.P.Predict.predicts c.args.context.now.predict c.in_ok-settings.settings
-    (g.B.Read.remaining c.args.reader.now) (step_wants c.args.step.now) _ _ _ _ _ _ _ _
-    c.in_ok-settings.ensures.settings c.in_ok-image.ensures.passed c.in_ok-image.ensures.image ended
-    c.flush.ensures.bytes)
+    (typed_flushed g.P.Predict.predicts c.args.context.now.predict c.args.harts.now c.args.step.now c.in_ok-own.own
+    (g.B.Read.remaining c.args.reader.now) (step_wants c.args.step.now) _ _ _ _ (table_of c.in_ok-names.names)
+    (as_read c.args.inputs.now.lines) (origins_in c.in-Ok.lines) _ _ _ _
+    c.in_ok-own.ensures.settings c.in_ok-image.ensures.passed c.in_ok-image.ensures.image c.in_ok-names.ensures.names
+    (rw c.is_some-wants_lines.ensures at c.in-Ok.ensures.lines) ended c.flush.ensures.bytes)

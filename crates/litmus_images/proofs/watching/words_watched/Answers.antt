@@ -1,8 +1,7 @@
 use Rattle.std.proofs.Common.{arith, ap, sym, ◌∙◌, length, take, map}
 use Rattle.std.specs.List.{filter_map}
 use Rattle.std.proofs.lemmas.List.{length-map}
-use Rattle.litmus_tests.specs.Conditions.{address_of}
-use Rattle.litmus_images.specs.Watching.{location_of}
+use Rattle.litmus_images.specs.Watching.{location_of, word_of}
 use Rattle.litmus_images.proofs.Watched.{word_more, none_more, room, location_there}
 use Rattle.litmus_images.proofs.watching.words_watched.Goals as goal
 use Rattle.litmus_images.proofs.watching.words_watched.Goals.{in-Some, in-None}
@@ -15,7 +14,7 @@ pub push-requires : goal.push-requires
 push-requires c =
     let small = room location_of c.args.observed.now c.loop-each.each-index c.requires.few c.loop-each-test.true in
     let same = ap length c.loop-each.invariant
-    ∙ length-map (filter_map location_of (take c.loop-each.each-index c.args.observed.now)) address_of in
+    ∙ length-map (filter_map location_of (take c.loop-each.each-index c.args.observed.now)) word_of in
     (omega arith, omega (arith, small, same))
 
 pub loop-each-preserved : goal.loop-each-preserved
@@ -26,6 +25,6 @@ loop-each-preserved c = elim c.match-location_of.branch [
       (sym w.in-Some.is ∙ c.location_of.ensures) w.address_of.ensures c.loop-each.invariant)
   | in-None w ↦
       rw w.words-is (c.loop-each.invariant
-      ∙ ap (map address_of) (none_more location_of c.args.observed.now c.loop-each.each-index _ c.loop-each-test.true
+      ∙ ap (map word_of) (none_more location_of c.args.observed.now c.loop-each.each-index _ c.loop-each-test.true
       (sym w.in-None.is ∙ c.location_of.ensures)))
 ]

@@ -1,17 +1,25 @@
-use Rattle.outcome_queries.proofs.TermReading.{term_found, term_found_of, term_none_of}
+use Rattle.symbols.specs.Tables.{table_of}
+use Rattle.outcome_queries.proofs.TermReading.{holds_found, holds_none, term_found, uncut_none}
 use Rattle.outcome_queries.proofs.term.read_term.Goals as goal
 
-pub returns-in-Some-clause-found : goal.returns-in-Some-clause-found
-returns-in-Some-clause-found c =
-    term_found c.args.text.now _ _ _ c.in-Some.end c.trimmed.ensures c.split_field.ensures.first
-    c.split_field.ensures.others c.in-Some.ensures.found.1
+pub returns-in_default-clause-refused : goal.returns-in_default-clause-refused
+returns-in_default-clause-refused c =
+    uncut_none (table_of c.args.names.now) c.args.text.now c.trimmed.result.now c.trimmed.ensures
+    c.in_default.ensures.none
+
+pub returns-in-Some-read_end-clause-found : goal.returns-in-Some-read_end-clause-found
+returns-in-Some-read_end-clause-found c =
+    term_found (table_of c.args.names.now) c.args.text.now c.trimmed.result.now c.in-Some.left.now c.in-Some.right.now
+    c.in-Some-read_end.end c.trimmed.ensures c.in-Some.ensures.found
+    (c.in-Some-read_end.ensures.found.1 (table_of c.args.names.now))
 
 pub returns-in-None-clause-found : goal.returns-in-None-clause-found
 returns-in-None-clause-found c =
-    term_found_of c.args.text.now _ _ _ c.read_holds.result c.trimmed.ensures c.split_field.ensures.first
-    c.split_field.ensures.others c.read_holds.ensures.found
+    holds_found (table_of c.args.names.now) c.args.text.now c.trimmed.result.now c.in-Some.left.now c.in-Some.right.now
+    c.read_holds.result c.trimmed.ensures c.in-Some.ensures.found c.read_holds.ensures.found
 
-pub returns-in-None-clause-none : goal.returns-in-None-clause-none
-returns-in-None-clause-none c =
-    term_none_of c.args.text.now _ _ _ c.read_holds.result c.trimmed.ensures c.split_field.ensures.first
-    c.split_field.ensures.others c.in-None.ensures.none c.read_holds.ensures.none
+pub returns-in-None-clause-refused : goal.returns-in-None-clause-refused
+returns-in-None-clause-refused c =
+    holds_none (table_of c.args.names.now) c.args.text.now c.trimmed.result.now c.in-Some.left.now c.in-Some.right.now
+    c.read_holds.result c.trimmed.ensures c.in-Some.ensures.found c.in-Some.ensures.place
+    (c.in-None.ensures.none (table_of c.args.names.now)) c.read_holds.ensures.refused

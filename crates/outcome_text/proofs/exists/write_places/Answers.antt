@@ -1,4 +1,3 @@
-use Rattle.outcome_text.specs.Listing.{place_of, place_text}
 use Rattle.outcome_text.proofs.Appending.{place_step}
 use Rattle.outcome_text.proofs.exists.write_places.Goals as goal
 

@@ -1,4 +1,4 @@
-use Rattle.std.proofs.Common.{take, slice_index}
+use Rattle.std.proofs.Common.{take}
 use Rattle.std.specs.Io.KnownBytes.{Appends}
 use Rattle.text_fields.specs.Each.{each_from}
 use Rattle.outcome_text.specs.Line.{status_text}

@@ -1,5 +1,4 @@
 use Rattle.std.proofs.Common.{◌∙◌, sym, ap, length, slice_index_or, refl, arith}
-use Rattle.std.proofs.lemmas.Option.{slice_get-get_or}
 use Rattle.searches.proofs.Places.{contains_at}
 use Rattle.outcomes.proofs.Collected.{one_more, no_more, all_listed, end_at}
 use Rattle.outcomes.proofs.collecting.list_outcomes.Goals as goal

@@ -1,4 +1,4 @@
-use Rattle.outcomes.specs.Found.{InEachSetup, IsExactList, CoversCores}
+use Rattle.outcomes.specs.Found.{InEachSetup, IsExactList}
 use Rattle.outcomes.proofs.Programs.{of_same}
 use Rattle.outcomes.proofs.finding.find_outcomes.Goals as goal
 

@@ -20,14 +20,16 @@ pub returns-clause-all : goal.returns-clause-all
 returns-clause-all c setup image harts =
     all_told setup c.args.machine.now c.args.begun c.args.search c.requires.sound c.requires.graph c.requires.begun image
     harts c.args.watch.now c.requires.watched c.requires.registers c.in-Ok.listed.items c.in-Ok.ensures.outcomes
-    c.in-Ok-stuck.stuck c.in-Ok-stuck.ensures c.harts.result c.harts.ensures.value
+    c.in-Ok-stuck.stuck c.in-Ok-stuck.ensures c.in-Ok-list_unwritten.unwritten.items c.in-Ok-list_unwritten.ensures c.harts.result
+    c.harts.ensures.value
 
 pub returns-clause-cores : goal.returns-clause-cores
 returns-clause-cores c setup image harts =
     let all = all_told setup c.args.machine.now c.args.begun c.args.search c.requires.sound c.requires.graph
     c.requires.begun image harts c.args.watch.now c.requires.watched c.requires.registers c.in-Ok.listed.items
-    c.in-Ok.ensures.outcomes c.in-Ok-stuck.stuck c.in-Ok-stuck.ensures c.harts.result c.harts.ensures.value in
-    covers_cores sequential runs_are_paths setup c.args.watch.now (found_of (record { harts = c.harts.result; ways = c.args.begun.ways; search = c.args.search; listed = c.in-Ok.listed; stuck = c.in-Ok-stuck.stuck }))
+    c.in-Ok.ensures.outcomes c.in-Ok-stuck.stuck c.in-Ok-stuck.ensures c.in-Ok-list_unwritten.unwritten.items
+    c.in-Ok-list_unwritten.ensures c.harts.result c.harts.ensures.value in
+    covers_cores sequential runs_are_paths setup c.args.watch.now (found_of (record { harts = c.harts.result; ways = c.args.begun.ways; search = c.args.search; listed = c.in-Ok.listed; stuck = c.in-Ok-stuck.stuck; unwritten = c.in-Ok-list_unwritten.unwritten }))
     (subst (λ n. AreThere n c.args.watch.now) (sym harts) c.requires.registers) all.complete
 
 pub returns-clause-once : goal.returns-clause-once

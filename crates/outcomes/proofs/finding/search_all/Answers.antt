@@ -1,4 +1,4 @@
-use Rattle.std.proofs.Common.{◌∙◌, ap, sym, subst}
+use Rattle.std.proofs.Common.{◌∙◌, ap, subst}
 use Rattle.condensed_machine.specs.Machine.{Program}
 use Rattle.outcomes.specs.Found.{InEachSetup, IsExactList, CoversCores}
 use Rattle.outcomes.specs.Refusals.{IsRefusedFor}

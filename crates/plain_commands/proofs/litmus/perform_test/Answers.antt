@@ -11,7 +11,8 @@ returns-in-Ok-find_shown-clause-ended g c =
     all_told c.args.test.now c.args.command.now c.in-Ok.image c.watch_of-watch.result c.harts_of.result
     c.harts_of.ensures (record { is_image = c.in-Ok.ensures; registers = watched.registers; words = watched.words })
     (g.W.Write.contents c.args.out.now) (g.W.Write.contents c.draw_and_print.new.out) c.in-Ok-find_shown.outcomes
-    found.all found.cores found.once c.draw_and_print.result c.draw_and_print.ensures.printed c.draw_and_print.ensures.zero
+    found.all found.cores found.once c.draw_and_print.result c.draw_and_print.ensures.printed
+    c.draw_and_print.ensures.zero
 
 pub returns-in-Ok-write_incomplete-clause-ended : goal.returns-in-Ok-write_incomplete-clause-ended
 returns-in-Ok-write_incomplete-clause-ended g c =

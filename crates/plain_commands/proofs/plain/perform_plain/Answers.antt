@@ -1,3 +1,4 @@
+use Rattle.address_labels.specs.Labels.{marks_of}
 use Rattle.std.proofs.Common.{ap, ◌∙◌}
 use Rattle.report_lines.specs.Lines.{status_number}
 use Rattle.plain_commands.proofs.OfPlain.{output_refusal, comes_to}
@@ -9,7 +10,8 @@ returns-clause-refused g c =
 
 pub returns-in-Ok-clause-ended : goal.returns-in-Ok-clause-ended
 returns-in-Ok-clause-ended g c =
-    comes_to c.args.settings.now c.args.image.now c.args.order.now c.args.records _ _ _ _ _ _
+    comes_to c.args.settings.now c.args.image.now c.args.order.now c.args.records
+    (marks_of c.args.labels.now) _ _ _ _ _ _
     c.in_ok-harts.ensures.order c.as_slice.ensures.value c.in_ok-ran.ensures.ran c.in-Ok.ensures
     (c.status_of.ensures.status
     ∙ ap status_number (c.as_slice-in-Ok.ensures.value ∙ c.statuses.ensures))

@@ -1,5 +1,6 @@
+use Rattle.address_labels.specs.Labels.{marks_of}
 use Rattle.std.proofs.Common.{sym, subst}
-use Rattle.std.specs.Prelude.{Ok, Err}
+use Rattle.std.specs.Prelude.{Ok}
 use Rattle.std.proofs.lemmas.Result.{IfOk-weaker, IfErr-weaker}
 use Rattle.sc_machine.specs.Steps.{are_harts}
 use Rattle.plain_commands.specs.PlainRounds.{IsRoundsRefusal}
@@ -23,7 +24,8 @@ returns-clause-ended g c =
     let accepted = accepted_harts c.run_rounds-ran.result (are_harts c.args.settings.now.config.harts) (Ok c.in-Ok.left)
     c.run_rounds-ran.ensures.harts c.in-Ok.is (λ same. absurd (cc)) in
     IfOk-weaker c.report_left.result _ _
-    (λ status reported. comes_to c.args.settings.now c.args.image.now c.args.rounds c.args.records c.in-Ok.left
-    (g.W.Write.contents c.args.context.now.out) (g.W.Write.contents c.run_rounds-ran.new.out)
+    (λ status reported. comes_to c.args.settings.now c.args.image.now c.args.rounds c.args.records
+    (marks_of c.args.labels.now) c.in-Ok.left (g.W.Write.contents c.args.context.now.out)
+    (g.W.Write.contents c.run_rounds-ran.new.out)
     (g.W.Write.contents c.report_left.new.out) status accepted c.in-Ok.ensures.ran reported)
     c.report_left.ensures.reported

@@ -1,6 +1,7 @@
 use Rattle.std.proofs.Common.{◌+◌, ◌*◌, ℕ, refl, subst}
 use Rattle.std.specs.Io.KnownBytes.{Appends}
 use Rattle.elf_image.specs.Image.{word_in}
+use Rattle.address_labels.specs.Labels.{marks_of}
 use Rattle.reports.specs.Listing.{listing_line}
 use Rattle.reports.proofs.WordLines.{has_word, word_is, lines_step}
 use Rattle.reports.proofs.listing.list.Goals as goal
@@ -20,8 +21,8 @@ loop-index-preserved g c =
     has_word c.args.image.now _ _ c.loop-index.index code.start code.size code.aligned c.loop-index-test.true in
     let word = word_is c.args.image.now pc c.unwrap-word.result c.code_word.result c.code_word.ensures
     c.unwrap-word.ensures there in
-    lines_step _ _ _ (λ at. listing_line at (word_in c.args.image.now at)) c.code-start.result.0 c.loop-index.index
+    lines_step _ _ _ (λ at. listing_line (marks_of c.args.labels.now) at (word_in c.args.image.now at)) c.code-start.result.0 c.loop-index.index
     c.loop-index.invariant
     (subst
     (λ w. Appends (g.W.Write.contents c.loop-index.out) (g.W.Write.contents c.write_line.new.out)
-    (listing_line pc w)) word c.in_ok-write_line.ensures)
+    (listing_line (marks_of c.args.labels.now) pc w)) word c.in_ok-write_line.ensures)

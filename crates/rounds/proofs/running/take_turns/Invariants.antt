@@ -1,11 +1,11 @@
-use Rattle.sc_machine.specs.Machine.{Agrees}
+use Rattle.address_labels.specs.Labels.{marks_of}
 use Rattle.rounds.specs.Steps.{OfEachStart}
 use Rattle.rounds.proofs.Taking.{HaveHad}
 use Rattle.rounds.proofs.running.take_turns.Given as goal
 
 -- there have been turns from each start
 abbrev pub invariant-loop-left : goal.invariant-loop-left
-invariant-loop-left g l = OfEachStart l.fn.machine (λ setup. HaveHad setup l.rounds l.records
+invariant-loop-left g l = OfEachStart l.fn.machine (λ setup. HaveHad setup l.rounds l.records (marks_of l.labels)
     (g.W.Write.contents l.fn.out) (g.W.Write.contents l.out) l.left l.number l.last l.machine)
 
 -- the steps that are left

@@ -1,4 +1,5 @@
-use Rattle.std.proofs.Common.{◌≡◌, ◌<◌, length, sym, subst, ◌∙◌}
+use Rattle.address_labels.specs.Labels.{marks_of}
+use Rattle.std.proofs.Common.{◌<◌, length, sym, subst, ◌∙◌}
 use Rattle.sc_machine.specs.Machine.{Agrees}
 use Rattle.rounds.proofs.Stepping.{held, made_more, roomier, stands}
 use Rattle.rounds.proofs.turn.take_turn.Goals as goal
@@ -6,7 +7,7 @@ use Rattle.rounds.proofs.turn.take_turn.Goals as goal
 pub returns-in-Err-clause-made : goal.returns-in-Err-clause-made
 returns-in-Err-clause-made g c = λ setup before agrees.
     let has = c.loop-made.invariant setup before agrees in
-    roomier setup before c.args.hart c.loop-made.made _ c.args.records (g.W.Write.contents c.args.out.now)
+    roomier setup before c.args.hart c.loop-made.made _ c.args.records (marks_of c.args.labels.now) (g.W.Write.contents c.args.out.now)
     (g.W.Write.contents c.loop-made.out) c.loop-made.machine c.make_room.new.self c.step.new.self has
     c.make_room.ensures.same c.in-Err.ensures.unchanged
 
@@ -19,7 +20,7 @@ returns-in-Err-clause-stands g c = λ less setup s agrees.
 
 pub loop-made-preserved : goal.loop-made-preserved
 loop-made-preserved g c = λ setup before agrees.
-    made_more setup before c.args.hart c.loop-made.made _ c.args.records (g.W.Write.contents c.args.out.now)
+    made_more setup before c.args.hart c.loop-made.made _ c.args.records (marks_of c.args.labels.now) (g.W.Write.contents c.args.out.now)
     (g.W.Write.contents c.loop-made.out) (g.W.Write.contents c.show.new.out) c.in-Ok.record c.loop-made.machine
     c.make_room.new.self c.step.new.self (c.loop-made.invariant setup before agrees) c.make_room.ensures.same
     c.in-Ok.ensures.done c.in_ok-show-in-Ok.ensures

@@ -20,7 +20,8 @@ loop-run-preserved g c =
     let once = c.in_ok-run_once-2.ensures in
     let few : c.loop-run._run + 1 < 2 ^ 32 = omega (arith, c.loop-run-test.true, c.ranges.count.fits) in
     record {
-      tallied = one_more_run g.F.EndFiles.begins g.F.Sink.written g.F.Sink.has_failed _ _ c.args.keep _ _ _ c.loop-run._run _ _
+      tallied = one_more_run g.F.EndFiles.begins g.F.Sink.written g.F.Sink.has_failed _ _ c.args.keep _ _ _
+          c.loop-run._run _ _
           few so_far.tallied once.ran;
       works = once.unbroken;
       finished = once.finished;

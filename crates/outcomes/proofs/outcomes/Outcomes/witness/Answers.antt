@@ -1,5 +1,4 @@
-use Rattle.std.proofs.Common.{◌∙◌, sym, ap, Some}
-use Rattle.outcomes.proofs.Reading.{its_place_inside, listed_order}
+use Rattle.outcomes.proofs.Reading.{its_place_inside}
 use Rattle.outcomes.proofs.outcomes.Outcomes.witness.Goals as goal
 
 pub order_to-requires-clause-place : goal.order_to-requires-clause-place

@@ -4,4 +4,4 @@ use Rattle.program_io.proofs.performing.Program.perform_and_hint.Goals as goal
 pub returns-in-Some-clause-refused : goal.returns-in-Some-clause-refused
 returns-in-Some-clause-refused g c =
     let lent = c.lent-inputs.ensures in
-    rw (sym lent.config, sym lent.program, sym lent.second) c.perform-status.ensures.refused
+    rw (sym lent.config, sym lent.program, sym lent.second, sym lent.lines) c.perform-status.ensures.refused

@@ -10,7 +10,8 @@ returns-clause-performed g c =
     let files = files_of c.args.line.now in
     let read = c.blank_comments.new.self in
     read_performed c.args.self.now.at_terminal c.args.line.now c.typed_step.result _ (read_of read.config)
-    (read_of read.program) (read_of c.of-read.result.second) (read_of read.second) c.typed_step.ensures c.in_default.is
+    (read_of read.program) (read_of c.of-read.result.second) (read_of read.lines)
+    (read_of read.second) c.typed_step.ensures c.in_default.is
     (subst (λ (r : Read). IsReadAs files.config r) (sym (ap read_of c.blank_comments.ensures.config))
     (subst (λ (f : Files). IsReadAs f.config (read_of c.of-read.result.config)) c.files-files.ensures
     c.of-read.ensures.config))
@@ -19,4 +20,7 @@ returns-clause-performed g c =
     c.of-read.ensures.program))
     (subst (λ (f : Files). IsReadAs f.second (read_of c.of-read.result.second)) c.files-files.ensures
     c.of-read.ensures.second)
+    (subst (λ (r : Read). IsReadAs files.lines r) (sym (ap read_of c.blank_comments.ensures.lines))
+    (subst (λ (f : Files). IsReadAs f.lines (read_of c.of-read.result.lines)) c.files-files.ensures
+    c.of-read.ensures.lines))
     c.blank_comments.ensures.second c.perform_and_hint.ensures.refused

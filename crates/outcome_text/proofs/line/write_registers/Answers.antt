@@ -1,7 +1,0 @@
-use Rattle.outcome_text.proofs.Appending.{registers_step}
-use Rattle.outcome_text.proofs.line.write_registers.Goals as goal
-
-pub loop-index-preserved : goal.loop-index-preserved
-loop-index-preserved g c =
-    registers_step c.args.numbers.now _ _ _ c.args.registers.now c.loop-index.index c.number_at.result _ c.loop-index-test.true
-    c.number_at.ensures c.loop-index.invariant c.in_ok-write_register.ensures

@@ -1,0 +1,4 @@
+pub mod Cutting
+pub mod Faulty
+pub mod Growing
+pub mod Halving
