@@ -8,5 +8,6 @@ pub mod Keys
 pub mod Names
 pub mod Refusals
 pub mod Rows
+pub mod Searches
 pub mod Subcommand
 pub mod Written

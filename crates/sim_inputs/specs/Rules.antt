@@ -119,6 +119,18 @@ watch_rule = text_option_rule (codes "watch")
 abbrev pub exists_rule : Rule
 exists_rule = text_option_rule (codes "exists")
 
+abbrev pub forall_rule : Rule
+forall_rule = text_option_rule (codes "forall")
+
+abbrev pub never_rule : Rule
+never_rule = text_option_rule (codes "never")
+
+abbrev pub never_stuck_rule : Rule
+never_stuck_rule = flag_rule (codes "never-stuck")
+
+abbrev pub first_rule : Rule
+first_rule = flag_rule (codes "first")
+
 abbrev pub outcome_rule : Rule
 outcome_rule = number_option_rule (codes "outcome")
 
@@ -130,6 +142,12 @@ witness_rule = file_option_rule (codes "witness")
 
 abbrev pub written_script_rule : Rule
 written_script_rule = file_option_rule (codes "script")
+
+abbrev pub written_story_rule : Rule
+written_story_rule = file_option_rule (codes "story")
+
+abbrev pub all_rule : Rule
+all_rule = flag_rule (codes "all")
 
 abbrev pub explained_script_rule : Rule
 explained_script_rule = file_option_rule (codes "script")
@@ -203,10 +221,12 @@ explain_command = subcommand (codes "explain") (image_rule ∷ config_rule ∷ h
     ∷ explained_order_rule ∷ written_trace_rule ∷ [])
 
 -- `outcomes IMAGE`, with `--config FILE`, `--harts N`, `--states N`, `--watch LIST`, `--exists CONDITION`,
--- `--outcome N`, `--stuck`, `--witness FILE` and `--script FILE`.
+-- `--forall CONDITION`, `--never CONDITION`, `--never-stuck`, `--first`, `--outcome N`, `--stuck`, `--witness FILE`,
+-- `--script FILE`, `--story FILE`, `--all` and `--lines FILE`.
 abbrev pub outcomes_command : App
 outcomes_command = subcommand (codes "outcomes") (image_rule ∷ config_rule ∷ harts_rule ∷ states_rule ∷ watch_rule
-    ∷ exists_rule ∷ outcome_rule ∷ stuck_rule ∷ witness_rule ∷ written_script_rule ∷ [])
+    ∷ exists_rule ∷ forall_rule ∷ never_rule ∷ never_stuck_rule ∷ first_rule ∷ outcome_rule ∷ stuck_rule ∷ witness_rule
+    ∷ written_script_rule ∷ written_story_rule ∷ all_rule ∷ lines_rule ∷ [])
 
 -- `litmus TEST`, with `--config FILE`, `--states N`, `--image FILE`, `--why` and `--svg FILE`.
 abbrev pub litmus_command : App

@@ -236,6 +236,30 @@ pub(crate) const EXISTS: Argument = Argument {
     help: "Tell of which outcomes this holds",
 };
 
+pub(crate) const FORALL: Argument = Argument {
+    kind: Kind::Condition,
+    name: "forall",
+    help: "Tell whether this holds of each",
+};
+
+pub(crate) const NEVER: Argument = Argument {
+    kind: Kind::Condition,
+    name: "never",
+    help: "Tell whether this holds of none",
+};
+
+pub(crate) const NEVER_STUCK: Argument = Argument {
+    kind: Kind::Flag,
+    name: "never-stuck",
+    help: "Tell whether each state can go on to an end",
+};
+
+pub(crate) const FIRST: Argument = Argument {
+    kind: Kind::Flag,
+    name: "first",
+    help: "End the search at the first that answers",
+};
+
 pub(crate) const OUTCOME: Argument = Argument {
     kind: Kind::Number,
     name: "outcome",
@@ -258,6 +282,18 @@ pub(crate) const WRITTEN_SCRIPT: Argument = Argument {
     kind: Kind::Option,
     name: "script",
     help: "The file for the script of that order",
+};
+
+pub(crate) const WRITTEN_STORY: Argument = Argument {
+    kind: Kind::Option,
+    name: "story",
+    help: "The file for the story of that order",
+};
+
+pub(crate) const ALL: Argument = Argument {
+    kind: Kind::Flag,
+    name: "all",
+    help: "Tell each instruction in the story",
 };
 
 pub(crate) const TEST: Argument = Argument {
