@@ -70,6 +70,7 @@ module _ (settings : Settings) (image : ProgramImage) (names : Table) (command :
       record { watch = watch; terms = terms; all = all; asked = asked; is_of = is_of; contained = is.0; fault = is.1 }
   search_refused (reason.NoOutcome number) is = absurd is
   search_refused reason.NotStuck is = absurd is
+  search_refused reason.NoAnswer is = absurd is
   search_refused (reason.Litmus place fault) is = absurd is
   search_refused reason.NothingToDraw is = absurd is
   search_refused reason.Memory is = tt

@@ -4,6 +4,7 @@ pub mod Described
 pub mod Faults
 pub mod Found
 pub mod Harts
+pub mod Inputs
 pub mod Keys
 pub mod Names
 pub mod Refusals

@@ -288,7 +288,7 @@ can_be_searched outcomes = nat_le 1 outcomes.states && are_orders_together outco
     && (not outcomes.first || has_condition outcomes.question)
     && (is_some outcomes.story || (not outcomes.all && not (is_some outcomes.lines)))
 
-pub record AsksOutcomes (rows : List Row) (outcomes : OutcomesCommand) : Type 0 where
+pub record IsOutcomes (rows : List Row) (outcomes : OutcomesCommand) : Type 0 where
   pub image : IsFile rows (codes "IMAGE") outcomes.image
   pub states : IsNumber rows (codes "states") usual_states most_states outcomes.states
   pub watch : IsFileOption rows (codes "watch") outcomes.watch
@@ -301,9 +301,6 @@ pub record AsksOutcomes (rows : List Row) (outcomes : OutcomesCommand) : Type 0 
   pub story : IsFileOption rows (codes "story") outcomes.story
   pub all : IsFlag rows (codes "all") outcomes.all
   pub lines : IsFileOption rows (codes "lines") outcomes.lines
-
-pub record IsOutcomes (rows : List Row) (outcomes : OutcomesCommand) : Type 0 where
-  pub asks : AsksOutcomes rows outcomes
   pub together : can_be_searched outcomes ≡ true
 
 -- Some state is looked at, and one file at most is written: the image, or the picture.
