@@ -2,6 +2,7 @@
 use Rattle.std.specs.Prelude.{◌≡◌, ℕ, ◌<◌, false, None, length, is_some, IsTrue, IfSome}
 use Rattle.elf_image.specs.Image.{ProgramImage}
 use Rattle.rv_instr.specs.Kinds.{destination, first_source, second_source}
+use Rattle.rv_instr.specs.Table.{OpInRange}
 use Rattle.shared_memory.specs.Contents.{Contents, CanWrite}
 use Rattle.smt_model.specs.{Setup.Setup, Plain.Plain, Plain.op_at_pc, Plain.computes}
 use Rattle.smt_model.specs.{Plain.record_at, Nexts.is_last, Faults.fault}
@@ -31,6 +32,7 @@ pub record IsAllowed (m : Contents) (e : Execution) : Type 0 where
   pub write : IfSome e.record.effect.write (CanWrite m.image)
   pub alone : WritesAlone e.record.effect
   pub unfaulted : IsUnfaulted m.image e
+  pub in_range : OpInRange e.op
 
 -- There is room for the byte that it puts out.
 abbrev pub HasRoom : Machine → Execution → Type 0

@@ -4,6 +4,7 @@ ghost use Rattle.std.specs.Prelude.{◌≡◌, ◌<◌, ◌≤◌, ◌&&◌, ℕ
 ghost use Rattle.std.specs.Prelude.{is_some, IsTrue, IfOk, IfErr, OnOk, OnErr, slice_index};
 ghost use Rattle.std.specs.Prelude.{vec_capacity};
 ghost use Rattle.std.specs.Bool.{OnFalse};
+ghost use Rattle.rv_instr.specs.Table.{OpInRange};
 ghost use Rattle.smt_model.specs.Plain.{after, is_going_status, output_after};
 ghost use Rattle.sc_machine.specs.Execution.{IsExecution, IsAllowed, IsUnfaulted, HasRoom};
 ghost use Rattle.sc_machine.specs.Machine.{InEachState, Agrees};
@@ -71,6 +72,7 @@ impl Plain {
         requires { hart < length self.now.harts }
         ensures is { InEachState self.now (λ setup s. IsExecution setup s hart result) }
         ensures no_fault { IsUnfaulted self.now.memory.image result }
+        ensures in_range { OpInRange result.op }
     {
         self.execution(hart)
     }

@@ -1,6 +1,7 @@
 //! A step before it is made.
 
 ghost use Rattle.std.specs.Prelude.{◌≡◌, ◌<◌, length};
+ghost use Rattle.rv_instr.specs.Table.{OpInRange};
 ghost use Rattle.sc_machine.specs.Machine.{InEachState};
 ghost use Rattle.stories.specs.Deeds.{deed_of};
 ghost use Rattle.stories.specs.Story.{step_of};
@@ -22,7 +23,9 @@ pub struct Step {
 /// The step that a hart makes next, as the machine stands before it.
 pub fn step_of(machine: &Plain, hart: u8) -> Step
     requires { hart < length machine.now.harts }
-    ensures { InEachState machine.now (λ setup s. result ≡ step_of setup s hart) }
+    ensures value { InEachState machine.now (λ setup s. result ≡ step_of setup s hart) }
+    ensures in_range { OpInRange result.op }
+    ensures hart { result.hart ≡ hart }
 {
     let next = machine.next_step(hart);
     Step {

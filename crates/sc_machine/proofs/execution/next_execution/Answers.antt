@@ -30,4 +30,5 @@ returns-clause-allowed c = record {
       (sym c.computed.view_is)
       (unfaulted c.args.memory.now.image c.fetch-word.result.1 c.compute-computed.result _ _
       c.effect_here-effect.result c.effect_here-effect.ensures.value c.compute-computed.ensures.no_fault going);
+  in_range = c.fetch-word.ensures.in_range c.args.memory.now.image (byte_of c.args.memory.now) c.requires.code;
 }
