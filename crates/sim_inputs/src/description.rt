@@ -6,9 +6,9 @@ ghost use Rattle.sim_inputs.specs.Rules.{image_commands, report_commands, smtsim
 ghost use Rattle.sim_inputs.specs.Table.{own_arguments_in, rule_in, subcommand_in, with_row};
 
 use crate::arguments::{
-    Argument, CONFIG, COUNTS, EXISTS, EXPLAINED_ORDER, EXPLAINED_SCRIPT, EXPLAINED_TRACE, FROM,
+    ALL, Argument, CONFIG, COUNTS, EXISTS, EXPLAINED_ORDER, EXPLAINED_SCRIPT, EXPLAINED_TRACE, FROM,
     HART, HARTS, HARTS_BESIDE_TRACE, HINTS, IMAGE, JSON, KANATA, KEEP, Kind, LINES, LOOKS, NAMES,
-    ORDER, ORDER_OR_ROUNDS, OUTCOME, RECORDS, ROUNDS, SCRIPT, SEED, SHOW, STATES, STEPS, STUCK,
+    ORDER, ORDER_OR_ROUNDS, OUTCOME, RECORDS, ROUNDS, SCRIPT, SEED, SHOW, STATES, STEPS, STORY, STUCK,
     SVG, SVG_OF_WHY, TEST, TIMES, TO, TRACE, WATCH, WHY, WHY_ENDS, WHY_NEVER, WHY_REFUSED, WIDTH,
     WITNESS, WRITTEN_IMAGE, WRITTEN_OUT, WRITTEN_SCRIPT, WRITTEN_TRACE,
 };
@@ -101,6 +101,8 @@ static OF_REPORTS: [Subcommand; 4] = [
             ROUNDS,
             STEPS,
             SEED,
+            STORY,
+            ALL,
         ],
         form: ORDER_FORM,
     },
