@@ -35,8 +35,8 @@ deed_of_instr _ addr number x = option_map deed.Out x.out
 
 unfoldable pub deed_of_op : Op → ℕ → ℕ → Effect → Option Deed
 deed_of_op (Known i) addr number x = deed_of_instr i addr number x
-deed_of_op Illegal addr number x = None
-deed_of_op NoWord addr number x = None
+deed_of_op Illegal addr number x = option_map deed.Out x.out
+deed_of_op NoWord addr number x = option_map deed.Out x.out
 
 -- What ends or stops its hart shows no more than that.
 abbrev pub deed_before : Next → Option Deed → Option Deed

@@ -1,10 +1,11 @@
 //! What a step shows to other harts.
 
-ghost use Rattle.std.specs.Prelude.{◌≡◌, None, false};
+ghost use Rattle.std.specs.Prelude.{◌≡◌, None, true, false};
 ghost use Rattle.shared_memory.specs.Contents.{byte_of};
 ghost use Rattle.smt_model.specs.Bytes.{number_at};
 ghost use Rattle.smt_model.specs.Faults.{fault};
-ghost use Rattle.smt_model.specs.Kinds.{access_size};
+ghost use Rattle.rv_execute.specs.Access.{reads_memory};
+ghost use Rattle.smt_model.specs.Kinds.{access_size, kind_of};
 ghost use Rattle.smt_model.specs.Nexts.{is_last};
 ghost use Rattle.stories.specs.Deeds.{atomic, conditional, deed_by, deed_of_instr, deed_of_op, stored};
 
@@ -64,33 +65,38 @@ pub(crate) fn deed_by(memory: &Memory, op: Op, addr: u32, effect: Effect) -> Opt
 }
 
 /// What one shows that goes on.
-#[tactic(auto, unfolding(crate::specs::Deeds::deed_of_op))]
+#[tactic(auto, unfolding(crate::specs::Deeds::deed_of_op, rv_instr::specs::Kinds::kind_of))]
 fn deed_of_op(memory: &Memory, op: Op, addr: u32, effect: Effect) -> Option<Deed>
     requires { fault memory.now.image op addr ≡ None }
     ensures { result ≡ deed_of_op op addr (number_at (byte_of memory.now) addr (access_size op)) effect }
 {
     let Op::Known(instr) = op else {
-        return None;
+        return effect.out.map(Deed::Out);
     };
     match instr {
         Instr::Load { op: load, .. } => Some(Deed::Loaded {
             op: load,
             addr,
-            number: memory.read(addr, access_size(op)),
+            number: number_read(memory, op, addr),
         }),
         Instr::LoadReserved { .. } => Some(Deed::Reserved {
             addr,
-            number: memory.read(addr, access_size(op)),
+            number: number_read(memory, op, addr),
         }),
         Instr::Store { op: store, .. } => stored(store, effect.write),
         Instr::StoreConditional { .. } => Some(conditional(addr, effect.write)),
-        Instr::Amo { kind, .. } => atomic(
-            kind,
-            memory.read(addr, access_size(op)),
-            effect.write,
-        ),
+        Instr::Amo { kind, .. } => atomic(kind, number_read(memory, op, addr), effect.write),
         _ => effect.out.map(Deed::Out),
     }
+}
+
+/// What memory has where an instruction reads it.
+fn number_read(memory: &Memory, op: Op, addr: u32) -> u32
+    requires reads { reads_memory (kind_of op) ≡ true }
+    requires no_fault { fault memory.now.image op addr ≡ None }
+    ensures { result ≡ number_at (byte_of memory.now) addr (access_size op) }
+{
+    memory.read(addr, access_size(op))
 }
 
 fn stored(op: StoreOp, write: Option<Written>) -> Option<Deed>

@@ -1,9 +1,11 @@
 //! Who took a reservation, among the rows told so far.
 
-ghost use Rattle.std.specs.Prelude.{◌≡◌, ◌<◌, List, [], ◌∷◌, Some, true, false, IfSome, IfNone};
+ghost use Rattle.std.specs.Prelude.{◌≡◌, ◌<◌, ◌==◌, if◌then◌else◌, ℕ, List, [], ◌∷◌, length, slice_index_or};
 ghost use Rattle.numbers.specs.Sizes.{most_harts};
-ghost use Rattle.stories.specs.Takers.{HasHeard, IsWatch, is_reserve_by, reserves_at, taker, takes_some, writes_at};
+ghost use Rattle.stories.specs.Takers.{HasHeard, taker, takes_some, writes_at};
+ghost use Rattle.stories.specs.Takers.{reserves_of, taken_heard, watch_heard};
 ghost use Rattle.stories.specs.declared.row.Row.{Row as RowView};
+ghost use Rattle.stories.specs.declared.teller.Watch.{Watch as WatchView};
 
 use crate::deed::Deed;
 use crate::row::Row;
@@ -43,7 +45,7 @@ impl Teller {
         ensures { (past : List RowView) → HasHeard past self.old → HasHeard (row.now ∷ past) self.new }
     {
         for hart in 0..MOST_HARTS {
-            self.watches[usize::from(hart)] = watch_after(self.watches[usize::from(hart)], hart, row);
+            hear_of(&mut self.watches, hart, row);
         }
     }
 
@@ -61,9 +63,21 @@ impl Teller {
     }
 }
 
+/// One hart's part of what is kept once a row was told.
+fn hear_of(watches: &mut [Watch; HART_ROOM], hart: u8, row: &Row)
+    requires { hart < most_harts }
+    ensures length { length watches.new ≡ length watches.old }
+    ensures each { (h : ℕ) (d : WatchView) → slice_index_or watches.new h d
+        ≡ (if h == hart then watch_heard hart row.now (slice_index_or watches.old h d)
+        else slice_index_or watches.old h d) }
+{
+    let index = usize::from(hart);
+    watches[index] = watch_heard(watches[index], hart, row);
+}
+
 /// What is kept for a hart once a row was told.
-fn watch_after(watch: Watch, hart: u8, row: &Row) -> Watch
-    ensures { (past : List RowView) → IsWatch hart past watch → IsWatch hart (row.now ∷ past) result }
+fn watch_heard(watch: Watch, hart: u8, row: &Row) -> Watch
+    ensures { result ≡ watch_heard hart row.now watch }
 {
     if let Some(addr) = reserves(row, hart) {
         return Watch {
@@ -71,22 +85,34 @@ fn watch_after(watch: Watch, hart: u8, row: &Row) -> Watch
             taken: None,
         };
     }
-    if watch.taken.is_none() && takes(watch.word, row) {
-        return Watch {
-            word: watch.word,
-            taken: Some(*row),
-        };
+    Watch {
+        word: watch.word,
+        taken: taken_heard(&watch, row),
     }
-    watch
+}
+
+/// The first row that wrote to a reserved word, once a row was told.
+fn taken_heard(watch: &Watch, row: &Row) -> Option<Row>
+    ensures { result ≡ taken_heard watch.now.word row.now watch.now.taken }
+{
+    if watch.taken.is_some() {
+        return watch.taken;
+    }
+    if takes(watch.word, row) {
+        return Some(*row);
+    }
+    None
 }
 
 /// The address that a row has reserved as an LR of a hart.
 fn reserves(row: &Row, hart: u8) -> Option<u32>
-    ensures some { IfSome result (λ addr. (is_reserve_by hart row.now ≡ true) × (reserves_at row.now.deed ≡ Some addr)) }
-    ensures none { IfNone result (is_reserve_by hart row.now ≡ false) }
+    ensures { result ≡ reserves_of hart row.now }
 {
+    if row.hart != hart {
+        return None;
+    }
     match row.deed {
-        Deed::Reserved { addr, .. } if row.hart == hart => Some(addr),
+        Deed::Reserved { addr, .. } => Some(addr),
         _ => None,
     }
 }
