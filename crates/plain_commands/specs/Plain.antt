@@ -1,5 +1,5 @@
 -- The command `plain`: an order of harts, run on the plain machine. (This project's own choice.)
-use Rattle.std.specs.Prelude.{◌≡◌, ℕ, Bool, false, List, ◌++◌, Option, Some, length, map, reverse}
+use Rattle.std.specs.Prelude.{◌≡◌, ℕ, Bool, false, List, [], ◌++◌, Option, Some, None, length, map, reverse}
 use Rattle.std.specs.Io.KnownBytes.{Appends}
 use Rattle.elf_image.specs.Image.{ProgramImage}
 use Rattle.events.specs.declared.effect.Record.{Record}
@@ -7,6 +7,9 @@ use Rattle.smt_model.specs.{declared.config.Status.Status, Basics.below, Plain.R
 use Rattle.sc_machine.specs.{Steps.are_harts}
 use Rattle.plain_run.specs.Orders.{IsStoppedAt}
 use Rattle.core_state.specs.Setup.{setup_of}
+use Rattle.smt_model.specs.Setup.{Setup}
+use Rattle.stories.specs.Story.{steps}
+use Rattle.story_text.specs.Text.{Plan, story_text}
 use Rattle.scripts.specs.Order.{IsOrder, IsFirstNoHart}
 use Rattle.sim_inputs.specs.{declared.settings.Settings.Settings}
 use Rattle.address_labels.specs.Labels.{Marks}
@@ -52,6 +55,11 @@ retired_by ran = reverse ran.records
 abbrev pub standing : ℕ → Run → List Status
 standing harts ran = map ran.state.statuses (below harts)
 
+-- The story of an order, newest first, where one is told.
+abbrev pub told_text : Option Plan → Setup → List ℕ → List ℕ
+told_text None setup order = []
+told_text (Some plan) setup order = story_text plan (steps setup order)
+
 -- What is printed of a run of so many harts: its records, where they are wanted, with these marks beside them, and its
 -- report.
 abbrev pub plain_text : Bool → Marks → ℕ → Run → List ℕ
@@ -63,10 +71,11 @@ plain_text with_records marks harts ran =
 -- settings' harts, in the order that the text says. What was printed is what is printed of it; the
 -- exit status is that of its harts.
 pub record PlainComesTo (settings : Settings) (image : ProgramImage) (order : List ℕ)
-    (with_records : Bool) (marks : Marks) (old new : Option (List ℕ)) (exit_status : ℕ) : Type 0 where
+    (told : Option Plan) (with_records : Bool) (marks : Marks) (old new : Option (List ℕ)) (exit_status : ℕ) : Type 0 where
   pub harts : List ℕ
   pub is_order : IsOrder order harts
   pub ran : Run
   pub runs : run (setup_of image settings.config) (reverse harts) ≡ Some ran
-  pub printed : Appends old new (plain_text with_records marks settings.config.harts ran)
+  pub printed : Appends old new (told_text told (setup_of image settings.config) (reverse harts)
+      ++ plain_text with_records marks settings.config.harts ran)
   pub stands : exit_status ≡ status_number (standing settings.config.harts ran)

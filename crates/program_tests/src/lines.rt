@@ -122,6 +122,8 @@ pub fn plain_line(records: bool) -> Line<'static> {
         lines: None,
         names: false,
         records,
+        story: false,
+        all: false,
     },))
 }
 

@@ -171,11 +171,13 @@ pub record IsCheck (rows : List Row) (check : CheckCommand) : Type 0 where
   pub why : IsFlag rows (codes "why") check.why
 
 -- There is either an order or rounds, of an instruction at least, and what says more of rounds is there
--- with them alone.
+-- with them alone; a story is there with an order alone, and what says more of a story with one alone.
 abbrev pub can_be_plain : PlainCommand → Bool
 can_be_plain plain =
-    let ordered = is_some plain.order && not (is_some plain.steps) && not (is_some plain.seed) in
-    option_map_or (λ rounds. nat_le 1 rounds && not (is_some plain.order)) plain.rounds ordered
+    let told = plain.story || not plain.all in
+    let ordered = is_some plain.order && (not (is_some plain.steps) && (not (is_some plain.seed) && told)) in
+    option_map_or (λ rounds. nat_le 1 rounds && (not (is_some plain.order) && (not plain.story && told))) plain.rounds
+    ordered
 
 pub record IsPlain (rows : List Row) (plain : PlainCommand) : Type 0 where
   pub image : IsFile rows (codes "IMAGE") plain.image
@@ -186,6 +188,8 @@ pub record IsPlain (rows : List Row) (plain : PlainCommand) : Type 0 where
   pub lines : IsFileOption rows (codes "lines") plain.lines
   pub names : IsFlag rows (codes "names") plain.names
   pub records : IsFlag rows (codes "records") plain.records
+  pub story : IsFlag rows (codes "story") plain.story
+  pub all : IsFlag rows (codes "all") plain.all
   pub together : can_be_plain plain ≡ true
 
 pub record IsSchedule (rows : List Row) (schedule : ScheduleCommand) : Type 0 where

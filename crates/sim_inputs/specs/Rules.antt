@@ -60,6 +60,12 @@ looks_rule = flag_rule (codes "looks")
 abbrev pub records_rule : Rule
 records_rule = flag_rule (codes "records")
 
+abbrev pub story_rule : Rule
+story_rule = flag_rule (codes "story")
+
+abbrev pub all_rule : Rule
+all_rule = flag_rule (codes "all")
+
 abbrev pub show_rule : Rule
 show_rule = flag_rule (codes "show")
 
@@ -146,9 +152,6 @@ written_script_rule = file_option_rule (codes "script")
 abbrev pub written_story_rule : Rule
 written_story_rule = file_option_rule (codes "story")
 
-abbrev pub all_rule : Rule
-all_rule = flag_rule (codes "all")
-
 abbrev pub explained_script_rule : Rule
 explained_script_rule = file_option_rule (codes "script")
 
@@ -190,11 +193,11 @@ abbrev pub check_command : App
 check_command = subcommand (codes "check") (image_rule ∷ trace_rule ∷ config_rule ∷ harts_rule ∷ counts_rule ∷ json_rule
     ∷ lines_rule ∷ names_rule ∷ records_rule ∷ why_rule ∷ [])
 
--- `plain IMAGE ORDER`, with `--config FILE`, `--harts N`, `--lines FILE`, `--names` and `--records`; or without the
--- order, and with `--rounds K`, `--steps N` and `--seed S`.
+-- `plain IMAGE ORDER`, with `--config FILE`, `--harts N`, `--lines FILE`, `--names`, `--records`, `--story` and `--all`;
+-- or without the order, and with `--rounds K`, `--steps N` and `--seed S`.
 abbrev pub plain_command : App
 plain_command = subcommand (codes "plain") (image_rule ∷ order_or_rounds_rule ∷ config_rule ∷ harts_rule ∷ lines_rule
-    ∷ names_rule ∷ records_rule ∷ rounds_rule ∷ steps_rule ∷ seed_rule ∷ [])
+    ∷ names_rule ∷ records_rule ∷ rounds_rule ∷ steps_rule ∷ seed_rule ∷ story_rule ∷ all_rule ∷ [])
 
 -- `schedule IMAGE ORDER`, with `--config FILE` and `--harts N`.
 abbrev pub schedule_command : App

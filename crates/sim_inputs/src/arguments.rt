@@ -116,6 +116,18 @@ pub(crate) const RECORDS: Argument = Argument {
     help: "Print a record of each retirement, before the report",
 };
 
+pub(crate) const STORY: Argument = Argument {
+    kind: Kind::Flag,
+    name: "story",
+    help: "Tell what the order's steps show to other harts, before the report",
+};
+
+pub(crate) const ALL: Argument = Argument {
+    kind: Kind::Flag,
+    name: "all",
+    help: "Tell each step in the story",
+};
+
 pub(crate) const SHOW: Argument = Argument {
     kind: Kind::Flag,
     name: "show",
@@ -288,12 +300,6 @@ pub(crate) const WRITTEN_STORY: Argument = Argument {
     kind: Kind::Option,
     name: "story",
     help: "The file for the story of that order",
-};
-
-pub(crate) const ALL: Argument = Argument {
-    kind: Kind::Flag,
-    name: "all",
-    help: "Tell each instruction in the story",
 };
 
 pub(crate) const TEST: Argument = Argument {

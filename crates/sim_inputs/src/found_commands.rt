@@ -140,6 +140,8 @@ pub(crate) fn plain_in<'a>(found: &ArgMatches<'a>) -> Option<PlainCommand<'a>>
         lines: value_of(found, "lines"),
         names: is_set(found, "names"),
         records: is_set(found, "records"),
+        story: is_set(found, "story"),
+        all: is_set(found, "all"),
     };
     if !can_be_plain(&plain) {
         return None;
@@ -147,14 +149,17 @@ pub(crate) fn plain_in<'a>(found: &ArgMatches<'a>) -> Option<PlainCommand<'a>>
     Some(plain)
 }
 
-/// Whether there is either an order or rounds, of an instruction at least, and whether what says more
-/// of rounds has some.
+/// Whether there is either an order or rounds, of an instruction at least, whether what says more
+/// of rounds has some, and whether a story has an order, and what says more of it a story.
 fn can_be_plain(plain: &PlainCommand<'_>) -> bool
     ensures { result ≡ can_be_plain plain.now }
 {
+    let is_told = plain.story || !plain.all;
     match plain.rounds {
-        Some(rounds) => rounds >= 1 && plain.order.is_none(),
-        None => plain.order.is_some() && plain.steps.is_none() && plain.seed.is_none(),
+        Some(rounds) => rounds >= 1 && plain.order.is_none() && !plain.story && is_told,
+        None => {
+            plain.order.is_some() && plain.steps.is_none() && plain.seed.is_none() && is_told
+        }
     }
 }
 

@@ -133,6 +133,10 @@ pub struct PlainCommand<'a> {
     pub names: bool,
     /// `--records`: a line for each record is printed before the report.
     pub records: bool,
+    /// `--story`: what the order's steps show to other harts is told before all else. There is none with rounds.
+    pub story: bool,
+    /// `--all`: the story has a row for each step. There is none without a story.
+    pub all: bool,
 }
 
 /// `schedule IMAGE ORDER`: the script that makes the core retire in the order is printed.

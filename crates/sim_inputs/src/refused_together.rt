@@ -76,6 +76,8 @@ fn refused_of_plain(found: &ArgMatches<'_>) -> Option<RefusedOptions> {
         (false, false) => refused("neither ORDER nor --rounds", "one of them"),
         (true, false) if has(found, "steps") => refused("--steps", "--rounds K beside it"),
         (true, false) if has(found, "seed") => refused("--seed", "--rounds K beside it"),
+        (false, true) if has(found, "story") => refused("--story", "ORDER in place of --rounds"),
+        _ if has(found, "all") && !has(found, "story") => refused("--all", "--story beside it"),
         _ => None,
     }
 }

@@ -1,0 +1,4 @@
+pub mod Deeds
+pub mod Story
+pub mod Takers
+pub mod Laws
