@@ -8,4 +8,5 @@ mod Adding
 mod Noting
 mod Turning
 mod Finding
+mod Tracing
 mod Marking
