@@ -9,4 +9,5 @@ mod Noting
 mod Turning
 mod Finding
 mod Tracing
+mod Extents
 mod Marking

@@ -35,6 +35,7 @@ pub(crate) fn dive<M: Machine, G: Goal<M>>(
     budget: u32,
     goal: &G,
 ) -> Result<Extent, AllocError>
+    requires fits { G.Fits goal.now machine.old }
     requires harts { sweep.old.harts ≡ M.harts machine.old }
     requires traced { AreTraced (M.Knows machine.old) (M.Steps machine.old) (found_by sweep.old) }
     requires beyond { budget < length sweep.old.states.keys }
@@ -77,6 +78,7 @@ fn dive_from<M: Machine, G: Goal<M>>(
     most: usize,
     goal: &G,
 ) -> Result<bool, AllocError>
+    requires fits { G.Fits goal.now machine.old }
     requires harts { sweep.old.harts ≡ M.harts machine.old }
     requires traced { AreTraced (M.Knows machine.old) (M.Steps machine.old) (found_by sweep.old) }
     requires inside { start < length sweep.old.states.keys }
@@ -183,6 +185,7 @@ fn list_end<M: Machine, G: Goal<M>>(
     place: u32,
     goal: &G,
 ) -> Result<bool, AllocError>
+    requires fits { G.Fits goal.now machine.now }
     requires harts { sweep.old.harts ≡ M.harts machine.now }
     requires traced { AreTraced (M.Knows machine.now) (M.Steps machine.now) (found_by sweep.old) }
     requires end { IsEndAt (M.Steps machine.now) (found_by sweep.old) place }

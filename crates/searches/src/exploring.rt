@@ -31,7 +31,8 @@ pub fn explore<M: Machine, O: Onlooker, G: Goal<M>>(
     goal: &G,
     alloc: Global,
 ) -> Result<Explored<M::State, M::Way>, AllocError>
-    requires { M.Knows machine.old start }
+    requires fits { G.Fits goal.now machine.old }
+    requires known { M.Knows machine.old start }
     ensures grows { M.Grows machine.old machine.new }
     ensures explored { IfOk result (λ explored. IsExplored (M.Steps machine.new) (M.harts machine.new) start budget
         explored.search explored.extent) }
@@ -41,15 +42,40 @@ pub fn explore<M: Machine, O: Onlooker, G: Goal<M>>(
         explored.extent) }
 {
     let mut sweep = Sweep::begin(start, machine.harts(), alloc)?;
-    let extent = sweep_all(&mut sweep, machine, budget, onlooker, goal)?;
-    let extent = match extent {
-        Extent::Beyond => dive(&mut sweep, machine, budget, goal)?,
-        Extent::Whole | Extent::First => extent,
-    };
+    let extent = sweep_and_dive(&mut sweep, machine, budget, onlooker, goal)?;
     Ok(Explored {
         search: sweep.into_search(),
         extent,
     })
+}
+
+/// Sweeps the states; and dives, where there are too many.
+fn sweep_and_dive<M: Machine, O: Onlooker, G: Goal<M>>(
+    sweep: &mut Sweep<M::State, M::Way>,
+    machine: &mut M,
+    budget: u32,
+    onlooker: &O,
+    goal: &G,
+) -> Result<Extent, AllocError>
+    requires fits { G.Fits goal.now machine.old }
+    requires harts { sweep.old.harts ≡ M.harts machine.old }
+    requires swept { IsSwept (M.Knows machine.old) (M.Steps machine.old) 0 0 (found_by sweep.old) }
+    requires one { length sweep.old.states.keys ≤ 1 }
+    ensures grows { M.Grows machine.old machine.new }
+    ensures same { OnOk result (sweep.new.harts ≡ sweep.old.harts) }
+    ensures swept { IfOk result (IsSweptAs (M.Knows machine.new) (M.Steps machine.new)
+        (G.Meets goal.now machine.new) budget (found_by sweep.new)) }
+    ensures kept { OnOk result (Keeps sweep.old.states.keys sweep.new.states.keys) }
+    ensures few { OnOk result (length sweep.new.states.keys ≤ 2 ^ 32) }
+{
+    match sweep_all(sweep, machine, budget, onlooker, goal)? {
+        Extent::Whole => Ok(Extent::Whole),
+        Extent::First => Ok(Extent::First),
+        Extent::Beyond => {
+            let extent = dive(sweep, machine, budget, goal)?;
+            Ok(extent)
+        }
+    }
 }
 
 /// Sweeps the states in turn, until all are swept, there are too many, or an end meets the goal.
@@ -60,6 +86,7 @@ fn sweep_all<M: Machine, O: Onlooker, G: Goal<M>>(
     onlooker: &O,
     goal: &G,
 ) -> Result<Extent, AllocError>
+    requires fits { G.Fits goal.now machine.old }
     requires harts { sweep.old.harts ≡ M.harts machine.old }
     requires swept { IsSwept (M.Knows machine.old) (M.Steps machine.old) 0 0 (found_by sweep.old) }
     requires one { length sweep.old.states.keys ≤ 1 }
@@ -75,8 +102,9 @@ fn sweep_all<M: Machine, O: Onlooker, G: Goal<M>>(
         if sweep.states.len() > budget as usize {
             return Ok(Extent::Beyond);
         }
-        if let Some(extent) = expand(sweep, machine, place, budget, goal)? {
-            return Ok(extent);
+        match expand(sweep, machine, place, budget, goal)? {
+            Some(extent) => return Ok(extent),
+            None => {}
         }
         place += 1;
         show_progress(onlooker, sweep.states.len(), place);
@@ -100,6 +128,7 @@ fn expand<M: Machine, G: Goal<M>>(
     budget: u32,
     goal: &G,
 ) -> Result<Option<Extent>, AllocError>
+    requires fits { G.Fits goal.now machine.old }
     requires inside { place < length sweep.old.states.keys }
     requires few { length sweep.old.states.keys ≤ budget }
     requires harts { sweep.old.harts ≡ M.harts machine.old }

@@ -39,17 +39,17 @@ impl<S: Copy + Eq + Hash, W: Copy> Model for Search<S, W> {
 
 impl<S: Copy + Eq + Hash, W: Copy> Search<S, W> {
     /// How many states were found.
-    pub fn states(&self) -> u64
+    pub fn states(&self) -> usize
         ensures { result ≡ length self.now.states }
     {
-        self.states.len() as u64
+        self.states.len()
     }
 
     /// The state at a place.
-    pub fn state(&self, place: u32) -> Option<S>
+    pub fn state(&self, place: usize) -> Option<S>
         ensures { result ≡ slice_get self.now.states place }
     {
-        self.states.get_index(place as usize).copied()
+        self.states.get_index(place).copied()
     }
 
     /// The places of the ends that were found: states in which no hart has a step.

@@ -1,6 +1,6 @@
-use Rattle.std.proofs.Common.{refl, length}
-use Rattle.std.proofs.lemmas.Option.{slice_get_read, slice_get_within}
+use Rattle.std.proofs.lemmas.Option.{slice_get_within}
 use Rattle.searches.specs.Sweeps.{found_by}
+use Rattle.searches.proofs.Places.{read_at}
 use Rattle.searches.proofs.Tracing.{end_more, met_at}
 use Rattle.searches.proofs.diving.list_end.Goals as goal
 
@@ -15,5 +15,6 @@ returns-clause-met g c met =
     let inside = slice_get_within keys c.args.place c.requires.end.0 c.requires.end.1 in
     met_at (g.G.Goal.Meets c.args.goal.now c.args.machine.now) (found_by c.args.sweep.now) c.args.place
     c.index-as_slice-place.result
-    (slice_get_read keys (length keys) c.args.place c.index-as_slice-place.result refl inside c.index-as_slice-place.is)
+    (read_at keys c.as_slice.result.now c.args.place c.index-as_slice-place.result c.as_slice.ensures.keys inside
+    c.index-as_slice-place.is)
     (c.in_ok-is_met.ensures met) c.push.new.self.items c.in_ok-push.ensures.items

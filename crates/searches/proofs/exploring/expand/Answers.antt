@@ -97,3 +97,8 @@ returns-clause-traced g c =
     (omega (arith, c.loop-hart-test.false, c.loop-hart.auto.hart-end, i.same))
     (subst (λ b. Looked found c.args.place c.loop-hart.hart b) c.if-not-is_end.false i.looked) c.push.new.self.items
     c.in_ok-push.ensures.items).listed refl (omega (arith, below))
+
+pub is_met-requires-clause-fits : goal.is_met-requires-clause-fits
+is_met-requires-clause-fits g c =
+    g.met.G.Goal.still_fits c.args.goal.now c.args.machine.now c.loop-hart.machine c.loop-hart.invariant.grows
+    c.requires.fits
