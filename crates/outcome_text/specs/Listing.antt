@@ -3,6 +3,8 @@
 use Rattle.std.specs.Prelude.{ℕ, ◌+◌, Bool, true, false, if◌then◌else◌, List, [], ◌∷◌, ◌++◌, codes, length}
 use Rattle.std.specs.{Fmt.decimal, List.list_all, List.list_any}
 use Rattle.report_lines.specs.Lines.{count_line}
+use Rattle.searches.specs.declared.extent.Extent.{Extent}
+use Rattle.searches.specs.declared.extent.Extent.TheVariants.{Whole, Beyond, First}
 use Rattle.outcomes.specs.{Found.Told, Found.Found}
 use Rattle.watched_outcomes.specs.{declared.watch.Watch.Watch}
 use Rattle.outcome_queries.specs.declared.watched.Asked.{Asked}
@@ -35,17 +37,28 @@ abbrev pub ends_text : Bool → List ℕ
 ends_text true = codes "stuck\n"
 ends_text false = codes "always can end\n"
 
--- The whole text: a line for each outcome, how many there are, how many states were looked at, that these
--- are all, whether there is a state that can't go on to an end, and which places are watched for nothing.
+-- What is said of all outcomes: that these are all, whether there is a state that can't go on to an end, and which places
+-- are watched for nothing.
+unfoldable pub whole_text : List Asked → List Bool → Bool → List ℕ
+whole_text words unwritten is_stuck =
+    codes "complete\n" ++ (ends_text is_stuck ++ each_from (unwritten_text unwritten) 0 words)
+
+-- What is said where there are more states than were to be looked at.
+unfoldable pub incomplete_text : ℕ → List ℕ
+incomplete_text states = codes "not complete: more than " ++ (decimal states ++ codes " states\n")
+
+-- Which of these it is; a search that was to end with a first outcome says that.
+abbrev pub extent_text : List Asked → List Bool → Bool → ℕ → Extent → List ℕ
+extent_text words unwritten is_stuck budget Whole = whole_text words unwritten is_stuck
+extent_text words unwritten is_stuck budget Beyond = incomplete_text budget
+extent_text words unwritten is_stuck budget First = codes "not complete: the first\n"
+
+-- The whole text: a line for each outcome, how many there are, how many states were found, and whether these are all.
 abbrev pub told_line : List Asked → List Asked → ℕ → Told → List ℕ
 told_line registers words index told = outcome_line registers words told.ending
 
-unfoldable pub outcomes_text : List Asked → List Asked → Found → Bool → List ℕ
-outcomes_text registers words found is_stuck = each_from (told_line registers words) 0 found.listed
+unfoldable pub outcomes_text : List Asked → List Asked → Found → Bool → ℕ → List ℕ
+outcomes_text registers words found is_stuck budget = each_from (told_line registers words) 0 found.listed
     ++ (count_line (codes "outcomes") (length found.listed)
     ++ (count_line (codes "states") found.states
-    ++ (codes "complete\n" ++ (ends_text is_stuck ++ each_from (unwritten_text found.unwritten) 0 words))))
-
--- What is printed where there are more states than were to be looked at.
-unfoldable pub incomplete_text : ℕ → List ℕ
-incomplete_text states = codes "not complete: more than " ++ (decimal states ++ codes " states\n")
+    ++ extent_text words found.unwritten is_stuck budget found.extent))

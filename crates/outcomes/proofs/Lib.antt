@@ -1,6 +1,8 @@
+mod Reaching
 mod Graph
 mod Listing
 mod Endings
+mod Sound
 mod Watching
 mod Growing
 mod Collected

@@ -3,3 +3,4 @@ pub mod Collected
 pub mod Found
 pub mod Told
 pub mod Refusals
+pub mod Parts

@@ -32,8 +32,8 @@ use outcome_queries::{
     Condition, WatchList, absent_hart, columns_of, read_condition, read_watch_list, watch_of,
     with_terms,
 };
-use outcome_text::{write_exists, write_incomplete, write_outcomes};
-use outcomes::{Outcomes, OutcomesRefused};
+use outcome_text::{write_exists, write_outcomes};
+use outcomes::{Extent, Outcomes, OutcomesRefused};
 use sim_inputs::{OutcomesCommand, Settings};
 use std::alloc::{AllocError, Global};
 use std::io;
@@ -80,21 +80,22 @@ pub fn perform_outcomes<R, G: Gate, P, S: EndFiles, W: Write>(
     see_harts(&terms, harts)?;
     let (gate, alloc) = (context.gate, context.alloc);
     match find_shown(image, harts, &watch, command.states, gate, alloc) {
-        Ok(outcomes) => {
-            let stuck = stuck_order(&outcomes, alloc)?;
-            put_order(context, image, settings, command, &outcomes, &stuck)?;
-            print_found(
-                &outcomes,
-                &list,
-                stuck.is_some(),
-                command,
-                &terms,
-                &mut context.out,
-            )
-        }
-        Err(OutcomesRefused::Budget) => match write_incomplete(command.states, &mut context.out) {
-            Ok(()) => Ok(3),
-            Err(_) => Err(Refused::Output),
+        Ok(outcomes) => match outcomes.extent() {
+            Extent::Whole => {
+                let stuck = stuck_order(&outcomes, alloc)?;
+                put_order(context, image, settings, command, &outcomes, &stuck)?;
+                print_found(
+                    &outcomes,
+                    &list,
+                    stuck.is_some(),
+                    command,
+                    &terms,
+                    &mut context.out,
+                )
+            }
+            Extent::Beyond | Extent::First => {
+                print_part(&outcomes, &list, command.states, &mut context.out)
+            }
         },
         Err(why) => Err(search_refusal(why, &watch)),
     }
@@ -174,7 +175,7 @@ fn search_refusal(why: OutcomesRefused, watch: &Watch) -> Refused
             Some(bytes) => Refused::NoWord(*bytes),
             None => Refused::Memory,
         },
-        OutcomesRefused::Budget | OutcomesRefused::Memory => Refused::Memory,
+        OutcomesRefused::Memory => Refused::Memory,
     }
 }
 
@@ -306,6 +307,20 @@ fn write_hart<W: Write>(hart: u8, out: &mut W) -> io::Result<()>
     writeln!(out, "{hart}")
 }
 
+/// Prints the part that was found, of which all of a list was watched.
+fn print_part<W: Write>(
+    outcomes: &Outcomes,
+    list: &WatchList<'_>,
+    budget: u32,
+    out: &mut W,
+) -> Result<u8, Refused> {
+    let columns = columns_of(list.as_slice());
+    match write_outcomes(outcomes, &columns, false, budget, out) {
+        Ok(()) => Ok(3),
+        Err(_) => Err(Refused::Output),
+    }
+}
+
 /// Prints what was found, of which all of a list was watched.
 fn print_found<W: Write>(
     outcomes: &Outcomes,
@@ -323,7 +338,7 @@ fn print_found<W: Write>(
     ensures refused { IfErr result (λ why. why ≡ Output) }
 {
     let columns = columns_of(list.as_slice());
-    let Ok(()) = write_outcomes(outcomes, &columns, is_stuck, out) else {
+    let Ok(()) = write_outcomes(outcomes, &columns, is_stuck, command.states, out) else {
         return Err(Refused::Output);
     };
     if command.exists.is_none() {

@@ -1,7 +1,7 @@
 //! The search for all outcomes, and who is shown how far it is.
 
 ghost use Rattle.std.specs.Prelude.{IfOk, IfErr, OnOk};
-ghost use Rattle.outcomes.specs.Found.{InEachSetup, IsExactList, CoversCores, IsOnce};
+ghost use Rattle.outcomes.specs.{Found.IsOnce, Parts.IsListing};
 ghost use Rattle.outcomes.specs.Refusals.{IsRefusedFor, AreWords};
 ghost use Rattle.watched_outcomes.specs.Watching.{AreThere};
 
@@ -32,16 +32,13 @@ pub(crate) fn find_shown<G: Gate>(
     gate: &G,
     alloc: Global,
 ) -> Result<Outcomes, OutcomesRefused>
-    ensures all { IfOk result (λ found.
-        InEachSetup image.now harts (λ setup. IsExactList setup watch.now found)) }
-    ensures cores { IfOk result (λ found.
-        InEachSetup image.now harts (λ setup. CoversCores setup watch.now found)) }
+    ensures found { IfOk result (IsListing image.now harts watch.now budget) }
     ensures once { IfOk result IsOnce }
     ensures present { OnOk result (AreThere harts watch.now × AreWords image.now watch.now) }
-    ensures refused { IfErr result (IsRefusedFor image.now harts watch.now budget) }
+    ensures refused { IfErr result (IsRefusedFor image.now harts watch.now) }
 {
     gate.begin_search();
-    let found = find_outcomes(image, harts, watch, budget, &Shown { gate }, alloc);
+    let found = find_outcomes(image, harts, watch, budget, &Shown { gate }, &(), alloc);
     gate.end();
     found
 }
