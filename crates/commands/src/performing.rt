@@ -347,7 +347,7 @@ fn perform_command<
         }
         ProgramCommand::List(_) => perform_list(image, labels, &mut context.out),
         ProgramCommand::Outcomes(outcomes) => {
-            perform_outcomes(context, image, settings, names, outcomes)
+            perform_outcomes(context, image, settings, names, labels, outcomes)
         }
         ProgramCommand::Chart(chart) => {
             let text = second?;

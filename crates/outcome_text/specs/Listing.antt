@@ -47,18 +47,20 @@ whole_text words unwritten is_stuck =
 unfoldable pub incomplete_text : ℕ → List ℕ
 incomplete_text states = codes "not complete: more than " ++ (decimal states ++ codes " states\n")
 
--- Which of these it is; a search that was to end with a first outcome says that.
-abbrev pub extent_text : List Asked → List Bool → Bool → ℕ → Extent → List ℕ
-extent_text words unwritten is_stuck budget Whole = whole_text words unwritten is_stuck
-extent_text words unwritten is_stuck budget Beyond = incomplete_text budget
-extent_text words unwritten is_stuck budget First = codes "not complete: the first\n"
+-- Which of these it is; a search that was to end with a first outcome says that. The answer of a whole search stands
+-- behind that, of a part before it.
+abbrev pub extent_text : List Asked → List Bool → Bool → ℕ → List ℕ → Extent → List ℕ
+extent_text words unwritten is_stuck budget answer Whole = whole_text words unwritten is_stuck ++ answer
+extent_text words unwritten is_stuck budget answer Beyond = answer ++ incomplete_text budget
+extent_text words unwritten is_stuck budget answer First = answer ++ codes "not complete: first\n"
 
--- The whole text: a line for each outcome, how many there are, how many states were found, and whether these are all.
+-- The whole text: a line for each outcome, how many there are, how many states were found, whether these are all, and
+-- the answer to the question, if there is one.
 abbrev pub told_line : List Asked → List Asked → ℕ → Told → List ℕ
 told_line registers words index told = outcome_line registers words told.ending
 
-unfoldable pub outcomes_text : List Asked → List Asked → Found → Bool → ℕ → List ℕ
-outcomes_text registers words found is_stuck budget = each_from (told_line registers words) 0 found.listed
+unfoldable pub outcomes_text : List Asked → List Asked → Found → Bool → ℕ → List ℕ → List ℕ
+outcomes_text registers words found is_stuck budget answer = each_from (told_line registers words) 0 found.listed
     ++ (count_line (codes "outcomes") (length found.listed)
     ++ (count_line (codes "states") found.states
-    ++ extent_text words found.unwritten is_stuck budget found.extent))
+    ++ extent_text words found.unwritten is_stuck budget answer found.extent))

@@ -20,41 +20,52 @@ use text_fields::push_decimal;
 
 /// Writes the outcomes of a program that a search has found, of which this was watched: a line for each, how many
 /// there are, and how many states were found. Behind that, of a whole search, that these are all, whether a state
-/// can't go on to an end, and a line for each place in memory that is watched for nothing; of a part that there are
-/// more than so many states, which were to be looked at, or that these are the first. Where it answers Ok, it has
-/// written exactly these lines.
+/// can't go on to an end, a line for each place in memory that is watched for nothing, and the answer's line; of a
+/// part the answer's line, and that there are more than so many states, which were to be looked at, or that the search
+/// has ended with the first outcome that answers. Where it answers Ok, it has written exactly these lines.
 #[tactic(auto, unfolding(crate::specs::Listing::outcomes_text))]
 pub fn write_outcomes<W: Write>(
     outcomes: &Outcomes,
     columns: &Columns<'_>,
     is_stuck: bool,
     budget: u32,
+    answer: &[u8],
     out: &mut W,
 ) -> io::Result<()>
     ensures { OnOk result (Appends (W.contents out.old) (W.contents out.new)
-        (outcomes_text columns.now.registers.items columns.now.words.items outcomes.now is_stuck budget)) }
+        (outcomes_text columns.now.registers.items columns.now.words.items outcomes.now is_stuck budget answer.now)) }
 {
     write_lines(outcomes, columns, out)?;
     report_count("outcomes", outcomes.count() as u64, out)?;
     report_count("states", outcomes.states(), out)?;
-    write_extent(outcomes, columns, is_stuck, budget, out)
+    write_extent(outcomes, columns, is_stuck, budget, answer, out)
 }
 
-/// Writes what the extent of a search says of its outcomes.
+/// Writes what the extent of a search says of its outcomes, and the answer.
 fn write_extent<W: Write>(
     outcomes: &Outcomes,
     columns: &Columns<'_>,
     is_stuck: bool,
     budget: u32,
+    answer: &[u8],
     out: &mut W,
 ) -> io::Result<()>
     ensures { OnOk result (Appends (W.contents out.old) (W.contents out.new)
-        (extent_text columns.now.words.items outcomes.now.unwritten is_stuck budget outcomes.now.extent)) }
+        (extent_text columns.now.words.items outcomes.now.unwritten is_stuck budget answer.now outcomes.now.extent)) }
 {
     match outcomes.extent() {
-        Extent::Whole => write_whole(outcomes, columns, is_stuck, out),
-        Extent::Beyond => write_incomplete(budget, out),
-        Extent::First => out.write_all(b"not complete: the first\n"),
+        Extent::Whole => {
+            write_whole(outcomes, columns, is_stuck, out)?;
+            out.write_all(answer)
+        }
+        Extent::Beyond => {
+            out.write_all(answer)?;
+            write_incomplete(budget, out)
+        }
+        Extent::First => {
+            out.write_all(answer)?;
+            out.write_all(b"not complete: first\n")
+        }
     }
 }
 

@@ -12,12 +12,13 @@ use Rattle.searches.specs.declared.extent.Extent.TheVariants.{Whole}
 use Rattle.outcomes.specs.{Found.Found, Found.IsOnce, Parts.IsListing, Parts.IsAskedFor}
 use Rattle.outcomes.specs.{Refusals.AreWords, Refusals.CanLoad}
 use Rattle.smt_model.specs.Setup.{Setup}
+use Rattle.event_text.specs.Sinking.{HasPut}
 use Rattle.address_labels.specs.Labels.{Marks}
 use Rattle.story_text.specs.Text.{Plan}
 use Rattle.sc_machine.specs.Steps.{are_harts}
 use Rattle.outcome_queries.specs.{declared.watched.Asked.Asked, declared.term.Term.Term}
 use Rattle.outcome_queries.specs.declared.refused.{QueryRefused.QueryRefused, Expected.Expected}
-use Rattle.outcome_queries.specs.declared.question.Question.{Question}
+use Rattle.outcome_queries.specs.declared.question.{Question.Question, Answer.Answer}
 use Rattle.symbols.specs.Tables.{Table}
 use Rattle.outcome_queries.specs.{Asking.Asks, Watched.IsUnnamed, Lists.IsSeparated}
 use Rattle.outcome_queries.specs.Watches.{registers_in, words_in, asked_in, registers_asked, memory_asked}
@@ -76,13 +77,22 @@ pub record IsAsking (settings : Settings) (names : Table) (command : OutcomesCom
   pub there : All (IsHartThere settings.config.harts) (terms_asked question)
 
 -- The line of the answer, and the exit status.
+abbrev pub is_whole : Extent → Bool
+is_whole Whole = true
+is_whole extent = false
+
+abbrev pub answer_found : Watch → Question → Found → Answer
+answer_found watch question found =
+    answer_of watch question found.listed (is_whole found.extent) (is_some (stuck_told found))
+
 abbrev pub question_text : Watch → Option Question → Found → List ℕ
 question_text watch None found = []
-question_text watch (Some question) found = answer_text watch question found
+question_text watch (Some question) found =
+    answer_text watch question (answer_found watch question found) found.listed
 
 abbrev pub status_found : Watch → Option Question → Found → ℕ
 status_found watch None found = status_of_extent found.extent
-status_found watch (Some question) found = status_of_answer (answer_of watch question found)
+status_found watch (Some question) found = status_of_answer (answer_found watch question found)
 
 -- What is written into the file of an order: its text; or nothing, where there is no order.
 abbrev pub IsTextIf : OutcomesCommand → Setup → ℕ → Plan → Option (List ℕ) → Option (List ℕ) → Type 0
@@ -99,8 +109,28 @@ plan_for settings names marks command = record {
   marks = marks;
 }
 
--- What the command comes to: what was found is printed, with the answer, and of the same an order is written, where one
--- is wanted and there is one. `Put` says what was written.
+-- What is printed of what was found, with the answer.
+abbrev pub found_text : OutcomesCommand → List Asked → Watch → Option Question → Found → List ℕ
+found_text command all watch question found = outcomes_text (registers_asked all) (memory_asked all) found
+    (is_some (stuck_told found)) command.states (question_text watch question found)
+
+-- It is printed, and of the same an order is written, where one is wanted and there is one. `Put` says what was written.
+pub record HasTold (settings : Settings) (image : ProgramImage) (command : OutcomesCommand) (plan : Plan)
+    (all : List Asked) (watch : Watch) (question : Option Question) (found : Found) (Put : Option (List ℕ) → Type 0)
+    (old new : Option (List ℕ)) (exit_status : ℕ) : Type 0 where
+  pub text : Option (List ℕ)
+  pub printed : Appends old new (found_text command all watch question found)
+  pub status : exit_status ≡ status_found watch question found
+  pub is_text : IsTextIf command (setup_of image settings.config) settings.limit plan
+      (order_wanted command watch question found) text
+  pub put : Put text
+
+-- A text is put into a file whole; or it is what it was.
+abbrev pub HasPutText : {S : Type 0} → (S → Option (List ℕ)) → (S → Bool) → S → S → Option (List ℕ) → Type 0
+HasPutText written has_failed old new None = new ≡ old
+HasPutText written has_failed old new (Some text) = HasPut written has_failed old new text
+
+-- What the command comes to.
 pub record OutcomesComeTo (settings : Settings) (image : ProgramImage) (names : Table) (marks : Marks)
     (command : OutcomesCommand) (Put : Option (List ℕ) → Type 0) (old new : Option (List ℕ)) (exit_status : ℕ)
     : Type 0 where
@@ -108,15 +138,10 @@ pub record OutcomesComeTo (settings : Settings) (image : ProgramImage) (names : 
   pub all : List Asked
   pub watch : Watch
   pub found : Found
-  pub text : Option (List ℕ)
   pub asking : IsAsking settings names command question all watch
   pub is_found : IsFound settings image command watch question found
-  pub printed : Appends old new (outcomes_text (registers_asked all) (memory_asked all) found
-      ++ question_text watch question found)
-  pub status : exit_status ≡ status_found watch question found
-  pub is_text : IsTextIf command (setup_of image settings.config) settings.limit (plan_for settings names marks command)
-      (order_wanted command watch question found) text
-  pub put : Put text
+  pub told : HasTold settings image command (plan_for settings names marks command) all watch question found Put
+      old new exit_status
 
 -- ---- Refusals
 
@@ -205,6 +230,12 @@ IsFoundRefusal settings image command watch question found reasons.NotStuck = Is
 IsFoundRefusal settings image command watch question found reasons.NoAnswer =
     LacksAnswer command watch question found
 IsFoundRefusal settings image command watch question found reason = IsTextRefusal settings image command reason
+
+-- There isn't enough memory, or the output takes no more.
+abbrev pub IsWant : Refused → Type 0
+IsWant reasons.Memory = Unit {0}
+IsWant reasons.Output = Unit {0}
+IsWant _ = ⊥
 
 -- What is refused by what reads the list, by what watches for the terms too, and by what looks at their harts.
 abbrev pub IsListRefusal : Table → OutcomesCommand → Refused → Type 0

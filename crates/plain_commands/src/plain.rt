@@ -81,7 +81,7 @@ fn run_image(image: &Image, harts: u8, order: &[u8], alloc: Global) -> Result<Pl
 }
 
 /// Tells the story of an order that the plain machine of an image makes, where it is wanted.
-fn tell_image<W: Write>(
+pub(crate) fn tell_image<W: Write>(
     image: &Image,
     harts: u8,
     order: &[u8],

@@ -125,7 +125,7 @@ fn settling_order(
 }
 
 /// An order to a state from which nothing can end, if there is one and all states were looked at.
-fn stuck_order(outcomes: &Outcomes, alloc: Global) -> Result<Option<Vec<u8>>, Refused>
+pub(crate) fn stuck_order(outcomes: &Outcomes, alloc: Global) -> Result<Option<Vec<u8>>, Refused>
     ensures order { IfOk result (λ order. option_map (λ it. it.items) order ≡ stuck_told outcomes.now) }
     ensures refused { IfErr result (λ why. why ≡ Memory) }
 {
@@ -172,7 +172,7 @@ pub(crate) fn put_order<S: EndFiles>(
         Err(refused) => return Err(refused),
     };
     match put_text(text.as_slice(), file) {
-        Ok(()) => Ok(()),
+        Ok(_status) => Ok(()),
         Err(refused) => Err(refused),
     }
 }
