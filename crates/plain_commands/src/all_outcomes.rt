@@ -94,6 +94,7 @@ pub fn perform_outcomes<R, G: Gate, P, S: EndFiles, W: Write>(
                 )
             }
             Extent::Beyond | Extent::First => {
+                put_listed(context, image, settings, command, &outcomes)?;
                 print_part(&outcomes, &list, command.states, &mut context.out)
             }
         },
@@ -224,6 +225,26 @@ fn put_order<R, G, P, S: EndFiles, W>(
         Some(order) => put_written(image, settings, command, order.as_slice(), file, alloc),
         None => Err(Refused::NotStuck),
     }
+}
+
+/// Puts the order of an outcome of a part into the file, where one is wanted, or its script. A part has no state
+/// that is known to be stuck.
+fn put_listed<R, G, P, S: EndFiles, W>(
+    context: &mut Context<'_, R, G, P, S, W>,
+    image: &Image,
+    settings: &Settings,
+    command: &OutcomesCommand<'_>,
+    outcomes: &Outcomes,
+) -> Result<(), Refused>
+    requires works { S.has_failed context.old.files ≡ false }
+    requires finished { S.is_finished context.old.files ≡ true }
+{
+    let alloc = context.alloc;
+    let Some(number) = command.outcome else {
+        return Ok(());
+    };
+    let order = order_of(outcomes, number, alloc)?;
+    put_written(image, settings, command, order.as_slice(), &mut context.files, alloc)
 }
 
 /// The order of the outcome with this number, from 1.
