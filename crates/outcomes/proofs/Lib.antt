@@ -10,4 +10,5 @@ mod Throughout
 mod Telling
 mod Cores
 mod Reading
+mod Claims
 mod Programs

@@ -4,3 +4,4 @@ pub mod Found
 pub mod Told
 pub mod Refusals
 pub mod Parts
+pub mod Goals

@@ -1,9 +1,5 @@
 //! The goal of the search: an end with an outcome that is asked for.
 
-ghost use Rattle.std.specs.Prelude.{◌≡◌, true, IfOk};
-ghost use Rattle.outcomes.specs.{Collected.IsAskedAt, Refusals.AreWords};
-ghost use Rattle.watched_outcomes.specs.Watching.{AreThere};
-
 use crate::collecting::outcome_of;
 use crate::until::Until;
 use condensed_machine::{CondensedMachine, State};
@@ -20,10 +16,9 @@ pub(crate) struct EndingGoal<'a, U: Until> {
 }
 
 impl<U: Until> Goal<CondensedMachine> for EndingGoal<'_, U> {
-    ghost use Rattle.condensed_machine.specs.Machine.{Grows};
+    ghost use Rattle.outcomes.specs.{Collected.IsAskedAt, Goals.IsWatchedIn, Goals.still_watched};
 
-    ghost Fits = { λ goal machine. AreThere machine.program.harts goal.watch.now
-        × AreWords machine.program.image goal.watch.now };
+    ghost Fits = { λ goal machine. IsWatchedIn goal.watch.now machine };
 
     ghost Meets = { λ goal machine state. IsAskedAt (U.Asks goal.until.now) machine goal.watch.now state };
 
@@ -32,5 +27,5 @@ impl<U: Until> Goal<CondensedMachine> for EndingGoal<'_, U> {
         Ok(self.until.is_asked(&outcome))
     }
 
-    ghost still_fits = { λ goal m n grows fits. still_there goal.watch.now m n grows fits };
+    ghost still_fits = { λ goal m n grows fits. still_watched goal.watch.now m n grows fits };
 }
