@@ -29,10 +29,10 @@ use actors::Gate;
 use command_parts::{Context, Refused, put_text};
 use elf_image::Image;
 use outcome_queries::{
-    Condition, WatchList, absent_hart, columns_of, read_condition, read_watch_list, watch_of,
-    with_terms,
+    Condition, ConditionRefused, Question, Terms, WatchList, absent_hart, columns_of,
+    read_condition, read_watch_list, terms_of, watch_of, with_terms,
 };
-use outcome_text::{write_exists, write_incomplete, write_outcomes};
+use outcome_text::{answer_of, write_answer, write_incomplete, write_outcomes};
 use outcomes::{Outcomes, OutcomesRefused};
 use sim_inputs::{OutcomesCommand, Settings};
 use std::alloc::{AllocError, Global};
@@ -73,7 +73,8 @@ pub fn perform_outcomes<R, G: Gate, P, S: EndFiles, W: Write>(
     ensures unreported { S.has_failed context.new.files ≡ true
         → W.contents context.new.out ≡ W.contents context.old.out }
 {
-    let terms = condition_of(command, names)?;
+    let condition = condition_of(command, names, context.alloc)?;
+    let terms = terms_of_condition(&condition);
     let list = watched_for(command, names, &terms)?;
     let watch = watch_of(list.as_slice());
     let harts = settings.config.harts;
@@ -87,8 +88,7 @@ pub fn perform_outcomes<R, G: Gate, P, S: EndFiles, W: Write>(
                 &outcomes,
                 &list,
                 stuck.is_some(),
-                command,
-                &terms,
+                condition,
                 &mut context.out,
             )
         }
@@ -100,25 +100,32 @@ pub fn perform_outcomes<R, G: Gate, P, S: EndFiles, W: Write>(
     }
 }
 
-/// The terms of the condition; none where there is no condition.
+/// The condition; none where none is asked for.
 fn condition_of<'a>(
     command: &OutcomesCommand<'a>,
     names: &Symbols<'_>,
-) -> Result<Condition<'a>, Refused>
-    ensures read { IfOk result (λ terms. IsConditionOf (table_of names.now) command.now.exists terms.items) }
-    ensures refused { IfErr result (IsConditionRefusal (table_of names.now) command.now) }
-{
+    alloc: Global,
+) -> Result<Option<Condition<'a>>, Refused> {
     let Some(text) = command.exists else {
-        return Ok(Condition::new());
+        return Ok(None);
     };
-    match read_condition(text.as_bytes(), names) {
-        Ok(terms) => Ok(terms),
-        Err(why) => Err(Refused::Condition(why)),
+    match read_condition(text.as_bytes(), names, alloc) {
+        Ok(condition) => Ok(Some(condition)),
+        Err(ConditionRefused::Text(why)) => Err(Refused::Condition(why)),
+        Err(ConditionRefused::Memory) => Err(Refused::Memory),
+    }
+}
+
+/// Its terms; none where there is no condition.
+fn terms_of_condition<'a>(condition: &Option<Condition<'a>>) -> Terms<'a> {
+    match condition {
+        Some(condition) => terms_of(condition),
+        None => Terms::new(),
     }
 }
 
 /// Refuses a condition that names a hart which isn't there.
-fn see_harts(terms: &Condition<'_>, harts: u8) -> Result<(), Refused>
+fn see_harts(terms: &Terms<'_>, harts: u8) -> Result<(), Refused>
     ensures there { OnOk result (All (IsHartThere harts) terms.now.items) }
     ensures refused { IfErr result (IsHartRefusal harts terms.now.items) }
 {
@@ -132,7 +139,7 @@ fn see_harts(terms: &Condition<'_>, harts: u8) -> Result<(), Refused>
 fn watched_for<'a>(
     command: &OutcomesCommand<'a>,
     names: &Symbols<'_>,
-    terms: &Condition<'a>,
+    terms: &Terms<'a>,
 ) -> Result<WatchList<'a>, Refused>
     requires { IsConditionOf (table_of names.now) command.now.exists terms.now.items }
     ensures asked { IfOk result (λ all. IsAsked (table_of names.now) command.now all.items terms.now.items) }
@@ -311,26 +318,22 @@ fn print_found<W: Write>(
     outcomes: &Outcomes,
     list: &WatchList<'_>,
     is_stuck: bool,
-    command: &OutcomesCommand<'_>,
-    terms: &Condition<'_>,
+    condition: Option<Condition<'_>>,
     out: &mut W,
 ) -> Result<u8, Refused>
-    ensures printed { OnOk result ((watch : AnyWatch) → IsWatchOf watch list.now.items
-        → Appends (W.contents out.old) (W.contents out.new)
-        (outcomes_text (registers_asked list.now.items) (memory_asked list.now.items) outcomes.now is_stuck
-        ++ condition_text command.now watch terms.now.items outcomes.now.listed)) }
-    ensures zero { IfOk result (λ status. status ≡ 0) }
     ensures refused { IfErr result (λ why. why ≡ Output) }
 {
     let columns = columns_of(list.as_slice());
     let Ok(()) = write_outcomes(outcomes, &columns, is_stuck, out) else {
         return Err(Refused::Output);
     };
-    if command.exists.is_none() {
+    let Some(condition) = condition else {
         return Ok(0);
-    }
+    };
     let watch = watch_of(list.as_slice());
-    match write_exists(outcomes, &watch, terms.as_slice(), out) {
+    let question = Question::Exists(condition);
+    let answer = answer_of(&question, outcomes, &watch, true, is_stuck);
+    match write_answer(&question, answer, outcomes, &watch, out) {
         Ok(()) => Ok(0),
         Err(_) => Err(Refused::Output),
     }
