@@ -16,7 +16,7 @@ use Rattle.core_commands.specs.Step.{IsStepRefusal, StepComesTo, AreMarked}
 use Rattle.sim_inputs.specs.declared.line.RunCommand.{RunCommand}
 use Rattle.core_commands.specs.Run.{IsRunRefusal, RunComesTo, LackARole}
 use Rattle.core_commands.specs.{Stress.StressComesTo}
-use Rattle.commands.specs.{Written.ToWrite, Written.TraceOf, Written.EndsOf}
+use Rattle.commands.specs.{Written.ToWrite, Written.TraceOf, Written.EndsOf, Written.TextIf}
 use Rattle.core_commands.specs.Check.{CheckComesTo, OfEvents, AreTooMany}
 use Rattle.core_commands.specs.Told.{IsCheckRefusalWith}
 use Rattle.core_commands.specs.Chart.{IsChartRefusal, ChartComesTo}
@@ -32,7 +32,7 @@ use Rattle.sim_inputs.specs.Files.{lines_of}
 use Rattle.sim_inputs.specs.declared.line.ChartEnd.{ChartEnd}
 use Rattle.sim_inputs.specs.declared.line.ChartEnd.TheVariants as ends
 use Rattle.commands.specs.List.{IsListRefusal, ListComesTo}
-use Rattle.plain_commands.specs.Outcomes.{IsOutcomesRefusal, OutcomesComeTo, wants_order}
+use Rattle.plain_commands.specs.{Outcomes.IsOutcomesRefusal, Outcomes.OutcomesComeTo, WrittenOrders.wants_order}
 
 -- When each refusal of a command comes. One that has a second file is refused where that is unread;
 -- rounds have none.
@@ -95,7 +95,8 @@ CommandComesTo (commands.Script script) settings image names lines second Traced
 CommandComesTo (commands.List list) settings image names lines second Traced old new status =
     ListComesTo image (marks_where list.names names lines) old new status
 CommandComesTo (commands.Outcomes outcomes) settings image names lines second Traced old new status =
-    OutcomesComeTo settings image names outcomes old new status
+    OutcomesComeTo settings image names (marks_where false names lines) outcomes (λ text. Traced (TextIf text)) old new
+    status
 CommandComesTo (commands.Chart chart) settings image names lines second Traced old new status =
     OfFile second (λ trace. ChartComesTo settings image trace chart names status)
 
