@@ -183,11 +183,15 @@ pub fn outcomes_line(states: u32) -> Line<'static> {
         image: "image",
         states,
         watch: None,
-        exists: None,
+        question: None,
+        first: false,
         outcome: None,
         stuck: false,
         witness: None,
         script: None,
+        story: None,
+        all: false,
+        lines: None,
     },))
 }
 
