@@ -23,8 +23,8 @@ use std::alloc::Global;
 use std::io::Write;
 use story_text::{StoryForm, Untold, tell_order};
 
-/// Runs the plain machine of an image in the order that a text says, and writes what it comes to: the story of the order
-/// and the records, where they are wanted, and the report. Answers the exit status: how the harts stand.
+/// Runs the plain machine of an image in the order that a text says, and writes what it comes to: the story of the
+/// order and the records, where they are wanted, and the report. Answers the exit status: how the harts stand.
 ///
 /// Refused are, in this order, the first word of the order that is no number, a number of harts that
 /// the machine doesn't have, and the first step that it doesn't make; then nothing is printed.
