@@ -78,7 +78,8 @@ plain_text with_records marks harts ran =
 -- settings' harts, in the order that the text says. What was printed is what is printed of it; the
 -- exit status is that of its harts.
 pub record PlainComesTo (settings : Settings) (image : ProgramImage) (order : List ℕ)
-    (told : Option Plan) (with_records : Bool) (marks : Marks) (old new : Option (List ℕ)) (exit_status : ℕ) : Type 0 where
+    (told : Option Plan) (with_records : Bool) (marks : Marks) (old new : Option (List ℕ)) (exit_status : ℕ)
+    : Type 0 where
   pub harts : List ℕ
   pub is_order : IsOrder order harts
   pub ran : Run
