@@ -50,6 +50,14 @@ IsMachineRefusal image harts order (Step index why) = IsStoppedAt image harts or
 IsMachineRefusal image harts order Memory = Unit {0}
 IsMachineRefusal image harts order _ = ⊥
 
+-- So it is where the order's story is told too: that may fail to be written.
+abbrev pub IsStoryRefusal : ProgramImage → ℕ → List ℕ → Refused → Type 0
+IsStoryRefusal image harts order Config = are_harts harts ≡ false
+IsStoryRefusal image harts order (Step index why) = IsStoppedAt image harts order index why
+IsStoryRefusal image harts order Memory = Unit {0}
+IsStoryRefusal image harts order Output = Unit {0}
+IsStoryRefusal image harts order _ = ⊥
+
 -- What the steps of a run have retired, the oldest first; and how so many harts stand behind it.
 abbrev pub retired_by : Run → List Record
 retired_by ran = reverse ran.records

@@ -8,7 +8,7 @@ ghost use Rattle.scripts.specs.Order.{IsOrder};
 ghost use Rattle.command_parts.specs.declared.refused.Refused.TheVariants.{Output};
 ghost use Rattle.story_text.specs.Text.{plan_of};
 ghost use Rattle.plain_commands.specs.Plain.{IsPlainRefusal, PlainComesTo, refused_for, told_text};
-ghost use Rattle.plain_commands.specs.Plain.{IsOrderRefusal, IsMachineRefusal};
+ghost use Rattle.plain_commands.specs.Plain.{IsOrderRefusal, IsMachineRefusal, IsStoryRefusal};
 
 use address_labels::Labels;
 use command_parts::Refused;
@@ -92,7 +92,7 @@ fn tell_image<W: Write>(
     requires { IfSome story.now (λ form. form.harts ≡ harts) }
     ensures told { OnOk result (OfEachSetup image.now harts (λ setup. Appends (W.contents out.old) (W.contents out.new)
         (told_text (option_map plan_of story.now) setup (reverse order.now)))) }
-    ensures refused { IfErr result (IsMachineRefusal image.now harts order.now) }
+    ensures refused { IfErr result (IsStoryRefusal image.now harts order.now) }
 {
     let Some(form) = story else {
         return write_nothing(out);
