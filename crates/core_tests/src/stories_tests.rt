@@ -10,7 +10,14 @@ use test_support::{file_of, image_of};
 
 /// `lui x6,0x80001`, `lr.w x5,(x6)`, `sc.w x7,x10,(x6)`, `amoadd.w x8,x11,(x6)`, `ebreak`.
 const RESERVING: [u32; 8] = [
-    0x8000_1337, 0x1003_22af, 0x18a3_23af, 0x00b3_242f, 0x0010_0073, 0, 0, 0,
+    0x8000_1337,
+    0x1003_22af,
+    0x18a3_23af,
+    0x00b3_242f,
+    0x0010_0073,
+    0,
+    0,
+    0,
 ];
 
 fn image_of_words(alloc: Global, words: &[u32; 8]) -> Option<Image> {
@@ -53,12 +60,15 @@ fn a_step_shows_what_memory_has_before_it(rt: HostRuntime) -> Result<(), Fail> {
                 new: 3,
             }),
         ),
-        (1, Some(Deed::Atomic {
-            kind: AmoKind::Add,
-            addr,
-            old: 3,
-            new: 5,
-        })),
+        (
+            1,
+            Some(Deed::Atomic {
+                kind: AmoKind::Add,
+                addr,
+                old: 3,
+                new: 5,
+            }),
+        ),
         (0, Some(Deed::Stopped(3))),
     ];
     for (hart, wanted) in &rows {
@@ -75,7 +85,13 @@ fn the_first_write_takes_a_reservation(rt: HostRuntime) -> Result<(), Fail> {
     let addr = 0x8000_1000;
     let deeds = [
         (0, Deed::Reserved { addr, number: 0 }),
-        (1, Deed::Conditional { addr: addr + 4, number: 0 }),
+        (
+            1,
+            Deed::Conditional {
+                addr: addr + 4,
+                number: 0,
+            },
+        ),
         (1, Deed::Conditional { addr, number: 1 }),
         (1, Deed::Conditional { addr, number: 2 }),
     ];

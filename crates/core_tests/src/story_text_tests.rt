@@ -9,9 +9,19 @@ use symbols::Symbols;
 use test_support::{file_of, image_of};
 
 /// `lui x6,0x80001`, `lr.w x5,(x6)`, `sc.w x7,x10,(x6)`, `ebreak`.
-const RESERVING: [u32; 8] = [0x8000_1337, 0x1003_22af, 0x18a3_23af, 0x0010_0073, 0, 0, 0, 0];
+const RESERVING: [u32; 8] = [
+    0x8000_1337,
+    0x1003_22af,
+    0x18a3_23af,
+    0x0010_0073,
+    0,
+    0,
+    0,
+    0,
+];
 
-const TOLD: &str = "     h0                      h1\n     (1 step)\n1    lr.w 80001000 \u{2192} 0\n     (1 step)\n2                            lr.w 80001000 \u{2192} 0\n3                            sc.w 80001000 \u{2190} 1\n4    sc.w 80001000 fails: hart 1's sc.w at row 3 took the reservation\n5    stopped 3\n";
+const TOLD: &str =
+    "     h0                      h1\n     (1 step)\n1    lr.w 80001000 \u{2192} 0\n     (1 step)\n2                            lr.w 80001000 \u{2192} 0\n3                            sc.w 80001000 \u{2190} 1\n4    sc.w 80001000 fails: hart 1's sc.w at row 3 took the reservation\n5    stopped 3\n";
 
 fn machine(alloc: Global) -> Option<Plain> {
     let file = file_of(&RESERVING, 0, alloc).ok()?;

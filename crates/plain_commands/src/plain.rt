@@ -47,7 +47,14 @@ pub fn perform_plain<W: Write>(
 {
     let harts = harts_of(order, alloc)?;
     let ran = run_image(image, settings.config.harts, harts.as_slice(), alloc)?;
-    tell_image(image, settings.config.harts, harts.as_slice(), story, out, alloc)?;
+    tell_image(
+        image,
+        settings.config.harts,
+        harts.as_slice(),
+        story,
+        out,
+        alloc,
+    )?;
     match report_plain(&ran, records, labels, out) {
         Ok(()) => Ok(status_of(ran.statuses().as_slice())),
         Err(_) => Err(Refused::Output),
