@@ -45,7 +45,8 @@ pub(crate) fn story_for<'a>(
     names: &'a Symbols<'a>,
     labels: &'a Labels<'a>,
 ) -> Option<StoryForm<'a>>
-    ensures plan { option_map plan_of result ≡ story_plan plain.now settings.now (table_of names.now) (marks_of labels.now) }
+    ensures plan { option_map plan_of result
+        ≡ story_plan plain.now settings.now (table_of names.now) (marks_of labels.now) }
     ensures harts { IfSome result (λ form. form.harts ≡ settings.now.config.harts) }
 {
     if !plain.story {

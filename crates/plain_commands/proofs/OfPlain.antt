@@ -34,8 +34,8 @@ pub comes_to : (settings : Settings) (image : ProgramImage) (order : List ℕ) (
     ++ plain_report_text (length left.records) left.statuses left.machine.output)
     → status ≡ status_number left.statuses
     → PlainComesTo settings image order told with_records marks old new status
-comes_to settings image order told with_records marks harts listed left old mid new status read same left_each tells printed
-    stands =
+comes_to settings image order told with_records marks harts listed left old mid new status read same left_each tells
+    printed stands =
     let setup = setup_of image settings.config in
     let has = left_each setup refl refl in
     let first : Appends old mid (told_text told setup (reverse harts)) = rw same at tells setup refl refl in
@@ -70,6 +70,7 @@ stopped_at image harts order first at new refused =
             runs = one.runs;
             refused = subst (λ n. refusal setup n one.before.state (get_or order at.index 0) ≡ Some at.why) new.room_is
                 one.refused;
-            undefined = no_run setup order at.index first.room one.before at.why refused.0 one.runs not_full one.refused;
+            undefined = no_run setup order at.index first.room one.before at.why refused.0 one.runs not_full
+                one.refused;
           };
     }

@@ -50,6 +50,14 @@ IsMachineRefusal image harts order (Step index why) = IsStoppedAt image harts or
 IsMachineRefusal image harts order Memory = Unit {0}
 IsMachineRefusal image harts order _ = ⊥
 
+-- So it is where the order's story is told too: that may fail to be written.
+abbrev pub IsStoryRefusal : ProgramImage → ℕ → List ℕ → Refused → Type 0
+IsStoryRefusal image harts order Config = are_harts harts ≡ false
+IsStoryRefusal image harts order (Step index why) = IsStoppedAt image harts order index why
+IsStoryRefusal image harts order Memory = Unit {0}
+IsStoryRefusal image harts order Output = Unit {0}
+IsStoryRefusal image harts order _ = ⊥
+
 -- What the steps of a run have retired, the oldest first; and how so many harts stand behind it.
 abbrev pub retired_by : Run → List Record
 retired_by ran = reverse ran.records
@@ -78,7 +86,8 @@ plain_text with_records marks harts ran =
 -- settings' harts, in the order that the text says. What was printed is what is printed of it; the
 -- exit status is that of its harts.
 pub record PlainComesTo (settings : Settings) (image : ProgramImage) (order : List ℕ)
-    (told : Option Plan) (with_records : Bool) (marks : Marks) (old new : Option (List ℕ)) (exit_status : ℕ) : Type 0 where
+    (told : Option Plan) (with_records : Bool) (marks : Marks) (old new : Option (List ℕ)) (exit_status : ℕ)
+    : Type 0 where
   pub harts : List ℕ
   pub is_order : IsOrder order harts
   pub ran : Run

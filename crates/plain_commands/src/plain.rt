@@ -8,7 +8,7 @@ ghost use Rattle.scripts.specs.Order.{IsOrder};
 ghost use Rattle.command_parts.specs.declared.refused.Refused.TheVariants.{Output};
 ghost use Rattle.story_text.specs.Text.{plan_of};
 ghost use Rattle.plain_commands.specs.Plain.{IsPlainRefusal, PlainComesTo, refused_for, told_text};
-ghost use Rattle.plain_commands.specs.Plain.{IsOrderRefusal, IsMachineRefusal};
+ghost use Rattle.plain_commands.specs.Plain.{IsOrderRefusal, IsMachineRefusal, IsStoryRefusal};
 
 use address_labels::Labels;
 use command_parts::Refused;
@@ -23,8 +23,8 @@ use std::alloc::Global;
 use std::io::Write;
 use story_text::{StoryForm, Untold, tell_order};
 
-/// Runs the plain machine of an image in the order that a text says, and writes what it comes to: the story of the order
-/// and the records, where they are wanted, and the report. Answers the exit status: how the harts stand.
+/// Runs the plain machine of an image in the order that a text says, and writes what it comes to: the story of the
+/// order and the records, where they are wanted, and the report. Answers the exit status: how the harts stand.
 ///
 /// Refused are, in this order, the first word of the order that is no number, a number of harts that
 /// the machine doesn't have, and the first step that it doesn't make; then nothing is printed.
@@ -47,7 +47,14 @@ pub fn perform_plain<W: Write>(
 {
     let harts = harts_of(order, alloc)?;
     let ran = run_image(image, settings.config.harts, harts.as_slice(), alloc)?;
-    tell_image(image, settings.config.harts, harts.as_slice(), story, out, alloc)?;
+    tell_image(
+        image,
+        settings.config.harts,
+        harts.as_slice(),
+        story,
+        out,
+        alloc,
+    )?;
     match report_plain(&ran, records, labels, out) {
         Ok(()) => Ok(status_of(ran.statuses().as_slice())),
         Err(_) => Err(Refused::Output),
@@ -92,7 +99,7 @@ pub(crate) fn tell_image<W: Write>(
     requires { IfSome story.now (λ form. form.harts ≡ harts) }
     ensures told { OnOk result (OfEachSetup image.now harts (λ setup. Appends (W.contents out.old) (W.contents out.new)
         (told_text (option_map plan_of story.now) setup (reverse order.now)))) }
-    ensures refused { IfErr result (IsMachineRefusal image.now harts order.now) }
+    ensures refused { IfErr result (IsStoryRefusal image.now harts order.now) }
 {
     let Some(form) = story else {
         return write_nothing(out);

@@ -25,7 +25,8 @@ value_is false n = tt
 
 -- An instruction that shows a byte, or nothing.
 put_is : (writes : Bool) (value pc : ℕ) (out : Option ℕ)
-    → IsAsRecorded (option_map deed.Out out) (record (last_effect (next.Pc pc)) { value = given writes value; out = out })
+    → IsAsRecorded (option_map deed.Out out)
+    (record (last_effect (next.Pc pc)) { value = given writes value; out = out })
 put_is writes value pc None = record { write = refl; out = refl; last = refl; value = tt }
 put_is writes value pc (Some byte) = record { write = refl; out = refl; last = refl; value = tt }
 

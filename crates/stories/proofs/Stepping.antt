@@ -16,8 +16,8 @@ step_with h pc op shown = record { hart = h; pc = pc; op = op; deed = shown }
 abbrev step_by : ℕ → Op → ℕ → (ℕ → ℕ) → Record → Step
 step_by h op addr bytes r = step_with h r.pc op (deed_by op addr (number_at bytes addr (access_size op)) r.effect)
 
-pub step_is : (setup : Setup) (s : Plain) (m : Machine) (memory : Contents) (h : ℕ) (e : Execution) (shown : Option Deed)
-    → Agrees setup s m → memory ≡ m.memory → IsExecution setup s h e
+pub step_is : (setup : Setup) (s : Plain) (m : Machine) (memory : Contents) (h : ℕ) (e : Execution)
+    (shown : Option Deed) → Agrees setup s m → memory ≡ m.memory → IsExecution setup s h e
     → shown ≡ deed_by e.op e.addr (number_at (byte_of memory) e.addr (access_size e.op)) e.record.effect
     → step_with h e.record.pc e.op shown ≡ step_of setup s h
 step_is setup s m memory h e shown agrees same is told =

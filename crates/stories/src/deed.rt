@@ -26,7 +26,10 @@ pub enum Deed {
         number: u32,
     },
     /// LR, with what memory had there.
-    Reserved { addr: u32, number: u32 },
+    Reserved {
+        addr: u32,
+        number: u32,
+    },
     /// A store, with what memory has there now.
     Stored {
         op: StoreOp,
@@ -34,9 +37,14 @@ pub enum Deed {
         number: u32,
     },
     /// An SC that has written this.
-    Conditional { addr: u32, number: u32 },
+    Conditional {
+        addr: u32,
+        number: u32,
+    },
     /// An SC that has written nothing.
-    Failed { addr: u32 },
+    Failed {
+        addr: u32,
+    },
     /// An AMO, with what memory had there, and what it has now.
     Atomic {
         kind: AmoKind,

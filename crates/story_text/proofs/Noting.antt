@@ -67,4 +67,5 @@ pub piece_is : (plan : Plan) (past : List Step) (step : Step) (unseen_now number
 piece_is plan past step unseen_now number took hit none more is =
     rw hit (ap (λ n. unseen_text n ++ numbered_line plan number took step) none
     ∙ ap (λ n. unseen_text (unseen plan.all past) ++ numbered_line plan n took step) more
-    ∙ ap (λ taken. unseen_text (unseen plan.all past) ++ numbered_line plan (row_count plan.all past + 1) taken step) is)
+    ∙ ap (λ taken. unseen_text (unseen plan.all past) ++ numbered_line plan (row_count plan.all past + 1) taken step)
+    is)

@@ -75,12 +75,13 @@ pub ended : (plan : Plan) (setup : Setup) (order : List ℕ) (old mid new : Opti
 ended plan setup order old mid new was m so last =
     let past = steps setup (reverse order) in
     let head = head_text plan.harts in
-    let text = appends_more old mid new (head ++ pieces plan past) (unseen_text (unseen plan.all past)) so.written last in
+    let count = unseen_text (unseen plan.all past) in
+    let text = appends_more old mid new (head ++ pieces plan past) count so.written last in
     record {
       ran = so.ran;
       runs = so.runs;
       agrees = so.agrees;
-      written = subst (Appends old new) (append_assoc head (pieces plan past) (unseen_text (unseen plan.all past))) text;
+      written = subst (Appends old new) (append_assoc head (pieces plan past) count) text;
     }
 
 -- Where the step at a place of the order isn't made, it is refused there.

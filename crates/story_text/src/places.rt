@@ -15,7 +15,11 @@ use text_fields::{push_ascii, push_decimal, push_hex};
 
 /// Writes where an address is: the name that covers it, and how many bytes it is behind the start of that, where it
 /// isn't that; else its eight digits.
-pub(crate) fn write_place<W: Write>(names: &Symbols<'_>, address: u32, out: &mut W) -> io::Result<()>
+pub(crate) fn write_place<W: Write>(
+    names: &Symbols<'_>,
+    address: u32,
+    out: &mut W,
+) -> io::Result<()>
     ensures { OnOk result (Appends (W.contents out.old) (W.contents out.new)
         (place_text (table_of names.now) address)) }
 {

@@ -73,7 +73,12 @@ impl Telling {
     }
 
     /// Writes what a step adds to a story.
-    fn write_piece<W: Write>(&self, step: &Step, form: &StoryForm<'_>, out: &mut W) -> io::Result<()>
+    fn write_piece<W: Write>(
+        &self,
+        step: &Step,
+        form: &StoryForm<'_>,
+        out: &mut W,
+    ) -> io::Result<()>
         requires inside { step.now.hart < form.now.harts }
         requires few { form.now.harts ≤ most_harts }
         requires in_range { OpInRange step.now.op }

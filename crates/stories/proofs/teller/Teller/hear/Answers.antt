@@ -10,5 +10,6 @@ loop-hart-preserved c = (
 
 pub returns : goal.returns
 returns c = λ past has. record {
-  each = λ h d inside. heard_then h _ c.args.row.now past _ _ (has.each h d inside) (omega (arith, inside)) (c.loop-hart.invariant.1 h d);
+  each = λ h d inside. heard_then h _ c.args.row.now past _ _ (has.each h d inside) (omega (arith, inside))
+      (c.loop-hart.invariant.1 h d);
 }
