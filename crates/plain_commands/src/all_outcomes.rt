@@ -244,7 +244,14 @@ fn put_listed<R, G, P, S: EndFiles, W>(
         return Ok(());
     };
     let order = order_of(outcomes, number, alloc)?;
-    put_written(image, settings, command, order.as_slice(), &mut context.files, alloc)
+    put_written(
+        image,
+        settings,
+        command,
+        order.as_slice(),
+        &mut context.files,
+        alloc,
+    )
 }
 
 /// The order of the outcome with this number, from 1.
