@@ -100,7 +100,15 @@ fn a_word_that_nobody_writes(rt: HostRuntime) {
     let Some(image) = image_with(&COUNTER, rt.alloc()) else {
         return holds(&rt, "image", false);
     };
-    match find_outcomes(&image, 2, &watching(0x8000_1004), 1000, &(), &(), rt.alloc()) {
+    match find_outcomes(
+        &image,
+        2,
+        &watching(0x8000_1004),
+        1000,
+        &(),
+        &(),
+        rt.alloc(),
+    ) {
         Ok(found) => {
             holds(&rt, "unwritten", found.is_unwritten(0));
             holds(&rt, "no other", !found.is_unwritten(1));

@@ -19,5 +19,5 @@ mod unwritten;
 pub use finding::find_outcomes;
 pub use outcomes::Outcomes;
 pub use refused::OutcomesRefused;
-pub use until::Until;
 pub use searches::{Extent, Onlooker};
+pub use until::Until;

@@ -44,8 +44,16 @@ fn leads_there(search: &Search<(u8, u8), u8>, place: u32, alloc: Global) -> bool
     let Ok(moves) = search.moves_to(place, alloc) else {
         return false;
     };
-    let firsts = moves.as_slice().iter().filter(|made| made.hart == 0).count();
-    let seconds = moves.as_slice().iter().filter(|made| made.hart == 1).count();
+    let firsts = moves
+        .as_slice()
+        .iter()
+        .filter(|made| made.hart == 0)
+        .count();
+    let seconds = moves
+        .as_slice()
+        .iter()
+        .filter(|made| made.hart == 1)
+        .count();
     search.state(place as usize) == Some((firsts as u8, seconds as u8))
 }
 

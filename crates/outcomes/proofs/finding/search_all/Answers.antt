@@ -1,11 +1,14 @@
-use Rattle.std.proofs.Common.{◌∙◌, ap}
+use Rattle.std.proofs.Common.{◌∙◌, ap, sym, subst}
 use Rattle.condensed_machine.specs.Machine.{Program}
 use Rattle.outcomes.specs.Parts.{IsListing}
+use Rattle.outcomes.specs.Refusals.{IsRefusedFor}
 use Rattle.outcomes.proofs.Programs.{of_same, for_memory}
 use Rattle.outcomes.proofs.finding.search_all.Goals as goal
 
 pub returns-in-Err-search_from-clause-refused : goal.returns-in-Err-search_from-clause-refused
-returns-in-Err-search_from-clause-refused g c = ?
+returns-in-Err-search_from-clause-refused g c =
+    subst (IsRefusedFor c.args.machine.program.image c.args.machine.program.harts c.args.watch.now)
+    (sym c.in-Err-search_from.ensures.refused) tt
 
 pub returns-clause-found : goal.returns-clause-found
 returns-clause-found g c =
