@@ -31,7 +31,7 @@ class NoHart(Exception):
 
 
 class NoPlace(Exception):
-    """A place in memory is named that isn't there, or a part says nothing."""
+    """A place in memory is named that isn't there, or a part says nothing; what was expected, where that is known."""
 
 
 def parts(text, separator):
@@ -39,23 +39,31 @@ def parts(text, separator):
     return re.findall(f"(?:'[^']*'|[^{separator}'])+", text)
 
 
+def is_hart(name):
+    return name[:1] == "h" and conditions.byte_number(name[1:]) is not None
+
+
 def plain(name):
     """The name that stands in quotation marks, or in none."""
     if name[:1] == "'":
+        if not re.fullmatch("'[^']+'", name):
+            raise NoPlace(conditions.TERM)
         return name[1:-1].encode()
-    if not re.fullmatch(r"[A-Za-z_.$][A-Za-z0-9_.$-]*", name) or re.fullmatch(r"h\d+|[0-9a-f]{8}", name):
-        raise NoPlace(name)
+    if not re.fullmatch(r"[A-Za-z_.$][A-Za-z0-9_.$-]*", name) or is_hart(name) or re.fullmatch(r"[0-9a-f]{8}", name):
+        raise NoPlace(conditions.TERM)
     return name.encode()
 
 
 def symbol(name, symbols):
     """Address and size of what a name stands for: global ones go before local ones."""
     *file, last = re.findall(r"(?:'[^']*'|[^:'])+", name)
-    wanted = plain(file[0]) if file else None
-    found = [one for one in symbols if one.name == plain(last) and wanted in (None, one.file)]
+    if ":".join([*file, last]) != name or len(file) > 1:
+        raise NoPlace(conditions.TERM)
+    wanted, named = plain(file[0]) if file else None, plain(last)
+    found = [one for one in symbols if one.name == named and wanted in (None, one.file)]
     found = [one for one in found if one.is_global] or found
     if len({one.address for one in found}) != 1:
-        raise NoPlace(name)
+        raise NoPlace("a name with one address" if found else "a name that the image has")
     return found[0].address, found[0].size
 
 
@@ -63,16 +71,22 @@ def watched(text, symbols=()):
     """What a part of a list names: a hart and a register, or an address and how many bytes."""
     if "@" in text and text[0] != "'":
         name, hart = text.split("@")
-        return "register", int(hart), int(name[1:]) if name[0] == "x" else NAMES.index(name)
+        number = int(name[1:]) if re.fullmatch("x([1-9]|[12][0-9]|3[01])", name) else NAMES.index(name)
+        if number == 0 or conditions.byte_number(hart) is None:
+            raise NoPlace(conditions.TERM)
+        return "register", int(hart), number
     text, width = (text[:-2], int(text[-1])) if text[-2:] in (":1", ":2", ":4") else (text, None)
     if width and re.fullmatch("[0-9a-f]{8}", text):
         return "memory", int(text, 16), width
     name, index, bytes_behind = re.fullmatch(r"((?:'[^']*'|[^'\[+])+)(?:\[(\w+)\])?(?:\+(\w+))?", text).groups()
+    index, bytes_behind = (conditions.number(one) if one else 0 for one in (index, bytes_behind))
+    if None in (index, bytes_behind):
+        raise NoPlace(conditions.TERM)
     address, size = symbol(name, symbols)
     width = width or (size if size in (1, 2) else 4)
-    behind = int(index, 0) * width if index else int(bytes_behind, 0) if bytes_behind else 0
-    if size and behind + width > size:
-        raise NoPlace(text)
+    behind = index * width or bytes_behind
+    if size and behind + width > size or address + behind >= 2**32:
+        raise NoPlace("a place inside of its object")
     return "memory", address + behind, width
 
 
@@ -82,7 +96,9 @@ def condition(text, symbols=()):
     def place_of(left):
         try:
             return watched(left, symbols)
-        except (NoPlace, AttributeError, ValueError):
+        except NoPlace as why:
+            raise conditions.NoTerm(str(why)) from None
+        except (AttributeError, IndexError, ValueError):
             raise conditions.NoTerm(conditions.TERM) from None
 
     return conditions.read(text, place_of, any(one.name == b"out" for one in symbols))
