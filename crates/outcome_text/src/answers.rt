@@ -176,7 +176,11 @@ fn write_places<W: Write>(
         (each_from (place_text watch.now question.now) 0 outcomes.now.listed)) }
 {
     for index in 0..outcomes.count() {
-        write_place(is_named_at(question, outcomes, watch, index), index + 1, out)?;
+        write_place(
+            is_named_at(question, outcomes, watch, index),
+            index + 1,
+            out,
+        )?;
     }
     Ok(())
 }
@@ -198,7 +202,9 @@ fn is_named(question: &Question<'_>, watch: &Watch, outcome: &Outcome) -> bool
     ensures { (told : Told) → told.ending ≡ outcome.now → result ≡ is_named watch.now question.now told }
 {
     match question {
-        Question::Exists(condition) | Question::Never(condition) => holds(condition, watch, outcome),
+        Question::Exists(condition) | Question::Never(condition) => holds(
+            condition, watch, outcome,
+        ),
         Question::ForAll(condition) => !holds(condition, watch, outcome),
         Question::NeverStuck => false,
     }

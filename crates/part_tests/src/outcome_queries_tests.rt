@@ -277,7 +277,9 @@ fn behind_signs(sign: u8, count: u8, alloc: Global) -> Option<(usize, Expected)>
 #[test]
 fn a_condition_is_refused_at_its_first_fault(rt: HostRuntime) {
     let alloc = rt.alloc();
-    assert!(rt; condition_refused(b"h0=1 & (counter=2 | half=1", alloc) == Some((8, Expected::Closing)));
+    assert!(rt;
+        condition_refused(b"h0=1 & (counter=2 | half=1", alloc) == Some((8, Expected::Closing))
+    );
     assert!(rt; condition_refused(b"(h0=1) h1=1", alloc) == Some((1, Expected::Closing)));
     assert!(rt; condition_refused(b"h0=1)", alloc) == Some((1, Expected::Term)));
     assert!(rt; condition_refused(b"h0=1 | ", alloc) == Some((7, Expected::Term)));
@@ -285,7 +287,9 @@ fn a_condition_is_refused_at_its_first_fault(rt: HostRuntime) {
     assert!(rt; condition_refused(b"h0<stopped", alloc) == Some((1, Expected::Term)));
     assert!(rt; condition_refused(b"out=0", alloc) == Some((1, Expected::Name)));
     assert!(rt; condition_refused(b"out=0A", alloc) == Some((1, Expected::Term)));
-    assert!(rt; condition_refused(b"'any name'<1 & 'any (& name'=1", alloc) == Some((15, Expected::Name)));
+    assert!(rt;
+        condition_refused(b"'any name'<1 & 'any (& name'=1", alloc) == Some((15, Expected::Name))
+    );
     // Of 33 terms with six bytes each the last begins behind its `!`.
     assert!(rt; terms_refused(32, alloc) == None);
     assert!(rt; terms_refused(33, alloc) == Some((194, Expected::Terms)));
