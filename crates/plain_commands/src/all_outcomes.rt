@@ -84,7 +84,15 @@ pub fn perform_outcomes<R, G: Gate, P, S: EndFiles, W: Write>(
         watch: &watch,
         first: command.first,
     };
-    match find_shown(image, harts, &watch, command.states, context.gate, &until, context.alloc) {
+    match find_shown(
+        image,
+        harts,
+        &watch,
+        command.states,
+        context.gate,
+        &until,
+        context.alloc,
+    ) {
         Ok(outcomes) => {
             let form = StoryForm {
                 harts,
@@ -92,7 +100,9 @@ pub fn perform_outcomes<R, G: Gate, P, S: EndFiles, W: Write>(
                 names,
                 labels: *labels,
             };
-            tell(context, image, settings, command, &form, &outcomes, &watch, &list, &question)
+            tell(
+                context, image, settings, command, &form, &outcomes, &watch, &list, &question,
+            )
         }
         Err(why) => Err(search_refusal(why, &watch)),
     }
@@ -133,11 +143,28 @@ fn tell<R, G, P, S: EndFiles, W: Write>(
         Ok(order) => order.is_some(),
         Err(refused) => return Err(refused),
     };
-    match put_order(image, settings, command, &order, form, &mut context.files, alloc) {
+    match put_order(
+        image,
+        settings,
+        command,
+        &order,
+        form,
+        &mut context.files,
+        alloc,
+    ) {
         Ok(()) => {}
         Err(refused) => return Err(refused),
     }
-    let status = match print_found(outcomes, list, watch, is_stuck, command, question, &mut context.out, alloc) {
+    let status = match print_found(
+        outcomes,
+        list,
+        watch,
+        is_stuck,
+        command,
+        question,
+        &mut context.out,
+        alloc,
+    ) {
         Ok(status) => status,
         Err(refused) => return Err(refused),
     };
@@ -170,7 +197,14 @@ fn print_found<W: Write>(
         Err(refused) => return Err(refused),
     };
     let columns = columns_of(list.as_slice());
-    match write_outcomes(outcomes, &columns, is_stuck, command.states, text.as_slice(), out) {
+    match write_outcomes(
+        outcomes,
+        &columns,
+        is_stuck,
+        command.states,
+        text.as_slice(),
+        out,
+    ) {
         Ok(()) => Ok(status),
         Err(_) => Err(Refused::Output),
     }

@@ -47,7 +47,11 @@ pub(crate) fn question_of<'a>(
 }
 
 /// The condition that a text says.
-fn condition_of<'a>(text: &'a str, names: &Symbols<'_>, alloc: Global) -> Result<Condition<'a>, Refused>
+fn condition_of<'a>(
+    text: &'a str,
+    names: &Symbols<'_>,
+    alloc: Global,
+) -> Result<Condition<'a>, Refused>
     ensures read { IfOk result (λ condition. Says (table_of names.now) condition text.now) }
     ensures few { IfOk result (λ condition. length (terms_in condition) ≤ 32) }
     ensures refused { IfErr result (IsTextRefused (table_of names.now) text.now) }

@@ -101,7 +101,15 @@ pub fn perform_test<G: Gate, S: EndFiles, W: Write>(
     };
     put_image(&image, command, file, alloc)?;
     let watch = watch_of(test);
-    match find_shown(&image, harts_of(test), &watch, command.states, gate, &(), alloc) {
+    match find_shown(
+        &image,
+        harts_of(test),
+        &watch,
+        command.states,
+        gate,
+        &(),
+        alloc,
+    ) {
         Ok(outcomes) => match outcomes.extent() {
             Extent::Whole => draw_and_print(test, &outcomes, command, file, out, alloc),
             Extent::Beyond | Extent::First => match write_incomplete(command.states, out) {
