@@ -130,6 +130,14 @@ abbrev pub HasPutText : {S : Type 0} → (S → Option (List ℕ)) → (S → Bo
 HasPutText written has_failed old new None = new ≡ old
 HasPutText written has_failed old new (Some text) = HasPut written has_failed old new text
 
+-- So it is of something that the search has found.
+pub record HasToldFound (settings : Settings) (image : ProgramImage) (command : OutcomesCommand) (plan : Plan)
+    (all : List Asked) (watch : Watch) (question : Option Question) (Put : Option (List ℕ) → Type 0)
+    (old new : Option (List ℕ)) (exit_status : ℕ) : Type 0 where
+  pub found : Found
+  pub is_found : IsFound settings image command watch question found
+  pub told : HasTold settings image command plan all watch question found Put old new exit_status
+
 -- What the command comes to.
 pub record OutcomesComeTo (settings : Settings) (image : ProgramImage) (names : Table) (marks : Marks)
     (command : OutcomesCommand) (Put : Option (List ℕ) → Type 0) (old new : Option (List ℕ)) (exit_status : ℕ)
@@ -137,10 +145,8 @@ pub record OutcomesComeTo (settings : Settings) (image : ProgramImage) (names : 
   pub question : Option Question
   pub all : List Asked
   pub watch : Watch
-  pub found : Found
   pub asking : IsAsking settings names command question all watch
-  pub is_found : IsFound settings image command watch question found
-  pub told : HasTold settings image command (plan_for settings names marks command) all watch question found Put
+  pub told : HasToldFound settings image command (plan_for settings names marks command) all watch question Put
       old new exit_status
 
 -- ---- Refusals
@@ -230,6 +236,12 @@ IsFoundRefusal settings image command watch question found reasons.NotStuck = Is
 IsFoundRefusal settings image command watch question found reasons.NoAnswer =
     LacksAnswer command watch question found
 IsFoundRefusal settings image command watch question found reason = IsTextRefusal settings image command reason
+
+-- Of a search: it has found nothing, or what it found is refused.
+abbrev pub IsAnyRefusal : Settings → ProgramImage → OutcomesCommand → Watch → Option Question → Refused → Type 0
+IsAnyRefusal settings image command watch question why = IsSearchRefusal image settings.config.harts watch why
+    ⊎ ((found : Found) × IsFound settings image command watch question found
+    × IsFoundRefusal settings image command watch question found why)
 
 -- There isn't enough memory, or the output takes no more.
 abbrev pub IsWant : Refused → Type 0

@@ -11,7 +11,8 @@ ghost use Rattle.outcome_text.specs.Listing.{outcomes_text};
 ghost use Rattle.outcome_queries.specs.Watches.{memory_asked, registers_asked};
 ghost use Rattle.command_parts.specs.declared.refused.Refused.TheVariants.{Memory, NoAnswer};
 ghost use Rattle.plain_commands.specs.Outcomes.{IsOutcomesRefusal, OutcomesComeTo, IsSearchRefusal, IsFoundRefusal};
-ghost use Rattle.plain_commands.specs.Outcomes.{HasPutText, HasTold, IsWant, found_text, question_text, status_found};
+ghost use Rattle.plain_commands.specs.Outcomes.{HasPutText, HasTold, HasToldFound, IsAnyRefusal, IsWant};
+ghost use Rattle.plain_commands.specs.Outcomes.{found_text, plan_for, question_text, status_found};
 ghost use Rattle.plain_commands.specs.WrittenOrders.{is_answer_wanted, order_wanted, stuck_told, wants_order};
 
 use crate::asking::{question_of, see_harts, terms_asked, watched_for};
@@ -73,38 +74,72 @@ pub fn perform_outcomes<R, G: Gate, P, S: EndFiles, W: Write>(
         Ok(list) => list,
         Err(refused) => return Err(refused),
     };
-    let watch = watch_of(list.as_slice());
-    let harts = settings.config.harts;
-    match see_harts(&terms, harts) {
+    match see_harts(&terms, settings.config.harts) {
         Ok(()) => {}
         Err(refused) => return Err(refused),
     }
+    let watch = watch_of(list.as_slice());
+    let form = form_of(settings, names, labels, command);
+    search(
+        context, image, settings, command, &form, &watch, &list, &question,
+    )
+}
+
+/// How a story is told that a command writes.
+fn form_of<'a>(
+    settings: &Settings,
+    names: &'a Symbols<'a>,
+    labels: &'a Labels<'a>,
+    command: &OutcomesCommand<'_>,
+) -> StoryForm<'a>
+    ensures plan { plan_of result ≡ plan_for settings.now (table_of names.now) (marks_of labels.now) command.now }
+    ensures harts { result.harts ≡ settings.now.config.harts }
+{
+    StoryForm {
+        harts: settings.config.harts,
+        all: command.all,
+        names,
+        labels: *labels,
+    }
+}
+
+/// Searches for the outcomes of which this is watched, writes the order that is wanted of them, and prints them.
+fn search<R, G: Gate, P, S: EndFiles, W: Write>(
+    context: &mut Context<'_, R, G, P, S, W>,
+    image: &Image,
+    settings: &Settings,
+    command: &OutcomesCommand<'_>,
+    form: &StoryForm<'_>,
+    watch: &Watch,
+    list: &WatchList<'_>,
+    question: &Option<Question<'_>>,
+) -> Result<u8, Refused>
+    requires works { S.has_failed context.old.files ≡ false }
+    requires finished { S.is_finished context.old.files ≡ true }
+    requires harts { form.now.harts ≡ settings.now.config.harts }
+    ensures refused { IfErr result
+        (IsAnyRefusal settings.now image.now command.now watch.now question.now) }
+    ensures told { IfOk result (HasToldFound settings.now image.now command.now (plan_of form.now) list.now.items
+        watch.now question.now (HasPutText S.written S.has_failed context.old.files context.new.files)
+        (W.contents context.old.out) (W.contents context.new.out)) }
+    ensures unwanted { wants_order command.now ≡ false → context.new.files ≡ context.old.files }
+    ensures unbroken { OnOk result (S.has_failed context.new.files ≡ false) }
+    ensures finished { OnOk result (S.is_finished context.new.files ≡ true) }
+    ensures unreported { S.has_failed context.new.files ≡ true
+        → W.contents context.new.out ≡ W.contents context.old.out }
+{
+    let harts = settings.config.harts;
     let until = FirstSettling {
-        question: &question,
-        watch: &watch,
+        question,
+        watch,
         first: command.first,
     };
-    match find_shown(
-        image,
-        harts,
-        &watch,
-        command.states,
-        context.gate,
-        &until,
-        context.alloc,
-    ) {
-        Ok(outcomes) => {
-            let form = StoryForm {
-                harts,
-                all: command.all,
-                names,
-                labels: *labels,
-            };
-            tell(
-                context, image, settings, command, &form, &outcomes, &watch, &list, &question,
-            )
-        }
-        Err(why) => Err(search_refusal(why, &watch)),
+    let (gate, alloc) = (context.gate, context.alloc);
+    match find_shown(image, harts, watch, command.states, gate, &until, alloc) {
+        Ok(outcomes) => tell(
+            context, image, settings, command, form, &outcomes, watch, list, question,
+        ),
+        Err(why) => Err(search_refusal(why, watch)),
     }
 }
 
