@@ -4,3 +4,4 @@ pub mod OfSchedule
 pub mod OfOutcomes
 pub mod OfLitmus
 pub mod Retired
+pub mod FirstSettling

@@ -1,5 +1,5 @@
--- What is refused of a search for outcomes is refused of the command, and what is put into a file of what it found.
-use Rattle.std.specs.Prelude.{◌≡◌, ℕ, ◌+◌, ◌<◌, Bool, Option, Some, None, List, ◌++◌, length, take, get_or}
+-- What is refused of a search for outcomes is refused of the command, and so is what it found.
+use Rattle.std.specs.Prelude.{◌≡◌, ◌⊎◌, ℕ, ◌+◌, ◌<◌, Bool, Option, Some, None, List, ◌++◌, length, take, get_or}
 use Rattle.std.specs.Prelude.{[], Result, Ok, Err, IfOk}
 use Rattle.std.specs.Io.KnownBytes.{Appends}
 use Rattle.std.proofs.Common.{inl, inr, sym, ap, subst, ◌∙◌}
@@ -9,16 +9,14 @@ use Rattle.stress_runs.specs.Kept.{order_line, order_text}
 use Rattle.elf_image.specs.Image.{ProgramImage}
 use Rattle.outcomes.specs.{Found.Found}
 use Rattle.watched_outcomes.specs.{declared.watch.Watch.Watch}
-use Rattle.core_state.specs.Setup.{setup_of}
-use Rattle.event_text.specs.Sinking.{HasPut}
-use Rattle.outcome_queries.specs.declared.term.Term.{Term}
 use Rattle.sim_inputs.specs.{declared.settings.Settings.Settings}
 use Rattle.sim_inputs.specs.{declared.line.OutcomesCommand.OutcomesCommand}
 use Rattle.command_parts.specs.declared.refused.Refused.{Refused}
 use Rattle.command_parts.specs.declared.refused.Refused.TheVariants as reason
 use Rattle.symbols.specs.Tables.{Table}
 use Rattle.outcome_queries.specs.{declared.watched.Asked.Asked, Watches.registers_in, Watches.words_in}
-use Rattle.plain_commands.specs.Outcomes.{IsAsked, IsWatchOf, IsFound, IsFiled, IsOrderPut, IsTextFor, order_wanted}
+use Rattle.outcome_queries.specs.declared.question.Question.{Question}
+use Rattle.plain_commands.specs.Outcomes.{IsAnyRefusal, IsAsking, IsFound, IsFoundRefusal, IsWatchOf, OfFound}
 use Rattle.plain_commands.specs.Outcomes.{IsSearchRefusal, IsOutcomesRefusal}
 
 -- What is watched for a list, as that is lent.
@@ -29,9 +27,17 @@ watch_of_lent watch lent all same registers words = record {
   words = words ∙ ap words_in same;
 }
 
-module _ (settings : Settings) (image : ProgramImage) (names : Table) (command : OutcomesCommand) (watch : Watch)
-    (terms : List Term) (all : List Asked) (asked : IsAsked names command all terms) (is_of : IsWatchOf watch all) where
-  pub search_refused : (why : Refused) → IsSearchRefusal image settings.config.harts watch why
+-- No order is refused so, be it for its script or by the machine.
+neither : {A : Type 0} → (order : List ℕ) × ((A × ⊥) ⊎ ⊥) → ⊥
+neither is = elim is.1 [
+    | inl script ↦ script.1
+    | inr machine ↦ machine
+  ]
+
+module _ (settings : Settings) (image : ProgramImage) (names : Table) (command : OutcomesCommand)
+    (question : Option Question) (all : List Asked) (watch : Watch)
+    (asking : IsAsking settings names command question all watch) where
+  search_refused : (why : Refused) → IsSearchRefusal image settings.config.harts watch why
       → IsOutcomesRefusal settings image names command why
   search_refused (reason.Image number) is = absurd is
   search_refused reason.Config is = inl is
@@ -47,11 +53,10 @@ module _ (settings : Settings) (image : ProgramImage) (names : Table) (command :
   search_refused (reason.NoUnit kind) is = absurd is
   search_refused (reason.Limit least) is = absurd is
   search_refused (reason.NoHart hart) is = inr (record {
-    watch = watch;
-    terms = terms;
+    question = question;
     all = all;
-    asked = asked;
-    is_of = is_of;
+    watch = watch;
+    asking = asking;
     watched = is.0;
     contained = is.1;
     is = is.3;
@@ -66,8 +71,14 @@ module _ (settings : Settings) (image : ProgramImage) (names : Table) (command :
   search_refused (reason.Watch why) is = absurd is
   search_refused (reason.Condition why) is = absurd is
   search_refused reason.ManyWatched is = absurd is
-  search_refused (reason.NoWord address) is =
-      record { watch = watch; terms = terms; all = all; asked = asked; is_of = is_of; contained = is.0; fault = is.1 }
+  search_refused (reason.NoWord address) is = record {
+    question = question;
+    all = all;
+    watch = watch;
+    asking = asking;
+    contained = is.0;
+    fault = is.1;
+  }
   search_refused (reason.NoOutcome number) is = absurd is
   search_refused reason.NotStuck is = absurd is
   search_refused reason.NoAnswer is = absurd is
@@ -78,6 +89,61 @@ module _ (settings : Settings) (image : ProgramImage) (names : Table) (command :
   search_refused reason.File is = absurd is
   search_refused reason.Output is = absurd is
 
+  of_found : (Holds : Watch → Option Question → Found → Type 0) (found : Found)
+      → IsFound settings image command watch question found → Holds watch question found
+      → OfFound settings image names command Holds
+  of_found Holds found is_found holds = record {
+    question = question;
+    all = all;
+    watch = watch;
+    found = found;
+    asking = asking;
+    is_found = is_found;
+    holds = holds;
+  }
+
+  module _ (found : Found) (is_found : IsFound settings image command watch question found) where
+    found_refused : (why : Refused) → IsFoundRefusal settings image command watch question found why
+        → IsOutcomesRefusal settings image names command why
+    found_refused (reason.Image number) is = of_found _ found is_found is
+    found_refused reason.Config is = inr (of_found _ found is_found is)
+    found_refused reason.Harts is = of_found _ found is_found is
+    found_refused (reason.Script number) is = of_found _ found is_found is
+    found_refused (reason.Order index) is = of_found _ found is_found is
+    found_refused (reason.Step index stopped) is = of_found _ found is_found is
+    found_refused (reason.Trace line rule) is = of_found _ found is_found is
+    found_refused reason.Version is = of_found _ found is_found is
+    found_refused (reason.Event index rule) is = of_found _ found is_found is
+    found_refused (reason.Prediction index) is = of_found _ found is_found is
+    found_refused (reason.Register index) is = of_found _ found is_found is
+    found_refused (reason.NoUnit kind) is = of_found _ found is_found is
+    found_refused (reason.Limit least) is = of_found _ found is_found is
+    found_refused (reason.NoHart hart) is = absurd (neither is)
+    found_refused (reason.Lines number fault) is = of_found _ found is_found is
+    found_refused (reason.NamesNothing option) is = of_found _ found is_found is
+    found_refused (reason.NamesSeveral option) is = of_found _ found is_found is
+    found_refused (reason.NeverFetched option) is = of_found _ found is_found is
+    found_refused (reason.Turned from to) is = of_found _ found is_found is
+    found_refused (reason.Picture last) is = of_found _ found is_found is
+    found_refused (reason.Watch why) is = absurd (neither is)
+    found_refused (reason.Condition why) is = absurd (neither is)
+    found_refused reason.ManyWatched is = absurd (neither is)
+    found_refused (reason.NoWord address) is = absurd (neither is)
+    found_refused (reason.NoOutcome number) is = of_found _ found is_found is
+    found_refused reason.NotStuck is = of_found _ found is_found is
+    found_refused reason.NoAnswer is = of_found _ found is_found is
+    found_refused (reason.Litmus place fault) is = of_found _ found is_found is
+    found_refused reason.NothingToDraw is = of_found _ found is_found is
+    found_refused reason.Memory is = tt
+    found_refused reason.Thread is = of_found _ found is_found is
+    found_refused reason.File is = of_found _ found is_found is
+    found_refused reason.Output is = tt
+
+  pub any_refused : (why : Refused) → IsAnyRefusal settings image command watch question why
+      → IsOutcomesRefusal settings image names command why
+  any_refused why (inl is) = search_refused why is
+  any_refused why (inr is) = found_refused is.0 is.1 why is.2
+
 -- A line more of an order.
 pub order_step : (old mid new : Option (List ℕ)) (order : List ℕ) (i d : ℕ) → i < length order
     → Appends old mid (order_text (take i order)) → Appends mid new (order_line (get_or order i d))
@@ -87,46 +153,3 @@ order_step old mid new order i d inside first next =
     ap order_text (take_more order i d inside) ∙ sym (flat_map_more order_line [] (take i order) (get_or order i d)) in
     subst (λ t. Appends old new t) (sym more) (appends_more old mid new _ _ first next)
 
--- What holds of each answer holds of this one.
-pub of_each : {A E : Type 0} (answer : Result A E) (P : A → Type 0) → ((x : A) → P x) → IfOk answer P
-of_each (Ok x) P each = each x
-of_each (Err e) P each = tt
-
-module _ {S : Type 0} (written : S → Option (List ℕ)) (has_failed : S → Bool) (old new : S) (settings : Settings)
-    (image : ProgramImage) (command : OutcomesCommand) (found : Found) where
-  -- The order that is wanted has a text, and that was put.
-  pub order_put : (order : List ℕ) → order_wanted command.outcome found ≡ Some order
-      → ((text : List ℕ) × IsTextFor command.script (setup_of image settings.config) settings.limit order text
-      × HasPut written has_failed old new text)
-      → IsOrderPut written has_failed old new settings image command found
-  order_put order wanted put = record { order = order; text = put.0; wanted = wanted; is = put.1; put = put.2 }
-
-  -- It was wanted by its number.
-  pub listed_put : (order : List ℕ) (number : ℕ) → command.outcome ≡ Some number
-      → order_wanted (Some number) found ≡ Some order
-      → ((text : List ℕ) × IsTextFor command.script (setup_of image settings.config) settings.limit order text
-      × HasPut written has_failed old new text)
-      → IsOrderPut written has_failed old new settings image command found
-  listed_put order number is listed put = order_put order (ap (λ o. order_wanted o found) is ∙ listed) put
-
-  -- Or an order to a state that is stuck.
-  pub stuck_put : (order : List ℕ) → command.outcome ≡ None → found.stuck ≡ Some order
-      → ((text : List ℕ) × IsTextFor command.script (setup_of image settings.config) settings.limit order text
-      × HasPut written has_failed old new text)
-      → IsOrderPut written has_failed old new settings image command found
-  stuck_put order is stuck put = order_put order (ap (λ o. order_wanted o found) is ∙ stuck) put
-
-  pub filed_so : (names : Table) (watch : Watch) (terms : List Term) (all : List Asked)
-      → IsAsked names command all terms → IsWatchOf watch all → IsFound settings image watch found
-      → IsOrderPut written has_failed old new settings image command found
-      → IsFiled written has_failed old new settings image names command
-  filed_so names watch terms all asked is_of is_found put = record {
-    watch = watch;
-    terms = terms;
-    found = found;
-    all = all;
-    asked = asked;
-    is_of = is_of;
-    is_found = is_found;
-    filed = put;
-  }
