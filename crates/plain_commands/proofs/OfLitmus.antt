@@ -7,8 +7,7 @@ use Rattle.elf_image.specs.Image.{ProgramImage}
 use Rattle.outcome_text.specs.Listing.{incomplete_text}
 use Rattle.outcomes.specs.{Found.Found, Found.InEachSetup, Found.IsExactList}
 use Rattle.watched_outcomes.specs.{declared.watch.Watch.Watch}
-use Rattle.outcomes.specs.{Found.CoversCores, Found.IsOnce, Refusals.IsRefusedFor}
-use Rattle.outcomes.specs.declared.refused.OutcomesRefused.TheVariants as search
+use Rattle.outcomes.specs.{Found.CoversCores, Found.IsOnce, Refusals.IsBeyond}
 use Rattle.litmus_tests.specs.declared.test.LitmusTest.{LitmusTest}
 use Rattle.sim_inputs.specs.declared.line.LitmusCommand.{LitmusCommand}
 use Rattle.command_parts.specs.declared.refused.Refused.{Refused}
@@ -35,13 +34,13 @@ module _ (test : LitmusTest) (command : LitmusCommand) (image : ProgramImage) (w
   })
   all_told found all cores once (Err why) told zero = tt
 
-  pub more_told : IsRefusedFor image harts watch command.states search.Budget
+  pub more_told : IsBeyond image harts command.states
       → Appends old new (incomplete_text command.states) → TestComesTo test command old new 3
   more_told beyond printed = inr (record {
     image = image;
     watch = watch;
     searched = searched;
-    beyond = subst (λ n. IsRefusedFor image n watch command.states search.Budget) count beyond;
+    beyond = subst (λ n. IsBeyond image n command.states) count beyond;
     printed = printed;
     three = refl;
   })

@@ -1,5 +1,5 @@
 -- The command `plain`: its refusals from those of the order and of the machine, and what it comes to.
-use Rattle.std.specs.Prelude.{◌≡◌, ℕ, Bool, List, ◌++◌, Option, Some, length}
+use Rattle.std.specs.Prelude.{◌≡◌, ℕ, Bool, List, ◌++◌, Option, Some, length, option_map}
 use Rattle.std.proofs.Common.{◌<◌, ◌≢◌, [], get_or, reverse, sym, subst, refl}
 use Rattle.text_fields.proofs.Appending.{appends_more}
 use Rattle.std.specs.Io.KnownBytes.{Appends}
@@ -10,15 +10,18 @@ use Rattle.scripts.specs.Order.{IsOrder}
 use Rattle.sim_inputs.specs.declared.settings.Settings.{Settings}
 use Rattle.address_labels.specs.Labels.{Marks}
 use Rattle.report_lines.specs.Lines.{records_text, plain_report_text, status_number}
-use Rattle.command_parts.specs.declared.refused.Refused.TheVariants.{Output}
+use Rattle.command_parts.specs.declared.refused.Refused.{Refused}
+use Rattle.command_parts.specs.declared.refused.Refused.TheVariants.{Config, Order, Step, Memory, Output}
 use Rattle.smt_model.specs.{Setup.Setup}
 use Rattle.plain_run.specs.Orders.{IsStoppedAt}
 use Rattle.plain_run.proofs.Refusing.{has_room, never_full, no_run}
 use Rattle.sc_machine.specs.{Machine.Machine, Refusals.refusal, Steps.IsNew}
 use Rattle.sc_machine.specs.declared.refused.StoppedAt.{StoppedAt}
-use Rattle.story_text.specs.{Order.IsUntold, Text.Plan}
+use Rattle.story_text.specs.{Order.IsUntold, Text.Plan, Text.plan_of, Text.story_text}
+use Rattle.story_text.specs.declared.{form.StoryForm.StoryForm, order.Untold.Untold}
 use Rattle.story_text.specs.declared.order.Untold.TheVariants as untold
-use Rattle.plain_commands.specs.Plain.{IsPlainRefusal, PlainComesTo, plain_text, told_text}
+use Rattle.stories.specs.Story.{steps}
+use Rattle.plain_commands.specs.Plain.{IsPlainRefusal, IsStoryRefusal, PlainComesTo, plain_text, refused_for, told_text}
 
 pub output_refusal : (settings : Settings) (image : ProgramImage) (order harts : List ℕ) → IsOrder order harts
     → IsPlainRefusal settings image order Output
@@ -74,3 +77,33 @@ stopped_at image harts order first at new refused =
                 one.refused;
           };
     }
+
+-- ---- The story
+
+pub story_refusal : (image : ProgramImage) (harts : ℕ) (order : List ℕ) (first : Machine) (why : Untold)
+    → IsNew image harts (length order) first → IsUntold order first why
+    → IsStoryRefusal image harts order (refused_for why)
+story_refusal image harts order first (untold.Step at) new is = stopped_at image harts order first at new is
+story_refusal image harts order first untold.Output new is = tt
+
+-- The story that is told is that of the form.
+pub story_written : (story : Option StoryForm) (form : StoryForm) (setup : Setup) (order : List ℕ)
+    (old new : Option (List ℕ)) → story ≡ Some form
+    → Appends old new (story_text (plan_of form) (steps setup order))
+    → Appends old new (told_text (option_map plan_of story) setup order)
+story_written story form setup order old new is written =
+    subst (λ s. Appends old new (told_text (option_map plan_of s) setup order)) (sym is) written
+
+-- What is refused where the story is told is refused by the command.
+pub story_refused : (settings : Settings) (image : ProgramImage) (order harts listed : List ℕ) (why : Refused)
+    → IsOrder order harts → listed ≡ harts → IsStoryRefusal image settings.config.harts listed why
+    → IsPlainRefusal settings image order why
+story_refused settings image order harts listed Config read same is = ((harts, read), is)
+story_refused settings image order harts listed (Step index why) read same is = (
+  harts,
+  read,
+  subst (λ hs. IsStoppedAt image settings.config.harts hs index why) same is,
+)
+story_refused settings image order harts listed Memory read same is = tt
+story_refused settings image order harts listed Output read same is = (harts, read)
+story_refused settings image order harts listed _ read same is = absurd is
