@@ -29,19 +29,20 @@ output_refusal settings image order harts read = (harts, read)
 
 -- What is printed of a run is what is printed of the definitions' run that it is.
 pub comes_to : (settings : Settings) (image : ProgramImage) (order : List ℕ) (told : Option Plan)
-    (with_records : Bool) (marks : Marks) (harts listed : List ℕ) (left : Left) (old mid new : Option (List ℕ))
-    (status : ℕ) → IsOrder order harts
+    (with_records : Bool) (marks : Marks) (harts listed heard : List ℕ) (left : Left)
+    (old mid new : Option (List ℕ)) (status : ℕ) → IsOrder order harts
     → listed ≡ harts → OfEachSetup image settings.config.harts (λ setup. HasLeft setup listed left)
-    → OfEachSetup image settings.config.harts (λ setup. Appends old mid (told_text told setup (reverse listed)))
+    → heard ≡ harts
+    → OfEachSetup image settings.config.harts (λ setup. Appends old mid (told_text told setup (reverse heard)))
     → Appends mid new (records_text with_records marks left.records
     ++ plain_report_text (length left.records) left.statuses left.machine.output)
     → status ≡ status_number left.statuses
     → PlainComesTo settings image order told with_records marks old new status
-comes_to settings image order told with_records marks harts listed left old mid new status read same left_each tells
-    printed stands =
+comes_to settings image order told with_records marks harts listed heard left old mid new status read same left_each
+    alike tells printed stands =
     let setup = setup_of image settings.config in
     let has = left_each setup refl refl in
-    let first : Appends old mid (told_text told setup (reverse harts)) = rw same at tells setup refl refl in
+    let first : Appends old mid (told_text told setup (reverse harts)) = rw alike at tells setup refl refl in
     let then : Appends mid new (plain_text with_records marks settings.config.harts has.ran) =
     rw (has.records, has.statuses, has.output) at printed in
     record {
