@@ -10,8 +10,7 @@ use Rattle.scripts.specs.Order.{IsOrder}
 use Rattle.sim_inputs.specs.declared.settings.Settings.{Settings}
 use Rattle.address_labels.specs.Labels.{Marks}
 use Rattle.report_lines.specs.Lines.{records_text, plain_report_text, status_number}
-use Rattle.command_parts.specs.declared.refused.Refused.{Refused}
-use Rattle.command_parts.specs.declared.refused.Refused.TheVariants.{Config, Order, Step, Memory, Output}
+use Rattle.command_parts.specs.declared.refused.Refused.TheVariants.{Output}
 use Rattle.smt_model.specs.{Setup.Setup}
 use Rattle.plain_run.specs.Orders.{IsStoppedAt}
 use Rattle.plain_run.proofs.Refusing.{has_room, never_full, no_run}
@@ -94,17 +93,3 @@ pub story_written : (story : Option StoryForm) (form : StoryForm) (setup : Setup
     → Appends old new (told_text (option_map plan_of story) setup order)
 story_written story form setup order old new is written =
     subst (λ s. Appends old new (told_text (option_map plan_of s) setup order)) (sym is) written
-
--- What is refused where the story is told is refused by the command.
-pub story_refused : (settings : Settings) (image : ProgramImage) (order harts listed : List ℕ) (why : Refused)
-    → IsOrder order harts → listed ≡ harts → IsStoryRefusal image settings.config.harts listed why
-    → IsPlainRefusal settings image order why
-story_refused settings image order harts listed Config read same is = ((harts, read), is)
-story_refused settings image order harts listed (Step index why) read same is = (
-  harts,
-  read,
-  subst (λ hs. IsStoppedAt image settings.config.harts hs index why) same is,
-)
-story_refused settings image order harts listed Memory read same is = tt
-story_refused settings image order harts listed Output read same is = (harts, read)
-story_refused settings image order harts listed _ read same is = absurd is

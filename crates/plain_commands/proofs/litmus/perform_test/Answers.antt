@@ -1,5 +1,5 @@
--- What was found is all of it, or there is more than was to be looked at: nothing is asked for, so that the search doesn't
--- end with a first outcome.
+-- What was found is all of it, or there is more than was to be looked at: nothing is asked for, so that the search
+-- doesn't end with a first outcome.
 use Rattle.std.proofs.Common.{sym, ◌∙◌}
 use Rattle.plain_commands.proofs.OfLitmus.{all_told, more_told, beyond_of, no_image, not_both}
 use Rattle.plain_commands.proofs.litmus.perform_test.Goals as goal
