@@ -71,7 +71,7 @@ pub record IsFound (settings : Settings) (image : ProgramImage) (command : Outco
 -- What a command asks, and what is watched for it. Each hart that its condition names is there.
 pub record IsAsking (settings : Settings) (names : Table) (command : OutcomesCommand) (question : Option Question)
     (all : List Asked) (watch : Watch) : Type 0 where
-  pub question : IsQuestionOf names command.question question
+  pub asks : IsQuestionOf names command.question question
   pub asked : IsAsked names command all (terms_asked question)
   pub watched : IsWatchOf watch all
   pub there : All (IsHartThere settings.config.harts) (terms_asked question)

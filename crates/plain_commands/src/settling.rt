@@ -10,13 +10,13 @@ use watched_outcomes::{Outcome, Watch};
 
 /// Asks a search for the first outcome that settles a question, where it is to end there.
 #[derive(Drop)]
-pub(crate) struct FirstSettling<'a> {
-    pub(crate) question: &'a Option<Question<'a>>,
+pub(crate) struct FirstSettling<'a, 'b> {
+    pub(crate) question: &'a Option<Question<'b>>,
     pub(crate) watch: &'a Watch,
     pub(crate) first: bool,
 }
 
-impl Until for FirstSettling<'_> {
+impl Until for FirstSettling<'_, '_> {
     ghost Asks = { λ until ending.
         (until.first ≡ true) × (settles until.watch.now until.question.now ending ≡ true) };
 

@@ -12,7 +12,9 @@ ghost use Rattle.command_parts.specs.declared.refused.Refused.TheVariants.{Memor
 ghost use Rattle.sim_inputs.specs.Files.{written_order};
 ghost use Rattle.plain_commands.specs.WrittenOrders.{IsOrderRefusal, IsListedRefusal, IsStuckRefusal, IsTextRefusal};
 ghost use Rattle.plain_commands.specs.WrittenOrders.{IsTextOf, is_answer_wanted, order_wanted, settling_order};
-ghost use Rattle.plain_commands.specs.WrittenOrders.{stuck_told, HasPutOrder};
+ghost use Rattle.plain_commands.specs.WrittenOrders.{stuck_told, HasPutOrder, IsScriptRefusal, IsStoryOf};
+ghost use Rattle.plain_commands.specs.Plain.{IsMachineRefusal};
+ghost use Rattle.schedules.specs.Schedules.{IsScheduleOf};
 
 use crate::plain::tell_image;
 use crate::schedule::schedule_of;
