@@ -209,7 +209,7 @@ fn tell<R, G, P, S: EndFiles, W: Write>(
     Ok(status)
 }
 
-/// Prints what was found, with the answer. Answers the exit status.
+/// Prints what was found, with the answer, and flushes it: a refusal may stand behind. Answers the exit status.
 fn print_found<W: Write>(
     outcomes: &Outcomes,
     list: &WatchList<'_>,
@@ -240,6 +240,10 @@ fn print_found<W: Write>(
         text.as_slice(),
         out,
     ) {
+        Ok(()) => {}
+        Err(_) => return Err(Refused::Output),
+    }
+    match out.flush() {
         Ok(()) => Ok(status),
         Err(_) => Err(Refused::Output),
     }
