@@ -4,6 +4,7 @@ use Rattle.std.proofs.Common.{Option, Some, None, slice_get, refl, sym, ap, ◌�
 use Rattle.std.specs.List.{list_any, position, position_or_len}
 use Rattle.std.proofs.{lemmas.Grind.common_steps}
 use Rattle.std.proofs.lemmas.List.Folds.{list_any_more}
+use Rattle.std.proofs.lemmas.List.{take_all}
 use Rattle.outcomes.specs.{Found.Told}
 use Rattle.text_fields.proofs.Appending.{member}
 
@@ -54,3 +55,9 @@ not_so_far p xs i n b below count is fails before =
 
 pub found_nowhere : (p : Told → Bool) (xs : List Told) → list_any p xs ≡ false → None ≡ position p xs
 found_nowhere p xs none = let at = no_place p xs none in grind (arith, common_steps)
+
+-- what holds of none of those that were seen holds of none, where all were
+pub all_seen : (p : Told → Bool) (xs : List Told) (i n : ℕ) → n ≡ length xs → (i < n → ⊥) → list_any p (take i xs) ≡ false
+    → list_any p xs ≡ false
+all_seen p xs i n count past none =
+    let whole : take i xs ≡ xs = take_all i xs (omega (arith, count, past)) in ap (list_any p) (sym whole) ∙ none

@@ -1,8 +1,8 @@
 -- What is refused of a search for outcomes is refused of the command, and so is what it found.
 use Rattle.std.specs.Prelude.{◌≡◌, ◌⊎◌, ℕ, ◌+◌, ◌<◌, Bool, Option, Some, None, List, ◌++◌, length, take, get_or}
-use Rattle.std.specs.Prelude.{[], Result, Ok, Err, IfOk}
+use Rattle.std.specs.Prelude.{[], false}
 use Rattle.std.specs.Io.KnownBytes.{Appends}
-use Rattle.std.proofs.Common.{inl, inr, sym, ap, subst, ◌∙◌}
+use Rattle.std.proofs.Common.{inl, inr, sym, ap, subst, refl, ◌∙◌}
 use Rattle.std.proofs.{lemmas.List.take_more, lemmas.List.flat_map_more}
 use Rattle.text_fields.proofs.Appending.{appends_more}
 use Rattle.stress_runs.specs.Kept.{order_line, order_text}
@@ -16,8 +16,17 @@ use Rattle.command_parts.specs.declared.refused.Refused.TheVariants as reason
 use Rattle.symbols.specs.Tables.{Table}
 use Rattle.outcome_queries.specs.{declared.watched.Asked.Asked, Watches.registers_in, Watches.words_in}
 use Rattle.outcome_queries.specs.declared.question.Question.{Question}
+use Rattle.address_labels.specs.Labels.{Marks}
+use Rattle.story_text.specs.Text.{Plan}
+use Rattle.outcome_queries.specs.{declared.term.Term.Term, Harts.IsHartThere}
+use Rattle.std.specs.List.{All}
+use Rattle.plain_commands.specs.Questions.{IsQuestionOf, terms_asked}
+use Rattle.plain_commands.specs.WrittenOrders.{HasPutOrder, order_wanted, wants_order}
+use Rattle.plain_commands.specs.Outcomes.{HasPutText, HasTold, HasToldFound, IsAsked, OutcomesComeTo, found_text}
+use Rattle.plain_commands.specs.Outcomes.{plan_for, status_found}
 use Rattle.plain_commands.specs.Outcomes.{IsAnyRefusal, IsAsking, IsFound, IsFoundRefusal, IsWatchOf, OfFound}
 use Rattle.plain_commands.specs.Outcomes.{IsSearchRefusal, IsOutcomesRefusal}
+use Rattle.plain_commands.proofs.OfWrittenOrders.{text_put}
 
 -- What is watched for a list, as that is lent.
 pub watch_of_lent : (watch : Watch) (lent all : List Asked) → lent ≡ all → watch.registers.items ≡ registers_in lent
@@ -153,3 +162,50 @@ order_step old mid new order i d inside first next =
     ap order_text (take_more order i d inside) ∙ sym (flat_map_more order_line [] (take i order) (get_or order i d)) in
     subst (λ t. Appends old new t) (sym more) (appends_more old mid new _ _ first next)
 
+
+-- What is asked, and what is watched for it.
+pub asks_so : (settings : Settings) (names : Table) (command : OutcomesCommand) (question : Option Question)
+    (all : List Asked) (watch : Watch) (terms : List Term) → terms ≡ terms_asked question
+    → IsQuestionOf names command.question question → IsAsked names command all terms → IsWatchOf watch all
+    → All (IsHartThere settings.config.harts) terms → IsAsking settings names command question all watch
+asks_so settings names command question all watch terms same asks asked watched there = record {
+  asks = asks;
+  asked = rw (sym same) asked;
+  watched = watched;
+  there = rw (sym same) there;
+}
+
+-- What the command comes to, by what it tells of what was found.
+pub comes_to : (settings : Settings) (image : ProgramImage) (names : Table) (marks : Marks) (command : OutcomesCommand)
+    (question : Option Question) (all : List Asked) (watch : Watch)
+    → IsAsking settings names command question all watch
+    → (plan : Plan) (Put : Option (List ℕ) → Type 0) (old new : Option (List ℕ))
+    → plan ≡ plan_for settings names marks command → (status : ℕ)
+    → HasToldFound settings image command plan all watch question Put old new status
+    → OutcomesComeTo settings image names marks command Put old new status
+comes_to settings image names marks command question all watch asking plan Put old new is status told = record {
+  question = question;
+  all = all;
+  watch = watch;
+  asking = asking;
+  told = rw (sym is) told;
+}
+
+-- No order is wanted where none is written.
+pub unwanted_order : (command : OutcomesCommand) (watch : Watch) (question : Option Question) (found : Found)
+    → wants_order command ≡ false → order_wanted command watch question found ≡ None
+unwanted_order command watch question found unwanted = rw unwanted refl
+
+module _ {S : Type 0} (written : S → Option (List ℕ)) (has_failed : S → Bool) (before after : S) (settings : Settings)
+    (image : ProgramImage) (command : OutcomesCommand) (plan : Plan) (all : List Asked) (watch : Watch)
+    (question : Option Question) (found : Found) where
+  -- It has told what was found, and put its order.
+  pub told_so : (order : Option (List ℕ)) (old new : Option (List ℕ)) (status : ℕ)
+      → order ≡ order_wanted command watch question found
+      → HasPutOrder written has_failed before after settings image command plan order
+      → Appends old new (found_text command all watch question found) → status ≡ status_found watch question found
+      → HasTold settings image command plan all watch question found (HasPutText written has_failed before after) old new
+      status
+  told_so order old new status wanted put printed is =
+      let text = text_put written has_failed before after settings image command plan order put in
+      record { text = text.0; printed = printed; status = is; is_text = rw (sym wanted) text.1; put = text.2 }

@@ -1,7 +1,7 @@
 -- The order that the command `outcomes` writes into a file. (This project's own choice.)
 use Rattle.std.specs.Prelude.{◌≡◌, ◌⊎◌, ℕ, ◌-◌, ◌<◌, Bool, true, false, not, ◌&&◌, is_some, if◌then◌else◌, List, reverse}
 use Rattle.std.specs.Prelude.{Option, Some, None, length, position}
-use Rattle.std.specs.{Option.option_map_or, Option.option_and_then}
+use Rattle.std.specs.{Option.option_map_or, Option.option_and_then, Option.option_or}
 use Rattle.elf_image.specs.Image.{ProgramImage}
 use Rattle.core_state.specs.Setup.{setup_of}
 use Rattle.smt_model.specs.Setup.{Setup}
@@ -43,9 +43,13 @@ first_settling watch question found =
     option_and_then (order_listed found.listed)
     (position (λ (told : Told). settles watch question told.ending) found.listed)
 
+-- And where it is asked whether a state is stuck, one to such a state; no outcome settles that question.
+abbrev pub stuck_asked : Option Question → Found → Option (List ℕ)
+stuck_asked (Some NeverStuck) found = stuck_told found
+stuck_asked question found = None
+
 abbrev pub settling_order : Watch → Option Question → Found → Option (List ℕ)
-settling_order watch (Some NeverStuck) found = stuck_told found
-settling_order watch question found = first_settling watch question found
+settling_order watch question found = option_or (first_settling watch question found) (stuck_asked question found)
 
 -- The order that a command wants.
 abbrev pub order_wanted : OutcomesCommand → Watch → Option Question → Found → Option (List ℕ)

@@ -104,15 +104,15 @@ fn form_of<'a>(
 }
 
 /// Searches for the outcomes of which this is watched, writes the order that is wanted of them, and prints them.
-fn search<'x, R, G: Gate, P, S: EndFiles, W: Write>(
+fn search<R, G: Gate, P, S: EndFiles, W: Write>(
     context: &mut Context<'_, R, G, P, S, W>,
     image: &Image,
     settings: &Settings,
     command: &OutcomesCommand<'_>,
     form: &StoryForm<'_>,
-    watch: &'x Watch,
+    watch: &Watch,
     list: &WatchList<'_>,
-    question: &'x Option<Question<'_>>,
+    question: &Option<Question<'_>>,
 ) -> Result<u8, Refused>
     requires works { S.has_failed context.old.files ≡ false }
     requires finished { S.is_finished context.old.files ≡ true }

@@ -1,6 +1,6 @@
 //! The order that the command `outcomes` writes into a file: whose it is, and as what it is written.
 
-ghost use Rattle.std.specs.Prelude.{◌≡◌, ◌<◌, ◌-◌, IfOk, IfErr, OnOk, List, ℕ, Some, true, false};
+ghost use Rattle.std.specs.Prelude.{◌≡◌, ◌<◌, ◌-◌, IfOk, IfErr, OnOk, Some, None, true, false};
 ghost use Rattle.std.specs.Prelude.{is_some, length, option_map};
 ghost use Rattle.std.specs.Io.KnownBytes.{Appends};
 ghost use Rattle.core_state.specs.Setup.{setup_of};
@@ -12,7 +12,7 @@ ghost use Rattle.command_parts.specs.declared.refused.Refused.TheVariants.{Memor
 ghost use Rattle.sim_inputs.specs.Files.{written_order};
 ghost use Rattle.plain_commands.specs.WrittenOrders.{IsOrderRefusal, IsListedRefusal, IsStuckRefusal, IsTextRefusal};
 ghost use Rattle.plain_commands.specs.WrittenOrders.{IsTextOf, is_answer_wanted, order_wanted, settling_order};
-ghost use Rattle.plain_commands.specs.WrittenOrders.{stuck_told, HasPutOrder, IsScriptRefusal, IsStoryOf};
+ghost use Rattle.plain_commands.specs.WrittenOrders.{stuck_asked, stuck_told, HasPutOrder, IsScriptRefusal, IsStoryOf};
 ghost use Rattle.plain_commands.specs.Plain.{IsMachineRefusal};
 ghost use Rattle.schedules.specs.Schedules.{IsScheduleOf};
 
@@ -71,22 +71,20 @@ fn numbered_order(
     if index == 0 || index > outcomes.count() {
         return Err(Refused::NoOutcome(number));
     }
-    listed_order(outcomes, index - 1, alloc)
+    match listed_order(outcomes, index - 1, alloc) {
+        Ok(order) => Ok(Some(order)),
+        Err(refused) => Err(refused),
+    }
 }
 
 /// The order of the outcome with this index.
-fn listed_order(
-    outcomes: &Outcomes,
-    index: usize,
-    alloc: Global,
-) -> Result<Option<Vec<u8>>, Refused>
+fn listed_order(outcomes: &Outcomes, index: usize, alloc: Global) -> Result<Vec<u8>, Refused>
     requires { index < length outcomes.now.listed }
-    ensures order { IfOk result (λ order. option_map (λ it. it.items) order
-        ≡ order_listed outcomes.now.listed index) }
+    ensures order { IfOk result (λ order. order_listed outcomes.now.listed index ≡ Some order.items) }
     ensures refused { IfErr result (λ why. why ≡ Memory) }
 {
     match outcomes.witness(index, alloc) {
-        Ok(order) => Ok(Some(order)),
+        Ok(order) => Ok(order),
         Err(AllocError) => Err(Refused::Memory),
     }
 }
@@ -117,12 +115,28 @@ fn settling_order(
         ≡ settling_order watch.now question.now outcomes.now) }
     ensures refused { IfErr result (λ why. why ≡ Memory) }
 {
-    if let Some(Question::NeverStuck) = question {
-        return stuck_order(outcomes, alloc);
-    }
     match settling(outcomes, watch, question) {
-        Some(index) => listed_order(outcomes, index, alloc),
-        None => Ok(None),
+        Some(index) => match listed_order(outcomes, index, alloc) {
+            Ok(order) => Ok(Some(order)),
+            Err(refused) => Err(refused),
+        },
+        None => stuck_asked(outcomes, question, alloc),
+    }
+}
+
+/// An order to a state from which nothing can end, where it is asked whether there is none.
+fn stuck_asked(
+    outcomes: &Outcomes,
+    question: &Option<Question<'_>>,
+    alloc: Global,
+) -> Result<Option<Vec<u8>>, Refused>
+    ensures order { IfOk result (λ order. option_map (λ it. it.items) order
+        ≡ stuck_asked question.now outcomes.now) }
+    ensures refused { IfErr result (λ why. why ≡ Memory) }
+{
+    match question {
+        Some(Question::NeverStuck) => stuck_order(outcomes, alloc),
+        Some(_) | None => Ok(None),
     }
 }
 
@@ -163,6 +177,7 @@ pub(crate) fn put_order<S: EndFiles>(
     ensures refused { IfErr result (IsTextRefusal settings.now image.now command.now) }
     ensures put { OnOk result (HasPutOrder S.written S.has_failed file.old file.new settings.now image.now command.now
         (plan_of form.now) (option_map (λ it. it.items) order.now)) }
+    ensures unwanted { option_map (λ it. it.items) order.now ≡ None → file.new ≡ file.old }
     ensures unbroken { OnOk result (S.has_failed file.new ≡ false) }
     ensures finished { OnOk result (S.is_finished file.new ≡ true) }
 {
