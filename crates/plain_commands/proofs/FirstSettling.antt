@@ -57,7 +57,7 @@ pub found_nowhere : (p : Told → Bool) (xs : List Told) → list_any p xs ≡ f
 found_nowhere p xs none = let at = no_place p xs none in grind (arith, common_steps)
 
 -- what holds of none of those that were seen holds of none, where all were
-pub all_seen : (p : Told → Bool) (xs : List Told) (i n : ℕ) → n ≡ length xs → (i < n → ⊥) → list_any p (take i xs) ≡ false
+pub all_seen : (p : Told → Bool) (xs : List Told) (i n : ℕ) → n ≡ length xs → n ≤ i → list_any p (take i xs) ≡ false
     → list_any p xs ≡ false
 all_seen p xs i n count past none =
     let whole : take i xs ≡ xs = take_all i xs (omega (arith, count, past)) in ap (list_any p) (sym whole) ∙ none

@@ -1,3 +1,4 @@
+use Rattle.std.proofs.Common.{rules}
 use Rattle.std.proofs.lemmas.Result.{IfErr-weaker}
 use Rattle.plain_commands.proofs.OfWrittenOrders.{script_refused}
 use Rattle.plain_commands.proofs.written_orders.text_of.Goals as goal
