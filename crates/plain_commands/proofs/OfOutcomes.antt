@@ -39,9 +39,9 @@ watch_of_lent watch lent all same registers words = record {
 -- No order is refused so, be it for its script or by the machine.
 neither : {A : Type 0} → (order : List ℕ) × ((A × ⊥) ⊎ ⊥) → ⊥
 neither is = elim is.1 [
-    | inl script ↦ script.1
-    | inr machine ↦ machine
-  ]
+  | inl script ↦ script.1
+  | inr machine ↦ machine
+]
 
 module _ (settings : Settings) (image : ProgramImage) (names : Table) (command : OutcomesCommand)
     (question : Option Question) (all : List Asked) (watch : Watch)
@@ -161,7 +161,6 @@ order_step old mid new order i d inside first next =
     let more : order_text (take (i + 1) order) ≡ order_text (take i order) ++ order_line (get_or order i d) =
     ap order_text (take_more order i d inside) ∙ sym (flat_map_more order_line [] (take i order) (get_or order i d)) in
     subst (λ t. Appends old new t) (sym more) (appends_more old mid new _ _ first next)
-
 
 -- What is asked, and what is watched for it.
 pub asks_so : (settings : Settings) (names : Table) (command : OutcomesCommand) (question : Option Question)
