@@ -28,7 +28,7 @@ struct Stressed {
     ending: Ending,
 }
 
-fn run_thrice<R: Threads + Wait + Sync>(rt: &R, image: &[u8], alloc: Global) -> Stressed {
+fn perform_stress<R: Threads + Wait + Sync>(rt: &R, image: &[u8], alloc: Global) -> Stressed {
     let inputs = read_inputs_of(b"", image, b"");
     let kept = Over::new(Vec::new(alloc));
     let mut context = context_of(rt, StaticPredictor, kept, Vec::new(alloc), alloc);
@@ -44,7 +44,7 @@ fn run_thrice<R: Threads + Wait + Sync>(rt: &R, image: &[u8], alloc: Global) -> 
 #[test]
 fn runs_of_one_end_are_counted_and_the_first_is_kept(rt: HostRuntime) {
     let image = file_of(ENDING, 0, rt.alloc()).expect(&rt, "an image");
-    let Stressed { kept, out, ending } = run_thrice(&rt, &image, rt.alloc());
+    let Stressed { kept, out, ending } = perform_stress(&rt, &image, rt.alloc());
     assert!(rt; ending.status == 1);
     assert!(rt; text_of(&out) == TABLE);
     // A trace of the one end, and behind it its order: three instructions of hart 0. What a unit
