@@ -41,6 +41,9 @@ fn each_state_is_found_once_with_its_moves(rt: HostRuntime) {
 
 /// Whether the moves to a place lead there from (0, 0): as many of each hart as the counts say.
 fn leads_there(search: &Search<(u8, u8), u8>, place: u32, alloc: Global) -> bool {
+    let Some((first, second)) = search.state(place as usize) else {
+        return false;
+    };
     let Ok(moves) = search.moves_to(place, alloc) else {
         return false;
     };
@@ -54,7 +57,7 @@ fn leads_there(search: &Search<(u8, u8), u8>, place: u32, alloc: Global) -> bool
         .iter()
         .filter(|made| made.hart == 1)
         .count();
-    search.state(place as usize) == Some((firsts as u8, seconds as u8))
+    firsts == usize::from(first) && seconds == usize::from(second)
 }
 
 // With a budget of 2 the three states (0, 0), (1, 0), (0, 1) are found, and dives lead on to (2, 2).
