@@ -858,9 +858,10 @@ fn a_chart_goes_from_function_to_function(rt: HostRuntime) {
     assert!(rt; read_words(&quote, rt.alloc()).is_err());
 }
 
-/// The texts of a line that asks for outcomes, and whether its file is a script.
+/// The texts of a line that asks for runs or outcomes, and whether its file is a script.
 fn texts_of<'a>(line: &Line<'a>) -> (Option<&'a str>, Option<&'a str>, bool) {
     match line.command {
+        Command::OfProgram(ProgramCommand::Run(run)) => (run.watch, None, false),
         Command::OfProgram(ProgramCommand::Outcomes(outcomes)) => {
             (outcomes.watch, outcomes.exists, outcomes.script.is_some())
         }
