@@ -142,20 +142,20 @@ pub stress_comes_to : (settings : Settings) (image : ProgramImage) (names : Tabl
     → StressComesTo settings image names list times Kept old new status
 stress_comes_to settings image names list times Kept all watch tally old new runs status regs mem asked watches there
     done same is_regs is_mem printed is = record {
-  accepted = done.accepted;
-  manned = done.manned;
-  all = all;
-  watch = watch;
-  asked = asked;
-  watches = watches;
-  there = there;
-  cores = done.cores;
-  many = done.many ∙ same;
-  are = done.are;
-  kept = done.kept;
-  printed = rw (is_regs, is_mem, same, done.tallied) at printed;
-  stands = is ∙ ap (λ (u : TallyView). u.status) done.tallied;
-}
+      accepted = done.accepted;
+      manned = done.manned;
+      all = all;
+      watch = watch;
+      asked = asked;
+      watches = watches;
+      there = there;
+      cores = done.cores;
+      many = done.many ∙ same;
+      are = done.are;
+      kept = done.kept;
+      printed = rw (is_regs, is_mem, same, done.tallied) at printed;
+      stands = is ∙ ap (λ (u : TallyView). u.status) done.tallied;
+    }
 
 -- ---- The refusals
 

@@ -75,7 +75,14 @@ pub fn perform_stress<
         Err(refused) => return Err(refused),
     }
     let count = runs_of(times);
-    let tally = match tally_runs(context, image, settings, &watch, count, command.keep.is_some()) {
+    let tally = match tally_runs(
+        context,
+        image,
+        settings,
+        &watch,
+        count,
+        command.keep.is_some(),
+    ) {
         Ok(tally) => tally,
         Err(refused) => return Err(refused),
     };
