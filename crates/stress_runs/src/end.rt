@@ -42,10 +42,7 @@ fn register_in(core: &Core, watched: WatchedRegister) -> u32
     requires { is_register_there core.now.setup.harts watched ≡ true }
     ensures { result ≡ committed_in core.now.setup core.now.past watched }
 {
-    match core.register(watched.hart, watched.register) {
-        Some(number) => number,
-        None => 0,
-    }
+    core.register(watched.hart, watched.register).unwrap_or(0)
 }
 
 /// What the watched places in memory hold. Errors: want of memory.

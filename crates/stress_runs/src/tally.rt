@@ -1,5 +1,6 @@
 ghost use Rattle.std.specs.Prelude.{◌≡◌, [], map, max, IfOk, OnOk};
 ghost use Rattle.std.specs.List.{list_any};
+ghost use Rattle.report_lines.specs.Lines.{status_number};
 ghost use Rattle.outcomes.specs.Refusals.{AreWords};
 ghost use Rattle.watched_outcomes.specs.Watching.{AreThere};
 ghost use Rattle.stress_runs.specs.Ends.{end_of, has_end, counting, tally_of, Counts, next_number, same_end};
@@ -74,13 +75,20 @@ impl Tally {
             (λ number. number ≡ next_number (end_of watch.now core.now) self.old.rows) }
     {
         let end = end_of(core, watch, alloc)?;
-        self.status = worse(self.status, status_of(end.statuses.as_slice()));
+        self.status = worse(self.status, status_in(&end));
         if count_in(self.rows.as_mut_slice(), &end) {
             return Ok(None);
         }
         self.rows.push(Row { end, count: 1 })?;
         Ok(Some(self.rows.len() as u64))
     }
+}
+
+/// The exit status of a run that has ended so.
+fn status_in(end: &Outcome) -> u8
+    ensures { result ≡ status_number end.now.statuses }
+{
+    status_of(end.statuses.as_slice())
 }
 
 /// Counts a run that has ended so in the row of its end. Answers whether there is one.
