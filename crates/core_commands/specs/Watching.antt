@@ -4,7 +4,6 @@ use Rattle.std.specs.Borrow.{Bor}
 use Rattle.elf_image.specs.Image.{ProgramImage}
 use Rattle.symbols.specs.Tables.{Table}
 use Rattle.watched_outcomes.specs.declared.{watch.Watch.Watch, watch.WatchedRegister.WatchedRegister}
-use Rattle.watched_outcomes.specs.declared.watch.WatchedBytes.{WatchedBytes}
 use Rattle.watched_outcomes.specs.{Watching.AreThere, Watching.is_register_there}
 use Rattle.outcomes.specs.{Refusals.AreWords, Refusals.CanLoad}
 use Rattle.outcome_queries.specs.{declared.watched.Asked.Asked, Asking.Asks, Watched.IsUnnamed}

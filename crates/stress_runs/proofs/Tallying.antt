@@ -6,7 +6,7 @@ use Rattle.std.specs.List.{list_any, filter}
 use Rattle.std.proofs.lemmas.Bool.{cases_Bool, false≢true}
 use Rattle.std.proofs.lemmas.List.Folds.{list_any-append}
 use Rattle.std.proofs.Math.Nat.{mod-eq_of_lt}
-use Rattle.smt_model.specs.{Basics.how_many, declared.config.Status.Status}
+use Rattle.smt_model.specs.{Basics.how_many}
 use Rattle.report_lines.specs.Lines.{status_number}
 use Rattle.stress_runs.specs.declared.tally.Row.{Row}
 use Rattle.watched_outcomes.specs.Endings.{Ending}

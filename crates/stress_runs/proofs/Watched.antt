@@ -5,7 +5,7 @@ use Rattle.std.proofs.Common.{refl, ap, ◌∙◌, arith}
 use Rattle.std.proofs.lemmas.Bool.{false≢true}
 use Rattle.std.proofs.lemmas.Bool.Decides.{nat_tests}
 use Rattle.events.specs.declared.event.Event.{Event}
-use Rattle.smt_model.specs.{Setup.Setup, Account.committed_value, Bytes.number_at, Registers.committed, Registers.value}
+use Rattle.smt_model.specs.{Setup.Setup, Account.committed_value, Bytes.number_at}
 use Rattle.watched_outcomes.specs.declared.watch.WatchedRegister.{WatchedRegister}
 use Rattle.watched_outcomes.specs.Watching.{is_register_there}
 use Rattle.outcomes.specs.Found.{committed_in}

@@ -4,7 +4,7 @@ use Rattle.std.specs.Prelude.{◌≡◌, ℕ, ◌+◌, ◌%◌, ◌<◌, ◌^◌
 use Rattle.std.specs.Prelude.{List, [], ◌∷◌, ◌++◌, length, map, nat_eq, Option, Some, None}
 use Rattle.std.specs.List.{list_any}
 use Rattle.std.specs.Cmp.Lexicographic.{pointwise}
-use Rattle.smt_model.specs.{declared.config.Status.Status, Basics.how_many}
+use Rattle.smt_model.specs.{Basics.how_many}
 use Rattle.smt_model.specs.contracts.config.StatusPartialEq.TheImpl.{eq-value as same_status}
 use Rattle.core_state.specs.View.{CoreView}
 use Rattle.watched_outcomes.specs.{declared.watch.Watch.Watch, Endings.Ending}

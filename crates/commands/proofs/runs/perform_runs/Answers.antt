@@ -1,6 +1,5 @@
-use Rattle.std.proofs.Common.{ap, ◌∙◌}
 use Rattle.symbols.specs.Tables.{table_of}
-use Rattle.commands.proofs.OfRuns.{many_performed, one_performed}
+use Rattle.commands.proofs.OfRuns.{many_performed}
 use Rattle.commands.proofs.runs.perform_runs.Goals as goal
 
 pub returns-in-Some : goal.returns-in-Some
