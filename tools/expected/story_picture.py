@@ -10,8 +10,8 @@ import re
 import sys
 from xml.sax.saxutils import escape
 
-LEFT, LANE, BOX = 64, 310, 200
-TOP, ROW, HEIGHT = 96, 34, 24
+LEFT, LANE, BOX = 64, 330, 224
+TOP, ROW, HEIGHT = 120, 34, 24
 
 LIGHT = """text{font:12px monospace;fill:#1b1b1b}
 .page{fill:#ffffff}
@@ -47,6 +47,17 @@ DARK = """text{fill:#ececec}
 .stuck-is{fill:#e08fdd}
 .arrow{stroke:#9aa3b2}
 .point{fill:#9aa3b2}
+"""
+LEGEND = """</style>
+<rect class="page" width="100%" height="100%"/>
+<marker id="point" viewBox="0 0 8 8" refX="7" refY="4" markerUnits="userSpaceOnUse" markerWidth="11" \
+markerHeight="11" orient="auto"><path class="point" d="M0 0L8 4L0 8z"/></marker>
+<text class="far" x="16" y="22">Time goes down. An arrow leads from a write to each read that found its number.</text>
+<text class="far" x="16" y="40">A read without an arrow found what was there at the start.</text>
+<rect class="box reads" x="16" y="52" width="14" height="12"/><text class="far" x="36" y="62">reads</text>
+<rect class="box writes" x="92" y="52" width="14" height="12"/><text class="far" x="112" y="62">writes</text>
+<rect class="box both" x="176" y="52" width="14" height="12"/><text class="far" x="196" y="62">reads and writes</text>
+<rect class="box writes lost" x="332" y="52" width="14" height="12"/><text class="far" x="352" y="62">overwritten before anyone read it</text>
 """
 SIZES = {"lb": 1, "lbu": 1, "lh": 2, "lhu": 2, "lw": 4, "sb": 1, "sh": 2, "sw": 4}
 
@@ -107,7 +118,7 @@ def top(i):
 
 def arrow(steps, i, j):
     a, b = steps[i].hart, steps[j].hart
-    y, to_y = top(i) + HEIGHT - 7, top(j) + 7
+    y, to_y = top(i) + 18, top(j) + 6
     if a == b:
         x = left(a) + BOX
         far = x + 20 + 4 * min(j - i, 10)
@@ -122,37 +133,35 @@ def arrow(steps, i, j):
 
 
 def row(steps, i, stuck):
-    step, x, y = steps[i], left(steps[i].hart), top(i)
-    lost = is_overwritten(steps, i)
-    kind = step.kind() + (" lost" if lost else "") + (" stuck" if i in stuck else "")
-    text = f'<text class="count" x="40" y="{y + 16}">{step.number}</text>\n'
-    text += f'<rect class="{kind}" x="{x}" y="{y}" width="{BOX}" height="{HEIGHT}" rx="4"/>\n'
-    text += f'<text x="{x + 8}" y="{y + 16}">{escape(step.text)}</text>\n'
-    if lost:
-        text += f'<text class="mark lost-is" x="{x + BOX + 8}" y="{y + 16}">overwritten</text>\n'
-    if i in stuck:
-        text += f'<text class="mark stuck-is" x="{x + BOX + 8}" y="{y + 16}">stuck here</text>\n'
-    return text
+    step, base = steps[i], top(i) + 16
+    x, is_lost, is_stuck = left(step.hart), is_overwritten(steps, i), i in stuck
+    kind = step.kind() + (" lost" if is_lost else "") + (" stuck" if is_stuck else "")
+    yield f'<text class="count" x="46" y="{base}">{step.number}</text>\n'
+    yield f'<rect class="{kind}" x="{x}" y="{top(i)}" width="{BOX}" height="{HEIGHT}" rx="4"/>\n'
+    yield f'<text class="what" x="{x + 8}" y="{base}">{escape(step.text).replace("&gt;", ">")}</text>\n'
+    if is_lost or is_stuck:
+        kind = "lost" if is_lost else "stuck"
+        word = {(True, True): "overwritten, stuck", (True, False): "overwritten"}.get((is_lost, is_stuck), "stuck here")
+        yield f'<text class="mark {kind}-is" x="{x + BOX + 14}" y="{base}">{word}</text>\n'
 
 
 def picture(steps, harts, theme, stuck):
-    width, height = LEFT + LANE * harts, TOP + ROW * len(steps) + 12
+    """The file, without the titles of rows, which say what no text of a story does."""
+    width, height = left(max(harts, 2)), top(len(steps)) + 12
     yield f'<svg xmlns="http://www.w3.org/2000/svg" width="{width}" height="{height}" viewBox="0 0 {width} {height}">\n'
     yield "<title>The story of an order of harts</title>\n<style>\n" + LIGHT
     yield {"light": "", "dark": DARK, "automatic": "@media (prefers-color-scheme:dark){\n" + DARK + "}\n"}[theme]
-    yield '</style>\n<rect class="page" width="100%" height="100%"/>\n'
-    yield '<marker id="point" viewBox="0 0 8 8" refX="7" refY="4" markerUnits="userSpaceOnUse" markerWidth="11" markerHeight="11" orient="auto"><path class="point" d="M0 0L8 4L0 8z"/></marker>\n'
-    yield '<text class="far" x="16" y="22">Time goes down. An arrow leads from a write to each read that found its number.</text>\n'
-    yield '<text class="far" x="16" y="40">overwritten: a write over it came before anyone read it.</text>\n'
+    yield LEGEND
     for hart in range(harts):
-        x = left(hart) + BOX // 2
-        yield f'<path class="lane" d="M{x} {TOP - 16}V{height - 8}"/>\n<text class="name" x="{x}" y="{TOP - 24}">hart {hart}</text>\n'
+        middle = left(hart) + BOX // 2
+        yield f'<path class="lane" d="M{middle} 104V{height - 8}"/>\n'
+        yield f'<text class="name" x="{middle}" y="96">hart {hart}</text>\n'
     for j in range(len(steps)):
         for i in range(j):
             if reads_from(steps, i, j):
                 yield arrow(steps, i, j)
     for i in range(len(steps)):
-        yield row(steps, i, stuck)
+        yield from row(steps, i, stuck)
     yield "</svg>\n"
 
 

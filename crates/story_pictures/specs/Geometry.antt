@@ -2,12 +2,9 @@
 use Rattle.std.specs.Prelude.{ℕ, ◌+◌, ◌-◌, ◌*◌, ◌==◌, min, nat_lt, if◌then◌else◌}
 use Rattle.story_pictures.specs.declared.geometry.Way.{Way}
 
--- The size of a box.
+-- The width of a box.
 abbrev pub box_width : ℕ
 box_width = 224
-
-abbrev pub box_height : ℕ
-box_height = 24
 
 -- The left and the right edge of the boxes of hart h, and the middle of its lane.
 abbrev pub lane_left : ℕ → ℕ

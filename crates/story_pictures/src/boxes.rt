@@ -193,10 +193,13 @@ fn write_mark<W: Write>(
     ensures { OnOk result (Appends (W.contents out.old) (W.contents out.new)
         (mark_text lost stuck hart index)) }
 {
-    if !lost && !stuck {
-        return out.write_all(b"");
+    if lost {
+        return write_marked(lost, stuck, hart, index, out);
     }
-    write_marked(lost, stuck, hart, index, out)
+    if stuck {
+        return write_marked(lost, stuck, hart, index, out);
+    }
+    out.write_all(b"")
 }
 
 fn write_marked<W: Write>(

@@ -1,6 +1,6 @@
 //! Where things stand in a picture, in its units.
 
-ghost use Rattle.std.specs.Prelude.{◌≡◌, ◌≤◌};
+ghost use Rattle.std.specs.Prelude.{◌≡◌, ◌≤◌, ◌+◌, ◌-◌};
 ghost use Rattle.story_pictures.specs.Form.{most_rows};
 ghost use Rattle.story_pictures.specs.Geometry.{
   bulge,
@@ -22,8 +22,8 @@ const LEFT: u32 = 64;
 /// How far it is from a lane to the next one.
 const LANE: u32 = 330;
 
-/// The size of a box.
-pub(crate) const BOX_WIDTH: u32 = 224;
+/// The width of a box.
+const BOX_WIDTH: u32 = 224;
 
 /// The room over the first row, and how far it is from a row to the next one.
 const TOP: u32 = 120;
