@@ -10,6 +10,8 @@ use Rattle.core_state.specs.Setup.{setup_of}
 use Rattle.smt_model.specs.Setup.{Setup}
 use Rattle.stories.specs.Story.{steps}
 use Rattle.story_text.specs.Text.{Plan, story_text}
+use Rattle.story_text.specs.declared.order.Untold.{Untold}
+use Rattle.story_text.specs.declared.order.Untold.TheVariants as untold
 use Rattle.scripts.specs.Order.{IsOrder, IsFirstNoHart}
 use Rattle.sim_inputs.specs.{declared.settings.Settings.Settings}
 use Rattle.address_labels.specs.Labels.{Marks}
@@ -54,6 +56,11 @@ retired_by ran = reverse ran.records
 
 abbrev pub standing : ℕ → Run → List Status
 standing harts ran = map ran.state.statuses (below harts)
+
+-- The refusal where a story isn't told to its end.
+abbrev pub refused_for : Untold → Refused
+refused_for (untold.Step at) = Step at.index at.why
+refused_for untold.Output = Output
 
 -- The story of an order, newest first, where one is told.
 abbrev pub told_text : Option Plan → Setup → List ℕ → List ℕ

@@ -7,7 +7,7 @@ ghost use Rattle.address_labels.specs.Labels.{marks_of};
 ghost use Rattle.scripts.specs.Order.{IsOrder};
 ghost use Rattle.command_parts.specs.declared.refused.Refused.TheVariants.{Output};
 ghost use Rattle.story_text.specs.Text.{plan_of};
-ghost use Rattle.plain_commands.specs.Plain.{IsPlainRefusal, PlainComesTo, told_text};
+ghost use Rattle.plain_commands.specs.Plain.{IsPlainRefusal, PlainComesTo, refused_for, told_text};
 ghost use Rattle.plain_commands.specs.Plain.{IsOrderRefusal, IsMachineRefusal};
 
 use address_labels::Labels;
@@ -102,13 +102,23 @@ fn tell_image<W: Write>(
         Err(PlainRefused::Harts) => return Err(Refused::Config),
         Err(PlainRefused::Memory) => return Err(Refused::Memory),
     };
+    let _harts = machine.harts();
     match tell_order(&mut machine, order, form, out) {
         Ok(()) => Ok(()),
-        Err(Untold::Step(at)) => Err(Refused::Step {
+        Err(why) => Err(refused_for(why)),
+    }
+}
+
+/// The refusal where a story isn't told to its end.
+fn refused_for(why: Untold) -> Refused
+    ensures { result ≡ refused_for why }
+{
+    match why {
+        Untold::Step(at) => Refused::Step {
             index: at.index,
             why: at.why,
-        }),
-        Err(Untold::Output) => Err(Refused::Output),
+        },
+        Untold::Output => Refused::Output,
     }
 }
 

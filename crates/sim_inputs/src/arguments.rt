@@ -119,13 +119,13 @@ pub(crate) const RECORDS: Argument = Argument {
 pub(crate) const STORY: Argument = Argument {
     kind: Kind::Flag,
     name: "story",
-    help: "Tell what the order's steps show to other harts, before the report",
+    help: "Tell what steps show to other harts, before the report",
 };
 
 pub(crate) const ALL: Argument = Argument {
     kind: Kind::Flag,
     name: "all",
-    help: "Tell each step in the story",
+    help: "Tell each step, with --story",
 };
 
 pub(crate) const SHOW: Argument = Argument {

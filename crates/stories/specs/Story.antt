@@ -1,6 +1,6 @@
 -- The story of an order of harts. (This project's own choice.)
 use Rattle.std.specs.Prelude.{ℕ, Bool, false, ◌||◌, List, [], ◌∷◌, ◌++◌, Option, Some, None, is_some}
-use Rattle.std.specs.Prelude.{option_map, count_by}
+use Rattle.std.specs.Prelude.{option_map, filter, length}
 use Rattle.smt_model.specs.{Setup.Setup, Plain.Plain, Plain.Run, Plain.run, Plain.op_at_pc}
 use Rattle.stories.specs.Deeds.{deed_of}
 use Rattle.stories.specs.declared.{step.Step.Step, row.Row.Row, deed.Deed.Deed}
@@ -24,7 +24,7 @@ has_row all step = all || is_some step.deed
 
 -- How many rows there are of these steps.
 abbrev pub row_count : Bool → List Step → ℕ
-row_count all steps = count_by (has_row all) steps
+row_count all steps = length (filter (has_row all) steps)
 
 abbrev pub row_of : ℕ → Step → Option Row
 row_of number step =

@@ -9,6 +9,7 @@ ghost use Rattle.story_text.specs.Deeds.{
   deed_text,
   failed_text,
   read_text,
+  reason_text,
   shown_text,
   taker_text,
   written_text,
@@ -121,6 +122,13 @@ fn write_failed<W: Write>(
 {
     write_place(names, addr, out)?;
     out.write_all(b" fails: ")?;
+    write_reason(took, out)
+}
+
+/// Writes why an SC has written nothing.
+fn write_reason<W: Write>(took: &Option<Row>, out: &mut W) -> io::Result<()>
+    ensures { OnOk result (Appends (W.contents out.old) (W.contents out.new) (reason_text took.now)) }
+{
     match took {
         Some(row) => write_taker(row, out),
         None => out.write_all(b"no reservation"),
