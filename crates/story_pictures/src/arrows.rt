@@ -54,7 +54,13 @@ fn write_arrow_from<W: Write>(
 }
 
 /// Writes an arrow from a row of a hart to a later one.
-fn write_arrow<W: Write>(from: usize, from_hart: u8, to: usize, to_hart: u8, out: &mut W) -> io::Result<()>
+fn write_arrow<W: Write>(
+    from: usize,
+    from_hart: u8,
+    to: usize,
+    to_hart: u8,
+    out: &mut W,
+) -> io::Result<()>
     requires few { to ≤ most_rows }
     requires later { from < to }
     ensures { OnOk result (Appends (W.contents out.old) (W.contents out.new)

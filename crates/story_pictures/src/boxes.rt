@@ -89,7 +89,13 @@ fn write_row<W: Write>(
 {
     write_title(&form.labels, row.pc, out)?;
     write_count(row.number, index, out)?;
-    write_frame(kind_of(&row.deed), mark_class(lost, stuck), row.hart, index, out)?;
+    write_frame(
+        kind_of(&row.deed),
+        mark_class(lost, stuck),
+        row.hart,
+        index,
+        out,
+    )?;
     write_what(form.names, &row.deed, row.hart, index, out)?;
     write_mark(lost, stuck, row.hart, index, out)?;
     out.write_all(b"</g>\n")
@@ -213,7 +219,12 @@ fn write_marked<W: Write>(
     ensures { OnOk result (Appends (W.contents out.old) (W.contents out.new)
         (marked_text lost stuck hart index)) }
 {
-    write_open_text(word_class(lost), lane_right(hart) + 14, row_base(index), out)?;
+    write_open_text(
+        word_class(lost),
+        lane_right(hart) + 14,
+        row_base(index),
+        out,
+    )?;
     out.write_all(mark_word(lost, stuck).as_bytes())?;
     write_close_text(out)
 }
@@ -232,5 +243,9 @@ fn mark_word(lost: bool, stuck: bool) -> &'static str
 fn word_class(lost: bool) -> &'static str
     ensures { result.now ≡ word_class lost }
 {
-    if lost { "mark lost-is" } else { "mark stuck-is" }
+    if lost {
+        "mark lost-is"
+    } else {
+        "mark stuck-is"
+    }
 }

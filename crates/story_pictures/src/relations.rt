@@ -6,9 +6,7 @@ ghost use Rattle.story_pictures.specs.Accesses.{touches_byte, writes_byte};
 ghost use Rattle.story_pictures.specs.Relations.{finds, gives, gives_at, is_gone, is_gone_at};
 ghost use Rattle.story_pictures.specs.Relations.{is_over, is_overwritten, reads_from};
 
-use crate::accesses::{
-    byte_at, read_span, reads_byte, touches_byte, writes_byte, written_span,
-};
+use crate::accesses::{byte_at, read_span, reads_byte, touches_byte, writes_byte, written_span};
 use stories::Row;
 
 /// Whether a read found a byte of a write: the row at `index` of those before the read.
