@@ -57,7 +57,8 @@ markerHeight="11" orient="auto"><path class="point" d="M0 0L8 4L0 8z"/></marker>
 <rect class="box reads" x="16" y="52" width="14" height="12"/><text class="far" x="36" y="62">reads</text>
 <rect class="box writes" x="92" y="52" width="14" height="12"/><text class="far" x="112" y="62">writes</text>
 <rect class="box both" x="176" y="52" width="14" height="12"/><text class="far" x="196" y="62">reads and writes</text>
-<rect class="box writes lost" x="332" y="52" width="14" height="12"/><text class="far" x="352" y="62">overwritten before anyone read it</text>
+<rect class="box writes lost" x="332" y="52" width="14" height="12"/>\
+<text class="far" x="352" y="62">overwritten before anyone read it</text>
 """
 SIZES = {"lb": 1, "lbu": 1, "lh": 2, "lhu": 2, "lw": 4, "sb": 1, "sh": 2, "sw": 4}
 
