@@ -77,6 +77,7 @@ fn steps_are_told_one_by_one(rt: HostRuntime) -> Result<(), Fail> {
     let mut out = Vec::new(rt.alloc());
     let mut telling = Telling::new();
     assert!(rt; write_head(&form, &mut out).is_ok());
+    assert!(rt; machine.harts() == 2);
     assert!(rt; telling.tell(&machine, 1, &form, &mut out).is_ok());
     assert!(rt; telling.finish(&mut out).is_ok());
     let wanted = "     h0                      h1\n1                            lui x6,0x80001\n";
