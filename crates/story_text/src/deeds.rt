@@ -32,7 +32,7 @@ const READ: &[u8] = b" \xe2\x86\x92 ";
 const WRITTEN: &[u8] = b" \xe2\x86\x90 ";
 
 /// Writes what a step shows; `took` is the row that took the reservation that an SC has missed.
-pub(crate) fn write_deed<W: Write>(
+pub fn write_deed<W: Write>(
     deed: &Deed,
     took: &Option<Row>,
     names: &Symbols<'_>,
