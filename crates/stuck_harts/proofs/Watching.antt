@@ -15,10 +15,10 @@ pub record HasWatched (setup : Setup) (s : Plain) (h n : ℕ) (shown : List Spin
   pub shown_is : shown ≡ spins_in setup h n (turns setup turns_before s)
   pub agrees : Agrees setup (turns setup n (turns setup turns_before s)) m
 
-pub none_watched : (setup : Setup) (s : Plain) (h : ℕ) (m : Machine) → Agrees setup (turns setup turns_before s) m
-    → HasWatched setup s h 0 [] m
-none_watched setup s h m agrees = record {
-  shown_is = sym (spins_none setup h (turns setup turns_before s));
+pub none_watched : (setup : Setup) (s : Plain) (h : ℕ) (shown : List Spin) (m : Machine) → shown ≡ []
+    → Agrees setup (turns setup turns_before s) m → HasWatched setup s h 0 shown m
+none_watched setup s h shown m none agrees = record {
+  shown_is = none ∙ sym (spins_none setup h (turns setup turns_before s));
   agrees = subst (λ s. Agrees setup s m) (sym (turns_none setup (turns setup turns_before s))) agrees;
 }
 

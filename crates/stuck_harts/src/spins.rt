@@ -49,7 +49,7 @@ pub fn spins_of(machine: &mut Machine, hart: u8) -> Result<ArrayVec<Spin, MOST_S
 {
     take_turns(machine, TURNS_BEFORE)?;
     let mut shown = ArrayVec::new();
-    for _turn in 0..TURNS_WATCHED {
+    for turn in 0..TURNS_WATCHED {
         let spin = watch_turn(machine, hart)?;
         keep(spin, &mut shown);
     }

@@ -1,6 +1,6 @@
 //! All harts go on, in turns.
 
-ghost use Rattle.std.specs.Prelude.{◌≡◌, ◌≤◌, OnOk};
+ghost use Rattle.std.specs.Prelude.{◌≡◌, ◌<◌, ◌≤◌, OnOk, length, true};
 ghost use Rattle.sc_machine.specs.Machine.{Agrees, InEachState};
 ghost use Rattle.stuck_harts.specs.Turns.{GoesUpTo, goes, stepped, turns};
 
@@ -12,7 +12,7 @@ use std::alloc::AllocError;
 pub(crate) fn take_turns(machine: &mut Machine, count: u32) -> Result<(), AllocError>
     ensures { OnOk result (InEachState machine.old (λ setup s. Agrees setup (turns setup count s) machine.new)) }
 {
-    for _turn in 0..count {
+    for turn in 0..count {
         let harts = machine.harts();
         go_up_to(machine, 0, harts)?;
     }
@@ -46,7 +46,8 @@ fn step_if_going(machine: &mut Machine, hart: u8) -> Result<(), AllocError>
 
 /// Whether a hart is there and goes.
 pub(crate) fn goes(machine: &Machine, hart: u8) -> bool
-    ensures { InEachState machine.now (λ setup s. result ≡ goes setup s hart) }
+    ensures value { InEachState machine.now (λ setup s. result ≡ goes setup s hart) }
+    ensures there { result ≡ true → hart < length machine.now.harts }
 {
     if hart >= machine.harts() {
         return false;
