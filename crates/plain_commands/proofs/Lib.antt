@@ -6,3 +6,4 @@ pub mod OfWrittenOrders
 pub mod OfLitmus
 pub mod Retired
 pub mod FirstSettling
+pub mod OfWrittenStories

@@ -1,6 +1,6 @@
 -- The order that the command `outcomes` writes into a file. (This project's own choice.)
 use Rattle.std.specs.Prelude.{◌≡◌, ◌⊎◌, ℕ, ◌-◌, ◌<◌, Bool, true, false, not, ◌&&◌, is_some, if◌then◌else◌, List, reverse}
-use Rattle.std.specs.Prelude.{Option, Some, None, ◌++◌, length, position, option_map, flat_map}
+use Rattle.std.specs.Prelude.{Option, Some, None, [], ◌++◌, length, position, option_map, flat_map}
 use Rattle.std.specs.{Option.option_map_or, Option.option_and_then, Option.option_or}
 use Rattle.elf_image.specs.Image.{ProgramImage}
 use Rattle.core_state.specs.Setup.{setup_of}

@@ -1,7 +1,7 @@
 //! The story that the command `outcomes` writes into a file: that of an order, and behind it the line of the outcome to
 //! which this leads, or what each hart waits for, where that is a state that is stuck.
 
-ghost use Rattle.std.specs.Prelude.{◌≡◌, ◌++◌, ◌<◌, IfOk, IfErr, OnOk, option_map};
+ghost use Rattle.std.specs.Prelude.{◌≡◌, ◌++◌, ◌<◌, IfOk, IfErr, OnOk, option_map, reverse};
 ghost use Rattle.core_state.specs.Setup.{setup_of};
 ghost use Rattle.outcomes.specs.Found.{Told};
 ghost use Rattle.plain_run.specs.Orders.{OfEachSetup};
