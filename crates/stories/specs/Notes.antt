@@ -1,8 +1,8 @@
 -- What the rows told so far, the newest first, make of a hart's next step.
 -- A lost update: r1[x] .. w2[x] .. w1[x]. [Berenson, Bernstein, Gray, Melton, O'Neil and O'Neil, A Critique of ANSI SQL
 -- Isolation Levels, SIGMOD 1995, P4]
--- An ABA: a word is found as it was, though others have written to it. [IBM System/370 Principles of Operation, appendix
--- A, on COMPARE AND SWAP; Michael, Hazard Pointers, IEEE TPDS 2004]
+-- An ABA: a word is found as it was, though others have written to it. [IBM System/370 Principles of Operation,
+-- appendix A, on COMPARE AND SWAP; Michael, Hazard Pointers, IEEE TPDS 2004]
 -- Of what rows they are sought in, and what is a read of the word: this project's own choice.
 use Rattle.std.specs.Prelude.{◌≡◌, ℕ, ◌≤◌, ◌==◌, ◌&&◌, Bool, not, if◌then◌else◌, List, find, take}
 use Rattle.std.specs.Prelude.{Option, Some, None, is_some}

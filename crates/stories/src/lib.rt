@@ -4,8 +4,8 @@
 //! kept. Whoever tells it asks for each step before the machine makes it.
 //!
 //! Read in this order: `deed` (what a step shows), `step` (a step before it is made), `row` (one of a story), `teller`
-//! (who took a reservation), `span` (the bytes that a step accesses), `recent` (lost updates and ABAs, by the last rows),
-//! `laws` (that a story says what the records say).
+//! (who took a reservation), `span` (the bytes that a step accesses), `recent` (lost updates and ABAs, by the last
+//! rows), `laws` (that a story says what the records say).
 #![tactic(auto)]
 
 mod deed;

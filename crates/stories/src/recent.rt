@@ -100,8 +100,8 @@ impl Recent {
     }
 }
 
-/// Whether a store of a hart to these bytes loses an update: the hart's last access of them was a read, and another hart
-/// has written to them behind that.
+/// Whether a store of a hart to these bytes loses an update: the hart's last access of them was a read, and another
+/// hart has written to them behind that.
 fn lost_update(rows: &[Row], hart: u8, span: Span) -> Option<Note>
     ensures { result ≡ lost_update hart span rows.now }
 {

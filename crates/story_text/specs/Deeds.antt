@@ -63,7 +63,8 @@ atomic_text names addr old new =
 -- Which row it is: its hart, its mnemonic and its number.
 abbrev pub row_text : Row → List ℕ
 row_text row =
-    codes "hart " ++ (decimal row.hart ++ (codes "'s " ++ (name_of row.deed ++ (codes " at row " ++ decimal row.number))))
+    codes "hart " ++ (decimal row.hart ++ (codes "'s " ++ (name_of row.deed ++ (codes " at row "
+    ++ decimal row.number))))
 
 -- Who took a reservation.
 abbrev pub taker_text : Row → List ℕ
@@ -85,7 +86,8 @@ lost_text read write =
 
 abbrev pub again_text : Row → Row → List ℕ
 again_text read write =
-    codes ", ABA: as at row " ++ (decimal read.number ++ (codes ", though " ++ (row_text write ++ codes " wrote since")))
+    codes ", ABA: as at row " ++ (decimal read.number ++ (codes ", though " ++ (row_text write
+    ++ codes " wrote since")))
 
 abbrev pub note_text : Option Note → List ℕ
 note_text None = []
