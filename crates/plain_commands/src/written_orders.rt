@@ -186,7 +186,13 @@ pub(crate) fn put_order<S: EndFiles>(
         return Ok(());
     };
     let text = match text_of(
-        image, settings, command, order.as_slice(), line, form, alloc,
+        image,
+        settings,
+        command,
+        order.as_slice(),
+        line,
+        form,
+        alloc,
     ) {
         Ok(text) => text,
         Err(refused) => return Err(refused),

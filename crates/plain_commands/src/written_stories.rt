@@ -175,12 +175,7 @@ fn write_wait(
 }
 
 /// The machine of an image behind an order that it makes: so only memory can be lacking.
-fn machine_behind(
-    image: &Image,
-    harts: u8,
-    order: &[u8],
-    alloc: Global,
-) -> Result<Plain, Refused>
+fn machine_behind(image: &Image, harts: u8, order: &[u8], alloc: Global) -> Result<Plain, Refused>
     ensures stands { IfOk result
         (λ machine. OfEachSetup image.now harts (λ setup. HasCome setup order.now machine)) }
     ensures refused { IfErr result (IsMachineRefusal image.now harts order.now) }
