@@ -13,8 +13,9 @@ use Rattle.core_commands.specs.{Prompt.PromptComesTo}
 -- is given, its image passes every check, and the command has come to what is owed on it, with the names and the source
 -- lines that it wants.
 abbrev pub TypedComesTo : {P : Type 0} → (P → ℕ → ℕ → ℕ → ℕ → P → Type 0) → P → Option ℕ → StepCommand → Read → Read
-    → Read → Option (List ℕ) → (Table → Wants) → (CoreView → Type 0) → Option (List ℕ) → Option (List ℕ) → ℕ → Type 0
+    → Read → Option (List ℕ) → (Table → Wants) → (CoreView → Type 0) → Option (List ℕ) → Option (List ℕ) → ℕ
+    → Type 0
 TypedComesTo predicts before harts step config image lines input wanted Traced old new status =
-    OfNamedProgram (step.names || step.story) config image (λ settings program names. OfLines (is_some step.lines) lines program
-    (λ origins. PromptComesTo predicts before (with_harts harts settings) program input (wanted names)
+    OfNamedProgram (step.names || step.story) config image (λ settings program names. OfLines (is_some step.lines) lines
+    program (λ origins. PromptComesTo predicts before (with_harts harts settings) program input (wanted names)
     (marks_where step.names names origins) Traced old new status))

@@ -56,7 +56,8 @@ pub(crate) fn write_account<S: EndFiles, W: Write>(
     ensures traced { OnOk result (IsTraceWritten S.written S.has_failed trace.old trace.new
         wanted.trace core.now) }
     ensures reported { IfOk result
-        (IsReported core.now idle.now (wants_of wanted) (marks_of labels.now) (W.contents out.old) (W.contents out.new)) }
+        (IsReported core.now idle.now (wants_of wanted) (marks_of labels.now)
+        (W.contents out.old) (W.contents out.new)) }
     ensures unwanted { wanted.trace ≡ false → trace.new ≡ trace.old }
     ensures unbroken { OnOk result (S.has_failed trace.new ≡ false) }
     ensures finished { OnOk result (S.is_finished trace.new ≡ true) }
@@ -100,7 +101,8 @@ pub(crate) fn report_core<W: Write>(
 ) -> Result<u8, Refused>
     ensures refused { IfErr result (λ reason. (reason ≡ Memory) ⊎ (reason ≡ Output)) }
     ensures reported { IfOk result
-        (IsReported core.now idle.now (wants_of wanted) (marks_of labels.now) (W.contents out.old) (W.contents out.new)) }
+        (IsReported core.now idle.now (wants_of wanted) (marks_of labels.now)
+        (W.contents out.old) (W.contents out.new)) }
 {
     match made_of(core, wanted, alloc) {
         Ok(made) => write_made(core, idle, wanted, labels, &made, out, alloc),
@@ -148,7 +150,8 @@ fn write_made<W: Write>(
     requires ends { AreTables (is_some wanted.ends) made.now.ends.items }
     ensures refused { IfErr result (λ reason. (reason ≡ Memory) ⊎ (reason ≡ Output)) }
     ensures reported { IfOk result
-        (IsReported core.now idle.now (wants_of wanted) (marks_of labels.now) (W.contents out.old) (W.contents out.new)) }
+        (IsReported core.now idle.now (wants_of wanted) (marks_of labels.now)
+        (W.contents out.old) (W.contents out.new)) }
 {
     tell_story(core, &wanted.story, labels, out, alloc)?;
     if out.write_all(made.tables.as_slice()).is_err() {

@@ -1,9 +1,9 @@
 //! The commands over cores and their histories.
 //!
-//! Read in this order: `wanted` (what is wanted of a core), `core_story` (the story of one), `account` (what is reported
-//! of one), then a module a command: `step`, `prompt` (the same of a script that is typed), `run`, `stress` (many runs), `check`, `script`,
-//! `chart` and `migrate`. What each command comes to, and when each of its refusals comes, stands in `specs` under
-//! the command's name.
+//! Read in this order: `wanted` (what is wanted of a core), `core_story` (the story of one), `account` (what is
+//! reported of one), then a module a command: `step`, `prompt` (the same of a script that is typed), `run`, `stress`
+//! (many runs), `check`, `script`, `chart` and `migrate`. What each command comes to, and when each of its refusals
+//! comes, stands in `specs` under the command's name.
 #![tactic(auto)]
 
 mod account;

@@ -1,5 +1,5 @@
-//! The stories of cores, worked by hand from the order in which they retire: of a script whose load is overtaken, and of
-//! a trace.
+//! The stories of cores, worked by hand from the order in which they retire: of a script whose load is overtaken,
+//! and of a trace.
 
 use super::{ENDING, SINGLE, TWO};
 use crate::lines::{check_story_line, step_story_line};

@@ -21,8 +21,8 @@ returns g c =
       ended =
           with_both answer _ _ _ traced reported
           (λ traced status reported. comes_to c.args.settings.now c.args.image.now c.args.script.now c.args.why
-          (wants_of c.args.wanted) (marks_of c.args.labels.now) c.in_ok-finished.finished.core c.in_ok-finished.finished.idle _
-          _ _ _ status
+          (wants_of c.args.wanted) (marks_of c.args.labels.now) c.in_ok-finished.finished.core
+          c.in_ok-finished.finished.idle _ _ _ _ status
           asked.accepted asked.script asked.setup asked.limit asked.shown asked.printed traced reported);
       unwanted = λ none. account.unwanted none ∙ asked.unwritten;
       unbroken = account.unbroken;
