@@ -1,20 +1,17 @@
 -- The story of a core: what is told of its retirements, and what may be refused of it.
-use Rattle.std.specs.Prelude.{◌≡◌, ◌⊎◌, ℕ, ◌<◌, ◌≤◌, Bool, true, false, List, Option, Some, reverse}
+use Rattle.std.specs.Prelude.{◌≡◌, ◌⊎◌, ℕ, ◌<◌, ◌≤◌, false, List, Option, Some, reverse}
 use Rattle.std.proofs.Common.{refl, sym, subst, arith}
 use Rattle.std.proofs.lemmas.Bool.Decides.{nat_tests}
 use mathlib.Core.Logic.{inl, inr}
 use Rattle.std.specs.Io.KnownBytes.{Appends}
 use Rattle.elf_image.specs.Image.{ProgramImage}
 use Rattle.numbers.specs.Sizes.{most_harts}
-use Rattle.smt_model.specs.{Account.order, Setup.Setup}
 use Rattle.core_state.specs.View.{CoreView}
 use Rattle.sc_machine.specs.Steps.{are_harts}
 use Rattle.sc_machine.specs.declared.refused.Stopped.{Stopped}
 use Rattle.plain_run.specs.Orders.{IsStoppedAt, OfEachSetup}
 use Rattle.history_check.specs.Rerun.{IsRetirementOrder}
 use Rattle.address_labels.specs.Labels.{Marks}
-use Rattle.symbols.specs.Tables.{Table}
-use Rattle.story_text.specs.Text.{Plan}
 use Rattle.plain_commands.specs.Plain.{IsStoryRefusal, told_text}
 use Rattle.command_parts.specs.declared.refused.Refused.{Refused}
 use Rattle.command_parts.specs.declared.refused.Refused.TheVariants.{Image, Config, Harts, Script, Order, Step, Memory}
@@ -24,7 +21,7 @@ use Rattle.command_parts.specs.declared.refused.Refused.TheVariants.{Picture, Li
 use Rattle.command_parts.specs.declared.refused.Refused.TheVariants.{NeverFetched, Turned, Watch, Condition}
 use Rattle.command_parts.specs.declared.refused.Refused.TheVariants.{ManyWatched, NoWord, NoOutcome, NotStuck}
 use Rattle.command_parts.specs.declared.refused.Refused.TheVariants.{NoAnswer, Litmus, NothingToDraw}
-use Rattle.core_commands.specs.Account.{core_plan, story_of}
+use Rattle.core_commands.specs.Account.{story_of}
 use Rattle.core_commands.specs.Wanted.{StoryRows}
 
 -- A core has harts, and not too many.
@@ -49,37 +46,37 @@ module _ (core : CoreView) (image : ProgramImage) (harts : ℕ) (listed : List �
   story_refusal Config none = absurd (some_harts harts some few none)
   story_refusal (Step index why) stopped =
       absurd (no_stop core image harts listed index why of_image of_harts is stopped)
-  story_refusal Memory tt = inl refl
-  story_refusal Output tt = inr refl
-  story_refusal (Image number) no = absurd no
-  story_refusal Harts no = absurd no
-  story_refusal (Script number) no = absurd no
-  story_refusal (Order index) no = absurd no
-  story_refusal (Trace line rule) no = absurd no
-  story_refusal Version no = absurd no
-  story_refusal (Event index rule) no = absurd no
-  story_refusal (Prediction index) no = absurd no
-  story_refusal (Register index) no = absurd no
-  story_refusal (NoUnit kind) no = absurd no
-  story_refusal (Limit least) no = absurd no
-  story_refusal (NoHart hart) no = absurd no
-  story_refusal (Lines number fault) no = absurd no
-  story_refusal (NamesNothing option) no = absurd no
-  story_refusal (NamesSeveral option) no = absurd no
-  story_refusal (NeverFetched option) no = absurd no
-  story_refusal (Turned from to) no = absurd no
-  story_refusal (Picture last) no = absurd no
-  story_refusal (Watch why) no = absurd no
-  story_refusal (Condition why) no = absurd no
-  story_refusal ManyWatched no = absurd no
-  story_refusal (NoWord address) no = absurd no
-  story_refusal (NoOutcome number) no = absurd no
-  story_refusal NotStuck no = absurd no
-  story_refusal NoAnswer no = absurd no
-  story_refusal (Litmus place fault) no = absurd no
-  story_refusal NothingToDraw no = absurd no
-  story_refusal Thread no = absurd no
-  story_refusal File no = absurd no
+  story_refusal Memory so = inl refl
+  story_refusal Output so = inr refl
+  story_refusal (Image number) never = absurd never
+  story_refusal Harts never = absurd never
+  story_refusal (Script number) never = absurd never
+  story_refusal (Order index) never = absurd never
+  story_refusal (Trace line rule) never = absurd never
+  story_refusal Version never = absurd never
+  story_refusal (Event index rule) never = absurd never
+  story_refusal (Prediction index) never = absurd never
+  story_refusal (Register index) never = absurd never
+  story_refusal (NoUnit kind) never = absurd never
+  story_refusal (Limit least) never = absurd never
+  story_refusal (NoHart hart) never = absurd never
+  story_refusal (Lines number fault) never = absurd never
+  story_refusal (NamesNothing option) never = absurd never
+  story_refusal (NamesSeveral option) never = absurd never
+  story_refusal (NeverFetched option) never = absurd never
+  story_refusal (Turned from to) never = absurd never
+  story_refusal (Picture last) never = absurd never
+  story_refusal (Watch why) never = absurd never
+  story_refusal (Condition why) never = absurd never
+  story_refusal ManyWatched never = absurd never
+  story_refusal (NoWord address) never = absurd never
+  story_refusal (NoOutcome number) never = absurd never
+  story_refusal NotStuck never = absurd never
+  story_refusal NoAnswer never = absurd never
+  story_refusal (Litmus place fault) never = absurd never
+  story_refusal NothingToDraw never = absurd never
+  story_refusal Thread never = absurd never
+  story_refusal File never = absurd never
 
   -- What is told of the order is the story of the core.
   pub story_is_told : (told : Option StoryRows) (rows : StoryRows) (marks : Marks) (columns : ℕ)
@@ -89,10 +86,10 @@ module _ (core : CoreView) (image : ProgramImage) (harts : ℕ) (listed : List �
       → Appends old new (story_of told marks core)
   story_is_told told rows marks columns old new wanted same tells =
       let own = tells core.setup of_image of_harts in
-      let of_order = subst (λ (hs : List ℕ). Appends old new (told_text
-      (Some (record { harts = columns; all = rows.all; names = rows.names; marks = marks })) core.setup hs))
-      is.reversed own in
-      let of_core = subst (λ (n : ℕ). Appends old new (told_text
-      (Some (record { harts = n; all = rows.all; names = rows.names; marks = marks })) core.setup (order core.past)))
-      same of_order in
+      let of_columns = subst (λ (n : ℕ). Appends old new (told_text
+      (Some (record { harts = n; all = rows.all; names = rows.names; marks = marks })) core.setup (reverse listed)))
+      same own in
+      let of_core = subst (λ (hs : List ℕ). Appends old new (told_text
+      (Some (record { harts = core.setup.harts; all = rows.all; names = rows.names; marks = marks })) core.setup hs))
+      is.reversed of_columns in
       subst (λ (t : Option StoryRows). Appends old new (story_of t marks core)) (sym wanted) of_core
