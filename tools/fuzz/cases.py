@@ -22,6 +22,7 @@ import migrate
 import outcomes_compare
 import program
 import random_runs
+import retold
 import schedule
 import traces
 from trace_changes import changed, other_head
@@ -105,7 +106,7 @@ def by_explanation(line):
 
 
 def by_judge(line):
-    return captured(judge.main, line[1:])
+    return captured(retold.main if "--story" in line else judge.main, line[1:])
 
 
 def by_why(line):
@@ -244,7 +245,8 @@ def some_trace(r):
 
 
 def some_check(r):
-    return some_trace(r), ["check", "image.elf", "trace", "--config", "config.toml", "--records"][: r.choice((5, 6))]
+    line = ["check", "image.elf", "trace", "--config", "config.toml", "--records"][: r.choice((5, 6))]
+    return some_trace(r), line + r.choice(([], ["--story"], ["--story", "--all"]))
 
 
 def some_why(r):
