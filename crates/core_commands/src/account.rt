@@ -54,11 +54,11 @@ pub(crate) fn write_account<S: EndFiles, W: Write>(
     requires finished { S.is_finished trace.old ≡ true }
     ensures refused { IfErr result (λ reason. (reason ≡ Memory) ⊎ (reason ≡ Output)) }
     ensures traced { OnOk result (IsTraceWritten S.written S.has_failed trace.old trace.new
-        wanted.trace core.now) }
+        wanted.entry.trace core.now) }
     ensures reported { IfOk result
-        (IsReported core.now idle.now (wants_of wanted) (marks_of labels.now)
+        (IsReported core.now idle.now (wants_of wanted.entry) (marks_of labels.now)
         (W.contents out.old) (W.contents out.new)) }
-    ensures unwanted { wanted.trace ≡ false → trace.new ≡ trace.old }
+    ensures unwanted { wanted.entry.trace ≡ false → trace.new ≡ trace.old }
     ensures unbroken { OnOk result (S.has_failed trace.new ≡ false) }
     ensures finished { OnOk result (S.is_finished trace.new ≡ true) }
     ensures unreported { S.has_failed trace.new ≡ true
@@ -101,7 +101,7 @@ pub(crate) fn report_core<W: Write>(
 ) -> Result<u8, Refused>
     ensures refused { IfErr result (λ reason. (reason ≡ Memory) ⊎ (reason ≡ Output)) }
     ensures reported { IfOk result
-        (IsReported core.now idle.now (wants_of wanted) (marks_of labels.now)
+        (IsReported core.now idle.now (wants_of wanted.entry) (marks_of labels.now)
         (W.contents out.old) (W.contents out.new)) }
 {
     match made_of(core, wanted, alloc) {
@@ -120,9 +120,9 @@ struct Made {
 
 /// What is wanted of a core that takes memory to make.
 fn made_of(core: &Core, wanted: Wanted<'_>, alloc: Global) -> Result<Made, AllocError>
-    ensures counts { IfOk result (λ made. made.counts ≡ counts_in wanted.counts core.now) }
-    ensures tables { IfOk result (λ made. AreTables wanted.tables made.tables.items) }
-    ensures ends { IfOk result (λ made. AreTables (is_some wanted.ends) made.ends.items) }
+    ensures counts { IfOk result (λ made. made.counts ≡ counts_in wanted.entry.counts core.now) }
+    ensures tables { IfOk result (λ made. AreTables wanted.entry.tables made.tables.items) }
+    ensures ends { IfOk result (λ made. AreTables (is_some wanted.entry.ends) made.ends.items) }
 {
     let counts = counts_in(core, wanted.counts, alloc)?;
     let tables = table_text(core, wanted.tables, alloc)?;
@@ -150,7 +150,7 @@ fn write_made<W: Write>(
     requires ends { AreTables (is_some wanted.ends) made.now.ends.items }
     ensures refused { IfErr result (λ reason. (reason ≡ Memory) ⊎ (reason ≡ Output)) }
     ensures reported { IfOk result
-        (IsReported core.now idle.now (wants_of wanted) (marks_of labels.now)
+        (IsReported core.now idle.now (wants_of wanted.entry) (marks_of labels.now)
         (W.contents out.old) (W.contents out.new)) }
 {
     tell_story(core, &wanted.story, labels, out, alloc)?;
@@ -175,8 +175,8 @@ fn write_report<W: Write>(
     out: &mut W,
 ) -> io::Result<()>
     ensures { OnOk result (Appends (W.contents out.old) (W.contents out.new)
-        (records_text wanted.records (marks_of labels.now) account.now.records.now
-        ++ body_text wanted.json account.now.events account.now.records.now account.now.lent
+        (records_text wanted.entry.records (marks_of labels.now) account.now.records.now
+        ++ body_text wanted.entry.json account.now.events account.now.records.now account.now.lent
         account.now.statuses.items account.now.output.now made.now.counts idle.now made.now.ends.items)) }
 {
     report_records(wanted.records, account.records, labels, out)?;

@@ -45,10 +45,11 @@ pub fn perform_check<W: Write>(
     alloc: Global,
 ) -> Result<u8, Refused>
     ensures refused { IfErr result
-        (IsCheckRefusalWith (is_some wanted.ends) settings.now image.now trace.now) }
-    ensures told { IfErr result (IsToldOn (is_some wanted.ends) settings.now image.now trace.now
+        (IsCheckRefusalWith (is_some wanted.entry.ends) settings.now image.now trace.now) }
+    ensures told { IfErr result (IsToldOn (is_some wanted.entry.ends) settings.now image.now trace.now
         (W.contents out.old) (W.contents out.new)) }
-    ensures ended { IfOk result (CheckComesTo settings.now image.now trace.now (wants_of wanted) (marks_of labels.now)
+    ensures ended { IfOk result (CheckComesTo settings.now image.now trace.now (wants_of wanted.entry)
+        (marks_of labels.now)
         (W.contents out.old) (W.contents out.new)) }
 {
     let checked = match judge(image, settings, trace, alloc) {

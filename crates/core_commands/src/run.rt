@@ -117,10 +117,10 @@ pub fn perform_run<
     requires works { S.has_failed context.old.files ≡ false }
     requires finished { S.is_finished context.old.files ≡ true }
     ensures refused { IfErr result (IsRunRefusal settings.now) }
-    ensures ended { IfOk result (RunComesTo settings.now image.now (wants_of wanted) (marks_of labels.now)
-        (IsTraceWritten S.written S.has_failed context.old.files context.new.files wanted.trace)
+    ensures ended { IfOk result (RunComesTo settings.now image.now (wants_of wanted.entry) (marks_of labels.now)
+        (IsTraceWritten S.written S.has_failed context.old.files context.new.files wanted.entry.trace)
         (W.contents context.old.out) (W.contents context.new.out)) }
-    ensures unwanted { wanted.trace ≡ false → context.new.files ≡ context.old.files }
+    ensures unwanted { wanted.entry.trace ≡ false → context.new.files ≡ context.old.files }
     ensures unbroken { OnOk result (S.has_failed context.new.files ≡ false) }
     ensures finished { OnOk result (S.is_finished context.new.files ≡ true) }
     ensures unreported { S.has_failed context.new.files ≡ true

@@ -246,11 +246,11 @@ pub fn perform_step<R, G, P: Predict + Copy, S: EndFiles, W: Write>(
     requires works { S.has_failed context.old.files ≡ false }
     requires finished { S.is_finished context.old.files ≡ true }
     ensures refused { IfErr result (IsStepRefusal settings.now script.now) }
-    ensures ended { IfOk result (StepComesTo settings.now image.now script.now why (wants_of wanted)
+    ensures ended { IfOk result (StepComesTo settings.now image.now script.now why (wants_of wanted.entry)
         (marks_of labels.now)
-        (IsTraceWritten S.written S.has_failed context.old.files context.new.files wanted.trace)
+        (IsTraceWritten S.written S.has_failed context.old.files context.new.files wanted.entry.trace)
         (W.contents context.old.out) (W.contents context.new.out)) }
-    ensures unwanted { wanted.trace ≡ false → context.new.files ≡ context.old.files }
+    ensures unwanted { wanted.entry.trace ≡ false → context.new.files ≡ context.old.files }
     ensures unbroken { OnOk result (S.has_failed context.new.files ≡ false) }
     ensures finished { OnOk result (S.is_finished context.new.files ≡ true) }
     ensures unreported { S.has_failed context.new.files ≡ true → (core : CoreView) × (idle : List ℕ)

@@ -13,8 +13,8 @@ returns-clause-told g c =
     let harts = c.harts-2.ensures in
     let listed : IsRetirementOrder core c.as_slice.result.now = rw c.as_slice.ensures.value c.in-Ok.ensures in
     on_ok_weaker c.tell_image.result
-    (λ tells. story_is_told core c.image.result.now c.harts-2.result c.as_slice.result.now
-    (sym (c.image.ensures ∙ c.memory.ensures.image)) (sym harts.harts) harts.some harts.few listed
+    (λ tells. story_is_told core c.image-image.result.now c.harts-2.result c.as_slice.result.now
+    (sym (c.image-image.ensures ∙ c.memory.ensures.image)) (sym harts.harts) harts.some harts.few listed
     (option_map rows_of c.args.story.now) (rows_of c.in-Some.story) (marks_of c.args.labels.now) c.harts.result _ _
     (ap (option_map rows_of) c.in-Some.is) c.harts.ensures.harts tells)
     c.tell_image.ensures.told
@@ -25,6 +25,6 @@ returns-clause-refused g c =
     let harts = c.harts-2.ensures in
     let listed : IsRetirementOrder core c.as_slice.result.now = rw c.as_slice.ensures.value c.in-Ok.ensures in
     IfErr-weaker c.tell_image.result _ _
-    (λ reason is. story_refusal core c.image.result.now c.harts-2.result c.as_slice.result.now
-    (sym (c.image.ensures ∙ c.memory.ensures.image)) (sym harts.harts) harts.some harts.few listed reason is)
+    (λ reason is. story_refusal core c.image-image.result.now c.harts-2.result c.as_slice.result.now
+    (sym (c.image-image.ensures ∙ c.memory.ensures.image)) (sym harts.harts) harts.some harts.few listed reason is)
     c.tell_image.ensures.refused
