@@ -15,7 +15,7 @@ use Rattle.core_commands.specs.{Account.IsTraceWritten}
 use Rattle.core_commands.specs.{Run.IsRunRefusal, Run.RunComesTo}
 use Rattle.commands.specs.{Commands.RunsComeTo}
 use Rattle.commands.specs.{Perform.IsPerformed, Written.IsWritten}
-use Rattle.core_commands.specs.{declared.wanted.Wanted.Wanted, Wanted.run_wants}
+use Rattle.core_commands.specs.{declared.wanted.Wanted.Wanted, Wanted.Wants, Wanted.run_wants, Wanted.wants_of}
 use Rattle.core_commands.specs.Stress.{StressComesTo, AreEndsWritten}
 
 module _ {S : Type 0} (begins : S → ℕ → Part → S → Type 0) (written : S → Option (List ℕ)) (has_failed : S → Bool)
@@ -46,8 +46,8 @@ module _ {S : Type 0} (begins : S → ℕ → Part → S → Type 0) (written : 
     unreported = unreported;
   }
 
-  pub one_performed : (wanted : Wanted) → run.times ≡ None → wanted ≡ run_wants run
-      → IfOk answer (RunComesTo settings program wanted (marks_where run.names names lines)
+  pub one_performed : (wanted : Wanted) → run.times ≡ None → wants_of wanted ≡ run_wants run
+      → IfOk answer (RunComesTo settings program (wants_of wanted) (marks_where run.names names lines)
       (IsTraceWritten written has_failed before after wanted.trace) old new)
       → (wanted.trace ≡ false → after ≡ before)
       → IsPerformed begins is_finished written has_failed before after
@@ -59,11 +59,11 @@ module _ {S : Type 0} (begins : S → ℕ → Part → S → Type 0) (written : 
         (IsWritten begins written has_failed before after) old new))
         (sym is)
         (subst
-        (λ (w : Wanted).
+        (λ (w : Wants).
         IfOk answer (RunComesTo settings program w (marks_where run.names names lines)
         (IsTraceWritten written has_failed before after w.trace) old new))
         same ended);
-    unwanted = λ none. unwanted (ap (λ (w : Wanted). w.trace) same ∙ rw is at none);
+    unwanted = λ none. unwanted (ap (λ (w : Wants). w.trace) same ∙ rw is at none);
     unbroken = unbroken;
     finished = finished;
     unreported = unreported;

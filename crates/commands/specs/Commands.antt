@@ -41,7 +41,7 @@ IsCommandRefusal (commands.Step step) settings image names second reason =
     BehindFile second (IsStepRefusal settings) reason
 IsCommandRefusal (commands.Run run) settings image names second reason = IsRunRefusal settings reason
 IsCommandRefusal (commands.Check check) settings image names second reason =
-    BehindFile second (IsCheckRefusalWith (is_some (check_wants check).ends) settings image) reason
+    BehindFile second (IsCheckRefusalWith (is_some (check_wants check names).ends) settings image) reason
 IsCommandRefusal (commands.Plain plain) settings image names second reason =
     InRounds (rounds_of plain) (λ rounds. IsRoundsRefusal settings reason)
     (BehindFile second (IsPlainRefusal settings image) reason)
@@ -74,13 +74,13 @@ abbrev pub CommandComesTo : ProgramCommand → Settings → ProgramImage → Tab
     → (ToWrite → Type 0)
     → Option (List ℕ) → Option (List ℕ) → ℕ → Type 0
 CommandComesTo (commands.Step step) settings image names lines second Traced old new status =
-    OfFile second (λ script. StepComesTo settings image script step.why (step_wants step)
+    OfFile second (λ script. StepComesTo settings image script step.why (step_wants step names)
     (marks_where step.names names lines)
     (λ core. Traced (TraceOf (is_some step.trace) core)) old new status)
 CommandComesTo (commands.Run run) settings image names lines second Traced old new status =
     RunsComeTo run.times run settings image (marks_where run.names names lines) Traced old new status
 CommandComesTo (commands.Check check) settings image names lines second Traced old new status =
-    OfFile second (λ trace. CheckComesTo settings image trace (check_wants check)
+    OfFile second (λ trace. CheckComesTo settings image trace (check_wants check names)
     (marks_where check.names names lines) old new status)
 CommandComesTo (commands.Plain plain) settings image names lines second Traced old new status =
     InRounds (rounds_of plain)
@@ -142,9 +142,9 @@ is_function (ends.Function name) = true
 abbrev pub wants_names : ProgramCommand → Bool
 wants_names (commands.Outcomes outcomes) = true
 wants_names (commands.Chart chart) = (chart.names || is_function chart.from) || is_function chart.to
-wants_names (commands.Step step) = step.names
+wants_names (commands.Step step) = step.names || step.story
 wants_names (commands.Run run) = run.names
-wants_names (commands.Check check) = check.names
+wants_names (commands.Check check) = check.names || check.story
 wants_names (commands.Plain plain) = plain.names || plain.story
 wants_names (commands.List list) = list.names
 wants_names (commands.Schedule schedule) = false

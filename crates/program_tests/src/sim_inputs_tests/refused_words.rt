@@ -15,6 +15,9 @@ smtsim step --fast first.elf first.script
 smtsim step --show --show a b
 smtsim step --show=yes a b
 smtsim step --looks --looks a b
+smtsim step --all a b
+smtsim step --story --story a b
+smtsim check --all a t
 smtsim step --record a b
 smtsim step a b --config
 smtsim step a b --trace
