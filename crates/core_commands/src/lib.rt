@@ -1,8 +1,8 @@
 //! The commands over cores and their histories.
 //!
 //! Read in this order: `wanted` (what is wanted of a core), `account` (what is reported of one), then a module a
-//! command: `step`, `prompt` (the same of a script that is typed), `run`, `stress` (many runs), `check`, `script`,
-//! `chart` and `migrate`. What each command comes to, and when each of its refusals comes, stands in `specs` under
+//! command: `step`, `prompt` (the same of a script that is typed), `run`, `watching` (what is watched of many runs),
+//! `stress` (many runs), `check`, `script`, `chart` and `migrate`. What each command comes to, and when each of its refusals comes, stands in `specs` under
 //! the command's name.
 #![tactic(auto)]
 
@@ -19,6 +19,7 @@ mod script;
 mod step;
 mod stress;
 mod wanted;
+mod watching;
 mod why;
 
 pub use chart::perform_chart;

@@ -96,10 +96,12 @@ pub(crate) fn add_watch(
     hint: &mut Hint,
     alloc: Global,
 ) -> Result<(), AllocError> {
-    if let Command::OfProgram(ProgramCommand::Outcomes(asked)) = fault.line.command {
-        return add_query("--watch", asked.watch, why, fault, hint, alloc);
-    }
-    Ok(())
+    let list = match fault.line.command {
+        Command::OfProgram(ProgramCommand::Outcomes(asked)) => asked.watch,
+        Command::OfProgram(ProgramCommand::Run(run)) => run.watch,
+        _ => return Ok(()),
+    };
+    add_query("--watch", list, why, fault, hint, alloc)
 }
 
 /// Adds where a condition is misspelled.

@@ -247,6 +247,7 @@ const LINES: [(&str, Line<'_>); 43] = [
                 records: false,
                 why: false,
                 times: None,
+                watch: None,
                 keep: None,
             })),
         },
@@ -267,6 +268,7 @@ const LINES: [(&str, Line<'_>); 43] = [
                 records: true,
                 why: false,
                 times: None,
+                watch: None,
                 keep: None,
             })),
         },
@@ -287,6 +289,7 @@ const LINES: [(&str, Line<'_>); 43] = [
                 records: false,
                 why: false,
                 times: None,
+                watch: None,
                 keep: None,
             })),
         },
@@ -442,7 +445,7 @@ const LINES: [(&str, Line<'_>); 43] = [
         },
     ),
     (
-        "smtsim run --times 1000000 a --keep=f",
+        "smtsim run --times 1000000 --watch a0@1,counter a --keep=f",
         Line {
             config: None,
             harts: None,
@@ -457,6 +460,7 @@ const LINES: [(&str, Line<'_>); 43] = [
                 records: false,
                 why: false,
                 times: Some(1_000_000),
+                watch: Some("a0@1,counter"),
                 keep: Some("f"),
             })),
         },
@@ -477,6 +481,7 @@ const LINES: [(&str, Line<'_>); 43] = [
                 records: false,
                 why: true,
                 times: None,
+                watch: None,
                 keep: None,
             })),
         },
@@ -917,9 +922,10 @@ fn exists_in<'a>(question: Option<QuestionText<'a>>) -> Option<&'a str> {
     }
 }
 
-/// The texts of a line that asks for outcomes, and whether its file is a script.
+/// The texts of a line that asks for runs or outcomes, and whether its file is a script.
 fn texts_of<'a>(line: &Line<'a>) -> (Option<&'a str>, Option<&'a str>, bool) {
     match line.command {
+        Command::OfProgram(ProgramCommand::Run(run)) => (run.watch, None, false),
         Command::OfProgram(ProgramCommand::Outcomes(outcomes)) => {
             (
                 outcomes.watch,
@@ -1014,6 +1020,7 @@ const NAMED: [(Line<'_>, Named<'_>); 14] = [
                 records: true,
                 why: false,
                 times: None,
+                watch: None,
                 keep: None,
             })),
         },
