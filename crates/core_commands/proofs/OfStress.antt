@@ -37,7 +37,8 @@ module _ {S : Type 0} (begins : S → ℕ → Part → S → Type 0) (written : 
     | inr old ↦ rw old refl
   ]
 
-  new_end : (rows : List Row) (core : CoreView) (s t : S) (number : ℕ) → Some number ≡ next_number (end_of watch core) rows
+  new_end : (rows : List Row) (core : CoreView) (s t : S) (number : ℕ)
+      → Some number ≡ next_number (end_of watch core) rows
       → IsKept begins written has_failed s t number core → IsNextKept begins written has_failed watch rows core s t
   new_end rows core s t number is kept = elim (cases_Bool (is_new (end_of watch core) rows)) [
     | inl new ↦
@@ -93,7 +94,8 @@ module _ {S : Type 0} (begins : S → ℕ → Part → S → Type 0) (written : 
     are = (once.is, tt);
     kept = more_written begins written has_failed watch keep [] once.core s s t
         (nothing_written begins written has_failed watch keep s)
-        (subst (λ (u : TallyView). IsEndWritten begins written has_failed s t keep watch u.rows once.core) none once.kept);
+        (subst (λ (u : TallyView). IsEndWritten begins written has_failed s t keep watch u.rows once.core) none
+        once.kept);
     tallied = once.counted [] (omega arith) none;
   }
 
@@ -113,8 +115,8 @@ module _ {S : Type 0} (begins : S → ℕ → Part → S → Type 0) (written : 
         many = longer;
         are = (once.is, so_far.are);
         kept = more_written begins written has_failed watch keep all once.core r s t so_far.kept
-            (subst (λ (u : TallyView). IsEndWritten begins written has_failed s t keep watch u.rows once.core) so_far.tallied
-            once.kept);
+            (subst (λ (u : TallyView). IsEndWritten begins written has_failed s t keep watch u.rows once.core)
+            so_far.tallied once.kept);
         tallied = once.counted (map (end_of watch) all) short so_far.tallied;
       }
 

@@ -2,8 +2,8 @@
 //!
 //! Read in this order: `wanted` (what is wanted of a core), `account` (what is reported of one), then a module a
 //! command: `step`, `prompt` (the same of a script that is typed), `run`, `watching` (what is watched of many runs),
-//! `stress` (many runs), `check`, `script`, `chart` and `migrate`. What each command comes to, and when each of its refusals comes, stands in `specs` under
-//! the command's name.
+//! `stress` (many runs), `check`, `script`, `chart` and `migrate`. What each command comes to, and when each of its
+//! refusals comes, stands in `specs` under the command's name.
 #![tactic(auto)]
 
 mod account;

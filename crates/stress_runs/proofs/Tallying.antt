@@ -1,6 +1,6 @@
 -- One more run in a tally.
-use Rattle.std.proofs.Common.{◌≡◌, ℕ, suc, ◌+◌, ◌%◌, ◌^◌, ◌<◌, ◌≤◌, Bool, true, false, not, ◌||◌, refl, ap, sym, subst, ◌∙◌}
-use Rattle.std.proofs.Common.{if◌then◌else◌, List, [], ◌∷◌, ◌++◌, length, map, max, arith, inl, inr}
+use Rattle.std.proofs.Common.{◌≡◌, ℕ, suc, ◌+◌, ◌%◌, ◌^◌, ◌<◌, ◌≤◌, Bool, true, false, not, ◌||◌, refl, ap, sym, subst}
+use Rattle.std.proofs.Common.{◌∙◌, if◌then◌else◌, List, [], ◌∷◌, ◌++◌, length, map, max, arith, inl, inr}
 use Rattle.std.proofs.lemmas.List.{map-append}
 use Rattle.std.specs.List.{list_any, filter}
 use Rattle.std.proofs.lemmas.Bool.{cases_Bool, false≢true}
@@ -10,7 +10,8 @@ use Rattle.smt_model.specs.{Basics.how_many}
 use Rattle.report_lines.specs.Lines.{status_number}
 use Rattle.stress_runs.specs.declared.tally.Row.{Row}
 use Rattle.watched_outcomes.specs.Endings.{Ending}
-use Rattle.stress_runs.specs.Ends.{same_end, ends_of, has_come, times_of, row_of, rows_of, worst_of, TallyView, tally_of, Counts}
+use Rattle.stress_runs.specs.Ends.{same_end, ends_of, has_come, times_of, row_of, rows_of, worst_of, TallyView}
+use Rattle.stress_runs.specs.Ends.{tally_of, Counts}
 use Rattle.stress_runs.specs.Ends.{has_end, counting}
 use Rattle.stress_runs.proofs.Same.{end_decides, end_turned}
 
@@ -111,7 +112,8 @@ module _ (end : Ending) (past : List Ending) (small : length past + 1 < 2 ^ 32) 
       let self : same_end end end ≡ true = (end_decides end end).1 refl in
       let once : times_of (end ∷ past) end ≡ 1 = rw self (ap suc (none_before past new)) in
       ap (λ rows. rows ++ record { end = end; count = 1 } ∷ []) (counted_rows (ends_of past))
-      ∙ ap (λ (n : ℕ). map (λ x. row_of (end ∷ past) x) (ends_of past) ++ record { end = end; count = n } ∷ []) (sym once)
+      ∙ ap (λ (n : ℕ). map (λ x. row_of (end ∷ past) x) (ends_of past) ++ record { end = end; count = n } ∷ [])
+      (sym once)
       ∙ sym (map-append (λ x. row_of (end ∷ past) x) (ends_of past) (end ∷ []))
       ∙ sym all
 
@@ -138,7 +140,8 @@ module _ (end : Ending) (old : TallyView) (rows : List Row) (status : ℕ)
   counts_first none is_rows = λ past small is.
       let new : has_come end past ≡ false =
       sym (has_row end past) ∙ ap (λ (t : TallyView). list_any (has_end end) t.rows) (sym is) ∙ none in
-      is_tally past is (is_rows ∙ ap (λ (t : TallyView). map (counting end) t.rows ++ record { end = end; count = 1 } ∷ []) is
+      is_tally past is (is_rows
+      ∙ ap (λ (t : TallyView). map (counting end) t.rows ++ record { end = end; count = 1 } ∷ []) is
       ∙ rows_first end past small new)
 
 -- The same, of a tally whose parts are these: its rows have counted the run, and it is told whether one of

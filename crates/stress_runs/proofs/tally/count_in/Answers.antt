@@ -14,14 +14,17 @@ loop-row-preserved c =
       | then-is_one_end w ↦
           let same = sym c.is_one_end.ensures ∙ w.if-is_one_end.true in
           record {
-            counted = w.rows-is ∙ counted_here end xs l.rows l.row-index x inside l.invariant.counted c.row-item.is same;
+            counted = w.rows-is
+                ∙ counted_here end xs l.rows l.row-index x inside l.invariant.counted c.row-item.is same;
             there = w.there-is ∙ there_here end xs l.rows l.row-index x inside l.invariant.counted c.row-item.is same;
           }
       | else-is_one_end w ↦
           let other = sym c.is_one_end.ensures ∙ w.if-is_one_end.false in
           record {
-            counted = w.rows-is ∙ counted_other end xs l.rows l.row-index x inside l.invariant.counted c.row-item.is other;
+            counted = w.rows-is
+                ∙ counted_other end xs l.rows l.row-index x inside l.invariant.counted c.row-item.is other;
             there = w.there-is
-                ∙ there_other end xs l.rows l.row-index x inside l.invariant.counted c.row-item.is l.there l.invariant.there other;
+                ∙ there_other end xs l.rows l.row-index x inside l.invariant.counted c.row-item.is l.there
+                l.invariant.there other;
           }
     ]

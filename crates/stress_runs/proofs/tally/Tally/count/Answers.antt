@@ -18,7 +18,8 @@ pub returns-clause-counted : goal.returns-clause-counted
 returns-clause-counted c =
     let counted = rw c.as_mut_slice.ensures.value at c.count_in.ensures.counted in
     let told = rw c.as_mut_slice.ensures.value at c.count_in.ensures.there in
-    let back = with_items_is c.self.inside.rows c.count_in.new.rows (c.count_in.auto.rows ∙ c.as_mut_slice.ensures.len) in
+    let back = with_items_is c.self.inside.rows c.count_in.new.rows
+    (c.count_in.auto.rows ∙ c.as_mut_slice.ensures.len) in
     counts_in_new c.in_ok-end.end (end_of c.args.watch.now c.args.core.now) c.args.self.now c.self.inside.rows.items
     c.count_in.new.rows c.self.inside.status c.worse-self-inside.result c.status_in.result c.count_in.result
     c.self.view_is c.in_ok-end.ensures counted told c.worse-self-inside.ensures c.status_in.ensures _ c.in_ok-end.end
