@@ -165,6 +165,11 @@ module _ (run : RunCommand) (settings : Settings) (program : ProgramImage) (name
   run_config None is = is
   run_config (Some times) is = is
 
+  run_output : (times : Option ℕ) → AreAccepted settings × (LackARole settings → ⊥)
+      → IsRunsRefusal times run settings program names Output
+  run_output None is = is
+  run_output (Some times) is = is
+
 of_run : (run : RunCommand) (settings : Settings) (program : ProgramImage) (names : Table)
     (lines : Option (List Origin)) (second : Read)
     → IsSound (commands.Run run) settings program names lines second
@@ -176,8 +181,8 @@ of_run run settings program names lines second = record {
     | inl refused ↦ absurd (never_refused settings accepted refused)
     | inr lacks ↦ lacks.1
   ];
-  output = λ Traced old new status is. run_accepted run settings program names
-      (marks_where run.names names lines) Traced old status run.times new is;
+  output = λ Traced old new status is. run_output run settings program names run.times
+      (run_accepted run settings program names (marks_where run.names names lines) Traced old status run.times new is);
   flushed = λ Traced old mid new status flushed is.
       run_flushed run settings program names
       (marks_where run.names names lines) Traced old status run.times mid new flushed is;
