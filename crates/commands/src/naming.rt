@@ -21,7 +21,7 @@ pub(crate) fn wants_names(command: &ProgramCommand<'_>) -> bool
             chart.names || is_function(chart.from) || is_function(chart.to)
         }
         ProgramCommand::Step(step) => step.names || step.story,
-        ProgramCommand::Run(run) => run.names,
+        ProgramCommand::Run(run) => run.names || run.watch.is_some(),
         ProgramCommand::Check(check) => check.names || check.story,
         ProgramCommand::Plain(plain) => plain.names || plain.story,
         ProgramCommand::List(list) => list.names,

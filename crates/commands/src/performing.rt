@@ -306,7 +306,7 @@ fn perform_command<
             let script = second?;
             perform_step(context, image, settings, script, step.why, wanted, labels)
         }
-        ProgramCommand::Run(run) => perform_runs(context, image, settings, run, labels),
+        ProgramCommand::Run(run) => perform_runs(context, image, settings, run, names, labels),
         ProgramCommand::Check(check) => {
             let wanted = Wanted::of_check(check, names);
             let text = second?;

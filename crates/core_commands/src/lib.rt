@@ -1,9 +1,9 @@
 //! The commands over cores and their histories.
 //!
 //! Read in this order: `wanted` (what is wanted of a core), `core_story` (the story of one), `account` (what is
-//! reported of one), then a module a command: `step`, `prompt` (the same of a script that is typed), `run`, `stress`
-//! (many runs), `check`, `script`, `chart` and `migrate`. What each command comes to, and when each of its refusals
-//! comes, stands in `specs` under the command's name.
+//! reported of one), then a module a command: `step`, `prompt` (the same of a script that is typed), `run`, `watching`
+//! (what is watched of many runs), `stress` (many runs), `check`, `script`, `chart` and `migrate`. What each command
+//! comes to, and when each of its refusals comes, stands in `specs` under the command's name.
 #![tactic(auto)]
 
 mod account;
@@ -20,6 +20,7 @@ mod script;
 mod step;
 mod stress;
 mod wanted;
+mod watching;
 mod why;
 
 pub use chart::perform_chart;

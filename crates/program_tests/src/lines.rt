@@ -108,12 +108,13 @@ pub fn run_line(records: bool, trace: Option<&'static str>) -> Line<'static> {
         records,
         why: false,
         times: None,
+        watch: None,
         keep: None,
     },))
 }
 
-/// A line that makes so many runs, whose ends are kept.
-pub fn stress_line(times: u32) -> Line<'static> {
+/// A line that makes so many runs, whose ends are kept, and of which this is watched.
+pub fn stress_line(times: u32, watch: Option<&'static str>) -> Line<'static> {
     program_line!(ProgramCommand::Run(RunCommand {
         image: "image",
         trace: None,
@@ -124,6 +125,7 @@ pub fn stress_line(times: u32) -> Line<'static> {
         records: false,
         why: false,
         times: Some(times),
+        watch,
         keep: Some("kept"),
     },))
 }

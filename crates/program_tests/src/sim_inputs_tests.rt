@@ -263,6 +263,7 @@ const LINES: [(&str, Line<'_>); 45] = [
                 records: false,
                 why: false,
                 times: None,
+                watch: None,
                 keep: None,
             })),
         },
@@ -283,6 +284,7 @@ const LINES: [(&str, Line<'_>); 45] = [
                 records: true,
                 why: false,
                 times: None,
+                watch: None,
                 keep: None,
             })),
         },
@@ -303,6 +305,7 @@ const LINES: [(&str, Line<'_>); 45] = [
                 records: false,
                 why: false,
                 times: None,
+                watch: None,
                 keep: None,
             })),
         },
@@ -462,7 +465,7 @@ const LINES: [(&str, Line<'_>); 45] = [
         },
     ),
     (
-        "smtsim run --times 1000000 a --keep=f",
+        "smtsim run --times 1000000 --watch a0@1,counter a --keep=f",
         Line {
             config: None,
             harts: None,
@@ -477,6 +480,7 @@ const LINES: [(&str, Line<'_>); 45] = [
                 records: false,
                 why: false,
                 times: Some(1_000_000),
+                watch: Some("a0@1,counter"),
                 keep: Some("f"),
             })),
         },
@@ -497,6 +501,7 @@ const LINES: [(&str, Line<'_>); 45] = [
                 records: false,
                 why: true,
                 times: None,
+                watch: None,
                 keep: None,
             })),
         },
@@ -984,9 +989,10 @@ fn exists_in<'a>(question: Option<QuestionText<'a>>) -> Option<&'a str> {
     }
 }
 
-/// The texts of a line that asks for outcomes, and whether its file is a script.
+/// The texts of a line that asks for runs or outcomes, and whether its file is a script.
 fn texts_of<'a>(line: &Line<'a>) -> (Option<&'a str>, Option<&'a str>, bool) {
     match line.command {
+        Command::OfProgram(ProgramCommand::Run(run)) => (run.watch, None, false),
         Command::OfProgram(ProgramCommand::Outcomes(outcomes)) => {
             (
                 outcomes.watch,
@@ -1083,6 +1089,7 @@ const NAMED: [(Line<'_>, Named<'_>); 14] = [
                 records: true,
                 why: false,
                 times: None,
+                watch: None,
                 keep: None,
             })),
         },

@@ -151,7 +151,7 @@ has_named_folder run =
     option_map_or (λ folder. not (length folder.now == 0) && not (is_standard_input folder.now)) run.keep true
 
 abbrev pub can_be_run : RunCommand → Bool
-can_be_run run = let once = not (is_some run.keep) in
+can_be_run run = let once = not (is_some run.keep) && not (is_some run.watch) in
     option_map_or (λ times. nat_le 1 times && not (is_reported run) && has_named_folder run) run.times once
 
 pub record IsRun (rows : List Row) (run : RunCommand) : Type 0 where
@@ -164,6 +164,7 @@ pub record IsRun (rows : List Row) (run : RunCommand) : Type 0 where
   pub records : IsFlag rows (codes "records") run.records
   pub why : IsFlag rows (codes "why") run.why
   pub times : IsNumberOption rows (codes "times") most_times run.times
+  pub watch : IsFileOption rows (codes "watch") run.watch
   pub keep : IsFileOption rows (codes "keep") run.keep
   pub together : can_be_run run ≡ true
 

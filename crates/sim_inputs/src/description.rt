@@ -68,6 +68,7 @@ static OF_REPORTS: [Subcommand; 4] = [
             RECORDS,
             WHY_ENDS,
             TIMES,
+            WATCH,
             KEEP,
             WRITTEN_TRACE,
         ],

@@ -85,6 +85,7 @@ pub(crate) fn run_in<'a>(found: &ArgMatches<'a>) -> Option<RunCommand<'a>>
         records: is_set(found, "records"),
         why: is_set(found, "why"),
         times: number(found, "times", MOST_TIMES)?,
+        watch: value_of(found, "watch"),
         keep: value_of(found, "keep"),
     };
     if !can_be_run(&run) {
@@ -93,14 +94,14 @@ pub(crate) fn run_in<'a>(found: &ArgMatches<'a>) -> Option<RunCommand<'a>>
     Some(run)
 }
 
-/// Whether the options of a run go together: there is one run at least, only many have a folder, which has
-/// a name, and only one has a report.
+/// Whether the options of a run go together: there is one run at least, only many are watched and have a
+/// folder, which has a name, and only one has a report.
 fn can_be_run(run: &RunCommand<'_>) -> bool
     ensures { result ≡ can_be_run run.now }
 {
     match run.times {
         Some(times) => times >= 1 && !is_reported(run) && has_named_folder(run),
-        None => run.keep.is_none(),
+        None => run.keep.is_none() && run.watch.is_none(),
     }
 }
 

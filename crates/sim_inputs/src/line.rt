@@ -93,6 +93,9 @@ pub struct RunCommand<'a> {
     /// `--times N`: that many runs, 1 to `MOST_TIMES`, and a table of their ends in place of a report.
     /// Then there is none of the seven options above.
     pub times: Option<u32>,
+    /// `--watch LIST`: what tells ends apart beside how the harts end and what was put out, as it is
+    /// spelled. There is none without `times`.
+    pub watch: Option<&'a str>,
     /// `--keep FOLDER`: the folder for a trace and an order of each end. There is none without
     /// `times`.
     pub keep: Option<&'a str>,

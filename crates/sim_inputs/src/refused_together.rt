@@ -43,6 +43,9 @@ fn has(found: &ArgMatches<'_>, name: &str) -> bool {
 
 fn refused_of_runs(found: &ArgMatches<'_>) -> Option<RefusedOptions> {
     if !has(found, "times") {
+        if has(found, "watch") {
+            return refused("--watch", "--times N beside it");
+        }
         if has(found, "keep") {
             return refused("--keep", "--times N beside it");
         }

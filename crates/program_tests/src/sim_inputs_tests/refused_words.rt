@@ -44,6 +44,8 @@ smtsim run --looks a
 smtsim run --times 0 a
 smtsim run --times 1000001 a
 smtsim run --keep f a
+smtsim run --watch a0@1 a
+smtsim run --times 2 --watch a0@1 --watch a1@1 a
 smtsim run --times 2 --keep= a
 smtsim run --times 2 --trace t a
 smtsim run --times 2 --records a

@@ -9,7 +9,7 @@ use Rattle.commands.proofs.performing.perform_command.Goals as goal
 pub returns-in-Run : goal.returns-in-Run
 returns-in-Run g c =
     rw c.in-Run.is
-    (c.perform_runs.ensures (table_of c.args.names.now) (origins_in c.args.lines.now) (as_read c.args.second)
+    (c.perform_runs.ensures (origins_in c.args.lines.now) (as_read c.args.second)
     (rw c.in-Run.is at c.labels_for.ensures))
 
 pub returns-in_ok-script-in-Step : goal.returns-in_ok-script-in-Step
