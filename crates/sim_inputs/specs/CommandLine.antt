@@ -142,7 +142,7 @@ pub record IsStep (rows : List Row) (step : StepCommand) : Type 0 where
   pub together : can_be_told step.story step.all ≡ true
 
 -- A run has an option of its report. Many runs have none, and a folder of theirs has a name, which is no dash; there
--- is one at least, and one alone has no folder.
+-- is one at least, and one alone has no folder, and nothing of it is watched.
 abbrev pub is_reported : RunCommand → Bool
 is_reported run = is_some run.trace || run.counts || run.json || is_some run.lines || run.names || run.records || run.why
 

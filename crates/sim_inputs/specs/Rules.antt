@@ -182,8 +182,8 @@ step_command = subcommand (codes "step") (image_rule ∷ script_rule ∷ config_
     ∷ lines_rule ∷ looks_rule ∷ names_rule ∷ records_rule ∷ show_rule ∷ story_rule ∷ all_rule ∷ why_rule
     ∷ written_trace_rule ∷ [])
 
--- `run IMAGE`, with `--config FILE`, `--harts N`, `--counts`, `--json`, `--lines FILE`, `--names`, `--records`, `--why`,
--- `--times N`, `--watch LIST`, `--keep FOLDER` and `--trace FILE`.
+-- `run IMAGE`, with `--config FILE`, `--harts N`, `--counts`, `--json`, `--lines FILE`, `--names`, `--records`,
+-- `--why`, `--times N`, `--watch LIST`, `--keep FOLDER` and `--trace FILE`.
 abbrev pub run_command : App
 run_command = subcommand (codes "run") (image_rule ∷ config_rule ∷ harts_rule ∷ counts_rule ∷ json_rule ∷ lines_rule
     ∷ names_rule ∷ records_rule ∷ why_rule ∷ times_rule ∷ watch_rule ∷ keep_rule ∷ written_trace_rule ∷ [])

@@ -20,8 +20,8 @@ explain|outcomes|litmus|migrate|--version|harts|extra|queue|ram|limit|turns|acto
     ),
     (
         "smtsim step --help",
-        "Usage: smtsim step [OPTIONS] <IMAGE> <SCRIPT>|--config <FILE>|--harts <N>|--counts|--json|--lines <FILE>|--looks|\
---names|--records|--show|--story|--all|--why|--trace <FILE>",
+        "Usage: smtsim step [OPTIONS] <IMAGE> <SCRIPT>|--config <FILE>|--harts <N>|--counts|--json|--lines <FILE>|\
+--looks|--names|--records|--show|--story|--all|--why|--trace <FILE>",
     ),
     (
         "smtsim run --help",
@@ -31,7 +31,8 @@ explain|outcomes|litmus|migrate|--version|harts|extra|queue|ram|limit|turns|acto
     (
         "smtsim check --help",
         "Usage: smtsim check [OPTIONS] <IMAGE> <TRACE>|--config <FILE>|--harts <N>|--counts|--json|\
---lines <FILE>|--names|--records|--story|--all|--why|smt-trace 3|config harts extra queue role role ..|smt-trace 2|smt-trace 1|\
+--lines <FILE>|--names|--records|--story|--all|--why|smt-trace 3|\
+config harts extra queue role role ..|smt-trace 2|smt-trace 1|\
 F actor hart number pc word predicted|T actor number value next address data out",
     ),
     (

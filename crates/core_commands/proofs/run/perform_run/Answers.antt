@@ -19,9 +19,8 @@ returns g c =
       ended =
           with_both answer _ _ _ account.traced reported
           (λ traced status reported. comes_to c.args.settings.now c.args.image.now (wants_of c.args.wanted)
-          (marks_of c.args.labels.now) c.in_ok-finished.finished.core c.in_ok-finished.finished.idle _ _ _ status ran.accepted ran.manned
-          ran.setup ran.limit ran.shown traced
-          reported);
+          (marks_of c.args.labels.now) c.in_ok-finished.finished.core c.in_ok-finished.finished.idle _ _ _ status
+          ran.accepted ran.manned ran.setup ran.limit ran.shown traced reported);
       unwanted = account.unwanted;
       unbroken = account.unbroken;
       finished = account.finished;
