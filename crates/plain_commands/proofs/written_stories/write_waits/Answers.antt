@@ -6,8 +6,8 @@ use Rattle.plain_commands.proofs.written_stories.write_waits.Goals as goal
 pub loop-hart-preserved : goal.loop-hart-preserved
 loop-hart-preserved c = (
   one_waited (table_of c.args.names.now) c.args.image.now c.args.harts c.loop-hart.hart c.args.order.now
-  c.args.text.now.items c.loop-hart.text.items c.write_wait.new.text.items c.loop-hart.invariant.0
-  c.in-Ok.ensures.written,
+      c.args.text.now.items c.loop-hart.text.items c.write_wait.new.text.items c.loop-hart.invariant.0
+      c.in-Ok.ensures.written,
   omega arith,
 )
 
