@@ -19,5 +19,6 @@ mod telling;
 
 pub use form::StoryForm;
 pub use line::write_head;
+pub use names::name_of;
 pub use order::{Untold, tell_order};
 pub use telling::Telling;
