@@ -123,6 +123,7 @@ pub fn plain_line(records: bool) -> Line<'static> {
         names: false,
         records,
         story: false,
+        story_svg: None,
         all: false,
     },))
 }
@@ -190,6 +191,7 @@ pub fn outcomes_line(states: u32) -> Line<'static> {
         witness: None,
         script: None,
         story: None,
+        story_svg: None,
         all: false,
         lines: None,
     },))

@@ -141,6 +141,7 @@ pub(crate) fn plain_in<'a>(found: &ArgMatches<'a>) -> Option<PlainCommand<'a>>
         names: is_set(found, "names"),
         records: is_set(found, "records"),
         story: is_set(found, "story"),
+        story_svg: value_of(found, "story-svg"),
         all: is_set(found, "all"),
     };
     if !can_be_plain(&plain) {
@@ -156,11 +157,18 @@ fn can_be_plain(plain: &PlainCommand<'_>) -> bool
 {
     let is_told = plain.story || !plain.all;
     match plain.rounds {
-        Some(rounds) => rounds >= 1 && plain.order.is_none() && !plain.story && is_told,
+        Some(rounds) => rounds >= 1 && plain.order.is_none() && !shows_story(plain) && is_told,
         None => {
             plain.order.is_some() && plain.steps.is_none() && plain.seed.is_none() && is_told
         }
     }
+}
+
+/// Whether a story is told or drawn.
+fn shows_story(plain: &PlainCommand<'_>) -> bool
+    ensures { result ≡ shows_story plain.now }
+{
+    plain.story || plain.story_svg.is_some()
 }
 
 pub(crate) fn schedule_in<'a>(found: &ArgMatches<'a>) -> Option<ScheduleCommand<'a>>
@@ -258,6 +266,7 @@ pub(crate) fn outcomes_in<'a>(found: &ArgMatches<'a>) -> Option<OutcomesCommand<
         witness: value_of(found, "witness"),
         script: value_of(found, "script"),
         story: value_of(found, "story"),
+        story_svg: value_of(found, "story-svg"),
         all: is_set(found, "all"),
         lines: value_of(found, "lines"),
     };
@@ -290,7 +299,17 @@ fn can_be_searched(outcomes: &OutcomesCommand<'_>) -> bool
     outcomes.states >= 1
         && are_orders_together(outcomes)
         && (!outcomes.first || has_condition(outcomes))
-        && (outcomes.story.is_some() || !outcomes.all && outcomes.lines.is_none())
+        && are_stories_together(outcomes)
+}
+
+/// Whether what says more of a story has one.
+fn are_stories_together(outcomes: &OutcomesCommand<'_>) -> bool
+    ensures { result ≡ are_stories_together outcomes.now }
+{
+    if outcomes.story.is_some() {
+        return true;
+    }
+    !outcomes.all && (outcomes.story_svg.is_some() || outcomes.lines.is_none())
 }
 
 /// Whether an order is written of one end alone, and into one file; or none is.
@@ -305,20 +324,28 @@ fn are_orders_together(outcomes: &OutcomesCommand<'_>) -> bool
     }
 }
 
-/// Whether an order is written in one way: as it is, as its script or as its story.
+/// Whether an order is written in one way: as it is, as its script, as its story or as a picture of that.
 fn has_one_file(outcomes: &OutcomesCommand<'_>) -> bool
     ensures { result ≡ has_one_file outcomes.now }
 {
-    match (outcomes.witness, outcomes.script, outcomes.story) {
-        (Some(_), None, None) | (None, Some(_), None) | (None, None, Some(_)) => true,
-        _ => false,
+    match (outcomes.witness, outcomes.script) {
+        (Some(_), None) | (None, Some(_)) => !has_story(outcomes),
+        (None, None) => outcomes.story.is_some() != outcomes.story_svg.is_some(),
+        (Some(_), Some(_)) => false,
     }
 }
 
 fn has_no_file(outcomes: &OutcomesCommand<'_>) -> bool
     ensures { result ≡ has_no_file outcomes.now }
 {
-    outcomes.witness.is_none() && outcomes.script.is_none() && outcomes.story.is_none()
+    outcomes.witness.is_none() && outcomes.script.is_none() && !has_story(outcomes)
+}
+
+/// Whether a story is written, or a picture of one.
+fn has_story(outcomes: &OutcomesCommand<'_>) -> bool
+    ensures { result ≡ has_story outcomes.now }
+{
+    outcomes.story.is_some() || outcomes.story_svg.is_some()
 }
 
 /// Whether a question is asked that has a condition.
