@@ -75,8 +75,17 @@ pub fn perform_plain<R, G, P, S: EndFiles, W: Write>(
         Ok(()) => {}
         Err(refused) => return Err(refused),
     }
-    let out = &mut context.out;
-    report_order(image, count, list, &ran, story, records, labels, out, alloc)
+    report_order(
+        image,
+        count,
+        list,
+        &ran,
+        story,
+        records,
+        labels,
+        &mut context.out,
+        alloc,
+    )
 }
 
 /// Writes the story of an order, where it is wanted, and the report of its run. Answers the exit status.

@@ -274,11 +274,14 @@ has_condition (Some other) = true
 abbrev pub has_story : OutcomesCommand → Bool
 has_story outcomes = is_some outcomes.story || is_some outcomes.story_svg
 
+abbrev pub has_one_story : OutcomesCommand → Bool
+has_one_story outcomes =
+    if is_some outcomes.story then not (is_some outcomes.story_svg) else is_some outcomes.story_svg
+
 abbrev pub has_one_file : OutcomesCommand → Bool
 has_one_file outcomes =
     if is_some outcomes.witness then not (is_some outcomes.script) && not (has_story outcomes)
-    else (if is_some outcomes.script then not (has_story outcomes)
-    else (if is_some outcomes.story then not (is_some outcomes.story_svg) else is_some outcomes.story_svg))
+    else (if is_some outcomes.script then not (has_story outcomes) else has_one_story outcomes)
 
 abbrev pub has_no_file : OutcomesCommand → Bool
 has_no_file outcomes =

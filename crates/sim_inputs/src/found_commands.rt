@@ -7,7 +7,8 @@ ghost use Rattle.sim_inputs.specs.CommandLine.{IsLitmus, IsMigrate, IsOutcomes, 
 ghost use Rattle.sim_inputs.specs.CommandLine.{IsScript, IsStep, IsQuestion, has_condition, has_no_file};
 ghost use Rattle.sim_inputs.specs.CommandLine.{are_orders_together, can_be_drawn};
 ghost use Rattle.sim_inputs.specs.CommandLine.{can_be_plain, can_be_run, can_be_searched, can_be_tested};
-ghost use Rattle.sim_inputs.specs.CommandLine.{has_named_folder, has_one_file, is_reported};
+ghost use Rattle.sim_inputs.specs.CommandLine.{are_stories_together, has_named_folder, has_one_file, has_one_story};
+ghost use Rattle.sim_inputs.specs.CommandLine.{has_story, is_reported, shows_story};
 
 use crate::chart_ends::{chart_end, do_ends_rise};
 use crate::files::is_standard_input;
@@ -330,8 +331,18 @@ fn has_one_file(outcomes: &OutcomesCommand<'_>) -> bool
 {
     match (outcomes.witness, outcomes.script) {
         (Some(_), None) | (None, Some(_)) => !has_story(outcomes),
-        (None, None) => outcomes.story.is_some() != outcomes.story_svg.is_some(),
+        (None, None) => has_one_story(outcomes),
         (Some(_), Some(_)) => false,
+    }
+}
+
+/// Whether a story is written, or a picture of one, and not both.
+fn has_one_story(outcomes: &OutcomesCommand<'_>) -> bool
+    ensures { result ≡ has_one_story outcomes.now }
+{
+    match (outcomes.story, outcomes.story_svg) {
+        (Some(_), None) | (None, Some(_)) => true,
+        _ => false,
     }
 }
 

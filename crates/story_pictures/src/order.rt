@@ -62,9 +62,10 @@ pub fn rows_of_order(machine: &mut Plain, order: &[u8], alloc: Global) -> Result
 
 /// Adds the row of the step that a hart makes next, where that shows something, and makes the step.
 fn draw_and_step(rows: &mut Vec<Row>, machine: &mut Plain, hart: u8) -> Result<(), Unmade>
+    requires { length rows.old.items ≤ most_rows }
     ensures drawn { OnOk result (InEachRun machine.old (λ setup before. HasDrawnStep setup before hart
         rows.old.items rows.new.items machine.new)) }
-    ensures few { OnOk result (length rows.old.items ≤ most_rows → length rows.new.items ≤ most_rows) }
+    ensures few { OnOk result (length rows.new.items ≤ most_rows) }
     ensures unmade { IfErr result (λ why. InEachState machine.old
         (λ setup s. IsUnmade setup machine.old.room s rows.old.items hart why)) }
     ensures room { machine.new.room ≡ machine.old.room }
@@ -85,9 +86,10 @@ fn draw_and_step(rows: &mut Vec<Row>, machine: &mut Plain, hart: u8) -> Result<(
 
 /// Adds the row of a step, where it has one.
 fn push_row(rows: &mut Vec<Row>, step: &Step) -> Result<(), Unmade>
+    requires { length rows.old.items ≤ most_rows }
     ensures pushed { OnOk result (rows.new.items
         ≡ rows.old.items ++ row_list (row_of (length rows.old.items + 1) step.now)) }
-    ensures few { OnOk result (length rows.old.items ≤ most_rows → length rows.new.items ≤ most_rows) }
+    ensures few { OnOk result (length rows.new.items ≤ most_rows) }
     ensures unpushed { IfErr result (IsUnpushed rows.old.items step.now) }
 {
     let Some(row) = row_of(rows.len() as u64 + 1, step) else {

@@ -1,7 +1,7 @@
 use Rattle.story_pictures.proofs.order.draw_and_step.Goals as goal
 
 pub returns-in-Ok-step-clause-drawn : goal.returns-in-Ok-step-clause-drawn
-returns-in-Ok-step-clause-drawn g c = λ setup before agrees.
+returns-in-Ok-step-clause-drawn c = λ setup before agrees.
     let is = c.in-Ok-step.ensures.done setup before agrees in
     record {
       made = is.made;

@@ -1,19 +1,19 @@
-use Rattle.std.proofs.Common.{◌≡◌, ◌∙◌, ◌≤◌, length, get_or, take, sym, subst, refl, arith}
+use Rattle.std.proofs.Common.{◌≡◌, ◌∙◌, ◌≤◌, length, get_or, take, ap, sym, subst, refl, arith}
 use Rattle.std.proofs.lemmas.List.{take_all, take_more}
 use Rattle.story_pictures.specs.Order.{IsUndrawn}
 use Rattle.story_pictures.proofs.Ordering.{IsDrawn, none_drawn, one_drawn, undrawn}
 use Rattle.story_pictures.proofs.order.rows_of_order.Goals as goal
 
 pub loop-index-init : goal.loop-index-init
-loop-index-init g c = (refl, omega arith, λ setup agrees. none_drawn setup _ agrees)
+loop-index-init c = (refl, omega arith, λ setup agrees. none_drawn setup _ agrees)
 
 pub loop-index-preserved : goal.loop-index-preserved
-loop-index-preserved g c =
+loop-index-preserved c =
     let order = c.args.order.now in
     let k = c.loop-index.index in
     let inside = c.loop-index-test.true in (
       c.draw_and_step.ensures.room ∙ c.loop-index.invariant.0,
-      c.in-Ok-draw_and_step.ensures.few c.loop-index.invariant.1,
+      c.in-Ok-draw_and_step.ensures.few,
       λ setup agrees.
           subst (λ xs. IsDrawn setup xs c.draw_and_step.new.rows.items c.draw_and_step.new.machine)
           (sym (take_more order k 0 inside))
@@ -22,10 +22,18 @@ loop-index-preserved g c =
     )
 
 pub returns-in-Err-draw_and_step-clause-undrawn : goal.returns-in-Err-draw_and_step-clause-undrawn
-returns-in-Err-draw_and_step-clause-undrawn g c =
+returns-in-Err-draw_and_step-clause-undrawn c =
     let order = c.args.order.now in
     let k = c.loop-index.index in
     subst (IsUndrawn order c.args.machine.now) (sym c.undrawn_at.ensures)
     (undrawn order k c.loop-index.rows.items c.args.machine.now c.loop-index.machine c.in-Err-draw_and_step.why
     c.loop-index-test.true c.loop-index.invariant.0 (take_more order k 0 c.loop-index-test.true)
     c.loop-index.invariant.2 c.in-Err-draw_and_step.ensures.unmade)
+
+pub returns-clause-rows : goal.returns-clause-rows
+returns-clause-rows c = λ setup agrees.
+    let order = c.args.order.now in
+    let end : length order ≤ c.loop-index.index = omega arith in
+    let so = subst (λ xs. IsDrawn setup xs c.loop-index.rows.items c.loop-index.machine)
+    (take_all c.loop-index.index order end) (c.loop-index.invariant.2 setup agrees) in
+    record { ran = so.ran; runs = so.runs; rows_are = so.rows_are }
