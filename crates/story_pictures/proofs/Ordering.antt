@@ -40,7 +40,7 @@ counted_step : (past : List Step) (step : Step) (shown : Option Deed) → step.d
     → length (rows false past) ≡ row_count false past
     → length (rows false (step ∷ past)) ≡ row_count false (step ∷ past)
 counted_step past step None is before = rw is before
-counted_step past step (Some d) is before = rw is (ap (λ n. n + 1) before)
+counted_step past step (Some d) is before = rw is (omega (arith, before))
 
 counted : (past : List Step) → length (rows false past) ≡ row_count false past
 counted [] = refl

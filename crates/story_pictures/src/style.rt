@@ -19,8 +19,7 @@ const LIGHT: &[u8] = b"text{font:12px monospace;fill:#1b1b1b}
 .reads{fill:#e3f1fb;stroke:#0072b2}
 .writes{fill:#fdeed3;stroke:#b57b00}
 .both{fill:#ddf3eb;stroke:#009e73}
-.mark{font:bold 12px monospace}
-.mark,.key{stroke:#ffffff;stroke-width:4;paint-order:stroke}
+.mark{font:bold 12px monospace;stroke:#ffffff;stroke-width:4;paint-order:stroke}
 .lost{fill:#ffffff;stroke:#c22f00;stroke-width:2.4;stroke-dasharray:6 3}
 .lost-is{fill:#c22f00}
 .stuck{stroke:#8e3a8c;stroke-width:2.6}
@@ -38,7 +37,7 @@ const DARK: &[u8] = b"text{fill:#ececec}
 .reads{fill:#16303f;stroke:#56b4e9}
 .writes{fill:#3a2e14;stroke:#e6a830}
 .both{fill:#143329;stroke:#2fc79b}
-.mark,.key{stroke:#16181d}
+.mark{stroke:#16181d}
 .lost{fill:#16181d;stroke:#ff8257}
 .lost-is{fill:#ff8257}
 .stuck{stroke:#e08fdd}

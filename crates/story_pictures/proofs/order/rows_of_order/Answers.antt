@@ -1,11 +1,18 @@
-use Rattle.std.proofs.Common.{◌≡◌, ◌∙◌, ◌≤◌, length, get_or, take, ap, sym, subst, refl, arith}
+use Rattle.std.proofs.Common.{◌≡◌, ◌∙◌, ◌≤◌, List, [], length, get_or, take, sym, subst, refl, arith}
 use Rattle.std.proofs.lemmas.List.{take_all, take_more}
-use Rattle.story_pictures.specs.Order.{IsUndrawn}
+use Rattle.stories.specs.declared.row.Row.{Row}
+use Rattle.story_pictures.specs.{Form.most_rows, Order.IsUndrawn}
 use Rattle.story_pictures.proofs.Ordering.{IsDrawn, none_drawn, one_drawn, undrawn}
 use Rattle.story_pictures.proofs.order.rows_of_order.Goals as goal
 
 pub loop-index-init : goal.loop-index-init
-loop-index-init c = (refl, omega arith, λ setup agrees. none_drawn setup _ agrees)
+loop-index-init c = (
+  refl,
+  subst (λ (xs : List Row). length xs ≤ most_rows) (sym c.new-rows.ensures.items) (omega arith),
+  λ setup agrees.
+      subst (λ (xs : List Row). IsDrawn setup [] xs c.args.machine.now) (sym c.new-rows.ensures.items)
+      (none_drawn setup _ agrees),
+)
 
 pub loop-index-preserved : goal.loop-index-preserved
 loop-index-preserved c =
