@@ -3,7 +3,7 @@ use Rattle.std.proofs.Common.{◌≡◌, ◌∙◌, ℕ, ◌+◌, ◌<◌, ◌�
 use Rattle.std.proofs.Common.{get_or, refl, sym, ap, subst, arith, length, take, reverse}
 use Rattle.std.specs.Prelude.{filter, is_some}
 use Rattle.std.proofs.lemmas.List.{length-reverse, length_push, reverse-append}
-use Rattle.smt_model.specs.{Setup.Setup, Plain.Run, Plain.advance, Plain.run, Plain.start, Plain.step}
+use Rattle.smt_model.specs.{Setup.Setup, Plain.Plain, Plain.Run, Plain.advance, Plain.run, Plain.start, Plain.step}
 use Rattle.sc_machine.specs.{Machine.Machine, Machine.Agrees, Machine.InEachState, Refusals.refusal}
 use Rattle.sc_machine.specs.{Steps.InEachRun}
 use Rattle.stories.specs.{Story.has_row, Story.row_count, Story.row_list, Story.row_of, Story.rows, Story.story}
@@ -11,7 +11,7 @@ use Rattle.stories.specs.{Story.step_behind, Story.step_of, Story.steps}
 use Rattle.stories.specs.{declared.deed.Deed.Deed, declared.row.Row.Row, declared.step.Step.Step}
 use Rattle.story_text.specs.Order.{OfEachStart}
 use Rattle.story_pictures.specs.{Form.most_rows, Order.HasDrawnStep, Order.HasManyRows, Order.HasRows, Order.IsUndrawn}
-use Rattle.story_pictures.specs.{Order.IsUnmade, Order.rows_told, Order.undrawn_at}
+use Rattle.story_pictures.specs.{Order.IsUnmade, Order.IsUnpushed, Order.rows_told, Order.undrawn_at}
 use Rattle.story_pictures.specs.declared.order.Unmade.{Unmade}
 use Rattle.story_pictures.specs.declared.order.Unmade.TheVariants as unmade
 
@@ -142,3 +142,11 @@ undrawn order index old first m unmade.Many inside room next so refused = λ set
           (many_rows setup (take index order) (get_or order index 0) one.ran old one.runs one.rows_are is.0 is.1);
     }
 undrawn order index old first m unmade.Memory inside room next so refused = tt
+
+-- A row that can't be kept.
+pub unpushed : (setup : Setup) (room : ℕ) (s : Plain) (old : List Row) (h : ℕ) (step : Step) (why : Unmade)
+    → step ≡ step_of setup s h → IsUnpushed old step why → IsUnmade setup room s old h why
+unpushed setup room s old h step (unmade.Step why) same is = absurd is
+unpushed setup room s old h step unmade.Many same is =
+    (is.0, subst (λ (it : Step). is_some it.deed ≡ true) same is.1)
+unpushed setup room s old h step unmade.Memory same is = tt

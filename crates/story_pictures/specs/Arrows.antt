@@ -5,13 +5,16 @@ use Rattle.stories.specs.declared.row.Row.{Row}
 use Rattle.story_pictures.specs.{Relations.reads_from, Geometry.row_coming, Geometry.row_leaving, Geometry.way_of}
 use Rattle.story_pictures.specs.{Elements.point_text, declared.geometry.Way.Way}
 
-abbrev pub curve_text : Way → ℕ → ℕ → List ℕ
-curve_text way y to_y =
+unfoldable pub curve_begin : Way → ℕ → List ℕ
+curve_begin way y =
     codes "<path class=\"arrow\" marker-end=\"url(#point)\" d=\"M"
-    ++ (point_text way.from y ++ (codes "C"
-    ++ (point_text way.near y ++ (codes " "
-    ++ (point_text way.far to_y ++ (codes " "
-    ++ (point_text way.to to_y ++ codes "\"/>\n")))))))
+    ++ (point_text way.from y ++ (codes "C" ++ point_text way.near y))
+
+unfoldable pub curve_end : Way → ℕ → List ℕ
+curve_end way y = codes " " ++ (point_text way.far y ++ (codes " " ++ (point_text way.to y ++ codes "\"/>\n")))
+
+abbrev pub curve_text : Way → ℕ → ℕ → List ℕ
+curve_text way y to_y = curve_begin way y ++ curve_end way to_y
 
 -- From the row at index i, of hart a, to the one at index j, of hart b.
 abbrev pub arrow_text : ℕ → ℕ → ℕ → ℕ → List ℕ

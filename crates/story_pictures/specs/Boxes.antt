@@ -13,13 +13,15 @@ use Rattle.story_pictures.specs.{Geometry.lane_left, Geometry.lane_right, Geomet
 use Rattle.story_pictures.specs.{Elements.open_text, Elements.close_text, Elements.place_attributes, Words.deed_words}
 
 -- What a browser shows where one points at a row: what it shows, its pc, and what is wanted beside that.
-abbrev pub title_text : Table → Marks → Row → List ℕ
+unfoldable pub pc_text : Marks → ℕ → List ℕ
+pc_text marks pc = address_text pc ++ (labels_text Drawn marks pc ++ codes "</title>\n")
+
+unfoldable pub title_text : Table → Marks → Row → List ℕ
 title_text names marks row =
-    codes "<g><title>" ++ (deed_words names row.deed ++ (codes " at " ++ (address_text row.pc
-    ++ (labels_text Drawn marks row.pc ++ codes "</title>\n"))))
+    codes "<g><title>" ++ (deed_words names row.deed ++ (codes " at " ++ pc_text marks row.pc))
 
 -- The number of a row, at the left of all lanes.
-abbrev pub count_text : ℕ → ℕ → List ℕ
+unfoldable pub count_text : ℕ → ℕ → List ℕ
 count_text number i = open_text (codes "count") 46 (row_base i) ++ (decimal number ++ close_text)
 
 -- The classes of a box: whether the row reads and writes, whether it is a write that was overwritten, and whether a
@@ -35,13 +37,15 @@ mark_class lost stuck =
 abbrev pub kind_of : Deed → List ℕ
 kind_of d = kind_class (is_some (read_span d)) (is_some (written_span d))
 
-abbrev pub frame_text : List ℕ → List ℕ → ℕ → ℕ → List ℕ
-frame_text kind mark h i =
-    codes "<rect class=\"box" ++ (kind ++ (mark ++ (codes "\" "
-    ++ (place_attributes (lane_left h) (row_top i) ++ codes " width=\"320\" height=\"24\" rx=\"4\"/>\n"))))
+unfoldable pub size_text : ℕ → ℕ → List ℕ
+size_text h i = codes "\" " ++ (place_attributes (lane_left h) (row_top i)
+    ++ codes " width=\"320\" height=\"24\" rx=\"4\"/>\n")
+
+unfoldable pub frame_text : List ℕ → List ℕ → ℕ → ℕ → List ℕ
+frame_text kind mark h i = codes "<rect class=\"box" ++ (kind ++ (mark ++ size_text h i))
 
 -- What the row shows, in its box, at whose edge a longer text ends: it stands in a picture of its own.
-abbrev pub what_text : Table → Deed → ℕ → ℕ → List ℕ
+unfoldable pub what_text : Table → Deed → ℕ → ℕ → List ℕ
 what_text names d h i =
     codes "<svg " ++ (place_attributes (lane_left h) (row_top i)
     ++ (codes " width=\"316\" height=\"24\"><text x=\"8\" y=\"16\">" ++ (deed_words names d
@@ -56,7 +60,7 @@ mark_word lost stuck =
 abbrev pub word_class : Bool → List ℕ
 word_class lost = if lost then codes "mark lost-is" else codes "mark stuck-is"
 
-abbrev pub marked_text : Bool → Bool → ℕ → ℕ → List ℕ
+unfoldable pub marked_text : Bool → Bool → ℕ → ℕ → List ℕ
 marked_text lost stuck h i =
     open_text (word_class lost) (lane_right h + 14) (row_base i) ++ (mark_word lost stuck ++ close_text)
 
@@ -65,13 +69,16 @@ mark_text lost stuck h i =
     if lost then marked_text lost stuck h i else (if stuck then marked_text lost stuck h i else [])
 
 -- The row at index i of a story.
-abbrev pub row_text : Plan → Bool → Bool → ℕ → Row → List ℕ
-row_text plan lost stuck i row =
-    title_text plan.names plan.marks row
-    ++ (count_text row.number i
-    ++ (frame_text (kind_of row.deed) (mark_class lost stuck) row.hart i
-    ++ (what_text plan.names row.deed row.hart i
-    ++ (mark_text lost stuck row.hart i ++ codes "</g>\n"))))
+unfoldable pub row_front : Plan → Bool → Bool → ℕ → Row → List ℕ
+row_front plan lost stuck i row = title_text plan.names plan.marks row
+    ++ (count_text row.number i ++ frame_text (kind_of row.deed) (mark_class lost stuck) row.hart i)
+
+unfoldable pub row_back : Plan → Bool → Bool → ℕ → Row → List ℕ
+row_back plan lost stuck i row = what_text plan.names row.deed row.hart i
+    ++ (mark_text lost stuck row.hart i ++ codes "</g>\n")
+
+unfoldable pub row_text : Plan → Bool → Bool → ℕ → Row → List ℕ
+row_text plan lost stuck i row = row_front plan lost stuck i row ++ row_back plan lost stuck i row
 
 -- The last row of each hart that goes on is marked where the order ends in a stuck state.
 abbrev pub is_marked : Plan → List Row → Row → Bool

@@ -11,12 +11,15 @@ unfoldable pub dark_rules : List ℕ
 dark_rules = codes "text{fill:#ececec}\n.page{fill:#16181d}\n.far,.count{fill:#a2a7b0}\n.lane{stroke:#434956}\n.box{fill:#23262e;stroke:#747b88}\n.reads{fill:#16303f;stroke:#56b4e9}\n.writes{fill:#3a2e14;stroke:#e6a830}\n.both{fill:#143329;stroke:#2fc79b}\n.mark{stroke:#16181d}\n.lost{fill:#16181d;stroke:#ff8257}\n.lost-is{fill:#ff8257}\n.stuck{stroke:#e08fdd}\n.stuck-is{fill:#e08fdd}\n.arrow{stroke:#9aa3b2}\n.point{fill:#9aa3b2}\n"
 
 -- The dark rules stand behind the light ones, and go over them.
+unfoldable pub rules_in_the_dark : List ℕ
+rules_in_the_dark = codes "@media (prefers-color-scheme:dark){\n" ++ (dark_rules ++ codes "}\n")
+
 abbrev pub more_rules : Theme → List ℕ
-more_rules Automatic = codes "@media (prefers-color-scheme:dark){\n" ++ (dark_rules ++ codes "}\n")
+more_rules Automatic = rules_in_the_dark
 more_rules Light = []
 more_rules Dark = dark_rules
 
-abbrev pub style_text : Theme → List ℕ
+unfoldable pub style_text : Theme → List ℕ
 style_text theme = codes "<style>\n" ++ (light_rules ++ more_rules theme)
 
 -- The end of the style, the page, the point of an arrow, and what arrows and colours mean.

@@ -50,5 +50,5 @@ shown_words names (deed.Out byte) = byte_words byte
 shown_words names (deed.Ended number) = decimal number
 shown_words names (deed.Stopped cause) = decimal cause
 
-abbrev pub deed_words : Table → Deed → List ℕ
+unfoldable pub deed_words : Table → Deed → List ℕ
 deed_words names d = name_of d ++ (32 ∷ shown_words names d)

@@ -3,7 +3,7 @@
 ghost use Rattle.std.specs.Prelude.{◌≡◌, ◌<◌, ◌≤◌, OnOk, length};
 ghost use Rattle.std.specs.Io.KnownBytes.{Appends};
 ghost use Rattle.story_pictures.specs.Form.{most_rows};
-ghost use Rattle.story_pictures.specs.Arrows.{arrow_from, arrow_text, arrows_text, arrows_to, curve_text};
+ghost use Rattle.story_pictures.specs.Arrows.{arrow_from, arrow_text, arrows_text, arrows_to, curve_begin, curve_end, curve_text};
 
 use crate::elements::write_point;
 use crate::geometry::{Way, row_coming, row_leaving, way_of};
@@ -73,13 +73,27 @@ fn write_arrow<W: Write>(
 fn write_curve<W: Write>(way: &Way, y: u32, to_y: u32, out: &mut W) -> io::Result<()>
     ensures { OnOk result (Appends (W.contents out.old) (W.contents out.new) (curve_text way.now y to_y)) }
 {
+    write_curve_begin(way, y, out)?;
+    write_curve_end(way, to_y, out)
+}
+
+#[tactic(auto, unfolding(crate::specs::Arrows::curve_begin))]
+fn write_curve_begin<W: Write>(way: &Way, y: u32, out: &mut W) -> io::Result<()>
+    ensures { OnOk result (Appends (W.contents out.old) (W.contents out.new) (curve_begin way.now y)) }
+{
     out.write_all(b"<path class=\"arrow\" marker-end=\"url(#point)\" d=\"M")?;
     write_point(way.from, y, out)?;
     out.write_all(b"C")?;
-    write_point(way.near, y, out)?;
+    write_point(way.near, y, out)
+}
+
+#[tactic(auto, unfolding(crate::specs::Arrows::curve_end))]
+fn write_curve_end<W: Write>(way: &Way, y: u32, out: &mut W) -> io::Result<()>
+    ensures { OnOk result (Appends (W.contents out.old) (W.contents out.new) (curve_end way.now y)) }
+{
     out.write_all(b" ")?;
-    write_point(way.far, to_y, out)?;
+    write_point(way.far, y, out)?;
     out.write_all(b" ")?;
-    write_point(way.to, to_y, out)?;
+    write_point(way.to, y, out)?;
     out.write_all(b"\"/>\n")
 }

@@ -17,7 +17,11 @@ ghost use Rattle.story_pictures.specs.Boxes.{
   mark_text,
   mark_word,
   marked_text,
+  pc_text,
+  row_back,
+  row_front,
   row_text,
+  size_text,
   title_text,
   what_text,
   word_class,
@@ -76,6 +80,7 @@ fn is_marked(form: &PictureForm<'_>, later: &[Row], row: &Row) -> bool
     form.is_stuck && is_stuck(later, row)
 }
 
+#[tactic(auto, unfolding(crate::specs::Boxes::row_text))]
 fn write_row<W: Write>(
     form: &PictureForm<'_>,
     lost: bool,
@@ -88,21 +93,51 @@ fn write_row<W: Write>(
     ensures { OnOk result (Appends (W.contents out.old) (W.contents out.new)
         (row_text (plan_of form.now) lost stuck index row.now)) }
 {
+    write_row_front(form, lost, stuck, index, row, out)?;
+    write_row_back(form, lost, stuck, index, row, out)
+}
+
+/// Writes the title of a row, its number and its frame.
+#[tactic(auto, unfolding(crate::specs::Boxes::row_front))]
+fn write_row_front<W: Write>(
+    form: &PictureForm<'_>,
+    lost: bool,
+    stuck: bool,
+    index: usize,
+    row: &Row,
+    out: &mut W,
+) -> io::Result<()>
+    requires { index ≤ most_rows }
+    ensures { OnOk result (Appends (W.contents out.old) (W.contents out.new)
+        (row_front (plan_of form.now) lost stuck index row.now)) }
+{
     write_title(form.names, &form.labels, row, out)?;
     write_count(row.number, index, out)?;
-    write_frame(
-        kind_of(&row.deed),
-        mark_class(lost, stuck),
-        row.hart,
-        index,
-        out,
-    )?;
+    let (kind, mark) = (kind_of(&row.deed), mark_class(lost, stuck));
+    write_frame(kind, mark, row.hart, index, out)
+}
+
+/// Writes what a row shows, and what marks it.
+#[tactic(auto, unfolding(crate::specs::Boxes::row_back))]
+fn write_row_back<W: Write>(
+    form: &PictureForm<'_>,
+    lost: bool,
+    stuck: bool,
+    index: usize,
+    row: &Row,
+    out: &mut W,
+) -> io::Result<()>
+    requires { index ≤ most_rows }
+    ensures { OnOk result (Appends (W.contents out.old) (W.contents out.new)
+        (row_back (plan_of form.now) lost stuck index row.now)) }
+{
     write_what(form.names, &row.deed, row.hart, index, out)?;
     write_mark(lost, stuck, row.hart, index, out)?;
     out.write_all(b"</g>\n")
 }
 
 /// Writes what a browser shows where one points at a row, and begins what belongs to that.
+#[tactic(auto, unfolding(crate::specs::Boxes::title_text))]
 fn write_title<W: Write>(
     names: &Symbols<'_>,
     labels: &Labels<'_>,
@@ -115,12 +150,21 @@ fn write_title<W: Write>(
     out.write_all(b"<g><title>")?;
     write_deed(&row.deed, names, out)?;
     out.write_all(b" at ")?;
-    write_address(row.pc, out)?;
-    write_labels(labels, Form::Drawn, row.pc, out)?;
+    write_pc(labels, row.pc, out)
+}
+
+#[tactic(auto, unfolding(crate::specs::Boxes::pc_text))]
+fn write_pc<W: Write>(labels: &Labels<'_>, pc: u32, out: &mut W) -> io::Result<()>
+    ensures { OnOk result (Appends (W.contents out.old) (W.contents out.new)
+        (pc_text (marks_of labels.now) pc)) }
+{
+    write_address(pc, out)?;
+    write_labels(labels, Form::Drawn, pc, out)?;
     out.write_all(b"</title>\n")
 }
 
 /// Writes the number of a row, at the left of all lanes.
+#[tactic(auto, unfolding(crate::specs::Boxes::count_text))]
 fn write_count<W: Write>(number: u64, index: usize, out: &mut W) -> io::Result<()>
     requires { index ≤ most_rows }
     ensures { OnOk result (Appends (W.contents out.old) (W.contents out.new) (count_text number index)) }
@@ -130,6 +174,7 @@ fn write_count<W: Write>(number: u64, index: usize, out: &mut W) -> io::Result<(
     write_close_text(out)
 }
 
+#[tactic(auto, unfolding(crate::specs::Boxes::frame_text))]
 fn write_frame<W: Write>(
     kind: &str,
     mark: &str,
@@ -144,6 +189,15 @@ fn write_frame<W: Write>(
     out.write_all(b"<rect class=\"box")?;
     out.write_all(kind.as_bytes())?;
     out.write_all(mark.as_bytes())?;
+    write_size(hart, index, out)
+}
+
+/// Writes where a box stands, and its size.
+#[tactic(auto, unfolding(crate::specs::Boxes::size_text))]
+fn write_size<W: Write>(hart: u8, index: usize, out: &mut W) -> io::Result<()>
+    requires { index ≤ most_rows }
+    ensures { OnOk result (Appends (W.contents out.old) (W.contents out.new) (size_text hart index)) }
+{
     out.write_all(b"\" ")?;
     write_place_attributes(lane_left(hart), row_top(index), out)?;
     out.write_all(b" width=\"320\" height=\"24\" rx=\"4\"/>\n")
@@ -179,6 +233,7 @@ fn mark_class(lost: bool, stuck: bool) -> &'static str
 }
 
 /// Writes what a row shows, in its box, at whose edge a longer text ends.
+#[tactic(auto, unfolding(crate::specs::Boxes::what_text))]
 fn write_what<W: Write>(
     names: &Symbols<'_>,
     deed: &Deed,
@@ -218,6 +273,7 @@ fn write_mark<W: Write>(
     out.write_all(b"")
 }
 
+#[tactic(auto, unfolding(crate::specs::Boxes::marked_text))]
 fn write_marked<W: Write>(
     lost: bool,
     stuck: bool,

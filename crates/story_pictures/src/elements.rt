@@ -20,6 +20,7 @@ pub(crate) fn write_number<W: Write>(number: u64, out: &mut W) -> io::Result<()>
 }
 
 /// Writes a point of a path.
+#[tactic(auto, unfolding(crate::specs::Elements::point_text))]
 pub(crate) fn write_point<W: Write>(x: u32, y: u32, out: &mut W) -> io::Result<()>
     ensures { OnOk result (Appends (W.contents out.old) (W.contents out.new) (point_text x y)) }
 {
@@ -29,6 +30,7 @@ pub(crate) fn write_point<W: Write>(x: u32, y: u32, out: &mut W) -> io::Result<(
 }
 
 /// Writes where something stands.
+#[tactic(auto, unfolding(crate::specs::Elements::place_attributes))]
 pub(crate) fn write_place_attributes<W: Write>(x: u32, y: u32, out: &mut W) -> io::Result<()>
     ensures { OnOk result (Appends (W.contents out.old) (W.contents out.new) (place_attributes x y)) }
 {
@@ -40,6 +42,7 @@ pub(crate) fn write_place_attributes<W: Write>(x: u32, y: u32, out: &mut W) -> i
 }
 
 /// Writes the beginning of a text of these classes that stands at a point.
+#[tactic(auto, unfolding(crate::specs::Elements::open_text))]
 pub(crate) fn write_open_text<W: Write>(class: &str, x: u32, y: u32, out: &mut W) -> io::Result<()>
     ensures { OnOk result (Appends (W.contents out.old) (W.contents out.new) (open_text class.now x y)) }
 {

@@ -2,7 +2,7 @@
 
 ghost use Rattle.std.specs.Prelude.{OnOk};
 ghost use Rattle.std.specs.Io.KnownBytes.{Appends};
-ghost use Rattle.story_pictures.specs.Style.{dark_rules, legend_text, light_rules, more_rules, style_text};
+ghost use Rattle.story_pictures.specs.Style.{dark_rules, legend_text, light_rules, more_rules, rules_in_the_dark, style_text};
 
 use crate::form::Theme;
 use std::io;
@@ -59,6 +59,7 @@ const LEGEND: &[u8] = b"</style>
 ";
 
 /// Writes the style.
+#[tactic(auto, unfolding(crate::specs::Style::style_text))]
 pub(crate) fn write_style<W: Write>(theme: Theme, out: &mut W) -> io::Result<()>
     ensures { OnOk result (Appends (W.contents out.old) (W.contents out.new) (style_text theme)) }
 {
@@ -72,14 +73,20 @@ fn write_more<W: Write>(theme: Theme, out: &mut W) -> io::Result<()>
     ensures { OnOk result (Appends (W.contents out.old) (W.contents out.new) (more_rules theme)) }
 {
     match theme {
-        Theme::Automatic => {
-            out.write_all(b"@media (prefers-color-scheme:dark){\n")?;
-            write_dark(out)?;
-            out.write_all(b"}\n")
-        }
+        Theme::Automatic => write_where_dark(out),
         Theme::Light => out.write_all(b""),
         Theme::Dark => write_dark(out),
     }
+}
+
+/// Writes the rules for whoever wants it dark.
+#[tactic(auto, unfolding(crate::specs::Style::rules_in_the_dark))]
+fn write_where_dark<W: Write>(out: &mut W) -> io::Result<()>
+    ensures { OnOk result (Appends (W.contents out.old) (W.contents out.new) rules_in_the_dark) }
+{
+    out.write_all(b"@media (prefers-color-scheme:dark){\n")?;
+    write_dark(out)?;
+    out.write_all(b"}\n")
 }
 
 #[tactic(auto, unfolding(crate::specs::Style::light_rules))]

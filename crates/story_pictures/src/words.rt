@@ -34,6 +34,7 @@ const READ: &[u8] = b" \xe2\x86\x92 ";
 const WRITTEN: &[u8] = b" \xe2\x86\x90 ";
 
 /// Writes what a row shows.
+#[tactic(auto, unfolding(crate::specs::Words::deed_words))]
 pub(crate) fn write_deed<W: Write>(deed: &Deed, names: &Symbols<'_>, out: &mut W) -> io::Result<()>
     ensures { OnOk result (Appends (W.contents out.old) (W.contents out.new)
         (deed_words (table_of names.now) deed.now)) }

@@ -20,22 +20,22 @@ loop-index-preserved c =
     let k = c.loop-index.index in
     let inside = c.loop-index-test.true in (
       c.draw_and_step.ensures.room ∙ c.loop-index.invariant.0,
-      c.in-Ok-draw_and_step.ensures.few,
+      c.in-Ok.ensures.few,
       λ setup agrees.
           subst (λ xs. IsDrawn setup xs c.draw_and_step.new.rows.items c.draw_and_step.new.machine)
           (sym (take_more order k 0 inside))
           (one_drawn setup (take k order) (get_or order k 0) _ _ _ _ (c.loop-index.invariant.2 setup agrees)
-          c.in-Ok-draw_and_step.ensures.drawn),
+          c.in-Ok.ensures.drawn),
     )
 
-pub returns-in-Err-draw_and_step-clause-undrawn : goal.returns-in-Err-draw_and_step-clause-undrawn
-returns-in-Err-draw_and_step-clause-undrawn c =
+pub returns-in-Err-clause-undrawn : goal.returns-in-Err-clause-undrawn
+returns-in-Err-clause-undrawn c =
     let order = c.args.order.now in
     let k = c.loop-index.index in
     subst (IsUndrawn order c.args.machine.now) (sym c.undrawn_at.ensures)
-    (undrawn order k c.loop-index.rows.items c.args.machine.now c.loop-index.machine c.in-Err-draw_and_step.why
+    (undrawn order k c.loop-index.rows.items c.args.machine.now c.loop-index.machine c.in-Err.why
     c.loop-index-test.true c.loop-index.invariant.0 (take_more order k 0 c.loop-index-test.true)
-    c.loop-index.invariant.2 c.in-Err-draw_and_step.ensures.unmade)
+    c.loop-index.invariant.2 c.in-Err.ensures.unmade)
 
 pub returns-clause-rows : goal.returns-clause-rows
 returns-clause-rows c = λ setup agrees.
