@@ -174,7 +174,6 @@ fn write_count<W: Write>(number: u64, index: usize, out: &mut W) -> io::Result<(
     write_close_text(out)
 }
 
-#[tactic(auto, unfolding(crate::specs::Boxes::frame_text))]
 fn write_frame<W: Write>(
     kind: &str,
     mark: &str,
@@ -193,7 +192,6 @@ fn write_frame<W: Write>(
 }
 
 /// Writes where a box stands, and its size.
-#[tactic(auto, unfolding(crate::specs::Boxes::size_text))]
 fn write_size<W: Write>(hart: u8, index: usize, out: &mut W) -> io::Result<()>
     requires { index ≤ most_rows }
     ensures { OnOk result (Appends (W.contents out.old) (W.contents out.new) (size_text hart index)) }
@@ -233,7 +231,6 @@ fn mark_class(lost: bool, stuck: bool) -> &'static str
 }
 
 /// Writes what a row shows, in its box, at whose edge a longer text ends.
-#[tactic(auto, unfolding(crate::specs::Boxes::what_text))]
 fn write_what<W: Write>(
     names: &Symbols<'_>,
     deed: &Deed,

@@ -42,7 +42,6 @@ pub(crate) fn write_place_attributes<W: Write>(x: u32, y: u32, out: &mut W) -> i
 }
 
 /// Writes the beginning of a text of these classes that stands at a point.
-#[tactic(auto, unfolding(crate::specs::Elements::open_text))]
 pub(crate) fn write_open_text<W: Write>(class: &str, x: u32, y: u32, out: &mut W) -> io::Result<()>
     ensures { OnOk result (Appends (W.contents out.old) (W.contents out.new) (open_text class.now x y)) }
 {

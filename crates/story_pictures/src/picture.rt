@@ -58,7 +58,6 @@ fn write_body<W: Write>(rows: &[Row], form: &PictureForm<'_>, out: &mut W) -> io
 }
 
 /// Writes the beginning of a picture of this size.
-#[tactic(auto, unfolding(crate::specs::Picture::begin_text))]
 fn write_begin<W: Write>(width: u32, height: u32, out: &mut W) -> io::Result<()>
     ensures { OnOk result (Appends (W.contents out.old) (W.contents out.new) (begin_text width height)) }
 {
@@ -95,7 +94,6 @@ fn write_lane<W: Write>(height: u32, hart: u8, out: &mut W) -> io::Result<()>
     write_lane_name(hart, out)
 }
 
-#[tactic(auto, unfolding(crate::specs::Picture::lane_line))]
 fn write_lane_line<W: Write>(height: u32, hart: u8, out: &mut W) -> io::Result<()>
     ensures { OnOk result (Appends (W.contents out.old) (W.contents out.new) (lane_line height hart)) }
 {
