@@ -5,9 +5,9 @@ use Rattle.text_fields.specs.Each.{each_from}
 use Rattle.symbols.specs.Tables.{Table}
 use Rattle.address_labels.specs.{Labels.Marks, Texts.labels_text}
 use Rattle.address_labels.specs.declared.writing.Form.TheVariants.{Drawn}
-use Rattle.stories.specs.declared.{row.Row.Row, deed.Deed.Deed}
+use Rattle.stories.specs.{declared.row.Row.Row, declared.deed.Deed.Deed, Spans.written_span}
 use Rattle.story_text.specs.Deeds.{address_text}
-use Rattle.story_pictures.specs.{Form.Plan, Accesses.read_span, Accesses.written_span, Relations.is_overwritten}
+use Rattle.story_pictures.specs.{Form.Plan, Accesses.found_span, Relations.is_overwritten}
 use Rattle.story_pictures.specs.{Relations.is_stuck}
 use Rattle.story_pictures.specs.{Geometry.lane_left, Geometry.lane_right, Geometry.row_base, Geometry.row_top}
 use Rattle.story_pictures.specs.{Elements.open_text, Elements.close_text, Elements.place_attributes, Words.deed_words}
@@ -35,7 +35,7 @@ mark_class lost stuck =
     if lost then (if stuck then codes " lost stuck" else codes " lost") else (if stuck then codes " stuck" else [])
 
 abbrev pub kind_of : Deed → List ℕ
-kind_of d = kind_class (is_some (read_span d)) (is_some (written_span d))
+kind_of d = kind_class (is_some (found_span d)) (is_some (written_span d))
 
 unfoldable pub size_text : ℕ → ℕ → List ℕ
 size_text h i = codes "\" " ++ (place_attributes (lane_left h) (row_top i)

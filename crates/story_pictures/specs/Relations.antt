@@ -4,7 +4,8 @@ use Rattle.std.specs.Prelude.{ℕ, ◌+◌, ◌==◌, ◌&&◌, ◌||◌, Bool, 
 use Rattle.std.specs.List.{list_any}
 use Rattle.stories.specs.declared.{row.Row.Row, deed.Deed.Deed}
 use Rattle.stories.specs.declared.deed.Deed.TheVariants as deed
-use Rattle.story_pictures.specs.Accesses.{byte_at, read_span, reads_byte, touches_byte, writes_byte, written_span}
+use Rattle.stories.specs.Spans.{written_span}
+use Rattle.story_pictures.specs.Accesses.{byte_at, found_span, reads_byte, touches_byte, writes_byte}
 
 -- This write is the last that was made of a byte before it was read: it writes the byte, and none of the rows between
 -- does.
@@ -13,7 +14,7 @@ gives between write None = false
 gives between write (Some byte) = writes_byte byte write && not (list_any (writes_byte byte) between)
 
 abbrev pub gives_at : List Row → Row → Row → ℕ → Bool
-gives_at between write read place = gives between write (byte_at (read_span read.deed) place)
+gives_at between write read place = gives between write (byte_at (found_span read.deed) place)
 
 -- The read found a byte of the write.
 abbrev pub finds : List Row → Row → Row → Bool

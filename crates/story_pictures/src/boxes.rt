@@ -27,7 +27,7 @@ ghost use Rattle.story_pictures.specs.Boxes.{
   word_class,
 };
 
-use crate::accesses::{read_span, written_span};
+use crate::accesses::found_span;
 use crate::elements::{write_close_text, write_number, write_open_text, write_place_attributes};
 use crate::form::PictureForm;
 use crate::geometry::{lane_left, lane_right, row_base, row_top};
@@ -36,7 +36,7 @@ use crate::words::{write_address, write_deed};
 use address_labels::{Form, Labels, write_labels};
 use std::io;
 use std::io::Write;
-use stories::{Deed, Row};
+use stories::{Deed, Row, written_span};
 use symbols::Symbols;
 
 /// Writes the boxes of all rows.
@@ -205,7 +205,7 @@ fn write_size<W: Write>(hart: u8, index: usize, out: &mut W) -> io::Result<()>
 fn kind_of(deed: &Deed) -> &'static str
     ensures { result.now ≡ kind_of deed.now }
 {
-    kind_class(read_span(deed).is_some(), written_span(deed).is_some())
+    kind_class(found_span(deed).is_some(), written_span(deed).is_some())
 }
 
 fn kind_class(reads: bool, writes: bool) -> &'static str

@@ -7,8 +7,8 @@ ghost use Rattle.story_pictures.specs.Accesses.{touches_byte, writes_byte};
 ghost use Rattle.story_pictures.specs.Relations.{finds, gives, gives_at, is_gone, is_gone_at};
 ghost use Rattle.story_pictures.specs.Relations.{is_end, is_over, is_overwritten, is_stuck, reads_from};
 
-use crate::accesses::{byte_at, read_span, reads_byte, touches_byte, writes_byte, written_span};
-use stories::{Deed, Row};
+use crate::accesses::{byte_at, found_span, reads_byte, touches_byte, writes_byte};
+use stories::{Deed, Row, written_span};
 
 /// Whether a read found a byte of a write: the row at `index` of those before the read.
 pub fn reads_from(earlier: &[Row], index: usize, write: &Row, read: &Row) -> bool
@@ -30,7 +30,7 @@ fn finds(between: &[Row], write: &Row, read: &Row) -> bool
 fn gives_at(between: &[Row], write: &Row, read: &Row, place: u32) -> bool
     ensures { result ≡ gives_at between.now write.now read.now place }
 {
-    gives(between, write, byte_at(read_span(&read.deed), place))
+    gives(between, write, byte_at(found_span(&read.deed), place))
 }
 
 fn gives(between: &[Row], write: &Row, byte: Option<u64>) -> bool
