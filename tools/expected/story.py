@@ -7,17 +7,42 @@ are before a step, and of its record.
 from instructions import ATOMIC_RESULTS, NO_WORD, SIZES, compute, decode, spelled
 
 NUMBER, FEW_HARTS, WIDE, NARROW = 5, 4, 24, 8
+KEPT = 256
 
 
 def reason(missed, h, address):
     """Why an SC of hart h at an address has written nothing, by the rows so far: (number, hart, name, what)."""
     own = [k for k, row in enumerate(missed) if row[1] == h and row[2] == "lr.w"]
-    if not own or missed[own[-1]][3] != ("read", address):
+    if not own or missed[own[-1]][3][:2] != ("read", address):
         return "no reservation"
     for number, hart, name, what in missed[own[-1] + 1 :]:
         if what[0] == "write" and what[1] // 4 == address // 4:
             return f"hart {hart}'s {name} at row {number} took the reservation"
     return "no reservation"
+
+
+def bytes_of(what):
+    return set(range(what[1], what[1] + what[2])) if what[0] in ("read", "write") else set()
+
+
+def remark(rows, h, name, what):
+    """What the last rows make of a store or an LR of hart h: a lost update, an ABA, or nothing."""
+    if (name, what[0]) != ("lr.w", "read") and not (what[0] == "write" and name in ("sb", "sh", "sw")):
+        return ""
+    wanted, others = bytes_of(what), []
+    for number, hart, other, done in reversed(rows[-KEPT:]):
+        if not wanted & bytes_of(done):
+            continue
+        if hart != h:
+            others += [(number, hart, other)] if done[0] == "write" else []
+            continue
+        if done[0] != "read" or not others or name == "lr.w" and done != what:
+            return ""
+        write = f"hart {others[0][1]}'s {others[0][2]} at row {others[0][0]}"
+        if name == "lr.w":
+            return f", ABA: as at row {number}, though {write} wrote since"
+        return f", lost update: {write} came after its read at row {number}"
+    return ""
 
 
 def deed(machine, h, place_of, rows):
@@ -42,11 +67,14 @@ def deed(machine, h, place_of, rows):
     if i.kind == "sc" and machine.reserved[h] != c.addr:
         return "sc.w", f"sc.w {place} fails: {reason(rows, h, c.addr)}", ("none", None)
     if i.kind in ("load", "lr"):
-        return i.name, f"{i.name} {place} → {machine.read(c.addr, size)}", ("read", c.addr)
+        number = machine.read(c.addr, size)
+        what = ("read", c.addr, size, number)
+        return i.name, f"{i.name} {place} → {number}{remark(rows, h, i.name, what)}", what
     if i.kind in ("store", "sc"):
-        return i.name, f"{i.name} {place} ← {c.data % 256**size}", ("write", c.addr)
+        what = ("write", c.addr, size)
+        return i.name, f"{i.name} {place} ← {c.data % 256**size}{remark(rows, h, i.name, what)}", what
     old = machine.read(c.addr, 4)
-    return i.name, f"{i.name} {place} {old} → {ATOMIC_RESULTS[i.name](old, c.data)}", ("write", c.addr)
+    return i.name, f"{i.name} {place} {old} → {ATOMIC_RESULTS[i.name](old, c.data)}", ("write", c.addr, 4)
 
 
 def head(harts, width):

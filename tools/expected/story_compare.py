@@ -6,7 +6,8 @@
 
 A row's hart, address, size and number are those of its record: of a store what the record has written, of a load what
 its register has, with its sign; a byte that was put out, and the end of a hart, are the record's. The story is read from
-its text, by docs/FORMATS.md alone.
+its text, by docs/FORMATS.md alone. What stands behind a number of a lost update or an ABA is what tables of the last
+access and the last write of each byte say, of 256 rows at the most; `story.py` looks back through the rows.
 """
 
 import os
@@ -23,15 +24,18 @@ from random_words import some_code
 
 ROW = re.compile(r"(\d+) +(.*)")
 LOADING = {name for name, _ in LOADS.values()} | {"lr.w"}
-STORING = {name for name, _ in STORES.values()} | {"sc.w"}
+PLAIN_STORES = {name for name, _ in STORES.values()}
+STORING = PLAIN_STORES | {"sc.w"}
+KEPT = 256
 
 
 def read_row(line, width):
-    """Number, hart and text of a row."""
+    """Number, hart and text of a row, and what earlier rows make of it."""
     number = int(line.split(" ")[0])
     rest = line[max(5, len(str(number)) + 1) :]
     spaces = len(rest) - len(rest.lstrip(" "))
-    return number, spaces // width, rest.lstrip(" ")
+    text, _, behind = rest.lstrip(" ").partition(", ")
+    return number, spaces // width, text, behind
 
 
 def has_row(record):
@@ -43,7 +47,7 @@ def has_row(record):
 
 def faults(row, record):
     """What a row says otherwise than its record: hart, pc, word, value, next, address, number, byte."""
-    _, hart, text = row
+    _, hart, text, _ = row
     name, *fields = text.split(" ")
     value, after, address, number, out = record[3:8]
     if str(hart) != record[0]:
@@ -83,6 +87,52 @@ def faults(row, record):
             yield "what an atomic read"
 
 
+def bytes_touched(name, fields):
+    """The addresses of the bytes that a row's instruction has read or written; none where it did neither."""
+    if name not in LOADING | STORING and not name.startswith("amo") or fields[1] == "fails:":
+        return range(0)
+    return range(int(fields[0], 16), int(fields[0], 16) + SIZES.get(name, 4))
+
+
+class Tables:
+    """Of each byte the row in which each hart has accessed it last, and that in which each has written to it last."""
+
+    def __init__(self):
+        self.rows, self.accesses, self.writes = {}, {}, {}
+
+    def remark(self, row):
+        """What the rows before make of a store or an LR."""
+        number, hart, text, _ = row
+        name, *fields = text.split(" ")
+        if name not in PLAIN_STORES | {"lr.w"}:
+            return ""
+        oldest = max(number - KEPT, 1)
+        touched = bytes_touched(name, fields)
+        own = max(self.accesses.get(byte, {}).get(hart, 0) for byte in touched)
+        others = [at for byte in touched for h, at in self.writes.get(byte, {}).items() if h != hart]
+        write = max(others, default=0)
+        if own < oldest or write <= own:
+            return ""
+        read, taken = self.rows[own], self.rows[write]
+        named = f"hart {taken[1]}'s {taken[2].split(' ')[0]} at row {write}"
+        if read[2].split(" ")[0] not in LOADING:
+            return ""
+        if name != "lr.w":
+            return f"lost update: {named} came after its read at row {own}"
+        same = read[2].split(" ")[0] in ("lw", "lr.w") and read[2].split(" ")[1:] == fields
+        return f"ABA: as at row {own}, though {named} wrote since" if same else ""
+
+    def hear(self, row):
+        """A row was told."""
+        number, hart, text, _ = row
+        name, *fields = text.split(" ")
+        self.rows[number] = row
+        for byte in bytes_touched(name, fields):
+            self.accesses.setdefault(byte, {})[hart] = number
+            if name not in LOADING:
+                self.writes.setdefault(byte, {})[hart] = number
+
+
 def some_run(seed, k):
     """A random image without names, and an order all of whose steps are made."""
     r = random.Random(f"story {seed} {k}")
@@ -114,9 +164,13 @@ def compare(program, place, harts, data, order):
         return
     if [row[0] for row in rows] != list(range(1, len(rows) + 1)):
         yield "numbers of rows", len(rows)
+    tables = Tables()
     for row, record in zip(rows, seen):
         for fault in faults(row, record):
             yield f"row {row[0]}: {fault}: {row[2]}: {' '.join(record)}", len(rows)
+        if row[3] != tables.remark(row):
+            yield f"row {row[0]}: remark: {row[2]}, {row[3]}", len(rows)
+        tables.hear(row)
     yield None, len(rows)
 
 

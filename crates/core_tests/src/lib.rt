@@ -44,3 +44,4 @@ mod smt_core_tests;
 mod stories_tests;
 #[cfg(test)]
 mod story_text_tests;
+mod stuck_harts_tests;

@@ -1,11 +1,12 @@
 //! Stories of orders, by programs worked by hand from docs/FORMATS.md.
 
 use elf_image::Image;
+use rv_instr::{LoadOp, StoreOp};
 use rv_word::AmoKind;
 use sc_machine::Plain;
 use std::alloc::Global;
 use std::test::Fail;
-use stories::{Deed, Row, Teller, deed_of, row_of, step_of};
+use stories::{Deed, Note, Recent, Row, Teller, deed_of, row_of, step_of};
 use test_support::{file_of, image_of};
 
 /// `lui x6,0x80001`, `lr.w x5,(x6)`, `sc.w x7,x10,(x6)`, `amoadd.w x8,x11,(x6)`, `ebreak`.
@@ -111,5 +112,68 @@ fn the_first_write_takes_a_reservation(rt: HostRuntime) -> Result<(), Fail> {
     assert!(rt; taken.number == 3 && taken.hart == 1);
     assert!(rt; teller.taker(0, addr + 4).is_none());
     assert!(rt; teller.taker(1, addr).is_none());
+    Ok(())
+}
+
+/// The numbers of the rows that a note names as the read and the write.
+fn rows_named(note: Option<Note>) -> Option<(u64, u64)> {
+    match note {
+        Some(Note::Overwrites { read, write }) => Some((read.number, write.number)),
+        Some(Note::Again { read, write }) => Some((read.number, write.number)),
+        _ => None,
+    }
+}
+
+#[test]
+fn rows_name_lost_updates_and_an_aba(rt: HostRuntime) -> Result<(), Fail> {
+    let addr = 0x8000_1000;
+    let read = Deed::Reserved { addr, number: 5 };
+    let written = Deed::Conditional { addr, number: 6 };
+    let byte = Deed::Stored {
+        op: StoreOp::Sb,
+        addr: addr + 1,
+        number: 0,
+    };
+    let word = Deed::Loaded {
+        op: LoadOp::Lw,
+        addr: addr + 4,
+        number: 0,
+    };
+    let deeds = [(0, read), (0, word), (1, written), (1, byte)];
+    let mut recent = Recent::new();
+    assert!(rt; rows_named(recent.note_of(0, &byte)).is_none());
+    let mut number = 0u64;
+    for (hart, deed) in &deeds {
+        number = number.wrapping_add(1);
+        recent.hear(&Row {
+            number,
+            hart: *hart,
+            pc: 0,
+            deed: *deed,
+        });
+    }
+    let other = Deed::Reserved { addr, number: 6 };
+    let beside = Deed::Stored {
+        op: StoreOp::Sb,
+        addr,
+        number: 0,
+    };
+    let behind = Deed::Stored {
+        op: StoreOp::Sw,
+        addr: addr + 4,
+        number: 0,
+    };
+    let rows = [
+        (0, read, Some((1, 4))),
+        (0, other, None),
+        (0, byte, Some((1, 4))),
+        (0, beside, Some((1, 3))),
+        (0, behind, None),
+        (1, byte, None),
+        (0, written, None),
+    ];
+    for (hart, deed, wanted) in &rows {
+        assert!(rt; rows_named(recent.note_of(*hart, deed)) == *wanted);
+    }
     Ok(())
 }

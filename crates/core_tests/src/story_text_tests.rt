@@ -23,8 +23,27 @@ const RESERVING: [u32; 8] = [
 const TOLD: &str =
     "     h0                      h1\n     (1 step)\n1    lr.w 80001000 \u{2192} 0\n     (1 step)\n2                            lr.w 80001000 \u{2192} 0\n3                            sc.w 80001000 \u{2190} 1\n4    sc.w 80001000 fails: hart 1's sc.w at row 3 took the reservation\n5    stopped 3\n";
 
+/// `lui x6,0x80001`, `lw x5,(x6)`, `sw x10,(x6)`, `ebreak`.
+const STORING: [u32; 8] = [
+    0x8000_1337,
+    0x0003_2283,
+    0x00a3_2023,
+    0x0010_0073,
+    0,
+    0,
+    0,
+    0,
+];
+
+const LOST: &str =
+    "     h0                      h1\n     (1 step)\n1    lw 80001000 \u{2192} 0\n     (1 step)\n2                            lw 80001000 \u{2192} 0\n3                            sw 80001000 \u{2190} 1\n4    sw 80001000 \u{2190} 0, lost update: hart 1's sw at row 3 came after its read at row 1\n";
+
 fn machine(alloc: Global) -> Option<Plain> {
-    let file = file_of(&RESERVING, 0, alloc).ok()?;
+    machine_of(&RESERVING, alloc)
+}
+
+fn machine_of(words: &[u32; 8], alloc: Global) -> Option<Plain> {
+    let file = file_of(words, 0, alloc).ok()?;
     let image = image_of(&file, 8192, alloc)?;
     Plain::new(&image, 2, 8, alloc).ok()
 }
@@ -49,6 +68,15 @@ fn an_order_is_told(rt: HostRuntime) -> Result<(), Fail> {
     let (text, untold) = told(&mut machine, &[0, 0, 1, 1, 1, 0, 0], rt.alloc());
     assert!(rt; untold.is_none());
     assert!(rt; text.as_slice() == TOLD.as_bytes());
+    Ok(())
+}
+
+#[test]
+fn a_lost_update_is_told(rt: HostRuntime) -> Result<(), Fail> {
+    let mut machine = machine_of(&STORING, rt.alloc()).ok_or("refused")?;
+    let (text, untold) = told(&mut machine, &[0, 0, 1, 1, 1, 0], rt.alloc());
+    assert!(rt; untold.is_none());
+    assert!(rt; text.as_slice() == LOST.as_bytes());
     Ok(())
 }
 

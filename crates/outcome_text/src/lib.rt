@@ -12,4 +12,5 @@ mod listing;
 mod unwritten;
 
 pub use answers::{answer_of, write_answer};
+pub use line::write_line;
 pub use listing::{write_incomplete, write_outcomes};

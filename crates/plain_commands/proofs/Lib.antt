@@ -7,3 +7,4 @@ pub mod OfWrittenOrders
 pub mod OfLitmus
 pub mod Retired
 pub mod FirstSettling
+pub mod OfWrittenStories

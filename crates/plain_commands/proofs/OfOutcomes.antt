@@ -21,7 +21,7 @@ use Rattle.story_text.specs.Text.{Plan}
 use Rattle.outcome_queries.specs.{declared.term.Term.Term, Harts.IsHartThere}
 use Rattle.std.specs.List.{All}
 use Rattle.plain_commands.specs.Questions.{IsQuestionOf, terms_asked}
-use Rattle.plain_commands.specs.WrittenOrders.{HasPutOrder, order_wanted, wants_order}
+use Rattle.plain_commands.specs.WrittenOrders.{HasPutOrder, line_wanted, order_wanted, wants_order}
 use Rattle.plain_commands.specs.Outcomes.{HasPutText, HasTold, HasToldFound, IsAsked, OutcomesComeTo, found_text}
 use Rattle.plain_commands.specs.Outcomes.{plan_for, status_found}
 use Rattle.plain_commands.specs.Outcomes.{IsAnyRefusal, IsAsking, IsFound, IsFoundRefusal, IsWatchOf, OfFound}
@@ -201,12 +201,18 @@ module _ {S : Type 0} (written : S → Option (List ℕ)) (has_failed : S → Bo
     (image : ProgramImage) (command : OutcomesCommand) (plan : Plan) (all : List Asked) (watch : Watch)
     (question : Option Question) (found : Found) where
   -- It has told what was found, and put its order.
-  pub told_so : (order : Option (List ℕ)) (old new : Option (List ℕ)) (status : ℕ)
-      → order ≡ order_wanted command watch question found
-      → HasPutOrder written has_failed before after settings image command plan order
+  pub told_so : (order line : Option (List ℕ)) (old new : Option (List ℕ)) (status : ℕ)
+      → order ≡ order_wanted command watch question found → line ≡ line_wanted command all watch question found
+      → HasPutOrder written has_failed before after settings image command plan order line
       → Appends old new (found_text command all watch question found) → status ≡ status_found watch question found
       → HasTold settings image command plan all watch question found (HasPutText written has_failed before after) old new
       status
-  told_so order old new status wanted put printed is =
-      let text = text_put written has_failed before after settings image command plan order put in
-      record { text = text.0; printed = printed; status = is; is_text = rw (sym wanted) text.1; put = text.2 }
+  told_so order line old new status wanted closed put printed is =
+      let text = text_put written has_failed before after settings image command plan order line put in
+      record {
+        text = text.0;
+        printed = printed;
+        status = is;
+        is_text = rw (sym wanted, sym closed) text.1;
+        put = text.2;
+      }

@@ -99,8 +99,9 @@ module _ (settings : Settings) (image : ProgramImage) (command : OutcomesCommand
 module _ {S : Type 0} (written : S → Option (List ℕ)) (has_failed : S → Bool) (old new : S) (settings : Settings)
     (image : ProgramImage) (command : OutcomesCommand) (plan : Plan) where
   -- What was put of an order is its text; of none, nothing.
-  pub text_put : (order : Option (List ℕ)) → HasPutOrder written has_failed old new settings image command plan order
-      → (text : Option (List ℕ)) × IsTextIf command (setup_of image settings.config) settings.limit plan order text
+  pub text_put : (order line : Option (List ℕ))
+      → HasPutOrder written has_failed old new settings image command plan order line
+      → (text : Option (List ℕ)) × IsTextIf command (setup_of image settings.config) settings.limit plan order line text
       × HasPutText written has_failed old new text
-  text_put None is = (None, tt, is)
-  text_put (Some order) is = (Some is.text, is.is, is.put)
+  text_put None line is = (None, tt, is)
+  text_put (Some order) line is = (Some is.text, is.is, is.put)

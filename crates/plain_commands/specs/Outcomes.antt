@@ -32,7 +32,8 @@ use Rattle.command_parts.specs.{declared.refused.Refused.Refused}
 use Rattle.command_parts.specs.declared.refused.Refused.TheVariants as reasons
 use Rattle.plain_commands.specs.Questions.{IsQuestionOf, IsConditionRefused, settles, status_of_answer, status_of_extent}
 use Rattle.plain_commands.specs.Questions.{terms_asked}
-use Rattle.plain_commands.specs.WrittenOrders.{IsTextOf, IsTextRefusal, is_answer_wanted, order_wanted, stuck_told}
+use Rattle.plain_commands.specs.WrittenOrders.{IsTextOf, IsTextRefusal, is_answer_wanted, line_wanted, order_wanted}
+use Rattle.plain_commands.specs.WrittenOrders.{stuck_told}
 use Rattle.std.specs.{Borrow.Bor, List.All}
 
 -- The list of a command asks for these, where the program has these names.
@@ -95,10 +96,11 @@ status_found watch None found = status_of_extent found.extent
 status_found watch (Some question) found = status_of_answer (answer_found watch question found)
 
 -- What is written into the file of an order: its text; or nothing, where there is no order.
-abbrev pub IsTextIf : OutcomesCommand → Setup → ℕ → Plan → Option (List ℕ) → Option (List ℕ) → Type 0
-IsTextIf command setup limit plan None None = Unit {0}
-IsTextIf command setup limit plan (Some order) (Some text) = IsTextOf command setup limit plan order text
-IsTextIf command setup limit plan order text = ⊥
+abbrev pub IsTextIf : OutcomesCommand → Setup → ℕ → Plan → Option (List ℕ) → Option (List ℕ) → Option (List ℕ) → Type 0
+IsTextIf command setup limit plan None line None = Unit {0}
+IsTextIf command setup limit plan (Some order) line (Some text) =
+    IsTextOf command setup limit plan order line text
+IsTextIf command setup limit plan order line text = ⊥
 
 -- The story that a command wants.
 abbrev pub plan_for : Settings → Table → Marks → OutcomesCommand → Plan
@@ -122,7 +124,7 @@ pub record HasTold (settings : Settings) (image : ProgramImage) (command : Outco
   pub printed : Appends old new (found_text command all watch question found)
   pub status : exit_status ≡ status_found watch question found
   pub is_text : IsTextIf command (setup_of image settings.config) settings.limit plan
-      (order_wanted command watch question found) text
+      (order_wanted command watch question found) (line_wanted command all watch question found) text
   pub put : Put text
 
 -- A text is put into a file whole; or it is what it was.

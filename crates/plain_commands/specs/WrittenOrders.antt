@@ -1,19 +1,24 @@
 -- The order that the command `outcomes` writes into a file. (This project's own choice.)
 use Rattle.std.specs.Prelude.{◌≡◌, ◌⊎◌, ℕ, ◌-◌, ◌<◌, Bool, true, false, not, ◌&&◌, is_some, if◌then◌else◌, List, reverse}
-use Rattle.std.specs.Prelude.{Option, Some, None, length, position}
+use Rattle.std.specs.Prelude.{Option, Some, None, [], ◌++◌, length, position, option_map, flat_map}
 use Rattle.std.specs.{Option.option_map_or, Option.option_and_then, Option.option_or}
 use Rattle.elf_image.specs.Image.{ProgramImage}
 use Rattle.core_state.specs.Setup.{setup_of}
-use Rattle.smt_model.specs.Setup.{Setup}
+use Rattle.smt_model.specs.{Setup.Setup, Basics.below, Plain.Run, Plain.run}
 use Rattle.event_text.specs.Sinking.{HasPut}
 use Rattle.searches.specs.declared.extent.Extent.{Extent}
 use Rattle.searches.specs.declared.extent.Extent.TheVariants.{Whole}
-use Rattle.outcomes.specs.{Found.Found, Found.Told, Told.order_listed}
+use Rattle.outcomes.specs.{Found.Found, Found.Told, Told.order_listed, Told.ending_listed}
+use Rattle.outcome_queries.specs.{declared.watched.Asked.Asked, Watches.registers_asked, Watches.memory_asked}
 use Rattle.outcome_queries.specs.declared.question.Question.{Question}
 use Rattle.outcome_queries.specs.declared.question.Question.TheVariants.{NeverStuck}
+use Rattle.outcome_text.specs.Line.{outcome_line}
 use Rattle.schedules.specs.Schedules.{IsScheduleOf}
+use Rattle.sc_machine.specs.Machine.{Machine, Agrees}
 use Rattle.stories.specs.Story.{steps}
 use Rattle.story_text.specs.Text.{Plan, story_text}
+use Rattle.stuck_harts.specs.Lines.{waiting_text}
+use Rattle.symbols.specs.Tables.{Table}
 use Rattle.stress_runs.specs.Kept.{order_text}
 use Rattle.watched_outcomes.specs.declared.watch.Watch.{Watch}
 use Rattle.sim_inputs.specs.{declared.settings.Settings.Settings, Files.written_order}
@@ -60,34 +65,65 @@ order_wanted command watch question found =
     then option_map_or (λ number. order_listed found.listed (number - 1)) command.outcome settled
     else None
 
+-- The line of the outcome whose order a command wants; none where it is the order to a state that is stuck.
+abbrev pub index_wanted : OutcomesCommand → Watch → Option Question → Found → Option ℕ
+index_wanted command watch question found =
+    let settled = position (λ (told : Told). settles watch question told.ending) found.listed in
+    option_map_or (λ number. Some (number - 1)) command.outcome (if command.stuck then None else settled)
+
+abbrev pub line_wanted : OutcomesCommand → List Asked → Watch → Option Question → Found → Option (List ℕ)
+line_wanted command all watch question found =
+    option_map (outcome_line (registers_asked all) (memory_asked all))
+    (option_and_then (ending_listed found.listed) (index_wanted command watch question found))
+
+-- The machine has made an order from the start.
+pub record HasCome (setup : Setup) (order : List ℕ) (m : Machine) : Type 0 where
+  pub ran : Run
+  pub runs : run setup (reverse order) ≡ Some ran
+  pub agrees : Agrees setup ran.state m
+
+-- What stands behind a story: that line; or what each hart waits for, once the order was made.
+abbrev pub waiting_behind : Table → Setup → Option Run → ℕ → List ℕ
+waiting_behind names setup None h = []
+waiting_behind names setup (Some ran) h = waiting_text names setup h ran.state
+
+abbrev pub waits_text : Table → Setup → List ℕ → List ℕ
+waits_text names setup order = flat_map (waiting_behind names setup (run setup (reverse order))) (below setup.harts)
+
+abbrev pub closing_text : Table → Setup → List ℕ → Option (List ℕ) → List ℕ
+closing_text names setup order (Some line) = line
+closing_text names setup order None = waits_text names setup order
+
 -- What is written of an order: a line for each hart; or a script by which the core retires in it; or its story; or a
 -- picture of that.
-abbrev pub IsStoryOf : Setup → Plan → List ℕ → List ℕ → Type 0
-IsStoryOf setup plan order text = text ≡ story_text plan (steps setup (reverse order))
+abbrev pub IsStoryOf : Setup → Plan → List ℕ → Option (List ℕ) → List ℕ → Type 0
+IsStoryOf setup plan order line text =
+    text ≡ story_text plan (steps setup (reverse order)) ++ closing_text plan.names setup order line
 
-abbrev pub IsTextBy : Bool → Bool → Bool → Setup → ℕ → Plan → List ℕ → List ℕ → Type 0
-IsTextBy true is_story is_drawn setup limit plan order text = IsScheduleOf setup limit order text
-IsTextBy false true is_drawn setup limit plan order text = IsStoryOf setup plan order text
-IsTextBy false false true setup limit plan order text = IsPictureOf (picture_plan true plan) setup order text
-IsTextBy false false false setup limit plan order text = text ≡ order_text order
+abbrev pub IsTextBy : Bool → Bool → Bool → Setup → ℕ → Plan → List ℕ → Option (List ℕ) → List ℕ → Type 0
+IsTextBy true is_story is_drawn setup limit plan order line text = IsScheduleOf setup limit order text
+IsTextBy false true is_drawn setup limit plan order line text = IsStoryOf setup plan order line text
+IsTextBy false false true setup limit plan order line text = IsPictureOf (picture_plan true plan) setup order text
+IsTextBy false false false setup limit plan order line text = text ≡ order_text order
 
-abbrev pub IsTextOf : OutcomesCommand → Setup → ℕ → Plan → List ℕ → List ℕ → Type 0
-IsTextOf command setup limit plan order text =
-    IsTextBy (is_some command.script) (is_some command.story) (is_some command.story_svg) setup limit plan order text
+abbrev pub IsTextOf : OutcomesCommand → Setup → ℕ → Plan → List ℕ → Option (List ℕ) → List ℕ → Type 0
+IsTextOf command setup limit plan order line text =
+    IsTextBy (is_some command.script) (is_some command.story) (is_some command.story_svg) setup limit plan order line text
 
 -- The order is in the file, so written.
 pub record IsOrderPut {S : Type 0} (written : S → Option (List ℕ)) (has_failed : S → Bool) (old new : S)
-    (settings : Settings) (image : ProgramImage) (command : OutcomesCommand) (plan : Plan) (order : List ℕ) : Type 0 where
+    (settings : Settings) (image : ProgramImage) (command : OutcomesCommand) (plan : Plan) (order : List ℕ)
+    (line : Option (List ℕ)) : Type 0 where
   pub text : List ℕ
-  pub is : IsTextOf command (setup_of image settings.config) settings.limit plan order text
+  pub is : IsTextOf command (setup_of image settings.config) settings.limit plan order line text
   pub put : HasPut written has_failed old new text
 
 -- So it is where there is an order; else the file is what it was.
 abbrev pub HasPutOrder : {S : Type 0} → (S → Option (List ℕ)) → (S → Bool) → S → S → Settings → ProgramImage
-    → OutcomesCommand → Plan → Option (List ℕ) → Type 0
-HasPutOrder written has_failed old new settings image command plan None = new ≡ old
-HasPutOrder written has_failed old new settings image command plan (Some order) =
-    IsOrderPut written has_failed old new settings image command plan order
+    → OutcomesCommand → Plan → Option (List ℕ) → Option (List ℕ) → Type 0
+HasPutOrder written has_failed old new settings image command plan None line = new ≡ old
+HasPutOrder written has_failed old new settings image command plan (Some order) line =
+    IsOrderPut written has_failed old new settings image command plan order line
 
 -- ---- Refusals
 

@@ -19,6 +19,7 @@ use crate::asking::{question_of, see_harts, terms_asked, watched_for};
 use crate::searching::find_shown;
 use crate::settling::{FirstSettling, status_of_answer, status_of_extent};
 use crate::written_orders::{is_answer_wanted, order_wanted, put_order, stuck_order};
+use crate::written_stories::line_wanted;
 use actors::Gate;
 use address_labels::Labels;
 use command_parts::{Context, Refused};
@@ -178,11 +179,16 @@ fn tell<R, G, P, S: EndFiles, W: Write>(
         Ok(order) => order.is_some(),
         Err(refused) => return Err(refused),
     };
+    let line = match line_wanted(command, outcomes, list, watch, question, alloc) {
+        Ok(line) => line,
+        Err(refused) => return Err(refused),
+    };
     match put_order(
         image,
         settings,
         command,
         &order,
+        &line,
         form,
         &mut context.files,
         alloc,

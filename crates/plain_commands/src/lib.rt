@@ -19,6 +19,7 @@ mod schedule;
 mod searching;
 mod settling;
 mod written_orders;
+mod written_stories;
 
 pub use all_outcomes::perform_outcomes;
 pub use litmus::{perform_litmus, perform_test};

@@ -12,14 +12,13 @@ ghost use Rattle.command_parts.specs.declared.refused.Refused.TheVariants.{Memor
 ghost use Rattle.sim_inputs.specs.Files.{written_order};
 ghost use Rattle.plain_commands.specs.WrittenOrders.{IsOrderRefusal, IsListedRefusal, IsStuckRefusal, IsTextRefusal};
 ghost use Rattle.plain_commands.specs.WrittenOrders.{IsTextOf, is_answer_wanted, order_wanted, settling_order};
-ghost use Rattle.plain_commands.specs.WrittenOrders.{stuck_asked, stuck_told, HasPutOrder, IsScriptRefusal, IsStoryOf};
-ghost use Rattle.plain_commands.specs.Plain.{IsMachineRefusal};
+ghost use Rattle.plain_commands.specs.WrittenOrders.{stuck_asked, stuck_told, HasPutOrder, IsScriptRefusal};
 ghost use Rattle.schedules.specs.Schedules.{IsScheduleOf};
 
 use crate::drawn_orders::found_picture;
-use crate::plain::tell_image;
 use crate::schedule::schedule_of;
 use crate::settling::settling;
+use crate::written_stories::story_text;
 use command_parts::{Refused, put_text};
 use elf_image::Image;
 use outcome_queries::Question;
@@ -162,12 +161,14 @@ pub(crate) fn is_answer_wanted(command: &OutcomesCommand<'_>) -> bool
     command.written().is_some() && command.outcome.is_none() && !command.stuck
 }
 
-/// Puts an order into the file, if there is one: as it is, as its script, as its story, or as a picture of that.
+/// Puts an order into the file, if there is one: as it is, as its script, as its story, or as a picture of that; `line`
+/// is as `line_wanted` answers it.
 pub(crate) fn put_order<S: EndFiles>(
     image: &Image,
     settings: &Settings,
     command: &OutcomesCommand<'_>,
     order: &Option<Vec<u8>>,
+    line: &Option<Vec<u8>>,
     form: &StoryForm<'_>,
     file: &mut S,
     alloc: Global,
@@ -177,7 +178,7 @@ pub(crate) fn put_order<S: EndFiles>(
     requires harts { form.now.harts ≡ settings.now.config.harts }
     ensures refused { IfErr result (IsTextRefusal settings.now image.now command.now) }
     ensures put { OnOk result (HasPutOrder S.written S.has_failed file.old file.new settings.now image.now command.now
-        (plan_of form.now) (option_map (λ it. it.items) order.now)) }
+        (plan_of form.now) (option_map (λ it. it.items) order.now) (option_map (λ it. it.items) line.now)) }
     ensures unwanted { option_map (λ it. it.items) order.now ≡ None → file.new ≡ file.old }
     ensures unbroken { OnOk result (S.has_failed file.new ≡ false) }
     ensures finished { OnOk result (S.is_finished file.new ≡ true) }
@@ -185,7 +186,15 @@ pub(crate) fn put_order<S: EndFiles>(
     let Some(order) = order else {
         return Ok(());
     };
-    let text = match text_of(image, settings, command, order.as_slice(), form, alloc) {
+    let text = match text_of(
+        image,
+        settings,
+        command,
+        order.as_slice(),
+        line,
+        form,
+        alloc,
+    ) {
         Ok(text) => text,
         Err(refused) => return Err(refused),
     };
@@ -201,19 +210,20 @@ fn text_of(
     settings: &Settings,
     command: &OutcomesCommand<'_>,
     order: &[u8],
+    line: &Option<Vec<u8>>,
     form: &StoryForm<'_>,
     alloc: Global,
 ) -> Result<Vec<u8>, Refused>
     requires harts { form.now.harts ≡ settings.now.config.harts }
     ensures text { IfOk result (λ text. IsTextOf command.now (setup_of image.now settings.now.config)
-        settings.now.limit (plan_of form.now) order.now text.items) }
+        settings.now.limit (plan_of form.now) order.now (option_map (λ it. it.items) line.now) text.items) }
     ensures refused { IfErr result (IsTextRefusal settings.now image.now command.now) }
 {
     if command.script.is_some() {
         return script_text(image, settings, order, alloc);
     }
     if command.story.is_some() {
-        return story_text(image, settings, order, form, alloc);
+        return story_text(image, settings, order, line, form, alloc);
     }
     if command.story_svg.is_some() {
         return found_picture(image, settings, order, form, alloc);
@@ -240,29 +250,6 @@ fn script_text(
     match script.write(&mut text) {
         Ok(()) => Ok(text),
         Err(_) => Err(Refused::Memory),
-    }
-}
-
-/// The story of an order, which the plain machine of these settings makes.
-fn story_text(
-    image: &Image,
-    settings: &Settings,
-    order: &[u8],
-    form: &StoryForm<'_>,
-    alloc: Global,
-) -> Result<Vec<u8>, Refused>
-    requires harts { form.now.harts ≡ settings.now.config.harts }
-    ensures text { IfOk result (λ text. IsStoryOf (setup_of image.now settings.now.config) (plan_of form.now)
-        order.now text.items) }
-    ensures refused { IfErr result (IsMachineRefusal image.now settings.now.config.harts order.now) }
-{
-    let mut text = Vec::new(alloc);
-    let harts = settings.config.harts;
-    match tell_image(image, harts, order, &Some(*form), &mut text, alloc) {
-        Ok(()) => Ok(text),
-        // What holds the text fails for want of memory alone.
-        Err(Refused::Output) => Err(Refused::Memory),
-        Err(refused) => Err(refused),
     }
 }
 

@@ -1,3 +1,4 @@
 pub mod Stepping
 pub mod Hearing
+pub mod Keeping
 pub mod Recording

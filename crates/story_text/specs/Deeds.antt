@@ -10,7 +10,8 @@ use Rattle.text_fields.specs.Spelling.{hex}
 use Rattle.shown_text.specs.Shown.{shown_name}
 use Rattle.symbols.specs.Tables.{Table}
 use Rattle.address_labels.specs.{Labels.Place, Labels.place_in, Texts.behind_text}
-use Rattle.stories.specs.declared.{deed.Deed.Deed, row.Row.Row, step.Step.Step}
+use Rattle.stories.specs.declared.{deed.Deed.Deed, row.Row.Row, step.Step.Step, recent.Note.Note}
+use Rattle.stories.specs.declared.recent.Note.TheVariants as note
 use Rattle.stories.specs.declared.deed.Deed.TheVariants as deed
 
 -- The word that a row begins with: the mnemonic, without ordering bits.
@@ -59,36 +60,64 @@ abbrev pub atomic_text : Table → ℕ → ℕ → ℕ → List ℕ
 atomic_text names addr old new =
     place_text names addr ++ (32 ∷ (decimal old ++ (read_arrow ++ decimal new)))
 
+-- Which row it is: its hart, its mnemonic and its number.
+abbrev pub row_text : Row → List ℕ
+row_text row =
+    codes "hart " ++ (decimal row.hart ++ (codes "'s " ++ (name_of row.deed ++ (codes " at row "
+    ++ decimal row.number))))
+
 -- Who took a reservation.
 abbrev pub taker_text : Row → List ℕ
-taker_text row =
-    codes "hart " ++ (decimal row.hart ++ (codes "'s " ++ (name_of row.deed ++ (codes " at row "
-    ++ (decimal row.number ++ codes " took the reservation")))))
+taker_text row = row_text row ++ codes " took the reservation"
 
-abbrev pub reason_text : Option Row → List ℕ
+abbrev pub reason_text : Option Note → List ℕ
 reason_text None = codes "no reservation"
-reason_text (Some row) = taker_text row
+reason_text (Some (note.Taken row)) = taker_text row
+reason_text (Some (note.Overwrites read write)) = codes "no reservation"
+reason_text (Some (note.Again read write)) = codes "no reservation"
 
-abbrev pub failed_text : Table → Option Row → ℕ → List ℕ
-failed_text names took addr = place_text names addr ++ (codes " fails: " ++ reason_text took)
+abbrev pub failed_text : Table → Option Note → ℕ → List ℕ
+failed_text names noted addr = place_text names addr ++ (codes " fails: " ++ reason_text noted)
+
+-- What earlier rows make of a store, and of an LR.
+abbrev pub lost_text : Row → Row → List ℕ
+lost_text read write =
+    codes ", lost update: " ++ (row_text write ++ (codes " came after its read at row " ++ decimal read.number))
+
+abbrev pub again_text : Row → Row → List ℕ
+again_text read write =
+    codes ", ABA: as at row " ++ (decimal read.number ++ (codes ", though " ++ (row_text write
+    ++ codes " wrote since")))
+
+abbrev pub note_text : Option Note → List ℕ
+note_text None = []
+note_text (Some (note.Taken row)) = []
+note_text (Some (note.Overwrites read write)) = lost_text read write
+note_text (Some (note.Again read write)) = again_text read write
+
+abbrev pub reserved_text : Table → Option Note → ℕ → ℕ → List ℕ
+reserved_text names noted addr number = read_text names addr number ++ note_text noted
+
+abbrev pub stored_text : Table → Option Note → ℕ → ℕ → List ℕ
+stored_text names noted addr number = written_text names addr number ++ note_text noted
 
 -- A byte that was put out: between quotes where it is a character that can be seen, else by its two digits.
 abbrev pub byte_text : ℕ → List ℕ
 byte_text byte = if nat_le 32 byte && nat_lt byte 127 then 39 ∷ byte ∷ 39 ∷ [] else codes "0x" ++ hex 2 byte
 
-abbrev pub shown_text : Table → Option Row → Deed → List ℕ
-shown_text names took (deed.Loaded op addr number) = read_text names addr number
-shown_text names took (deed.Reserved addr number) = read_text names addr number
-shown_text names took (deed.Stored op addr number) = written_text names addr number
-shown_text names took (deed.Conditional addr number) = written_text names addr number
-shown_text names took (deed.Failed addr) = failed_text names took addr
-shown_text names took (deed.Atomic kind addr old new) = atomic_text names addr old new
-shown_text names took (deed.Out byte) = byte_text byte
-shown_text names took (deed.Ended number) = decimal number
-shown_text names took (deed.Stopped cause) = decimal cause
+abbrev pub shown_text : Table → Option Note → Deed → List ℕ
+shown_text names noted (deed.Loaded op addr number) = read_text names addr number
+shown_text names noted (deed.Reserved addr number) = reserved_text names noted addr number
+shown_text names noted (deed.Stored op addr number) = stored_text names noted addr number
+shown_text names noted (deed.Conditional addr number) = written_text names addr number
+shown_text names noted (deed.Failed addr) = failed_text names noted addr
+shown_text names noted (deed.Atomic kind addr old new) = atomic_text names addr old new
+shown_text names noted (deed.Out byte) = byte_text byte
+shown_text names noted (deed.Ended number) = decimal number
+shown_text names noted (deed.Stopped cause) = decimal cause
 
-abbrev pub deed_text : Table → Option Row → Deed → List ℕ
-deed_text names took d = name_of d ++ (32 ∷ shown_text names took d)
+abbrev pub deed_text : Table → Option Note → Deed → List ℕ
+deed_text names noted d = name_of d ++ (32 ∷ shown_text names noted d)
 
 -- What shows nothing is told by its instruction. (What is none stops its hart, and so shows that.)
 unfoldable pub op_text : Op → ℕ → List ℕ
@@ -96,6 +125,6 @@ op_text (Known i) pc = spelling_of i pc
 op_text Illegal pc = []
 op_text NoWord pc = []
 
-abbrev pub body_of : Table → Option Row → Step → Option Deed → List ℕ
-body_of names took step None = op_text step.op step.pc
-body_of names took step (Some d) = deed_text names took d
+abbrev pub body_of : Table → Option Note → Step → Option Deed → List ℕ
+body_of names noted step None = op_text step.op step.pc
+body_of names noted step (Some d) = deed_text names noted d

@@ -6,9 +6,10 @@ use Rattle.smt_model.specs.Basics.{below}
 use Rattle.symbols.specs.Tables.{Table, table_of}
 use Rattle.address_labels.specs.{Labels.Marks, Labels.marks_of, Texts.labels_text}
 use Rattle.address_labels.specs.declared.writing.Form.TheVariants.{Word}
-use Rattle.stories.specs.{Story.has_row, Story.row_count, Story.rows, Takers.taker}
-use Rattle.stories.specs.declared.{deed.Deed.Deed, row.Row.Row, step.Step.Step}
+use Rattle.stories.specs.{Story.has_row, Story.row_count, Story.rows, Takers.taker, Notes.note_of}
+use Rattle.stories.specs.declared.{deed.Deed.Deed, row.Row.Row, step.Step.Step, recent.Note.Note}
 use Rattle.stories.specs.declared.deed.Deed.TheVariants as deed
+use Rattle.stories.specs.declared.recent.Note.TheVariants as note
 use Rattle.story_text.specs.{Fields.column, Fields.number_field, Fields.head_cell, Fields.unseen_text}
 use Rattle.story_text.specs.{Deeds.body_of, declared.form.StoryForm.StoryForm}
 
@@ -42,10 +43,10 @@ has_marks marks = is_some marks.names || is_some marks.lines
 abbrev pub behind_row : Marks → ℕ → List ℕ
 behind_row marks pc = if has_marks marks then 32 ∷ (labels_text Word marks pc ++ 10 ∷ []) else 10 ∷ []
 
--- A row of this number; `took` is the row that took the reservation that it has missed.
-abbrev pub numbered_line : Plan → ℕ → Option Row → Step → List ℕ
-numbered_line plan number took step =
-    number_field number ++ (column plan.harts step.hart ++ (body_of plan.names took step step.deed
+-- A row of this number, with what earlier rows make of it.
+abbrev pub numbered_line : Plan → ℕ → Option Note → Step → List ℕ
+numbered_line plan number noted step =
+    number_field number ++ (column plan.harts step.hart ++ (body_of plan.names noted step step.deed
     ++ behind_row plan.marks step.pc))
 
 -- ---- Behind the steps told so far, the newest first
@@ -55,10 +56,22 @@ abbrev pub taker_for : Bool → List Step → ℕ → Option Deed → Option Row
 taker_for all past h (Some (deed.Failed addr)) = taker h addr (rows all past)
 taker_for all past h _ = None
 
+-- What the last rows make of it; and what earlier rows make of it.
+abbrev pub note_since : Bool → List Step → ℕ → Option Deed → Option Note
+note_since all past h None = None
+note_since all past h (Some d) = note_of h d (rows all past)
+
+abbrev pub taken_or : Option Row → Option Note → Option Note
+taken_or None other = other
+taken_or (Some row) other = Some (note.Taken row)
+
+abbrev pub note_for : Bool → List Step → ℕ → Option Deed → Option Note
+note_for all past h shown = taken_or (taker_for all past h shown) (note_since all past h shown)
+
 -- The row of a step.
 abbrev pub line_text : Plan → List Step → Step → List ℕ
 line_text plan past step =
-    numbered_line plan (row_count plan.all past + 1) (taker_for plan.all past step.hart step.deed) step
+    numbered_line plan (row_count plan.all past + 1) (note_for plan.all past step.hart step.deed) step
 
 -- How many steps came behind the last row.
 abbrev pub unseen : Bool → List Step → ℕ

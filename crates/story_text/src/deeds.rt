@@ -4,13 +4,19 @@ ghost use Rattle.std.specs.Prelude.{◌≡◌, OnOk};
 ghost use Rattle.std.specs.Io.KnownBytes.{Appends};
 ghost use Rattle.symbols.specs.Tables.{table_of};
 ghost use Rattle.story_text.specs.Deeds.{
+  again_text,
   atomic_text,
   byte_text,
   deed_text,
   failed_text,
+  lost_text,
+  note_text,
   read_text,
   reason_text,
+  reserved_text,
+  row_text,
   shown_text,
+  stored_text,
   taker_text,
   written_text,
 };
@@ -21,7 +27,7 @@ use crate::places::write_place;
 use arrayvec::ArrayString;
 use std::io;
 use std::io::Write;
-use stories::{Deed, Row};
+use stories::{Deed, Note, Row};
 use symbols::Symbols;
 use text_fields::push_hex;
 
@@ -31,39 +37,37 @@ const READ: &[u8] = b" \xe2\x86\x92 ";
 /// What stands between a place and the number that was written there.
 const WRITTEN: &[u8] = b" \xe2\x86\x90 ";
 
-/// Writes what a step shows; `took` is the row that took the reservation that an SC has missed.
-pub(crate) fn write_deed<W: Write>(
+/// Writes what a step shows, with what earlier rows make of it.
+pub fn write_deed<W: Write>(
     deed: &Deed,
-    took: &Option<Row>,
+    note: &Option<Note>,
     names: &Symbols<'_>,
     out: &mut W,
 ) -> io::Result<()>
     ensures { OnOk result (Appends (W.contents out.old) (W.contents out.new)
-        (deed_text (table_of names.now) took.now deed.now)) }
+        (deed_text (table_of names.now) note.now deed.now)) }
 {
     out.write_all(name_of(deed).as_bytes())?;
     out.write_all(b" ")?;
-    write_shown(deed, took, names, out)
+    write_shown(deed, note, names, out)
 }
 
 /// Writes what stands behind the name.
 fn write_shown<W: Write>(
     deed: &Deed,
-    took: &Option<Row>,
+    note: &Option<Note>,
     names: &Symbols<'_>,
     out: &mut W,
 ) -> io::Result<()>
     ensures { OnOk result (Appends (W.contents out.old) (W.contents out.new)
-        (shown_text (table_of names.now) took.now deed.now)) }
+        (shown_text (table_of names.now) note.now deed.now)) }
 {
     match *deed {
-        Deed::Loaded { addr, number, .. } | Deed::Reserved { addr, number } => {
-            write_read(addr, number, names, out)
-        }
-        Deed::Stored { addr, number, .. } | Deed::Conditional { addr, number } => {
-            write_written(addr, number, names, out)
-        }
-        Deed::Failed { addr } => write_failed(addr, took, names, out),
+        Deed::Loaded { addr, number, .. } => write_read(addr, number, names, out),
+        Deed::Reserved { addr, number } => write_reserved(addr, number, note, names, out),
+        Deed::Stored { addr, number, .. } => write_stored(addr, number, note, names, out),
+        Deed::Conditional { addr, number } => write_written(addr, number, names, out),
+        Deed::Failed { addr } => write_failed(addr, note, names, out),
         Deed::Atomic { addr, old, new, .. } => write_atomic(addr, old, new, names, out),
         Deed::Out(byte) => write_byte(byte, out),
         Deed::Ended(number) => write_number(u64::from(number), out),
@@ -78,6 +82,36 @@ fn write_read<W: Write>(addr: u32, number: u32, names: &Symbols<'_>, out: &mut W
     write_place(names, addr, out)?;
     out.write_all(READ)?;
     write_number(u64::from(number), out)
+}
+
+/// Writes what an LR has read, and behind that what earlier rows make of it.
+fn write_reserved<W: Write>(
+    addr: u32,
+    number: u32,
+    note: &Option<Note>,
+    names: &Symbols<'_>,
+    out: &mut W,
+) -> io::Result<()>
+    ensures { OnOk result (Appends (W.contents out.old) (W.contents out.new)
+        (reserved_text (table_of names.now) note.now addr number)) }
+{
+    write_read(addr, number, names, out)?;
+    write_note(note, out)
+}
+
+/// Writes what a store has written, and behind that what earlier rows make of it.
+fn write_stored<W: Write>(
+    addr: u32,
+    number: u32,
+    note: &Option<Note>,
+    names: &Symbols<'_>,
+    out: &mut W,
+) -> io::Result<()>
+    ensures { OnOk result (Appends (W.contents out.old) (W.contents out.new)
+        (stored_text (table_of names.now) note.now addr number)) }
+{
+    write_written(addr, number, names, out)?;
+    write_note(note, out)
 }
 
 fn write_written<W: Write>(
@@ -113,25 +147,25 @@ fn write_atomic<W: Write>(
 
 fn write_failed<W: Write>(
     addr: u32,
-    took: &Option<Row>,
+    note: &Option<Note>,
     names: &Symbols<'_>,
     out: &mut W,
 ) -> io::Result<()>
     ensures { OnOk result (Appends (W.contents out.old) (W.contents out.new)
-        (failed_text (table_of names.now) took.now addr)) }
+        (failed_text (table_of names.now) note.now addr)) }
 {
     write_place(names, addr, out)?;
     out.write_all(b" fails: ")?;
-    write_reason(took, out)
+    write_reason(note, out)
 }
 
 /// Writes why an SC has written nothing.
-fn write_reason<W: Write>(took: &Option<Row>, out: &mut W) -> io::Result<()>
-    ensures { OnOk result (Appends (W.contents out.old) (W.contents out.new) (reason_text took.now)) }
+fn write_reason<W: Write>(note: &Option<Note>, out: &mut W) -> io::Result<()>
+    ensures { OnOk result (Appends (W.contents out.old) (W.contents out.new) (reason_text note.now)) }
 {
-    match took {
-        Some(row) => write_taker(row, out),
-        None => out.write_all(b"no reservation"),
+    match note {
+        Some(Note::Taken(row)) => write_taker(row, out),
+        _ => out.write_all(b"no reservation"),
     }
 }
 
@@ -139,13 +173,50 @@ fn write_reason<W: Write>(took: &Option<Row>, out: &mut W) -> io::Result<()>
 fn write_taker<W: Write>(row: &Row, out: &mut W) -> io::Result<()>
     ensures { OnOk result (Appends (W.contents out.old) (W.contents out.new) (taker_text row.now)) }
 {
+    write_row(row, out)?;
+    out.write_all(b" took the reservation")
+}
+
+/// Writes what earlier rows make of a store or an LR, where they make something of it.
+fn write_note<W: Write>(note: &Option<Note>, out: &mut W) -> io::Result<()>
+    ensures { OnOk result (Appends (W.contents out.old) (W.contents out.new) (note_text note.now)) }
+{
+    match note {
+        Some(Note::Overwrites { read, write }) => write_lost_update(read, write, out),
+        Some(Note::Again { read, write }) => write_again(read, write, out),
+        _ => out.write_all(b""),
+    }
+}
+
+fn write_lost_update<W: Write>(read: &Row, write: &Row, out: &mut W) -> io::Result<()>
+    ensures { OnOk result (Appends (W.contents out.old) (W.contents out.new) (lost_text read.now write.now)) }
+{
+    out.write_all(b", lost update: ")?;
+    write_row(write, out)?;
+    out.write_all(b" came after its read at row ")?;
+    write_number(read.number, out)
+}
+
+fn write_again<W: Write>(read: &Row, write: &Row, out: &mut W) -> io::Result<()>
+    ensures { OnOk result (Appends (W.contents out.old) (W.contents out.new) (again_text read.now write.now)) }
+{
+    out.write_all(b", ABA: as at row ")?;
+    write_number(read.number, out)?;
+    out.write_all(b", though ")?;
+    write_row(write, out)?;
+    out.write_all(b" wrote since")
+}
+
+/// Writes which row it is: its hart, its mnemonic and its number.
+fn write_row<W: Write>(row: &Row, out: &mut W) -> io::Result<()>
+    ensures { OnOk result (Appends (W.contents out.old) (W.contents out.new) (row_text row.now)) }
+{
     out.write_all(b"hart ")?;
     write_number(u64::from(row.hart), out)?;
     out.write_all(b"'s ")?;
     out.write_all(name_of(&row.deed).as_bytes())?;
     out.write_all(b" at row ")?;
-    write_number(row.number, out)?;
-    out.write_all(b" took the reservation")
+    write_number(row.number, out)
 }
 
 /// Writes a byte that was put out: as a character where it is one that can be seen, else by its number.

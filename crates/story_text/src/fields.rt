@@ -28,7 +28,7 @@ pub(crate) fn write_blanks<W: Write>(count: usize, out: &mut W) -> io::Result<()
 }
 
 /// Writes a number.
-pub(crate) fn write_number<W: Write>(number: u64, out: &mut W) -> io::Result<()>
+pub fn write_number<W: Write>(number: u64, out: &mut W) -> io::Result<()>
     ensures { OnOk result (Appends (W.contents out.old) (W.contents out.new) (decimal number)) }
 {
     let mut text = ArrayString::<24>::new();

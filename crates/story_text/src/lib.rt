@@ -17,6 +17,8 @@ mod order;
 mod places;
 mod telling;
 
+pub use deeds::write_deed;
+pub use fields::write_number;
 pub use form::StoryForm;
 pub use line::write_head;
 pub use names::name_of;

@@ -17,7 +17,7 @@ use rv_instr::Op;
 use rv_text::print;
 use std::io;
 use std::io::Write;
-use stories::{Row, Step};
+use stories::{Note, Step};
 
 /// Writes the head of a story: the harts over their columns.
 pub fn write_head<W: Write>(form: &StoryForm<'_>, out: &mut W) -> io::Result<()>
@@ -61,11 +61,11 @@ fn head_gap(harts: u8, hart: u8) -> usize
     column_width(harts) - 3
 }
 
-/// Writes the row of this number that a step has; `took` is as in `write_deed`.
+/// Writes the row of this number that a step has; `note` is as in `write_deed`.
 pub(crate) fn write_line<W: Write>(
     number: u64,
     step: &Step,
-    took: &Option<Row>,
+    note: &Option<Note>,
     form: &StoryForm<'_>,
     out: &mut W,
 ) -> io::Result<()>
@@ -73,27 +73,27 @@ pub(crate) fn write_line<W: Write>(
     requires few { form.now.harts ≤ most_harts }
     requires in_range { OpInRange step.now.op }
     ensures { OnOk result (Appends (W.contents out.old) (W.contents out.new)
-        (numbered_line (plan_of form.now) number took.now step.now)) }
+        (numbered_line (plan_of form.now) number note.now step.now)) }
 {
     write_number_field(number, out)?;
     write_column(form.harts, step.hart, out)?;
-    write_body(step, took, form, out)?;
+    write_body(step, note, form, out)?;
     write_behind_row(&form.labels, step.pc, out)
 }
 
 /// Writes what a step shows, or else its instruction.
 fn write_body<W: Write>(
     step: &Step,
-    took: &Option<Row>,
+    note: &Option<Note>,
     form: &StoryForm<'_>,
     out: &mut W,
 ) -> io::Result<()>
     requires { OpInRange step.now.op }
     ensures { OnOk result (Appends (W.contents out.old) (W.contents out.new)
-        (body_of (plan_of form.now).names took.now step.now step.now.deed)) }
+        (body_of (plan_of form.now).names note.now step.now step.now.deed)) }
 {
     match &step.deed {
-        Some(deed) => write_deed(deed, took, form.names, out),
+        Some(deed) => write_deed(deed, note, form.names, out),
         None => write_op(step.op, step.pc, out),
     }
 }

@@ -8,7 +8,7 @@ ghost use Rattle.sc_machine.specs.Machine.{InEachState};
 ghost use Rattle.stories.specs.Story.{has_row, row_count, step_of};
 ghost use Rattle.stories.specs.declared.step.Step.{Step as StepView};
 ghost use Rattle.story_text.specs.Telling.{HasTold, most_told};
-ghost use Rattle.story_text.specs.Text.{line_text, piece, plan_of, taker_for, unseen};
+ghost use Rattle.story_text.specs.Text.{line_text, note_for, note_since, piece, plan_of, taker_for, unseen};
 ghost use Rattle.story_text.specs.Fields.{unseen_text};
 
 use crate::fields::write_unseen;
@@ -17,13 +17,14 @@ use crate::line::write_line;
 use sc_machine::Plain;
 use std::io;
 use std::io::Write;
-use stories::{Deed, Row, Step, Teller, row_of, step_of};
+use stories::{Deed, Note, Recent, Row, Step, Teller, row_of, step_of};
 
 /// How far a story is told: how many rows it has, how many steps came behind the last of them, and what has to be known
-/// to say who took a reservation. It takes no memory.
+/// to say who took a reservation, and what the last rows make of the next one. It takes no memory.
 #[derive(Clone, Copy, Drop)]
 pub struct Telling {
     pub(crate) teller: Teller,
+    pub(crate) recent: Recent,
     pub(crate) rows: u64,
     pub(crate) unseen: u64,
 }
@@ -35,6 +36,7 @@ impl Telling {
     {
         Telling {
             teller: Teller::new(),
+            recent: Recent::new(),
             rows: 0,
             unseen: 0,
         }
@@ -60,7 +62,7 @@ impl Telling {
     {
         let step = step_of(machine, hart);
         let written = self.write_piece(&step, form, out);
-        self.note(&step, form.all);
+        self.hear(&step, form.all);
         written
     }
 
@@ -91,7 +93,30 @@ impl Telling {
         }
         write_unseen(self.unseen, out)?;
         let number = self.rows.saturating_add(1);
-        write_line(number, step, &self.taker_for(step), form, out)
+        write_line(number, step, &self.note_for(step), form, out)
+    }
+
+    /// What earlier rows make of a step.
+    fn note_for(&self, step: &Step) -> Option<Note>
+        requires { step.now.hart < most_harts }
+        ensures { (all : _) (past : List StepView) → HasTold all past self.now
+            → result ≡ note_for all past step.now.hart step.now.deed }
+    {
+        match self.taker_for(step) {
+            Some(row) => Some(Note::Taken(row)),
+            None => self.note_since(step),
+        }
+    }
+
+    /// What the last rows make of a step: a lost update, or an ABA.
+    fn note_since(&self, step: &Step) -> Option<Note>
+        ensures { (all : _) (past : List StepView) → HasTold all past self.now
+            → result ≡ note_since all past step.now.hart step.now.deed }
+    {
+        match step.deed {
+            Some(deed) => self.recent.note_of(step.hart, &deed),
+            None => None,
+        }
     }
 
     /// The row that took the reservation that a step has missed.
@@ -106,8 +131,8 @@ impl Telling {
         }
     }
 
-    /// Notes that a step was told.
-    fn note(&mut self, step: &Step, all: bool)
+    /// A step was told.
+    fn hear(&mut self, step: &Step, all: bool)
         ensures { (past : List StepView) → length past < most_told → HasTold all past self.old
             → HasTold all (step.now ∷ past) self.new }
     {
@@ -119,6 +144,7 @@ impl Telling {
         self.rows = self.rows.saturating_add(1);
         if let Some(row) = row_of(self.rows, step) {
             self.teller.hear(&row);
+            self.recent.hear(&row);
         }
     }
 }
