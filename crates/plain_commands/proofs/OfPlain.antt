@@ -1,5 +1,5 @@
 -- The command `plain`: its refusals from those of the order and of the machine, and what it comes to.
-use Rattle.std.specs.Prelude.{◌≡◌, ℕ, Bool, List, ◌++◌, Option, Some, length, option_map}
+use Rattle.std.specs.Prelude.{◌≡◌, ℕ, Bool, List, ◌++◌, Option, Some, None, length, option_map}
 use Rattle.std.proofs.Common.{◌<◌, ◌≢◌, [], get_or, reverse, sym, subst, refl}
 use Rattle.text_fields.proofs.Appending.{appends_more}
 use Rattle.std.specs.Io.KnownBytes.{Appends}

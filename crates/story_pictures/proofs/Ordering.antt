@@ -1,8 +1,8 @@
 -- The rows of an order, a step after another.
-use Rattle.std.proofs.Common.{◌≡◌, ◌∙◌, ℕ, ◌+◌, ◌<◌, ◌≤◌, List, [], ◌∷◌, ◌++◌, Bool, true, false, Option, Some, None}
+use Rattle.std.proofs.Common.{◌≡◌, ◌∙◌, ℕ, ◌+◌, ◌<◌, ◌≤◌, List, [], ◌∷◌, ◌++◌, true, false, Option, Some, None}
 use Rattle.std.proofs.Common.{get_or, refl, sym, ap, subst, arith, length, take, reverse}
-use Rattle.std.specs.Prelude.{filter, is_some}
-use Rattle.std.proofs.lemmas.List.{length-reverse, length_push, reverse-append}
+use Rattle.std.specs.Prelude.{is_some}
+use Rattle.std.proofs.lemmas.List.{length-reverse, reverse-append}
 use Rattle.smt_model.specs.{Setup.Setup, Plain.Plain, Plain.Run, Plain.advance, Plain.run, Plain.start, Plain.step}
 use Rattle.sc_machine.specs.{Machine.Machine, Machine.Agrees, Machine.InEachState, Refusals.refusal}
 use Rattle.sc_machine.specs.{Steps.InEachRun}
@@ -10,7 +10,7 @@ use Rattle.stories.specs.{Story.has_row, Story.row_count, Story.row_list, Story.
 use Rattle.stories.specs.{Story.step_behind, Story.step_of, Story.steps}
 use Rattle.stories.specs.{declared.deed.Deed.Deed, declared.row.Row.Row, declared.step.Step.Step}
 use Rattle.story_text.specs.Order.{OfEachStart}
-use Rattle.story_pictures.specs.{Form.most_rows, Order.HasDrawnStep, Order.HasManyRows, Order.HasRows, Order.IsUndrawn}
+use Rattle.story_pictures.specs.{Form.most_rows, Order.HasDrawnStep, Order.IsUndrawn}
 use Rattle.story_pictures.specs.{Order.IsUnmade, Order.IsUnpushed, Order.rows_told, Order.undrawn_at}
 use Rattle.story_pictures.specs.declared.order.Unmade.{Unmade}
 use Rattle.story_pictures.specs.declared.order.Unmade.TheVariants as unmade

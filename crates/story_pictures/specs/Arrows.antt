@@ -1,5 +1,5 @@
 -- The arrows from writes to the reads that found them. (This project's own choice of how they are drawn.)
-use Rattle.std.specs.Prelude.{ℕ, ◌-◌, if◌then◌else◌, List, [], ◌∷◌, ◌++◌, codes, length, take}
+use Rattle.std.specs.Prelude.{ℕ, ◌-◌, if◌then◌else◌, List, [], ◌++◌, codes, length, take}
 use Rattle.text_fields.specs.Each.{each_from}
 use Rattle.stories.specs.declared.row.Row.{Row}
 use Rattle.story_pictures.specs.{Relations.reads_from, Geometry.row_coming, Geometry.row_leaving, Geometry.way_of}

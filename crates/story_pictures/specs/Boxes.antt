@@ -1,5 +1,5 @@
 -- The box of a row in the lane of its hart. (This project's own choice.)
-use Rattle.std.specs.Prelude.{ℕ, ◌+◌, ◌&&◌, Bool, if◌then◌else◌, List, [], ◌∷◌, ◌++◌, codes, drop, is_some}
+use Rattle.std.specs.Prelude.{ℕ, ◌+◌, ◌&&◌, Bool, if◌then◌else◌, List, [], ◌++◌, codes, drop, is_some}
 use Rattle.std.specs.{Fmt.decimal}
 use Rattle.text_fields.specs.Each.{each_from}
 use Rattle.symbols.specs.Tables.{Table}

@@ -1,5 +1,5 @@
 -- The rows of an order that is made from the start of a machine. (This project's own choice.)
-use Rattle.std.specs.Prelude.{◌≡◌, ℕ, ◌+◌, ◌<◌, ◌≤◌, List, ◌++◌, Option, Some, length, reverse, take, true, is_some}
+use Rattle.std.specs.Prelude.{◌≡◌, ℕ, ◌+◌, ◌<◌, ◌≤◌, List, ◌++◌, Some, length, reverse, take, true, is_some}
 use Rattle.smt_model.specs.{Setup.Setup, Plain.Plain, Plain.Run, Plain.advance, Plain.run, Plain.step}
 use Rattle.sc_machine.specs.{Machine.Machine, Machine.Agrees, Refusals.refusal}
 use Rattle.stories.specs.{Story.row_list, Story.row_of, Story.step_of, Story.story}

@@ -1,5 +1,5 @@
 -- The picture of a story. (This project's own choice.)
-use Rattle.std.specs.Prelude.{ℕ, ◌-◌, List, ◌∷◌, ◌++◌, codes, flat_map, length}
+use Rattle.std.specs.Prelude.{ℕ, ◌-◌, List, ◌++◌, codes, flat_map, length}
 use Rattle.std.specs.Fmt.{decimal}
 use Rattle.smt_model.specs.Basics.{below}
 use Rattle.svg_drawing.specs.Page.{end_text}

@@ -14,20 +14,23 @@ returns-in-Err-clause-refused g c =
 
 pub returns-in-Err-run_image-clause-refused : goal.returns-in-Err-run_image-clause-refused
 returns-in-Err-run_image-clause-refused g c =
-    run_refused c.args.settings.now c.args.image.now c.args.order.now _ (is_some c.args.picture.now)
+    run_refused c.args.settings.now c.args.image.now c.args.order.now c.as_slice-list.result.now
+    (is_some c.args.picture.now)
     (rw (c.as_slice-list.ensures.value) c.in-Ok.ensures.order) c.in-Err-run_image.refused
     c.in-Err-run_image.ensures.refused
 
 pub returns-in-Err-put_picture-clause-refused : goal.returns-in-Err-put_picture-clause-refused
 returns-in-Err-put_picture-clause-refused g c =
-    put_refused c.args.settings.now c.args.image.now c.args.order.now _ (is_some c.args.picture.now)
+    put_refused c.args.settings.now c.args.image.now c.args.order.now c.as_slice-list.result.now
+    (is_some c.args.picture.now)
     (rw (c.as_slice-list.ensures.value) c.in-Ok.ensures.order) c.in-Err-put_picture.refused
     c.in-Err-put_picture.ensures.refused
 
 pub returns-clause-refused : goal.returns-clause-refused
 returns-clause-refused g c =
     IfErr-weaker c.report_order.result _ _
-    (told_refused c.args.settings.now c.args.image.now c.args.order.now _ (is_some c.args.picture.now)
+    (told_refused c.args.settings.now c.args.image.now c.args.order.now c.as_slice-list.result.now
+    (is_some c.args.picture.now)
     (rw (c.as_slice-list.ensures.value) c.in-Ok.ensures.order)) c.report_order.ensures.refused
 
 pub returns-clause-ended : goal.returns-clause-ended
@@ -36,6 +39,7 @@ returns-clause-ended g c =
     (option_map drawn_plan_of c.args.picture.now) c.in-Ok-put_picture.ensures.put in
     IfOk-weaker c.report_order.result _ _
     (comes_to c.args.settings.now c.args.image.now c.args.order.now (option_map plan_of c.args.story.now)
-    (option_map drawn_plan_of c.args.picture.now) c.args.records (marks_of c.args.labels.now) _ _ _ _ _ _ _
+    (option_map drawn_plan_of c.args.picture.now) c.args.records (marks_of c.args.labels.now)
+    (HasPutText g.S.Sink.written g.S.Sink.has_failed _ _) _ _ _ _ _ _
     c.in-Ok.ensures.order c.as_slice-list.ensures.value c.in-Ok-run_image.ensures.ran put.1 put.2)
     c.report_order.ensures.reported

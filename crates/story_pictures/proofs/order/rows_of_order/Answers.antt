@@ -1,4 +1,4 @@
-use Rattle.std.proofs.Common.{◌≡◌, ◌∙◌, ◌≤◌, List, [], length, get_or, take, sym, subst, refl, arith}
+use Rattle.std.proofs.Common.{◌∙◌, ◌≤◌, List, [], length, get_or, take, sym, subst, refl, arith}
 use Rattle.std.proofs.lemmas.List.{take_all, take_more}
 use Rattle.stories.specs.declared.row.Row.{Row}
 use Rattle.story_pictures.specs.{Form.most_rows, Order.IsUndrawn}
