@@ -8,10 +8,12 @@
         these tests
 
 What the program before accepts has to be accepted, with the same output but for the line behind `Observation`. What it
-refuses may be of the language now; where both refuse, line and column have to be the same, or else it is told.
+refuses may be of the language now; where both refuse, line and column have to be the same, unless the program stumbled
+over a word that is of the language now: else it is told.
 """
 
 import random
+import re
 import subprocess
 import sys
 import tempfile
@@ -23,6 +25,8 @@ sys.path.insert(0, str(HERE))
 
 import litmus2  # noqa: E402
 
+# What begins a word, or a part of one, that was none before: marks, indices, leading zeros, capitals in hexadecimal.
+NEW = re.compile(r"[*+&!<[>]|=>|0[0-9]|0[xX][0-9]*[A-F]|0X|u?int(8|16)_t")
 # How many states the second machine looks at here.
 MOST_STATES = 20000
 
@@ -86,7 +90,16 @@ def compare(program, file, count):
         return count.add("refused, the same line")
     if now[1].split()[3] == before[1].split()[3]:
         return count.add("refused, the same place, other words")
+    if NEW.match(text_at(file, before[1].split()[3])):
+        return count.add("refused behind a word that is new")
     return count.tell("refused elsewhere", file, before[1], now[1])
+
+
+def text_at(file, place):
+    """The text of a file from a place `LINE:COLUMN:` on."""
+    line, column = map(int, place.split(":")[:2])
+    lines = Path(file).read_bytes().decode("latin-1").split("\n")
+    return "\n".join(lines[line - 1 :])[column - 1 :]
 
 
 def random_files(count, seed, is_damaged):
