@@ -73,12 +73,16 @@ def without_end(text):
 
 
 def compare(program, file, count):
-    made = subprocess.run(["nice", program, "litmus", file], capture_output=True, check=False, timeout=60)
-    before = made.stdout.decode("latin-1"), made.stderr.decode("latin-1"), made.returncode
     litmus2.MOST_STATES = MOST_STATES
     now = litmus2.said([file])
     if now[2] == 4:
         return count.add("too many states")
+    line = ["nice", program, "litmus", file, "--states", str(MOST_STATES)]
+    try:
+        made = subprocess.run(line, capture_output=True, check=False, timeout=60)
+    except subprocess.TimeoutExpired:
+        return count.add("the program takes too long")
+    before = made.stdout.decode("latin-1"), made.stderr.decode("latin-1"), made.returncode
     if before[2] == 0:
         same = now[2] == 0 and without_end(now[0]) == before[0] and not now[1]
         return count.add("accepted, the same") if same else count.tell("accepted before", file, before, now)

@@ -28,7 +28,8 @@ def read(text):
     except Last as fault:
         faults += [fault] if fault.what else []
         test = None
-    return (None if faults else test), faults
+    told = {(fault.at, fault.what): fault for fault in reversed(faults)}
+    return (None if faults else test), [fault for fault in faults if told.get((fault.at, fault.what)) is fault]
 
 
 def read_parts(text, faults):
