@@ -44,8 +44,8 @@ def spelled(made, hart, instruction):
     """The assembly of an instruction."""
     name, *operands = instruction
     if name == "li":
-        return constant(operands[0], made.layout.number(operands[1]) if not isinstance(operands[1], int)
-                        else operands[1] & 0xFFFFFFFF)
+        value = operands[1]
+        return constant(operands[0], value & machine.MASK if isinstance(value, int) else made.layout.number(value))
     if name in cells.BRANCHES:
         return [f"{name} x{operands[0]},x{operands[1]},H{hart}_{operands[2]}"]
     if name == "jal":
@@ -84,7 +84,8 @@ def image_of(test, made, folder):
     source, code = Path(folder) / "code.s", Path(folder) / "code.bin"
     source.write_text(".option norelax\n" + assembly(test, made))
     object_file = Path(folder) / "code.o"
-    subprocess.run(["llvm-mc", "--arch=riscv32", "-mattr=+m,+a", "--filetype=obj", "-o", object_file, source], check=True)
+    assemble = ["llvm-mc", "--arch=riscv32", "-mattr=+m,+a", "--filetype=obj", "-o", object_file, source]
+    subprocess.run(assemble, check=True)
     subprocess.run(["llvm-objcopy", "-O", "binary", "-j", ".text", object_file, code], check=True)
     words = code.read_bytes()
     words = [int.from_bytes(words[k : k + 4], "little") for k in range(0, len(words), 4)]

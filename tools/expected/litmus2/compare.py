@@ -12,6 +12,7 @@ refuses may be of the language now; where both refuse, line and column have to b
 over a word that is of the language now: else it is told.
 """
 
+import importlib.util
 import random
 import re
 import subprocess
@@ -20,7 +21,7 @@ import tempfile
 from pathlib import Path
 
 HERE = Path(__file__).resolve().parent
-sys.path[1:1] = [str(HERE.parent.parent / "fuzz"), str(HERE.parent)]
+FUZZ = HERE.parent.parent / "fuzz"
 sys.path.insert(0, str(HERE))
 
 import litmus2  # noqa: E402
@@ -106,10 +107,16 @@ def text_at(file, place):
     return "\n".join(lines[line - 1 :])[column - 1 :]
 
 
-def random_files(count, seed, is_damaged):
-    import damage
-    import litmus_tests
+def module(file):
+    """A module by its file: another one here has its name."""
+    spec = importlib.util.spec_from_file_location(f"fuzz_{file.stem}", file)
+    found = importlib.util.module_from_spec(spec)
+    spec.loader.exec_module(found)
+    return found
 
+
+def random_files(count, seed, is_damaged):
+    damage, litmus_tests = module(FUZZ / "damage.py"), module(FUZZ / "litmus_tests.py")
     for k in range(count):
         r = random.Random(f"{seed} {k}")
         data = litmus_tests.some_test(r)[0]

@@ -1,8 +1,9 @@
 """Damaged litmus tests, and what the second reader says of them.
 
     python3 tools/expected/litmus2/damage.py COUNT [SEED] [FOLDER]
-        writes so many into a folder (N.litmus, and beside it N.said: standard error with all hints, or nothing where the
-        test is accepted); without one, looks that each answer keeps the rules below, and says how often each fault came
+        writes so many into a folder (N.litmus, and beside it N.said: standard error with all hints, or nothing where
+        the test is accepted); without one, looks that each answer keeps the rules below, and says how often each fault
+        came
     python3 tools/expected/litmus2/damage.py known
         the damages that a writer makes, one by one, with what is said of each
 
@@ -155,10 +156,13 @@ KNOWN = (
     ("too many words", "{\n", "{\nint t[64];", "3:16: more than 64 words of locations"),
     ("a type of 64 bits", "{\n", "{\nint64_t b=1;", "3:1: int64_t is of 64 bits: write int32_t"),
     ("an instruction of 64 bits", "lw x7,0(x8) |", "ld x7,0(x8) |", "9:2: ld is of 64 bits: write lw"),
-    ("floating point", "lw x7,0(x8) |", "fadd.s f1,f2 |", "9:2: fadd.s is of floating point: write numbers of integers"),
+    ("floating point", "lw x7,0(x8) |", "fadd.s f1,f2 |",
+     "9:2: fadd.s is of floating point: write numbers of integers"),
     ("vectors", "lw x7,0(x8) |", "vle32.v v1 |", "9:2: vle32.v is of vectors: write one word after the other"),
-    ("the order of .aq and .rl", "lw x7,0(x8) |", "lr.w.rl.aq x7,(x8) |", "9:2: lr.w.rl.aq is not known here: write lr.w.aqrl"),
-    ("an end by ECALL", "lw x7,0(x8) |", "ecall |", "9:2: ecall is not known here: a hart ends behind its last instruction"),
+    ("the order of .aq and .rl", "lw x7,0(x8) |", "lr.w.rl.aq x7,(x8) |",
+     "9:2: lr.w.rl.aq is not known here: write lr.w.aqrl"),
+    ("an end by ECALL", "lw x7,0(x8) |", "ecall |",
+     "9:2: ecall is not known here: a hart ends behind its last instruction"),
     ("a name of no instruction", "lw x7,0(x8) |", "load x7,x |", "9:2: load is not known here"),
     ("a row with a cell too few", " | lw x7,0(x8) ;", " ;", "9:2: a row with 1 column where there are 2 harts"),
     ("a bar for a semicolon", "P1          ;", "P1          |", "7:2: harts that aren't P0, P1 and so on"),

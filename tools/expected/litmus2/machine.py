@@ -1,4 +1,6 @@
-"""All final states of a litmus test: each order of whole instructions of its harts, on one memory. A part of litmus2.py.
+"""All final states of a litmus test: each order of whole instructions of its harts, on one memory.
+
+A part of litmus2.py.
 
 A state is a tuple of harts and the words that were written. A hart is a tuple: its cause, the place of its next
 instruction, its registers, and the word that it has reserved or None. The cause is None while it goes, 3 behind its

@@ -1,8 +1,8 @@
 """Random tests of the language of docs/LITMUS_LANGUAGE.md, small enough to look at all their states.
 
     python3 tools/expected/litmus2/random_tests.py COUNT [SEED] [FOLDER]
-        writes so many tests into a folder (N.litmus), else looks that the second reader reads each, and says the same of
-        it in other words (its blanks, numbers and pseudo-instructions spelled otherwise)
+        writes so many tests into a folder (N.litmus), else looks that the second reader reads each, and says the same
+        of it in other words (its blanks, numbers and pseudo-instructions spelled otherwise)
 """
 
 import random
@@ -178,7 +178,7 @@ class Maker:
         r, label = self.r, self.r.choice(labels)
         kind = r.randrange(5)
         if kind == 0:
-            return r.choice((["j", label], ["jal", ("r", 0), ",", label], ["jal", ("r", 7), ",", label], ["jal", label]))
+            return [*r.choice((["j"], ["jal"], ["jal", ("r", 0), ","], ["jal", ("r", 7), ","])), label]
         if kind < 3:
             return [r.choice(ZEROS), self.any(), ",", label]
         return [r.choice(BRANCHES), self.any(), ",", self.any(), ",", label]
@@ -324,8 +324,8 @@ def check(count, seed):
                 answers.append(list(litmus2.lines(test, litmus2.found_of(test, litmus2.MOST_STATES))))
             except litmus2.TooMany:
                 answers.append(None)
-        said[str(answers[0][-1] if answers and answers[0] else None)] = said.get(str(answers[0][-1] if answers
-                                                                                      and answers[0] else None), 0) + 1
+        end = answers[0][-1] if answers and answers[0] else "no answer"
+        said[end] = said.get(end, 0) + 1
         if any(answer != answers[0] for answer in answers):
             wrong += 1
             print(f"test {k} of seed {seed}: not the same in other words\n{spelled(words, Spelling())}")

@@ -1,4 +1,4 @@
-"""The braces of a litmus test: its locations, their shapes and numbers, and those of registers. A part of litmus2.py."""
+"""The start of a litmus test: its locations, their shapes and numbers, and those of registers. A part of litmus2.py."""
 
 from dataclasses import dataclass, field
 from typing import NamedTuple
