@@ -24,7 +24,9 @@ HERE = Path(__file__).resolve().parent
 FUZZ = HERE.parent.parent / "fuzz"
 sys.path.insert(0, str(HERE))
 
+import cells  # noqa: E402
 import litmus2  # noqa: E402
+import words  # noqa: E402
 
 # What begins a word, or a part of one, that was none before: marks, indices, leading zeros, capitals in hexadecimal.
 NEW = re.compile(r"[*+&!<[>]|=>|0[0-9]|0[xX][0-9]*[A-F]|0X|u?int(8|16)_t")
@@ -95,9 +97,15 @@ def compare(program, file, count):
         return count.add("refused, the same line")
     if now[1].split()[3] == before[1].split()[3]:
         return count.add("refused, the same place, other words")
-    if NEW.match(text_at(file, before[1].split()[3])):
+    stumbled, told = (text_at(file, said[1].split()[3]) for said in (before, now))
+    if NEW.match(stumbled) or is_instruction(stumbled) or is_instruction(told):
         return count.add("refused behind a word that is new")
     return count.tell("refused elsewhere", file, before[1], now[1])
+
+
+def is_instruction(text):
+    """Whether a text begins with the name of an instruction: it may be that of a location now."""
+    return words.NAME.match(text) is not None and words.NAME.match(text).group() in cells.NAMES
 
 
 def text_at(file, place):
@@ -125,17 +133,17 @@ def random_files(count, seed, is_damaged):
         yield data
 
 
-def main(words):
-    if words[0] == "verdicts":
-        return verdicts(words[1] if words[1:] else HERE.parent.parent.parent / "examples" / "litmus")
-    count, program = Count(), words[0]
-    if not words[1].isdigit():
-        for file in words[1:]:
+def main(line):
+    if line[0] == "verdicts":
+        return verdicts(line[1] if line[1:] else HERE.parent.parent.parent / "examples" / "litmus")
+    count, program = Count(), line[0]
+    if not line[1].isdigit():
+        for file in line[1:]:
             compare(program, file, count)
     else:
-        seed = words[2] if words[2:] else "1"
+        seed = line[2] if line[2:] else "1"
         with tempfile.TemporaryDirectory() as folder:
-            for k, data in enumerate(random_files(int(words[1]), seed, "damaged" in words)):
+            for k, data in enumerate(random_files(int(line[1]), seed, "damaged" in line)):
                 file = Path(folder) / f"{k}.litmus"
                 file.write_bytes(data)
                 wrong = count.wrong

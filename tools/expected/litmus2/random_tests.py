@@ -185,10 +185,19 @@ class Maker:
 
     def column(self, hart, rows):
         r = self.r
-        labels, placed, cells = [f"L{k}" for k in range(rows)], [], []
+        labels, placed, cells, waits = [f"L{k}" for k in range(rows)], [], [], None
         for row in range(rows):
             words = []
-            if r.random() < 0.9:
+            if waits:
+                words, waits = [r.choice(("beqz", "bnez", "bltz", "blez")), ("r", 5), ",", waits], None
+            elif row + 1 < rows and r.random() < 0.12:
+                # A hart waits here for another number.
+                words = [r.choice(("lw", "lw", "lb", "lhu")), ("r", 5), ",", "(", ("r", r.choice(self.bases[hart])), ")"]
+                waits = labels[row]
+                cells.append([waits, ":", *words])
+                placed.append(waits)
+                continue
+            elif r.random() < 0.9:
                 back = placed if r.random() < 0.2 else []
                 words = self.instruction(hart, back or labels[row + 1 :])
             if any(labels[row] in cell for cell in cells) or r.random() < 0.2:

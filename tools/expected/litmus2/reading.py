@@ -1,4 +1,4 @@
-"""A litmus test, read as docs/LITMUS_LANGUAGE.md says, with its faults in the order of reading. A part of litmus2.py."""
+"""A litmus test, read as docs/LITMUS_LANGUAGE.md says; its faults in the order of reading. A part of litmus2.py."""
 
 import re
 from dataclasses import dataclass
