@@ -44,7 +44,7 @@ def unknown(name):
     as_word = re.sub(r"\.d(?=\.|$)", ".w", name, count=1)
     if as_word != name and as_word in ATOMICS:
         return f"{shown} is of 64 bits: write {as_word}"
-    if re.fullmatch(r"f[lsc][wdhq]", name) or (re.fullmatch(r"f[a-z]+\..*", name) and not name.startswith("fence.")):
+    if re.fullmatch(r"f[ls][wdhq]", name) or (re.fullmatch(r"f[a-z]+\..*", name) and not name.startswith("fence.")):
         return f"{shown} is of floating point: write numbers of integers"
     if name.startswith("vset") or re.fullmatch(r"v[a-z0-9]+\..*", name):
         return f"{shown} is of vectors: write one word after the other"
