@@ -59,33 +59,30 @@ def is_bad(words):
 
 
 def cut_braces(words, end):
-    """The words between the braces, and those behind."""
-    depth = 0
+    """The words between the braces, and those behind. Braces of an array have no `;` between them."""
+    is_array = False
     for k, word in enumerate(words[1:], 1):
         if word.kind != "mark":
             continue
-        if word.text == "{" and words[k - 1].text == "=":
-            depth = 1
+        if word.text == "{":
+            is_array = words[k - 1].kind == "mark" and words[k - 1].text == "="
+        elif word.text == ";":
+            is_array = False
         elif word.text == "}":
-            if depth == 0:
+            if not is_array:
                 return words[1:k], words[k + 1 :]
-            depth = 0
+            is_array = False
     raise Last(end, UNFINISHED)
 
 
 def units_of(words):
     """The entries, each with its `;`."""
-    units, unit, depth = [], [], 0
-    for k, word in enumerate(words):
+    units, unit = [], []
+    for word in words:
         unit.append(word)
-        if word.kind == "mark":
-            if word.text == "{" and k > 0 and words[k - 1].text == "=":
-                depth = 1
-            elif word.text == "}":
-                depth = 0
-            elif word.text == ";" and depth == 0:
-                units.append(unit)
-                unit = []
+        if word.kind == "mark" and word.text == ";":
+            units.append(unit)
+            unit = []
     return units + ([unit] if unit else [])
 
 
