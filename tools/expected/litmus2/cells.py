@@ -31,6 +31,8 @@ INSTEAD = {
     "ecall": "a hart ends behind its last instruction", "ebreak": "a hart ends behind its last instruction",
     "auipc": "write la", "fence.i": "no code is written",
     **{name: "write j and a label" for name in ("jalr", "jr", "ret", "call", "tail")},
+    "neg": "write sub", "seqz": "write sltiu", "snez": "write sltu", "sltz": "write slt", "sgtz": "write slt",
+    "not": "write xori",
 }
 
 
@@ -41,6 +43,8 @@ def unknown(name):
         return f"{shown} is of 64 bits: write {'sw' if name == 'sd' else 'lw'}"
     if name in WORDS_OF_64:
         return f"{shown} is of 64 bits: write {name[:-1]}"
+    if name in ("sext.w", "negw"):
+        return f"{shown} is of 64 bits: write {'mv' if name == 'sext.w' else 'sub'}"
     as_word = re.sub(r"\.d(?=\.|$)", ".w", name, count=1)
     if as_word != name and as_word in ATOMICS:
         return f"{shown} is of 64 bits: write {as_word}"
@@ -51,6 +55,9 @@ def unknown(name):
     turned = re.sub(r"\.rl\.aq$", ".aqrl", name)
     if turned != name and turned in ATOMICS:
         return f"{shown} is not known here: write {turned}"
+    stem, _, order = name.partition(".")
+    if stem in (*LOADS, *STORES) and order in ("aq", "rl", "aqrl", "aq.rl"):
+        return f"{shown} is not known here: write {stem}"
     return f"{shown} is not known here" + (f": {INSTEAD[name]}" if name in INSTEAD else "")
 
 

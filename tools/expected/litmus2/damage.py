@@ -161,6 +161,8 @@ KNOWN = (
     ("vectors", "lw x7,0(x8) |", "vle32.v v1 |", "9:2: vle32.v is of vectors: write one word after the other"),
     ("the order of .aq and .rl", "lw x7,0(x8) |", "lr.w.rl.aq x7,(x8) |",
      "9:2: lr.w.rl.aq is not known here: write lr.w.aqrl"),
+    ("a load with .aq", "lw x7,0(x8) |", "lw.aq x7,0(x8) |", "9:2: lw.aq is not known here: write lw"),
+    ("a pseudo-instruction", "lw x7,0(x8) |", "seqz x7,x5 |", "9:2: seqz is not known here: write sltiu"),
     ("an end by ECALL", "lw x7,0(x8) |", "ecall |",
      "9:2: ecall is not known here: a hart ends behind its last instruction"),
     ("a name of no instruction", "lw x7,0(x8) |", "load x7,x |", "9:2: load is not known here"),
