@@ -1,9 +1,9 @@
 """Damaged litmus tests, and what the second reader says of them.
 
     python3 tools/expected/litmus2/damage.py COUNT [SEED] [FOLDER]
-        writes so many into a folder (N.litmus, and beside it N.said: standard error with all hints, or nothing where
-        the test is accepted); without one, looks that each answer keeps the rules below, and says how often each fault
-        came
+        writes so many into a folder: N.litmus, and beside it N.said, what `litmus test --hints always` says on standard
+        error, or nothing where the test is accepted; without one, looks that each answer keeps the rules below, and
+        says how often each fault came
     python3 tools/expected/litmus2/damage.py known
         the damages that a writer makes, one by one, with what is said of each
 
@@ -88,7 +88,7 @@ def said(text):
     _, faults = reading.read(text)
     if not faults:
         return ""
-    refused = litmus2.refusal(litmus2.File("", text), faults, "")
+    refused = litmus2.refusal(litmus2.File("test", text), faults, "")
     return "".join(f"{line}\n" for line in [refused.line, *refused.hints])
 
 
@@ -180,13 +180,17 @@ KNOWN = (
 )
 
 
+def known_text(what, old, new):
+    """The text of a known damage."""
+    text = PLAIN.replace(old, new, -1 if old == "\n" else 1)
+    return text.replace("1:x7=0)", "1:x7=0 /\\ t=0)") if what == "an array without an index" else text
+
+
 def known():
     """Says of each known damage what is said of it, and how many are answered otherwise than wanted."""
     wrong = 0
     for what, old, new, wanted in KNOWN:
-        text = PLAIN.replace(old, new, -1 if old == "\n" else 1)
-        if what == "an array without an index":
-            text = text.replace("1:x7=0)", "1:x7=0 /\\ t=0)")
+        text = known_text(what, old, new)
         first = said(text).split("\n")[0].removeprefix("smtsim: litmus refused ")
         wrong += first != wanted
         print(f"{'otherwise: ' if first != wanted else ''}{what}: {first or 'read'}")

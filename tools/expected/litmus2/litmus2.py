@@ -79,10 +79,31 @@ def told_place(text, at, before):
 
 
 def refusal(file, faults, before):
-    """The first fault's line, and the next nine as hints."""
-    hints = [f" next: {told_place(file.text, fault.at, '')}: {fault.what}" + (f": {fault.word}" if fault.word else "")
-             for fault in faults[1:10]]
+    """The first fault's line, and the lines of its hint: the next nine faults among them."""
+    line, column = place(file.text, faults[0].at)
+    name = "standard input" if file.name == "-" else shown_line(file.name)
+    hints = [f" file: read as the litmus test: {name}", f" place: line {line}"]
+    hints.append(f" line: {shown_line(file.text.split(chr(10))[line - 1])}")
+    hints.append(f" cause: column {column}: {faults[0].what}")
+    for fault in faults[1:10]:
+        word = f": {fault.word}" if fault.word else ""
+        hints.append(f" next: {told_place(file.text, fault.at, '')}: {fault.what}{word}")
+    hints.append(' more: docs/FORMATS.md, "Litmus tests"')
     return Refused(f"smtsim: litmus refused {told_place(file.text, faults[0].at, before)}: {faults[0].what}", 2, hints)
+
+
+def shown_line(text):
+    """As much of a text as a hint shows: 200 bytes and no part of a character, control characters by their digits;
+    where it isn't UTF-8 each byte from 80 on too."""
+    data = text.encode("latin-1", "replace")
+    kept, end = data[:200], "..." if len(data) > 200 else ""
+    try:
+        data.decode()
+    except UnicodeDecodeError:
+        return "".join(f"\\x{byte:02x}" if byte >= 0x80 else shown(chr(byte)) for byte in kept) + end
+    while end and kept and data[len(kept)] & 0xC0 == 0x80:
+        kept = kept[:-1]
+    return shown(kept.decode("latin-1")) + end
 
 
 def read_all(words, by_name):
@@ -209,7 +230,8 @@ def said(words):
 def main(words):
     out, err, status = said(words)
     sys.stdout.buffer.write(out.encode("latin-1"))
-    sys.stderr.write(err)
+    sys.stderr.flush()
+    sys.stderr.buffer.write(err.encode("latin-1", "replace"))
     return status
 
 

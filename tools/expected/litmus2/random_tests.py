@@ -192,8 +192,8 @@ class Maker:
                 words, waits = [r.choice(("beqz", "bnez", "bltz", "blez")), ("r", 5), ",", waits], None
             elif row + 1 < rows and r.random() < 0.12:
                 # A hart waits here for another number.
-                words = [r.choice(("lw", "lw", "lb", "lhu")), ("r", 5), ",", "(", ("r", r.choice(self.bases[hart])), ")"]
-                waits = labels[row]
+                waits, base = labels[row], ("r", r.choice(self.bases[hart]))
+                words = [r.choice(("lw", "lw", "lb", "lhu")), ("r", 5), ",", "(", base, ")"]
                 cells.append([waits, ":", *words])
                 placed.append(waits)
                 continue

@@ -98,7 +98,10 @@ def word_at(text, at):
     if spelled is None:
         mark = MARKS.match(text, at)
         if mark is None:
-            return Word(at, at + 1, "bad", text[at]), Fault(at, SUBSET, shown_byte(text, at))
+            end = at + 1
+            while text[at] >= "\x80" and end < len(text) and text[end] >= "\x80":
+                end += 1
+            return Word(at, end, "bad", text[at:end]), Fault(at, SUBSET, shown_byte(text, at))
         return Word(at, mark.end(), "mark", mark.group()), None
     name, end = spelled.group(), spelled.end()
     if not name[0].isdigit():
