@@ -1,4 +1,3 @@
-pub mod Answers
 pub mod Line
-pub mod Listing
 pub mod Unwritten
+pub mod Listing

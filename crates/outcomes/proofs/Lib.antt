@@ -1,8 +1,6 @@
-mod Reaching
 mod Graph
 mod Listing
 mod Endings
-mod Sound
 mod Watching
 mod Growing
 mod Collected
@@ -10,5 +8,4 @@ mod Throughout
 mod Telling
 mod Cores
 mod Reading
-mod Claims
 mod Programs

@@ -3,5 +3,3 @@ pub mod Collected
 pub mod Found
 pub mod Told
 pub mod Refusals
-pub mod Parts
-pub mod Goals

@@ -36,7 +36,7 @@ pub(crate) fn list_outcomes(
     let mut listed = Vec::new(alloc);
     for index in 0..search.ends().len() {
         let place = search.ends()[index];
-        if let Some(state) = search.state(place as usize) {
+        if let Some(state) = search.state(place) {
             let outcome = outcome_of(machine, state, watch, alloc)?;
             put(&mut listed, outcome, place)?;
         }
@@ -45,7 +45,7 @@ pub(crate) fn list_outcomes(
 }
 
 /// What a state is as an end. Errors: want of memory.
-pub(crate) fn outcome_of(
+fn outcome_of(
     machine: &CondensedMachine,
     state: State,
     watch: &Watch,

@@ -2,7 +2,5 @@ pub mod Plain
 pub mod PlainRounds
 pub mod Schedule
 pub mod Retiring
-pub mod Questions
-pub mod WrittenOrders
 pub mod Outcomes
 pub mod Litmus

@@ -122,8 +122,6 @@ pub fn plain_line(records: bool) -> Line<'static> {
         lines: None,
         names: false,
         records,
-        story: false,
-        all: false,
     },))
 }
 
@@ -183,15 +181,11 @@ pub fn outcomes_line(states: u32) -> Line<'static> {
         image: "image",
         states,
         watch: None,
-        question: None,
-        first: false,
+        exists: None,
         outcome: None,
         stuck: false,
         witness: None,
         script: None,
-        story: None,
-        all: false,
-        lines: None,
     },))
 }
 

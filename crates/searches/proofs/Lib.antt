@@ -8,6 +8,4 @@ mod Adding
 mod Noting
 mod Turning
 mod Finding
-mod Tracing
-mod Extents
 mod Marking

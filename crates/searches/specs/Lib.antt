@@ -1,7 +1,6 @@
 pub mod Orders
 pub mod Found
 pub mod Ending
-pub mod Tied
+pub mod Whole
 pub mod Sweeps
-pub mod Dives
 pub mod Marks

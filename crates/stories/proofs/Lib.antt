@@ -1,4 +1,0 @@
-pub mod Stepping
-pub mod Hearing
-pub mod Keeping
-pub mod Recording
