@@ -12,7 +12,7 @@ DEFAULTS = {
 }
 # How many files each command has, and which options beside `--config` and `--harts`; `list` hasn't the second one.
 COMMANDS = {
-    "step": (2, ("--records", "--show", "--looks", "--names")), "plain": (2, ("--records", "--names")),
+    "step": (2, ("--records", "--show", "--looks", "--names")), "plain": (2, ("--records", "--names", "--story", "--all")),
     "list": (1, ("--names",)),
     "explain": (1, ()),
 }
@@ -43,6 +43,7 @@ def read_line(words):
     line = {"command": command, "files": [], "config": None, "harts": None, "beside": None}
     line |= dict.fromkeys((option[2:] for option in numbers), None)
     line |= {"records": False, "show": False, "looks": False, "names": False, "lines": None}
+    line |= {"story": False, "all": False}
     seen = set()
     while rest:
         word = rest.pop(0)
@@ -68,6 +69,8 @@ def read_line(words):
     if "--rounds" in seen:
         count -= 1
     elif seen & set(numbers):
+        raise Refused("command line", 2)
+    if line["story"] and "--rounds" in seen or line["all"] and not line["story"]:
         raise Refused("command line", 2)
     if len(line["files"]) != count:
         raise Refused("command line", 2)

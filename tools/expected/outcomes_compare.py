@@ -161,7 +161,8 @@ def agrees(program, folder, seed, k):
     line += ["--exists", exists] if exists is not None else []
     done = subprocess.run(line, cwd=folder, capture_output=True, text=True, check=False)
     found = [text for text in done.stdout.splitlines() if not text.startswith("states ")]
-    if (found, done.stderr, done.returncode) != (wanted, "", 0):
+    status = 1 if wanted[-1] == "exists: no" else 0
+    if (found, done.stderr, done.returncode) != (wanted, "", status):
         return False
     if made.is_writable and not watch and exists is None:
         if f"states {plain_states(made, harts)}" not in done.stdout.splitlines():

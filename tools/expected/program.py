@@ -2,7 +2,7 @@
 docs/FORMATS.md says it.
 
     python3 tools/expected/program.py step IMAGE SCRIPT [--config FILE] [--harts N] [--records] [--show] [--looks]
-    python3 tools/expected/program.py plain IMAGE ORDER [--config FILE] [--records]
+    python3 tools/expected/program.py plain IMAGE ORDER [--config FILE] [--records] [--story [--all]]
     python3 tools/expected/program.py plain IMAGE --rounds K [--steps N] [--seed S] [--config FILE] [--records]
     python3 tools/expected/program.py list IMAGE [--config FILE]
     python3 tools/expected/program.py explain IMAGE [--script FILE | --order FILE] [--config FILE]
@@ -16,6 +16,7 @@ import image
 import inputs
 import labels
 import looks
+import story
 from inputs import Refused
 from instructions import spelled
 from plain import Plain
@@ -168,7 +169,21 @@ def ordered(made, settings, second, line):
     order = inputs.read_order(second)
     machine = Plain(made, settings["harts"])
     records = list(make_steps(machine, order))
-    return list(plain_report(machine, records, line["records"])), exit_status(machine.statuses)
+    told = list(told_of(made, settings, order, line)) if line["story"] else []
+    return told + list(plain_report(machine, records, line["records"])), exit_status(machine.statuses)
+
+
+def told_of(made, settings, order, line):
+    """The story of an order all of whose steps are made."""
+    names = labels.Labels(read_file(line["files"][0]), True, None)
+    beside = labels_of(line, made)
+    return story.story(
+        Plain(made, settings["harts"]),
+        order,
+        lambda address: named if (named := names.name_of(address)) != "-" else f"{address:08x}",
+        lambda pc: "" if beside is None else beside.beside(pc),
+        line["all"],
+    )
 
 
 def in_rounds(made, settings, line):

@@ -161,6 +161,7 @@ def inputs_of(seed, k, kind=None):
         files["order"] = some_order(r, made, config["harts"]).encode()
         line = ["plain", "image.elf", "order", "--config", "config.toml"]
         line += ["--records"] if r.random() < 0.6 else []
+        line += r.choice(([], ["--story"], ["--story"], ["--story", "--all"]))
     return files, line
 
 

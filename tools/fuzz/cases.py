@@ -149,7 +149,7 @@ def by_every_order(line):
         raise TooLong from None
     except every_order.NoHart as hart:
         return "", f"smtsim: no hart {hart}\n", 2
-    return "".join(f"{text}\n" for text in lines), "", 0
+    return "".join(f"{text}\n" for text in lines), "", 1 if lines[-1] == "exists: no" else 0
 
 
 def by_litmus(line):

@@ -6,7 +6,8 @@ use Rattle.command_parts.specs.declared.refused.Refused.TheVariants.{Output, Thr
 use Rattle.command_parts.specs.declared.refused.Refused.TheVariants.{Prediction, Register, Picture}
 use Rattle.command_parts.specs.declared.refused.Refused.TheVariants.{Lines, NamesNothing, NamesSeveral, NeverFetched, Turned}
 use Rattle.command_parts.specs.declared.refused.Refused.TheVariants.{Watch, Condition, ManyWatched, NoWord}
-use Rattle.command_parts.specs.declared.refused.Refused.TheVariants.{NoOutcome, NotStuck, Litmus, NothingToDraw}
+use Rattle.command_parts.specs.declared.refused.Refused.TheVariants.{NoOutcome, NotStuck, NoAnswer, Litmus}
+use Rattle.command_parts.specs.declared.refused.Refused.TheVariants.{NothingToDraw}
 use Rattle.command_parts.specs.Refused.{PassesAll, BehindImage}
 
 -- What is refused of what comes behind it, where that never refuses the image.
@@ -38,6 +39,7 @@ refusal_behind file ram P ManyWatched never passes is = (passes, is)
 refusal_behind file ram P (NoWord address) never passes is = (passes, is)
 refusal_behind file ram P (NoOutcome number) never passes is = (passes, is)
 refusal_behind file ram P NotStuck never passes is = (passes, is)
+refusal_behind file ram P NoAnswer never passes is = (passes, is)
 refusal_behind file ram P (Litmus place fault) never passes is = (passes, is)
 refusal_behind file ram P NothingToDraw never passes is = (passes, is)
 refusal_behind file ram P Memory never passes is = tt

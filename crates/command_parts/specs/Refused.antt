@@ -13,7 +13,8 @@ use Rattle.command_parts.specs.declared.refused.Refused.TheVariants.{Step, Trace
 use Rattle.command_parts.specs.declared.refused.Refused.TheVariants.{Register, NoUnit, Limit, NoHart}
 use Rattle.command_parts.specs.declared.refused.Refused.TheVariants.{Picture, Memory, Thread, File, Output}
 use Rattle.command_parts.specs.declared.refused.Refused.TheVariants.{Watch, Condition, ManyWatched, NoWord}
-use Rattle.command_parts.specs.declared.refused.Refused.TheVariants.{NoOutcome, NotStuck, Litmus, NothingToDraw}
+use Rattle.command_parts.specs.declared.refused.Refused.TheVariants.{NoOutcome, NotStuck, NoAnswer, Litmus}
+use Rattle.command_parts.specs.declared.refused.Refused.TheVariants.{NothingToDraw}
 use Rattle.command_parts.specs.declared.refused.Refused.TheVariants.{Lines, NamesNothing, NamesSeveral, NeverFetched, Turned}
 use Rattle.command_parts.specs.declared.refused.Unread.TheVariants as unread
 
@@ -46,6 +47,7 @@ exit_status_of ManyWatched = 2
 exit_status_of (NoWord address) = 2
 exit_status_of (NoOutcome number) = 2
 exit_status_of NotStuck = 2
+exit_status_of NoAnswer = 2
 exit_status_of (Litmus place fault) = 2
 exit_status_of NothingToDraw = 2
 exit_status_of Memory = 5

@@ -98,6 +98,9 @@ pub enum Refused {
     /// Each state can go on to an end, and the order to one that can't was to be written.
     #[error("no stuck state")]
     NotStuck,
+    /// No outcome answers the question, and the order of the one that does was to be written.
+    #[error("no outcome")]
+    NoAnswer,
     /// The text is no litmus test: at this place, for this fault.
     #[error("litmus refused {}:{}: {}", .0.line, .0.column, .1)]
     Litmus(Place, Fault),
@@ -136,7 +139,7 @@ impl Refused {
             Refused::NeverFetched(_) | Refused::Turned { .. } => 2,
             Refused::Watch(_) | Refused::Condition(_) | Refused::ManyWatched => 2,
             Refused::NoWord(_) | Refused::NoOutcome(_) | Refused::NotStuck => 2,
-            Refused::Litmus(_, _) | Refused::NothingToDraw => 2,
+            Refused::NoAnswer | Refused::Litmus(_, _) | Refused::NothingToDraw => 2,
             Refused::Trace { .. } | Refused::Version | Refused::Event { .. } => 4,
             Refused::Prediction(_) | Refused::Register(_) => 4,
             Refused::Memory | Refused::Thread | Refused::File | Refused::Output => 5,

@@ -32,6 +32,14 @@ use Rattle.core_commands.specs.{Run.LackARole}
 use Rattle.command_parts.specs.Inputs.{Read}
 use Rattle.core_commands.specs.{Account.statuses_of}
 use Rattle.plain_commands.specs.{Plain.standing}
+use Rattle.plain_commands.specs.{Outcomes.status_found, Outcomes.answer_found, WrittenOrders.IsTextRefusal}
+use Rattle.plain_commands.specs.Questions.{status_of_answer, status_of_extent}
+use Rattle.outcome_queries.specs.declared.question.{Question.Question, Answer.Answer}
+use Rattle.outcome_queries.specs.declared.question.Answer.TheVariants as answers
+use Rattle.outcomes.specs.{Found.Found}
+use Rattle.searches.specs.declared.extent.Extent.{Extent}
+use Rattle.searches.specs.declared.extent.Extent.TheVariants as extents
+use Rattle.watched_outcomes.specs.{declared.watch.Watch.Watch}
 use Rattle.command_parts.specs.declared.refused.Refused.TheVariants.{Config, Harts, Image, Lines, Output}
 use Rattle.plain_commands.specs.PlainRounds.{rounds_of, IsRoundsRefusal, RoundsComeTo}
 use Rattle.plain_commands.proofs.OfRounds.{from_rounds, in_rounds}
@@ -370,47 +378,70 @@ of_chart chart settings program names lines (Err why) = record {
   says = λ Traced old new status is. absurd is;
 }
 
+-- The exit status of a search says how its harts stand, or how its question is answered.
+extent_says : (extent : Extent) → IsTrue (says_harts (status_of_extent extent))
+extent_says extents.Whole = refl
+extent_says extents.Beyond = refl
+extent_says extents.First = refl
+
+answer_says : (answer : Answer) → IsTrue (says_harts (status_of_answer answer))
+answer_says answers.Yes = refl
+answer_says answers.No = refl
+answer_says answers.Unknown = refl
+
+found_says : (watch : Watch) (question : Option Question) (found : Found)
+    → IsTrue (says_harts (status_found watch question found))
+found_says watch None found = extent_says found.extent
+found_says watch (Some question) found = answer_says (answer_found watch question found)
+
+-- What was found is refused for no sizes of a core's, nor for the image, the harts of a line or its lines.
+module _ (settings : Settings) (program : ProgramImage) (outcomes : OutcomesCommand) where
+  never_of_image : (number : ℕ) → IsTextRefusal settings program outcomes (Image number) → ⊥
+  never_of_image number is = elim is.1 [ inl script ↦ script.1 | inr machine ↦ machine ]
+
+  never_of_harts : IsTextRefusal settings program outcomes Harts → ⊥
+  never_of_harts is = elim is.1 [ inl script ↦ script.1 | inr machine ↦ machine ]
+
+  never_of_lines : (number : ℕ) (fault : LineFault) → IsTextRefusal settings program outcomes (Lines number fault) → ⊥
+  never_of_lines number fault is = elim is.1 [ inl script ↦ script.1 | inr machine ↦ machine ]
+
+  never_of_config : AreAccepted settings → IsTextRefusal settings program outcomes Config → ⊥
+  never_of_config accepted is = elim is.1 [
+    | inl script ↦ true≢false (sym (accepted program) ∙ script.1)
+    | inr machine ↦ never_without_harts settings accepted machine
+  ]
+
 of_outcomes : (outcomes : OutcomesCommand) (settings : Settings) (program : ProgramImage) (names : Table)
     (lines : Option (List Origin)) (second : Read)
     → IsSound (commands.Outcomes outcomes) settings program names lines second
 of_outcomes outcomes settings program names lines second = record {
-  no_image = λ number is. is;
-  no_harts = λ is. is;
-  no_lines = λ number fault is. is;
+  no_image = λ number is. never_of_image settings program outcomes number is.holds;
+  no_harts = λ is. never_of_harts settings program outcomes is.holds;
+  no_lines = λ number fault is. never_of_lines settings program outcomes number fault is.holds;
   unfit = λ accepted is. elim is [
-    | inl few ↦ absurd (never_without_harts settings accepted few)
-    | inr lacks ↦ absurd (true≢false (sym (accepted program) ∙ lacks.2))
+    | inl few ↦ never_without_harts settings accepted few
+    | inr of ↦ never_of_config settings program outcomes accepted of.holds
   ];
   output = λ Traced old new status is. tt;
-  flushed = λ Traced old mid new status flushed is. elim is [
-    | inl all ↦ inl (record {
-      watch = all.watch;
-      terms = all.terms;
-      found = all.found;
-      all = all.all;
-      asked = all.asked;
-      is_of = all.is_of;
-      there = all.there;
-      is_found = all.is_found;
-      printed = kept old mid new _ all.printed flushed;
-      zero = all.zero;
-    })
-    | inr more ↦ inr (record {
-      watch = more.watch;
-      terms = more.terms;
-      all = more.all;
-      asked = more.asked;
-      is_of = more.is_of;
-      there = more.there;
-      beyond = more.beyond;
-      printed = kept old mid new _ more.printed flushed;
-      three = more.three;
-    })
-  ];
-  says = λ Traced old new status is. elim is [
-    | inl all ↦ zero_says status all.zero
-    | inr more ↦ ap says_harts more.three
-  ];
+  flushed = λ Traced old mid new status flushed is. record {
+    question = is.question;
+    all = is.all;
+    watch = is.watch;
+    asking = is.asking;
+    told = record {
+      found = is.told.found;
+      is_found = is.told.is_found;
+      told = record {
+        text = is.told.told.text;
+        printed = kept old mid new _ is.told.told.printed flushed;
+        status = is.told.told.status;
+        is_text = is.told.told.is_text;
+        put = is.told.told.put;
+      };
+    };
+  };
+  says = λ Traced old new status is.
+      ap says_harts is.told.told.status ∙ found_says is.watch is.question is.told.found;
 }
 
 pub sound : (command : ProgramCommand) (settings : Settings) (program : ProgramImage) (names : Table)

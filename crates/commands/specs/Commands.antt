@@ -16,11 +16,13 @@ use Rattle.core_commands.specs.Step.{IsStepRefusal, StepComesTo, AreMarked}
 use Rattle.sim_inputs.specs.declared.line.RunCommand.{RunCommand}
 use Rattle.core_commands.specs.Run.{IsRunRefusal, RunComesTo, LackARole}
 use Rattle.core_commands.specs.{Stress.StressComesTo}
-use Rattle.commands.specs.{Written.ToWrite, Written.TraceOf, Written.EndsOf}
+use Rattle.commands.specs.{Written.ToWrite, Written.TraceOf, Written.EndsOf, Written.TextIf}
 use Rattle.core_commands.specs.Check.{CheckComesTo, OfEvents, AreTooMany}
 use Rattle.core_commands.specs.Told.{IsCheckRefusalWith}
 use Rattle.core_commands.specs.Chart.{IsChartRefusal, ChartComesTo}
 use Rattle.plain_commands.specs.Plain.{IsPlainRefusal, PlainComesTo}
+use Rattle.sim_inputs.specs.declared.line.PlainCommand.{PlainCommand}
+use Rattle.story_text.specs.Text.{Plan}
 use Rattle.plain_commands.specs.PlainRounds.{rounds_of, InRounds, IsRoundsRefusal, RoundsComeTo}
 use Rattle.plain_commands.specs.Schedule.{IsScheduleRefusal, ScheduleComesTo}
 use Rattle.core_commands.specs.Script.{IsScriptingRefusal, ScriptComesTo}
@@ -30,7 +32,7 @@ use Rattle.sim_inputs.specs.Files.{lines_of}
 use Rattle.sim_inputs.specs.declared.line.ChartEnd.{ChartEnd}
 use Rattle.sim_inputs.specs.declared.line.ChartEnd.TheVariants as ends
 use Rattle.commands.specs.List.{IsListRefusal, ListComesTo}
-use Rattle.plain_commands.specs.Outcomes.{IsOutcomesRefusal, OutcomesComeTo, wants_order}
+use Rattle.plain_commands.specs.{Outcomes.IsOutcomesRefusal, Outcomes.OutcomesComeTo, WrittenOrders.wants_order}
 
 -- When each refusal of a command comes. One that has a second file is refused where that is unread;
 -- rounds have none.
@@ -61,6 +63,11 @@ RunsComeTo None run settings image marks Traced old new status =
 RunsComeTo (Some times) run settings image marks Traced old new status =
     StressComesTo settings image times (λ cores. Traced (EndsOf (is_some run.keep) cores)) old new status
 
+-- How the story of an order is told, where it is wanted.
+abbrev pub story_plan : PlainCommand → Settings → Table → Marks → Option Plan
+story_plan plain settings names marks = if plain.story
+    then Some (record { harts = settings.config.harts; all = plain.all; names = names; marks = marks }) else None
+
 -- What a command comes to. `Traced` says whether its files are written, where that is wanted: a trace of
 -- a core, or the files of ends.
 abbrev pub CommandComesTo : ProgramCommand → Settings → ProgramImage → Table → Option (List Origin) → Read
@@ -78,7 +85,8 @@ CommandComesTo (commands.Check check) settings image names lines second Traced o
 CommandComesTo (commands.Plain plain) settings image names lines second Traced old new status =
     InRounds (rounds_of plain)
     (λ rounds. RoundsComeTo settings image rounds plain.records (marks_where plain.names names lines) old new status)
-    (OfFile second (λ order. PlainComesTo settings image order plain.records
+    (OfFile second (λ order. PlainComesTo settings image order
+    (story_plan plain settings names (marks_where plain.names names lines)) plain.records
     (marks_where plain.names names lines) old new status))
 CommandComesTo (commands.Schedule schedule) settings image names lines second Traced old new status =
     OfFile second (λ order. ScheduleComesTo settings image order old new status)
@@ -87,7 +95,8 @@ CommandComesTo (commands.Script script) settings image names lines second Traced
 CommandComesTo (commands.List list) settings image names lines second Traced old new status =
     ListComesTo image (marks_where list.names names lines) old new status
 CommandComesTo (commands.Outcomes outcomes) settings image names lines second Traced old new status =
-    OutcomesComeTo settings image names outcomes old new status
+    OutcomesComeTo settings image names (marks_where false names lines) outcomes (λ text. Traced (TextIf text)) old new
+    status
 CommandComesTo (commands.Chart chart) settings image names lines second Traced old new status =
     OfFile second (λ trace. ChartComesTo settings image trace chart names status)
 
@@ -136,7 +145,7 @@ wants_names (commands.Chart chart) = (chart.names || is_function chart.from) || 
 wants_names (commands.Step step) = step.names
 wants_names (commands.Run run) = run.names
 wants_names (commands.Check check) = check.names
-wants_names (commands.Plain plain) = plain.names
+wants_names (commands.Plain plain) = plain.names || plain.story
 wants_names (commands.List list) = list.names
 wants_names (commands.Schedule schedule) = false
 wants_names (commands.Script script) = false

@@ -1,14 +1,16 @@
 //! What stands beside the addresses that a command shows.
 
-ghost use Rattle.std.specs.Prelude.{◌≡◌};
+ghost use Rattle.std.specs.Prelude.{◌≡◌, IfSome, option_map};
 ghost use Rattle.symbols.specs.Tables.{table_of};
 ghost use Rattle.address_labels.specs.Labels.{marks_of, marks_where};
-ghost use Rattle.commands.specs.Commands.{origins_in};
+ghost use Rattle.commands.specs.Commands.{origins_in, story_plan};
+ghost use Rattle.story_text.specs.Text.{plan_of};
 ghost use Rattle.sim_inputs.specs.Files.{shows_names};
 
 use address_labels::Labels;
-use sim_inputs::ProgramCommand;
+use sim_inputs::{PlainCommand, ProgramCommand, Settings};
 use source_lines::SourceLines;
+use story_text::StoryForm;
 use symbols::Symbols;
 
 /// What stands beside addresses that a command shows.
@@ -34,4 +36,26 @@ pub(crate) fn labels_where<'a>(
     let names = if is_named { Some(names) } else { None };
     let lines = lines.as_ref();
     Labels { names, lines }
+}
+
+/// How the story of an order is told, where it is wanted.
+pub(crate) fn story_for<'a>(
+    plain: &PlainCommand<'_>,
+    settings: &Settings,
+    names: &'a Symbols<'a>,
+    labels: &'a Labels<'a>,
+) -> Option<StoryForm<'a>>
+    ensures plan { option_map plan_of result
+        ≡ story_plan plain.now settings.now (table_of names.now) (marks_of labels.now) }
+    ensures harts { IfSome result (λ form. form.harts ≡ settings.now.config.harts) }
+{
+    if !plain.story {
+        return None;
+    }
+    Some(StoryForm {
+        harts: settings.config.harts,
+        all: plain.all,
+        names,
+        labels: *labels,
+    })
 }

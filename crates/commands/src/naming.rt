@@ -23,7 +23,7 @@ pub(crate) fn wants_names(command: &ProgramCommand<'_>) -> bool
         ProgramCommand::Step(step) => step.names,
         ProgramCommand::Run(run) => run.names,
         ProgramCommand::Check(check) => check.names,
-        ProgramCommand::Plain(plain) => plain.names,
+        ProgramCommand::Plain(plain) => plain.names || plain.story,
         ProgramCommand::List(list) => list.names,
         ProgramCommand::Schedule(_) | ProgramCommand::Script(_) => false,
     }

@@ -18,7 +18,7 @@ ghost use Rattle.event_text.specs.Sinking.{HasPut};
 ghost use Rattle.commands.specs.Written.{IsWritten};
 
 use crate::explain_line::read_and_explain;
-use crate::labelling::labels_for;
+use crate::labelling::{labels_for, story_for};
 use crate::list::perform_list;
 use crate::naming::{names_where, wants_names};
 use crate::runs::perform_runs;
@@ -325,10 +325,12 @@ fn perform_command<
                 return perform_rounds(context, image, settings, rounds, plain.records, labels);
             }
             let order = second?;
+            let story = &story_for(plain, settings, names, labels);
             perform_plain(
                 image,
                 settings,
                 order,
+                story,
                 plain.records,
                 labels,
                 &mut context.out,
@@ -345,7 +347,7 @@ fn perform_command<
         }
         ProgramCommand::List(_) => perform_list(image, labels, &mut context.out),
         ProgramCommand::Outcomes(outcomes) => {
-            perform_outcomes(context, image, settings, names, outcomes)
+            perform_outcomes(context, image, settings, names, labels, outcomes)
         }
         ProgramCommand::Chart(chart) => {
             let text = second?;

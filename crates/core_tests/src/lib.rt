@@ -40,3 +40,8 @@ mod rows;
 mod sc_machine_tests;
 #[cfg(test)]
 mod smt_core_tests;
+#[cfg(test)]
+mod stories_tests;
+#[cfg(test)]
+mod story_text_tests;
+mod stuck_harts_tests;

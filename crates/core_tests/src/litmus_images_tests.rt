@@ -230,7 +230,7 @@ fn found_of(test: &LitmusTest, alloc: Global) -> Option<Outcomes>
 {
     let image = image_of(test, alloc).ok()?;
     let watch = watch_of(test);
-    find_outcomes(&image, harts_of(test), &watch, 100_000, &(), alloc).ok()
+    find_outcomes(&image, harts_of(test), &watch, 100_000, &(), &(), alloc).ok()
 }
 
 #[test]

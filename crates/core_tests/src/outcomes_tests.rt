@@ -3,7 +3,7 @@
 use crate::rows::holds;
 use arrayvec::ArrayVec;
 use elf_image::Image;
-use outcomes::{Outcomes, OutcomesRefused, find_outcomes};
+use outcomes::{Extent, Outcomes, OutcomesRefused, Until, find_outcomes};
 use smt_model::Status;
 use std::alloc::Global;
 use test_support::{file_of, image_of};
@@ -49,7 +49,7 @@ fn watching(word: u32) -> Watch {
 fn counted(budget: u32, alloc: Global) -> Option<Result<Outcomes, OutcomesRefused>> {
     let image = image_with(&COUNTER, alloc)?;
     let watch = watching(0x8000_1000);
-    Some(find_outcomes(&image, 2, &watch, budget, &(), alloc))
+    Some(find_outcomes(&image, 2, &watch, budget, &(), &(), alloc))
 }
 
 /// Whether an outcome is that of a row.
@@ -64,17 +64,51 @@ fn is_row(found: &Outcomes, index: usize, row: (u32, u32, u32)) -> bool {
     }
 }
 
+/// Whether each outcome is that of some row.
+fn are_rows(found: &Outcomes) -> bool {
+    for index in 0..found.count() {
+        let is_first = is_row(found, index, COUNTED[0]);
+        let is_second = is_row(found, index, COUNTED[1]);
+        let is_third = is_row(found, index, COUNTED[2]);
+        if !(is_first || is_second || is_third) {
+            return false;
+        }
+    }
+    true
+}
+
+/// Whether all states were looked at, and from each of them some order leads on to an end.
+fn always_can_end(found: &Outcomes, alloc: Global) -> bool {
+    found.extent() == Extent::Whole && matches!(found.stuck(alloc), Ok(None))
+}
+
+/// Whether all states were looked at, and from some no order leads on to an end.
+fn can_be_stuck(found: &Outcomes, alloc: Global) -> bool {
+    found.extent() == Extent::Whole && matches!(found.stuck(alloc), Ok(Some(_)))
+}
+
+/// Whether all states were looked at, and each of them has 0 at the place that was watched with this index.
+fn is_unwritten(found: &Outcomes, index: usize) -> bool {
+    found.extent() == Extent::Whole && found.is_unwritten(index)
+}
+
+/// Whether all states were looked at, and one has another number there.
+fn is_written_once(found: &Outcomes, index: usize) -> bool {
+    found.extent() == Extent::Whole && !found.is_unwritten(index)
+}
+
 #[test]
 fn two_harts_that_count(rt: HostRuntime) {
     match counted(1000, rt.alloc()) {
         Some(Ok(found)) => {
+            holds(&rt, "whole", found.extent() == Extent::Whole);
             holds(&rt, "count", found.count() == 3);
             holds(&rt, "both", is_row(&found, 0, COUNTED[0]));
             holds(&rt, "first", is_row(&found, 1, COUNTED[1]));
             holds(&rt, "second", is_row(&found, 2, COUNTED[2]));
             holds(&rt, "states", found.states() > 0);
-            holds(&rt, "stuck", matches!(found.stuck(rt.alloc()), Ok(None)));
-            holds(&rt, "written", !found.is_unwritten(0));
+            holds(&rt, "stuck", always_can_end(&found, rt.alloc()));
+            holds(&rt, "written", is_written_once(&found, 0));
         }
         _ => holds(&rt, "found", false),
     }
@@ -86,10 +120,18 @@ fn a_word_that_nobody_writes(rt: HostRuntime) {
     let Some(image) = image_with(&COUNTER, rt.alloc()) else {
         return holds(&rt, "image", false);
     };
-    match find_outcomes(&image, 2, &watching(0x8000_1004), 1000, &(), rt.alloc()) {
+    match find_outcomes(
+        &image,
+        2,
+        &watching(0x8000_1004),
+        1000,
+        &(),
+        &(),
+        rt.alloc(),
+    ) {
         Ok(found) => {
-            holds(&rt, "unwritten", found.is_unwritten(0));
-            holds(&rt, "no other", !found.is_unwritten(1));
+            holds(&rt, "unwritten", is_unwritten(&found, 0));
+            holds(&rt, "no other", is_written_once(&found, 1));
         }
         Err(_) => holds(&rt, "found", false),
     }
@@ -114,20 +156,26 @@ fn an_order_for_both_ones(rt: HostRuntime) {
 
 #[test]
 fn more_states_than_the_budget(rt: HostRuntime) {
-    let refused = matches!(counted(2, rt.alloc()), Some(Err(OutcomesRefused::Budget)));
-    holds(&rt, "budget", refused);
+    match counted(2, rt.alloc()) {
+        Some(Ok(found)) => {
+            holds(&rt, "beyond", found.extent() == Extent::Beyond);
+            holds(&rt, "some", found.count() > 0);
+            holds(&rt, "rows", are_rows(&found));
+        }
+        _ => holds(&rt, "found", false),
+    }
 }
 
 #[test]
 fn a_hart_that_goes_round(rt: HostRuntime) {
     let found = match image_with(&ROUND, rt.alloc()) {
-        Some(image) => find_outcomes(&image, 1, &watching(0x8000_1000), 10, &(), rt.alloc()),
+        Some(image) => find_outcomes(&image, 1, &watching(0x8000_1000), 10, &(), &(), rt.alloc()),
         None => Err(OutcomesRefused::Memory),
     };
     match found {
         Ok(found) => {
             holds(&rt, "none", found.count() == 0);
-            holds(&rt, "stuck", matches!(found.stuck(rt.alloc()), Ok(Some(_))));
+            holds(&rt, "stuck", can_be_stuck(&found, rt.alloc()));
         }
         Err(_) => holds(&rt, "found", false),
     }
@@ -175,7 +223,7 @@ fn has_swapped(found: &Outcomes, index: usize, row: [u32; 2]) -> bool {
 #[test]
 fn three_instructions_of_each_of_two_harts(rt: HostRuntime) {
     let found = match image_with(&SWAP, rt.alloc()) {
-        Some(image) => find_outcomes(&image, 2, &watching_swap(), 100, &(), rt.alloc()),
+        Some(image) => find_outcomes(&image, 2, &watching_swap(), 100, &(), &(), rt.alloc()),
         None => Err(OutcomesRefused::Memory),
     };
     match found {
@@ -183,7 +231,7 @@ fn three_instructions_of_each_of_two_harts(rt: HostRuntime) {
             holds(&rt, "two", found.count() == 2);
             holds(&rt, "first", has_swapped(&found, 0, SWAPPED[0]));
             holds(&rt, "second", has_swapped(&found, 1, SWAPPED[1]));
-            holds(&rt, "stuck", matches!(found.stuck(rt.alloc()), Ok(None)));
+            holds(&rt, "stuck", always_can_end(&found, rt.alloc()));
         }
         Err(_) => holds(&rt, "found", false),
     }
@@ -230,7 +278,7 @@ fn is_of_ten(found: &Outcomes) -> bool {
 #[test]
 fn ten_harts_that_store(rt: HostRuntime) {
     let found = match image_with(&OWN_WORDS, rt.alloc()) {
-        Some(image) => find_outcomes(&image, 10, &watching_the_last(), 1024, &(), rt.alloc()),
+        Some(image) => find_outcomes(&image, 10, &watching_the_last(), 1024, &(), &(), rt.alloc()),
         None => Err(OutcomesRefused::Memory),
     };
     match found {
@@ -279,7 +327,7 @@ fn written(flags: u8, alloc: Global) -> Option<Outcomes> {
         *byte = flags;
     }
     let image = image_of(file.as_slice(), 65536, alloc)?;
-    find_outcomes(&image, 2, &watching_written(), 100, &(), alloc).ok()
+    find_outcomes(&image, 2, &watching_written(), 100, &(), &(), alloc).ok()
 }
 
 /// Whether in an outcome the store was made, both harts were stopped by EBREAK, and x10 of hart 1 is this.
@@ -302,7 +350,7 @@ fn a_hart_writes_an_instruction_of_another(rt: HostRuntime) {
             holds(&rt, "two", found.count() == 2);
             holds(&rt, "before", is_written(&found, 0, 5));
             holds(&rt, "behind", is_written(&found, 1, 9));
-            holds(&rt, "stuck", matches!(found.stuck(rt.alloc()), Ok(None)));
+            holds(&rt, "stuck", always_can_end(&found, rt.alloc()));
         }
         None => holds(&rt, "found", false),
     }

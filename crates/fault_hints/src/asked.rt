@@ -10,7 +10,7 @@ use hints::{Hint, Part};
 use litmus_reading::{Fault, Place};
 use outcome_queries::QueryRefused;
 use rv_instr::{UnitKind, unit_name};
-use sim_inputs::{Command, ProgramCommand, read_config};
+use sim_inputs::{Command, ProgramCommand, QuestionText, read_config};
 use std::alloc::{AllocError, Global};
 use watched_outcomes::{WatchedBytes, Width};
 
@@ -54,16 +54,14 @@ pub(crate) fn add_hart(
     hint: &mut Hint,
     alloc: Global,
 ) -> Result<(), AllocError> {
-    let word = match fault.line.command {
-        Command::OfProgram(ProgramCommand::Outcomes(_)) => {
-            format!(in alloc; "hart {hart} in --exists or --watch")?
-        }
-        _ => format!(in alloc; "--hart {hart}")?,
-    };
-    hint.add(Part::Word, word.as_bytes())?;
-    if let Command::OfProgram(ProgramCommand::Outcomes(_)) = fault.line.command {
+    if let Command::OfProgram(ProgramCommand::Outcomes(asked)) = fault.line.command {
+        let (option, _) = condition_in(asked.question);
+        let word = format!(in alloc; "hart {hart} in {option} or --watch")?;
+        hint.add(Part::Word, word.as_bytes())?;
         return add_harts(fault, hint, alloc);
     }
+    let word = format!(in alloc; "--hart {hart}")?;
+    hint.add(Part::Word, word.as_bytes())?;
     hint.add(Part::Cause, b"the core of the trace has no such hart")
 }
 
@@ -112,9 +110,20 @@ pub(crate) fn add_condition(
     alloc: Global,
 ) -> Result<(), AllocError> {
     if let Command::OfProgram(ProgramCommand::Outcomes(asked)) = fault.line.command {
-        return add_query("--exists", asked.exists, why, fault, hint, alloc);
+        let (option, text) = condition_in(asked.question);
+        return add_query(option, text, why, fault, hint, alloc);
     }
     Ok(())
+}
+
+/// The option that a question has its condition from, and the condition.
+fn condition_in(question: Option<QuestionText<'_>>) -> (&'static str, Option<&str>) {
+    match question {
+        Some(QuestionText::Exists(text)) => ("--exists", Some(text)),
+        Some(QuestionText::ForAll(text)) => ("--forall", Some(text)),
+        Some(QuestionText::Never(text)) => ("--never", Some(text)),
+        Some(QuestionText::NeverStuck) | None => ("--exists", None),
+    }
 }
 
 /// Adds where the text of an option is misspelled: the rest from there on.
@@ -145,7 +154,11 @@ pub(crate) fn add_absent_word(
     alloc: Global,
 ) -> Result<(), AllocError> {
     let address = bytes.address;
-    let word = format!(in alloc; "{address:08x} in --exists or --watch")?;
+    let option = match fault.line.command {
+        Command::OfProgram(ProgramCommand::Outcomes(asked)) => condition_in(asked.question).0,
+        _ => "--exists",
+    };
+    let word = format!(in alloc; "{address:08x} in {option} or --watch")?;
     hint.add(Part::Word, word.as_bytes())?;
     let Ok(text) = fault.inputs.config else {
         return Ok(());

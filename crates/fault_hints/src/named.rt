@@ -37,6 +37,7 @@ pub(crate) fn add_named(
         Expected::OneAddress => add_addresses(&symbols, &name, hint, alloc),
         Expected::Inside => add_size(&symbols, &name, hint, alloc),
         Expected::Watched | Expected::Term | Expected::End => Ok(()),
+        Expected::Closing | Expected::Terms | Expected::Levels => Ok(()),
     }
 }
 

@@ -34,6 +34,7 @@ fn written_role(line: &Line<'_>) -> &'static str {
         Command::OfProgram(ProgramCommand::Outcomes(asked)) if asked.witness.is_some() => {
             "the order"
         }
+        Command::OfProgram(ProgramCommand::Outcomes(asked)) if asked.story.is_some() => "the story",
         Command::OfProgram(ProgramCommand::Outcomes(_)) => "the script",
         Command::Litmus(asked) if asked.image.is_some() => "the image",
         Command::Litmus(_) => "the picture",

@@ -86,13 +86,17 @@ fn add_asked_fault(
         Refused::Condition(why) => add_condition(why, fault, hint, alloc),
         Refused::ManyWatched => hint.add(
             Part::Cause,
-            b"--watch and --exists name more than 64 registers and words",
+            b"the list and the condition name more than 64 registers and words",
         ),
         Refused::NoWord(bytes) => add_absent_word(bytes, fault, hint, alloc),
         Refused::NoOutcome(number) => add_absent_outcome(number, hint, alloc),
         Refused::NotStuck => hint.add(
             Part::Cause,
             b"some order leads on to an end from wherever an order leads",
+        ),
+        Refused::NoAnswer => hint.add(
+            Part::Cause,
+            b"nothing that was found answers the question, so there is no order to write",
         ),
         Refused::Litmus(place, why) => add_litmus(place, why, fault, hint, alloc),
         Refused::NothingToDraw => hint.add(

@@ -1,8 +1,14 @@
+pub mod Bytes
+pub mod Cutting
 pub mod FirstNames
 pub mod Marked
+pub mod Namesakes
+pub mod Opening
+pub mod OuterPlaces
 pub mod Outside
 pub mod Placing
 pub mod Reading
+pub mod Refusing
 pub mod Separating
 pub mod Spelled
 pub mod TermReading

@@ -1,5 +1,5 @@
 -- Names, numbers and places as they are spelled: which bytes they lack outside of quotation marks.
-use Rattle.std.proofs.Common.{◌≡◌, ℕ, ◌+◌, Bool, true, false, ◌&&◌, ◌==◌, List, [], ◌∷◌}
+use Rattle.std.proofs.Common.{◌≡◌, ℕ, ◌+◌, Bool, true, false, ◌&&◌, ◌||◌, ◌==◌, List, [], ◌∷◌}
 use Rattle.std.proofs.Common.{◌++◌, Option, Some, None, inl, inr, refl, sym, subst, arith, codes}
 use Rattle.std.proofs.{lemmas.Bool.Decides.nat_tests}
 use Rattle.std.specs.{Char.is_ascii_digit, List.list_all, Borrow.Bor}
@@ -14,6 +14,7 @@ use Rattle.outcome_queries.specs.Placed.{can_begin, can_follow, is_plain_name, S
 use Rattle.outcome_queries.specs.Placed.{SpellsBehind, SpellsPlaced}
 use Rattle.outcome_queries.specs.Widths.{width_text}
 use Rattle.outcome_queries.proofs.Outside.{Skips, skips_plain, skips_quoted, skips_both, skips_none}
+use Rattle.outcome_queries.proofs.Reading.{IsMark, equals_mark}
 
 -- a byte that stands in no name without marks and in no number
 pub record IsApart (s : ℕ) : Type 0 where
@@ -125,12 +126,81 @@ pub width_skips : (s : ℕ) (w : Option Width) → IsApart s → (58 == s) ≡ f
 width_skips s None apart other = skips_none s
 width_skips s (Some w) apart other = behind_byte s 58 ((48 + bytes_of w) ∷ []) other refl (digit_skips s w apart)
 
-pub place_skips : (text : List ℕ) (placed : Placed) → SpellsPlaced text placed → Skips 61 text
-place_skips text placed is =
+-- a byte of the sign of a relation
+pub record IsSign (s : ℕ) : Type 0 where
+  pub apart : IsApart s
+  pub mark : IsMark s
+  pub colon_not : (58 == s) ≡ false
+  pub opening : (91 == s) ≡ false
+  pub closing : (93 == s) ≡ false
+  pub plus_not : (43 == s) ≡ false
+  pub at_not : (64 == s) ≡ false
+  pub h : (104 == s) ≡ false
+  pub star : (42 == s) ≡ false
+  pub letters : ((111 == s) || ((117 == s) || (116 == s))) ≡ false
+
+pub equals_sign : IsSign 61
+equals_sign = record {
+  apart = equals;
+  mark = equals_mark;
+  colon_not = refl;
+  opening = refl;
+  closing = refl;
+  plus_not = refl;
+  at_not = refl;
+  h = refl;
+  star = refl;
+  letters = refl;
+}
+
+pub below_sign : IsSign 60
+below_sign = record {
+  apart = record { mark = refl; name = refl; digit = refl; hex = refl; base = refl };
+  mark = record { digit = refl; hex = refl; letters = refl };
+  colon_not = refl;
+  opening = refl;
+  closing = refl;
+  plus_not = refl;
+  at_not = refl;
+  h = refl;
+  star = refl;
+  letters = refl;
+}
+
+pub not_sign : IsSign 33
+not_sign = record {
+  apart = record { mark = refl; name = refl; digit = refl; hex = refl; base = refl };
+  mark = record { digit = refl; hex = refl; letters = refl };
+  colon_not = refl;
+  opening = refl;
+  closing = refl;
+  plus_not = refl;
+  at_not = refl;
+  h = refl;
+  star = refl;
+  letters = refl;
+}
+
+pub least_sign : IsSign 62
+least_sign = record {
+  apart = record { mark = refl; name = refl; digit = refl; hex = refl; base = refl };
+  mark = record { digit = refl; hex = refl; letters = refl };
+  colon_not = refl;
+  opening = refl;
+  closing = refl;
+  plus_not = refl;
+  at_not = refl;
+  h = refl;
+  star = refl;
+  letters = refl;
+}
+
+pub place_skips : (s : ℕ) (text : List ℕ) (placed : Placed) → IsSign s → SpellsPlaced text placed → Skips s text
+place_skips s text placed sign is =
     let at = is.written in
-    let named = name_skips 61 at.named placed.name.file placed.name.name.now equals refl at.names in
-    let goes = behind_skips 61 at.behind placed.behind equals refl refl refl at.goes in
-    let place : Skips 61 is.place =
-    subst (λ t. Skips 61 t) (sym at.spelled) (skips_both 61 at.named at.behind named goes) in
-    subst (λ t. Skips 61 t) (sym is.spelled)
-    (skips_both 61 is.place (width_text placed.width) place (width_skips 61 placed.width equals refl))
+    let named = name_skips s at.named placed.name.file placed.name.name.now sign.apart sign.colon_not at.names in
+    let goes = behind_skips s at.behind placed.behind sign.apart sign.opening sign.closing sign.plus_not at.goes in
+    let place : Skips s is.place =
+    subst (λ t. Skips s t) (sym at.spelled) (skips_both s at.named at.behind named goes) in
+    subst (λ t. Skips s t) (sym is.spelled)
+    (skips_both s is.place (width_text placed.width) place (width_skips s placed.width sign.apart sign.colon_not))

@@ -109,9 +109,10 @@ asked_room p list i some few inside is =
 -- what a longer list tells of terms
 pub still_watched : (old new : List Asked) (term : Term) → Extends old new → IsWatchedFor old term
     → IsWatchedFor new term
-still_watched old new (terms.Ended h n) more is = tt
-still_watched old new (terms.Stopped h c) more is = tt
-still_watched old new (terms.Holds a v) more is = (
+still_watched old new (terms.Ended h r n) more is = tt
+still_watched old new (terms.Stopped h r c) more is = tt
+still_watched old new (terms.Put d r) more is = tt
+still_watched old new (terms.Holds a r v) more is = (
   is.0,
   subst (λ (t : List Asked). Contains t is.0) (sym more.1) (Contains-append_left old more.0 is.0 is.1),
   is.2,

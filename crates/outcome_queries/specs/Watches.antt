@@ -37,9 +37,8 @@ words_in list = flat_map (λ (asked : Asked). bytes_with asked.watched) list
 
 -- What a term asks for, if anything; and all that a condition asks for, in its order.
 abbrev pub asked_of : Term → List Asked
-asked_of (terms.Holds asked value) = asked ∷ []
-asked_of (terms.Ended hart number) = []
-asked_of (terms.Stopped hart cause) = []
+asked_of (terms.Holds asked relation value) = asked ∷ []
+asked_of term = []
 
 abbrev pub asked_in : List Term → List Asked
 asked_in terms = flat_map asked_of terms
@@ -65,5 +64,5 @@ Extends old new = (others : List Asked) × (new ≡ old ++ others)
 
 -- What a term asks for is watched in the list.
 abbrev pub IsWatchedFor : List Asked → Term → Type 0
-IsWatchedFor list (terms.Holds asked value) = IsWatchedIn list asked.watched
+IsWatchedFor list (terms.Holds asked relation value) = IsWatchedIn list asked.watched
 IsWatchedFor list term = Unit {0}

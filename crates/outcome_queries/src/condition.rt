@@ -1,65 +1,63 @@
-//! Conditions.
+//! Conditions, as they are written.
 
-ghost use Rattle.std.specs.Prelude.{◌≡◌, ◌∷◌, ◌++◌, [], length, IfOk, IfErr, OnOk};
-ghost use Rattle.outcome_queries.specs.declared.term.Term.{Term as AnyTerm};
-ghost use Rattle.symbols.specs.Tables.{table_of};
-ghost use Rattle.outcome_queries.specs.Terms.{SaysTerm, IsNoTerm};
-ghost use Rattle.outcome_queries.specs.Lists.{IsSeparated, IsRefusedFor, IsPartRefused};
+ghost use Rattle.std.specs.Prelude.{◌≡◌, ◌+◌, ◌≤◌, ◌++◌, length};
+ghost use Rattle.outcome_queries.specs.Conditions.{terms_in};
 
-use crate::quoted::split_outside;
-use crate::refused::{Expected, QueryRefused};
-use crate::term::{Term, read_term};
+use crate::term::Term;
 use arrayvec::ArrayVec;
-use symbols::Symbols;
-use watched_outcomes::MOST_WATCHED;
 
-/// A condition: its terms, all of which hold where it holds.
-pub type Condition<'a> = ArrayVec<Term<'a>, MOST_WATCHED>;
+/// The most terms of a condition.
+pub const MOST_TERMS: usize = 32;
 
-/// Reads a condition: terms with `&` between, `MOST_WATCHED` at most, as `h0=1 & a0@1=2 & counter=2`.
-pub fn read_condition<'a>(
-    text: &'a [u8],
-    names: &Symbols<'_>,
-) -> Result<Condition<'a>, QueryRefused>
-    ensures read { IfOk result (λ terms. IsSeparated (SaysTerm (table_of names.now)) 38 text.now terms.items) }
-    ensures refused { IfErr result
-        (IsRefusedFor (SaysTerm (table_of names.now)) (IsNoTerm (table_of names.now)) 38 text.now) }
-{
-    let mut terms = Condition::new();
-    let mut rest = text;
-    while let Some((first, others)) = split_outside(rest, b'&') {
-        take(&mut terms, first, names, text.len() - rest.len() + 1)?;
-        rest = others;
-    }
-    match take(&mut terms, rest, names, text.len() - rest.len() + 1) {
-        Ok(()) => Ok(terms),
-        Err(refused) => Err(refused),
-    }
+/// The most `!` and parentheses of a condition that stand in one another.
+pub const MOST_LEVELS: usize = 16;
+
+/// What joins two conditions.
+#[derive(Clone, Copy, Debug, PartialEq, Eq, Drop)]
+pub enum Joint {
+    /// `&`: both hold.
+    And,
+    /// `|`: one holds at the least.
+    Or,
 }
 
-/// Puts the term that a part says behind others. The part begins at this column.
-fn take<'a>(
-    terms: &mut Condition<'a>,
-    part: &'a [u8],
-    names: &Symbols<'_>,
-    column: usize,
-) -> Result<(), QueryRefused>
-    ensures taken { OnOk result ((one : AnyTerm) × SaysTerm (table_of names.now) part.now one
-        × (terms.new.items ≡ terms.old.items ++ one ∷ [])) }
-    ensures refused { IfErr result (λ why. IsPartRefused (SaysTerm (table_of names.now)) (IsNoTerm (table_of names.now))
-        (length terms.old.items) part.now why.expected) }
-    ensures place { IfErr result (λ why. why.column ≡ column) }
+/// A condition.
+#[derive(Drop)]
+pub enum Condition<'a> {
+    /// `h0=1`, `counter>=2`.
+    Holds(Term<'a>),
+    /// `!C`
+    Not(Box<Condition<'a>>),
+    /// `(C)`
+    Grouped(Box<Condition<'a>>),
+    /// `C & D`, `C | D`. Of several with the same joint the first one is joined to all others.
+    Joined(Joint, Box<Condition<'a>>, Box<Condition<'a>>),
+}
+
+/// The terms of a condition, in its order.
+pub type Terms<'a> = ArrayVec<Term<'a>, MOST_TERMS>;
+
+/// The terms of a condition, in its order.
+pub fn terms_of<'a>(condition: &Condition<'a>) -> Terms<'a>
+    requires { length (terms_in condition.now) ≤ 32 }
+    ensures { result.items ≡ terms_in condition.now }
 {
-    let term = match read_term(part, names) {
-        Ok(term) => term,
-        Err(expected) => return Err(QueryRefused { column, expected }),
-    };
-    if terms.is_full() {
-        return Err(QueryRefused {
-            column,
-            expected: Expected::End,
-        });
+    let mut terms = Terms::new();
+    add_terms(&mut terms, condition);
+    terms
+}
+
+/// Puts the terms of a condition behind others.
+fn add_terms<'a>(terms: &mut Terms<'a>, condition: &Condition<'a>)
+    requires { length terms.old.items + length (terms_in condition.now) ≤ 32 }
+    ensures { terms.new.items ≡ terms.old.items ++ terms_in condition.now }
+{
+    match condition {
+        Condition::Holds(term) => terms.push(*term),
+        Condition::Not(inner) | Condition::Grouped(inner) => add_terms(terms, inner),
+        Condition::Joined(_, first, others) => {
+            add_terms(terms, first);
+            add_terms(terms, others);
+        }
     }
-    terms.push(term);
-    Ok(())
 }

@@ -15,8 +15,13 @@ pub fn name_asked(text: &[u8]) -> Option<Name<'_>>
     ensures found { IfSome result (AsksName text.now) }
     ensures none { IfNone result ((name : AnyName) → AsksName text.now name → ⊥) }
 {
-    let part = before(before(text, b','), b'&');
-    let placed = read_placed(trimmed(before(part, b'=')))?;
+    let listed = before(text, b',');
+    let joined = before(listed, b'&');
+    let equals = before(joined, b'=');
+    let below = before(equals, b'<');
+    let least = before(below, b'>');
+    let left = before(least, b'!');
+    let placed = read_placed(trimmed(left))?;
     Some(placed.name)
 }
 

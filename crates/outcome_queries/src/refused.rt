@@ -16,6 +16,12 @@ pub enum Expected {
     OneAddress,
     /// A place inside of the object that is named.
     Inside,
+    /// The parenthesis that closes.
+    Closing,
+    /// Fewer terms of a condition.
+    Terms,
+    /// Fewer levels of `!` and parentheses.
+    Levels,
 }
 
 impl fmt::Display for Expected {
@@ -29,6 +35,9 @@ impl fmt::Display for Expected {
             Expected::Name => f.write_str("a name that the image has"),
             Expected::OneAddress => f.write_str("a name with one address"),
             Expected::Inside => f.write_str("a place inside of its object"),
+            Expected::Closing => f.write_str("a closing parenthesis at its end"),
+            Expected::Terms => f.write_str("no more than 32 terms"),
+            Expected::Levels => f.write_str("no more than 16 levels of ! and parentheses"),
         }
     }
 }
@@ -39,4 +48,13 @@ impl fmt::Display for Expected {
 pub struct QueryRefused {
     pub column: usize,
     pub expected: Expected,
+}
+
+/// Why there is no condition.
+#[derive(Clone, Copy, Debug, PartialEq, Eq, Drop)]
+pub enum ConditionRefused {
+    /// The text is none.
+    Text(QueryRefused),
+    /// There isn't enough memory.
+    Memory,
 }

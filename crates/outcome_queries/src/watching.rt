@@ -42,7 +42,7 @@ fn add_term<'a>(all: &mut WatchList<'a>, term: Term<'a>) -> bool
 {
     match term {
         Term::Holds { asked, .. } => add(all, asked),
-        Term::Ended { .. } | Term::Stopped { .. } => true,
+        Term::Ended { .. } | Term::Stopped { .. } | Term::Put { .. } => true,
     }
 }
 

@@ -4,23 +4,23 @@ use Rattle.std.proofs.Common.{subst, ◌∙◌, arith, slice_get, slice_index, s
 use Rattle.std.specs.Io.KnownBytes.{Appends}
 use Rattle.text_fields.proofs.Appending.{each_step, member, told_step}
 use Rattle.std.proofs.Common.{Bool, true, false, refl}
-use Rattle.std.specs.List.{list_any}
-use Rattle.std.proofs.lemmas.List.Folds.{list_any_at, list_any_more}
+use Rattle.std.specs.List.{list_all, list_any}
+use Rattle.std.proofs.lemmas.List.Folds.{list_all_at, list_all_more, list_any_at, list_any_more}
 use Rattle.outcomes.specs.{Found.Told}
 use Rattle.watched_outcomes.specs.{declared.watch.Watch.Watch}
-use Rattle.outcome_queries.specs.declared.term.Term.{Term}
+use Rattle.outcome_queries.specs.declared.question.Question.{Question}
 use Rattle.outcome_queries.specs.declared.watched.Asked.{Asked}
 use Rattle.outcome_text.specs.Line.{column_text, columns_text}
 use Rattle.outcome_text.specs.Unwritten.{unwritten_line, unwritten_text}
 use Rattle.text_fields.specs.Each.{each_from}
-use Rattle.outcome_text.specs.{Listing.holds_of, Listing.place_of, Listing.place_text}
+use Rattle.outcome_text.specs.Answers.{is_named, place_of, place_text}
 
-pub place_step : (watch : Watch) (terms : List Term) (old mid new : Option (List ℕ)) (xs : List Told) (i n : ℕ) (b : Bool)
-    → i < n → n ≡ length xs → ((told : Told) → slice_get xs i ≡ Some told → b ≡ holds_of watch terms told)
-    → Appends old mid (each_from (place_text watch terms) 0 (take i xs)) → Appends mid new (place_of b (i + 1))
-    → Appends old new (each_from (place_text watch terms) 0 (take (i + 1) xs))
-place_step watch terms old mid new xs i n b below count is before next =
-    told_step (place_text watch terms) old mid new xs i n below count before
+pub place_step : (watch : Watch) (question : Question) (old mid new : Option (List ℕ)) (xs : List Told) (i n : ℕ) (b : Bool)
+    → i < n → n ≡ length xs → ((told : Told) → slice_get xs i ≡ Some told → b ≡ is_named watch question told)
+    → Appends old mid (each_from (place_text watch question) 0 (take i xs)) → Appends mid new (place_of b (i + 1))
+    → Appends old new (each_from (place_text watch question) 0 (take (i + 1) xs))
+place_step watch question old mid new xs i n b below count is before next =
+    told_step (place_text watch question) old mid new xs i n below count before
     (λ told at. subst (λ h. Appends mid new (place_of h (i + 1))) (is told at) next)
 
 -- a condition holds of the member, or of none so far
@@ -39,6 +39,23 @@ not_so_far p xs i n b below count is fails before =
     let one = member xs i inside in
     let this : p (get_or xs i one.0) ≡ false = ap p (one.2 one.0) ∙ sym (is one.0 one.1) ∙ fails in
     list_any_more p xs i one.0 inside ∙ rw (before, this) refl
+
+-- it fails of the member, or holds of all so far
+pub fails_at : (p : Told → Bool) (xs : List Told) (i n : ℕ) (b : Bool) → i < n → n ≡ length xs
+    → ((told : Told) → slice_get xs i ≡ Some told → b ≡ p told) → b ≡ false → false ≡ list_all p xs
+fails_at p xs i n b below count is fails =
+    let inside : i < length xs = omega (arith, below, count) in
+    let one = member xs i inside in
+    sym (list_all_at p xs i one.0 inside (ap p (one.2 one.0) ∙ sym (is one.0 one.1) ∙ fails))
+
+pub all_so_far : (p : Told → Bool) (xs : List Told) (i n : ℕ) (b : Bool) → i < n → n ≡ length xs
+    → ((told : Told) → slice_get xs i ≡ Some told → b ≡ p told) → b ≡ true → list_all p (take i xs) ≡ true
+    → list_all p (take (i + 1) xs) ≡ true
+all_so_far p xs i n b below count is holds before =
+    let inside : i < length xs = omega (arith, below, count) in
+    let one = member xs i inside in
+    let this : p (get_or xs i one.0) ≡ true = ap p (one.2 one.0) ∙ sym (is one.0 one.1) ∙ holds in
+    list_all_more p xs i one.0 inside ∙ rw (before, this) refl
 
 -- a turn of a loop over columns, with their numbers
 pub columns_step : (before : ℕ) (numbers : List ℕ) (old mid new : Option (List ℕ)) (xs : List Asked) (i n : ℕ)

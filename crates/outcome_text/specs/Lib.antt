@@ -1,3 +1,4 @@
+pub mod Answers
 pub mod Line
-pub mod Unwritten
 pub mod Listing
+pub mod Unwritten

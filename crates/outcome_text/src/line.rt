@@ -25,11 +25,7 @@ type Part = ArrayString<64>;
 /// Writes the line of an outcome: how each hart has ended, what is watched by what asked for it, and the bytes that were
 /// put out, in hexadecimal. What isn't there is left out.
 #[tactic(auto, unfolding(crate::specs::Line::outcome_line))]
-pub(crate) fn write_line<W: Write>(
-    columns: &Columns<'_>,
-    outcome: &Outcome,
-    out: &mut W,
-) -> io::Result<()>
+pub fn write_line<W: Write>(columns: &Columns<'_>, outcome: &Outcome, out: &mut W) -> io::Result<()>
     ensures { OnOk result (Appends (W.contents out.old) (W.contents out.new)
         (outcome_line columns.now.registers.items columns.now.words.items outcome.now)) }
 {

@@ -2,6 +2,7 @@
 
 ghost use Rattle.std.specs.Prelude.{◌≡◌, slice_index_or, OnOk};
 ghost use Rattle.std.specs.Io.KnownBytes.{Appends};
+ghost use Rattle.searches.specs.declared.extent.Extent.TheVariants.{Whole};
 ghost use Rattle.text_fields.specs.Each.{each_from};
 ghost use Rattle.outcome_text.specs.Unwritten.{place_text, unwritten_line, unwritten_text};
 
@@ -19,6 +20,7 @@ pub(crate) fn write_unwritten<W: Write>(
     words: &[Asked<'_>],
     out: &mut W,
 ) -> io::Result<()>
+    requires { outcomes.now.extent ≡ Whole }
     ensures { OnOk result (Appends (W.contents out.old) (W.contents out.new)
         (each_from (unwritten_text outcomes.now.unwritten) 0 words.now)) }
 {

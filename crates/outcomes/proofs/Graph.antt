@@ -20,7 +20,8 @@ use Rattle.searches.proofs.Places.{same_element}
 use Rattle.condensed_machine.specs.{Machine.Machine, Machine.IsSound, Resting.is_watched, Decoded.state_of}
 use Rattle.condensed_machine.specs.Steps.{Steps, MakesStep, HasBegun, turns}
 use Rattle.condensed_machine.specs.declared.{begun.Begun.Begun, state.State.State}
-use Rattle.outcomes.specs.{Told.moved, Told.order_at, Found.IsStuckTold}
+use Rattle.outcomes.specs.{Told.order_at, Found.IsStuckTold}
+use Rattle.outcomes.proofs.Reaching.{step_reached, reached_by}
 
 -- Of the harts below a number one passes a test, or none does.
 pub first_such : (test : ℕ → Bool) (n : ℕ)
@@ -169,37 +170,11 @@ module _ (setup : Setup) (m : Machine) (begun : Begun) (found : Found State ℕ)
 
   one_more : (from : Plain) (order : List ℕ) (s u : State) (h way : ℕ) → HasItsCode setup from → Reached from order s
       → MakesStep setup m s h (record { state = u; way = way }) → Reached from (order ++ h ∷ replicate way h) u
-  one_more from order s u h way holds reached made =
-      subst (λ o. Reached from (order ++ h ∷ o) u) made.leads.by
-      (what_settles_is_reached setup watched live table from order (state_of m s) (state_of m u) h holds reached
-      made.can made.leads.settles)
-
-  by_moves : (from : Plain) (moves : List (Move ℕ)) (order : List ℕ) (s t : State) → HasItsCode setup from
-      → Reached from order s
-      → Leads (Steps m) s moves t → Reached from (order ++ moved moves) t
-  by_moves from [] order s t holds reached same =
-      subst (λ o. Reached from o t) (sym (append-nil order)) (subst (Reached from order) same reached)
-  by_moves from (move ∷ moves) order s t holds reached leads =
-      let one = one_more from order s leads.0 move.hart move.way holds reached (leads.1 setup image harts) in
-      subst (λ o. Reached from o t) (append_assoc order (move.hart ∷ replicate move.way move.hart) (moved moves))
-      (by_moves from moves (order ++ move.hart ∷ replicate move.way move.hart) leads.0 t holds one leads.2)
-
-  start_reached : Reached (start setup) (turns begun.ways m.program.harts) begun.state
-  start_reached =
-      let by = begins.leads setup image harts in
-      let settles = by.settles in
-      record {
-        state = settles.there;
-        leads = subst (λ o. path setup o (start setup) ≡ Some settles.there) by.by
-            (local_leads setup settles.order (start setup) settles.there settles.local);
-        alike = settles.alike;
-      }
+  one_more = step_reached setup m begun sound begins image harts
 
   pub reached : (k : ℕ) (t : State) → slice_get found.states k ≡ Some t
       → Reached (start setup) (order_at begun.ways m.program.harts found.origins k) t
-  reached k t at =
-      by_moves (start setup) (moves_at found.origins k) (turns begun.ways m.program.harts) begun.state t
-      (paths_keep_code setup).0 start_reached (graph.moved k t at)
+  reached k t at = reached_by setup m begun sound begins image harts (moves_at found.origins k) t (graph.moved k t at)
 
   -- Code that may not be written is what the image has, in each state and where the order to it leads.
   holds_there : (k : ℕ) (t : State) (at : slice_get found.states k ≡ Some t) → HasItsCode setup (reached k t at).state

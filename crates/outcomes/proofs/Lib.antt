@@ -1,6 +1,8 @@
+mod Reaching
 mod Graph
 mod Listing
 mod Endings
+mod Sound
 mod Watching
 mod Growing
 mod Collected
@@ -8,4 +10,5 @@ mod Throughout
 mod Telling
 mod Cores
 mod Reading
+mod Claims
 mod Programs

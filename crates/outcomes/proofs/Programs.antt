@@ -12,7 +12,7 @@ pub of_same : {A E : Type 0} → (P : ProgramImage → ℕ → A → Type 0) (i 
 of_same P i j h k r images harts is =
     subst (λ n. IfOk r (P j n)) harts (subst (λ z. IfOk r (P z h)) images is)
 
-pub for_memory : {A : Type 0} → (image : ProgramImage) (harts : ℕ) (watch : Watch) (budget : ℕ)
-    (r : Result A OutcomesRefused) → IfErr r (λ why. why ≡ Memory) → IfErr r (IsRefusedFor image harts watch budget)
-for_memory image harts watch budget (Ok found) is = tt
-for_memory image harts watch budget (Err why) is = subst (IsRefusedFor image harts watch budget) (sym is) tt
+pub for_memory : {A : Type 0} → (image : ProgramImage) (harts : ℕ) (watch : Watch)
+    (r : Result A OutcomesRefused) → IfErr r (λ why. why ≡ Memory) → IfErr r (IsRefusedFor image harts watch)
+for_memory image harts watch (Ok found) is = tt
+for_memory image harts watch (Err why) is = subst (IsRefusedFor image harts watch) (sym is) tt

@@ -1,11 +1,12 @@
 -- What a search has found is all that there is.
-use Rattle.std.specs.Prelude.{◌≡◌, ℕ, ◌<◌, Bool, List, Option, Some, None, IfSome, map, option_map, length}
+use Rattle.std.specs.Prelude.{◌≡◌, ◌≢◌, ℕ, Bool, List, Option, AllPairs, map, option_map, length}
 use Rattle.std.proofs.Common.{◌∙◌, sym, ap, subst}
 use Rattle.smt_model.specs.{Setup.Setup, Plain.Plain, Plain.start}
 use Rattle.outcome_laws.specs.Paths.{IsEnd}
 use Rattle.outcome_laws.proofs.Holding.{paths_keep_code}
-use Rattle.outcome_laws.proofs.Search.{flip, every_end_is_visited}
+use Rattle.outcome_laws.proofs.Search.{every_end_is_visited}
 use Rattle.outcome_laws.proofs.Settling.{end_alike}
+use Rattle.searches.specs.declared.extent.Extent.{Extent}
 use Rattle.searches.specs.{Found.Found as Graph, Found.IsGraph, Ending.IsLeastStuck}
 use Rattle.condensed_machine.specs.{Machine.Machine, Machine.IsSound as IsSoundProgram, Decoded.state_of}
 use Rattle.condensed_machine.specs.Steps.{Steps, HasBegun}
@@ -14,12 +15,12 @@ use Rattle.outcomes.specs.declared.{listed.Listed.Listed}
 use Rattle.watched_outcomes.specs.declared.{watch.Watch.Watch}
 use Rattle.outcomes.specs.{Lists.HasEnding, Refusals.AreWatched}
 use Rattle.watched_outcomes.specs.{Endings.Ending, Endings.ending_of, Watching.AreThere}
-use Rattle.outcomes.specs.Collected.{ending_at, is_unwritten, IsOfEnd, AreOutcomes}
-use Rattle.outcomes.specs.Found.{Found, Told, EndsSo, HasOutcome, ListsAll, IsSound, IsExactList}
+use Rattle.outcomes.specs.Collected.{ending_at, is_unwritten, AreOutcomes}
+use Rattle.outcomes.specs.Found.{Found, HasOutcome, ListsAll, IsSound, IsExactList}
 use Rattle.outcomes.specs.Told.{told_of, order_at}
-use Rattle.outcomes.proofs.{Listing.contains_map, Listing.mapped_from, Endings.alike_ends, Throughout.unwritten_told}
-use Rattle.outcomes.proofs.Graph.{watched, live, visited, table, enough, start_settles, state_at, is_listed, is_end}
-use Rattle.outcomes.proofs.Graph.{reached, stuck_told}
+use Rattle.outcomes.proofs.{Listing.contains_map, Endings.alike_ends, Throughout.unwritten_told}
+use Rattle.outcomes.proofs.Graph.{watched, live, visited, table, enough, start_settles, state_at, is_listed, stuck_told}
+use Rattle.outcomes.proofs.Sound.{sound_told, part_of_graph}
 
 module _ (setup : Setup) (m : Machine) (begun : Begun) (graph_of : Graph State ℕ) (sound : IsSoundProgram m.program)
     (graph : IsGraph (Steps m) m.program.harts begun.state graph_of) (begins : HasBegun m begun)
@@ -27,9 +28,11 @@ module _ (setup : Setup) (m : Machine) (begun : Begun) (graph_of : Graph State �
     (watch : Watch) (marked : AreWatched m.program.watched watch) (there : AreThere m.program.harts watch)
     (listed : List Listed) (outcomes : AreOutcomes m watch graph_of.states graph_of.ends listed)
     (stuck : Option ℕ) (least : IsLeastStuck graph_of stuck) (unwritten : List Bool)
-    (are : unwritten ≡ map (is_unwritten m graph_of.states) watch.words.items) where
+    (are : unwritten ≡ map (is_unwritten m graph_of.states) watch.words.items)
+    (different : AllPairs (λ (s t : State). s ≢ t) graph_of.states) (extent : Extent) where
   abbrev found : Found
   found = record {
+    extent = extent;
     listed = map (told_of begun.ways m.program.harts graph_of.origins) listed;
     states = length graph_of.states;
     stuck = option_map (order_at begun.ways m.program.harts graph_of.origins) stuck;
@@ -69,30 +72,11 @@ module _ (setup : Setup) (m : Machine) (begun : Begun) (graph_of : Graph State �
       ∙ (sym (same_harts ends.last) ∙ sym ends.is)) in
       told_outcome e (subst (HasEnding listed) same has)
 
-  ends_so : (l : Listed) → IsOfEnd m watch graph_of.states graph_of.ends l
-      → EndsSo setup watch (order_at begun.ways m.program.harts graph_of.origins l.place) l.outcome
-  ends_so l end =
-      let z = reached setup m begun graph_of sound graph begins image harts l.place end.state end.at in
-      record {
-        last = z.state;
-        leads = z.leads;
-        is_end = end_alike setup (watched setup m begun graph_of sound graph begins image harts)
-            (live setup m begun graph_of sound graph begins image harts)
-            (table setup m begun graph_of sound graph begins image harts) (state_of m end.state) z.state
-            (flip (watched setup m begun graph_of sound graph begins image harts)
-            (live setup m begun graph_of sound graph begins image harts) z.state (state_of m end.state) z.alike)
-            (is_end setup m begun graph_of sound graph begins image harts l.place end.state end.at end.is_end);
-        is = end.is
-            ∙ (sym (alike_ends m.program.harts m.program.harts m.program.watched
-            (live setup m begun graph_of sound graph begins image harts) watch z.state (state_of m end.state) marked there
-            z.alike)
-            ∙ sym (same_harts z.state));
-      }
-
   pub is_sound : IsSound setup watch found
-  is_sound t c =
-      let from = mapped_from (told_of begun.ways m.program.harts graph_of.origins) listed t c in
-      subst (λ (t : Told). EndsSo setup watch t.order t.ending) from.2 (ends_so from.0 (outcomes.each from.0 from.1))
+  is_sound =
+      sound_told setup m begun sound begins image harts graph_of
+      (part_of_graph (Steps m) m.program.harts begun.state graph_of different graph) watch marked there listed
+      outcomes.each
 
   pub are_all : IsExactList setup watch found
   are_all = record {
@@ -109,25 +93,23 @@ pub all_told : (setup : Setup) (m : Machine) (begun : Begun) (graph_of : Graph S
     → AreThere m.program.harts watch → (listed : List Listed)
     → AreOutcomes m watch graph_of.states graph_of.ends listed → (stuck : Option ℕ) → IsLeastStuck graph_of stuck
     → (unwritten : List Bool) → unwritten ≡ map (is_unwritten m graph_of.states) watch.words.items
+    → AllPairs (λ (s t : State). s ≢ t) graph_of.states → (extent : Extent)
     → (n : ℕ) → n ≡ m.program.harts
     → IsExactList setup watch (record {
+      extent = extent;
       listed = map (told_of begun.ways n graph_of.origins) listed;
       states = length graph_of.states;
       stuck = option_map (order_at begun.ways n graph_of.origins) stuck;
       unwritten = unwritten;
     })
 all_told setup m begun graph_of sound graph begins image harts watch marked there listed outcomes stuck least unwritten
-    are n same =
+    are different extent n same =
     subst (λ k. IsExactList setup watch (record {
+      extent = extent;
       listed = map (told_of begun.ways k graph_of.origins) listed;
       states = length graph_of.states;
       stuck = option_map (order_at begun.ways k graph_of.origins) stuck;
       unwritten = unwritten;
     })) (sym same)
     (are_all setup m begun graph_of sound graph begins image harts watch marked there listed outcomes stuck least
-    unwritten are)
-
-pub stuck_inside : (graph_of : Graph State ℕ) (stuck : Option ℕ) → IsLeastStuck graph_of stuck
-    → IfSome stuck (λ place. place < length graph_of.states)
-stuck_inside graph_of None each = tt
-stuck_inside graph_of (Some place) least = least.0
+    unwritten are different extent)

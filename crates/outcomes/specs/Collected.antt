@@ -11,6 +11,10 @@ use Rattle.watched_outcomes.specs.{Endings.Ending, Endings.ending_of, Endings.wo
 abbrev pub ending_at : Machine → Watch → State → Ending
 ending_at m watch s = ending_of m.program.harts watch (state_of m s)
 
+-- The outcome of a state is asked for.
+abbrev pub IsAskedAt : (Ending → Type 0) → Machine → Watch → State → Type 0
+IsAskedAt Asks m watch s = Asks (ending_at m watch s)
+
 -- It is the outcome of the end at its place.
 pub record IsOfEnd (m : Machine) (watch : Watch) (states : List State) (ends : List ℕ) (l : Listed) : Type 0 where
   pub state : State

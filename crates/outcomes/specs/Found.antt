@@ -8,6 +8,7 @@ use Rattle.events.specs.declared.event.Event.{Event}
 use Rattle.smt_model.specs.{Setup.Setup, Plain.Plain, Plain.start, Plain.is_going_status, Rules.is_legal}
 use Rattle.smt_model.specs.{Basics.below, Bytes.number_at, Registers.committed, Registers.value}
 use Rattle.smt_model.specs.Memory.{byte_at, output, status}
+use Rattle.searches.specs.declared.extent.Extent.{Extent}
 use Rattle.outcome_laws.specs.{Paths.path, Paths.IsEnd, Search.CanEnd}
 use Rattle.watched_outcomes.specs.declared.{watch.Watch.Watch, watch.WatchedRegister.WatchedRegister}
 use Rattle.watched_outcomes.specs.{declared.watch.WatchedBytes.WatchedBytes, Watching.bytes_of}
@@ -18,9 +19,11 @@ pub record Told : Type 0 where
   pub ending : Ending
   pub order : List ℕ
 
--- The outcomes, how many states were visited, an order to a state that has no way to an end, where there is one,
--- and of each place in memory that is watched whether it is unwritten.
+-- Whether the outcomes are all, the outcomes, how many states were found; and, of all, an order to a state that has no way
+-- to an end, where there is one, and of each place in memory that is watched whether it is unwritten. Of a part the last
+-- two say nothing.
 pub record Found : Type 0 where
+  pub extent : Extent
   pub listed : List Told
   pub states : ℕ
   pub stuck : Option (List ℕ)

@@ -3,3 +3,5 @@ pub mod Collected
 pub mod Found
 pub mod Told
 pub mod Refusals
+pub mod Parts
+pub mod Goals

@@ -9,7 +9,7 @@ use Rattle.condensed_machine.specs.{Steps.Steps, Steps.HasBegun}
 use Rattle.condensed_machine.specs.declared.begun.Begun.{Begun}
 use Rattle.watched_outcomes.specs.declared.{watch.Watch.Watch, watch.WatchedRegister.WatchedRegister}
 use Rattle.outcomes.specs.declared.refused.OutcomesRefused.{OutcomesRefused}
-use Rattle.outcomes.specs.declared.refused.OutcomesRefused.TheVariants.{Harts, Register, Word, Budget, Memory}
+use Rattle.outcomes.specs.declared.refused.OutcomesRefused.TheVariants.{Harts, Register, Word, Memory}
 use Rattle.watched_outcomes.specs.declared.watch.WatchedBytes.{WatchedBytes}
 use Rattle.watched_outcomes.specs.Watching.{IsAbsentRegister, bytes_of}
 
@@ -37,9 +37,8 @@ IsBeyond image harts budget =
     × Exceeds (Steps m) begun.state budget
 
 -- When each refusal comes. Of memory nothing is said.
-abbrev pub IsRefusedFor : ProgramImage → ℕ → Watch → ℕ → OutcomesRefused → Type 0
-IsRefusedFor image harts watch budget Harts = are_harts harts ≡ false
-IsRefusedFor image harts watch budget (Register index) = IsAbsentRegister harts watch index
-IsRefusedFor image harts watch budget (Word index) = IsAbsentWord image watch index
-IsRefusedFor image harts watch budget Budget = IsBeyond image harts budget
-IsRefusedFor image harts watch budget Memory = Unit {0}
+abbrev pub IsRefusedFor : ProgramImage → ℕ → Watch → OutcomesRefused → Type 0
+IsRefusedFor image harts watch Harts = are_harts harts ≡ false
+IsRefusedFor image harts watch (Register index) = IsAbsentRegister harts watch index
+IsRefusedFor image harts watch (Word index) = IsAbsentWord image watch index
+IsRefusedFor image harts watch Memory = Unit {0}

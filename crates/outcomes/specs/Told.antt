@@ -24,6 +24,7 @@ told_of ways harts origins l = record { ending = l.outcome; order = order_at way
 
 abbrev pub found_of : Inside → Found
 found_of a = record {
+  extent = a.extent;
   listed = map (told_of a.ways a.harts a.search.origins) a.listed.items;
   states = length a.search.states;
   stuck = option_map (order_at a.ways a.harts a.search.origins) a.stuck;

@@ -36,7 +36,7 @@ pub(crate) fn list_outcomes(
     let mut listed = Vec::new(alloc);
     for index in 0..search.ends().len() {
         let place = search.ends()[index];
-        if let Some(state) = search.state(place) {
+        if let Some(state) = search.state(place as usize) {
             let outcome = outcome_of(machine, state, watch, alloc)?;
             put(&mut listed, outcome, place)?;
         }
@@ -45,7 +45,7 @@ pub(crate) fn list_outcomes(
 }
 
 /// What a state is as an end. Errors: want of memory.
-fn outcome_of(
+pub(crate) fn outcome_of(
     machine: &CondensedMachine,
     state: State,
     watch: &Watch,

@@ -1,55 +1,62 @@
-//! The search for all outcomes of a program.
+//! The search for all outcomes of a program, or for some.
 
-ghost use Rattle.std.specs.Prelude.{◌≡◌, ◌<◌, ℕ, Contains, IfOk, IfErr, OnOk};
+ghost use Rattle.std.specs.Prelude.{◌≡◌, ◌<◌, ℕ, Contains, IfOk, IfErr, IfSome, OnOk, length, map};
 ghost use Rattle.condensed_machine.specs.Decoded.{Knows};
 ghost use Rattle.condensed_machine.specs.Machine.{IsSound};
 ghost use Rattle.condensed_machine.specs.Steps.{Steps, HasBegun};
 ghost use Rattle.condensed_machine.specs.declared.begun.Begun.{Begun};
 ghost use Rattle.condensed_machine.specs.declared.state.State.{State};
-ghost use Rattle.searches.specs.Found.{IsGraph};
-ghost use Rattle.outcomes.specs.Found.{InEachSetup, IsExactList, CoversCores, IsOnce};
+ghost use Rattle.searches.specs.{Found.IsExplored, Found.IsToldFor, Ending.IsLeastStuck};
+ghost use Rattle.searches.specs.declared.extent.Extent.TheVariants.{Whole};
+ghost use Rattle.outcomes.specs.{Found.IsOnce, Parts.IsListing, Parts.IsAskedFor};
+ghost use Rattle.outcomes.specs.{Collected.IsAskedAt, Collected.is_unwritten};
 ghost use Rattle.outcomes.specs.Refusals.{IsRefusedFor, AreWords, AreWatched};
 ghost use Rattle.outcomes.specs.declared.refused.OutcomesRefused.TheVariants.{Memory};
 ghost use Rattle.watched_outcomes.specs.Watching.{AreThere};
 
 use crate::collecting::list_outcomes;
+use crate::ending_goal::EndingGoal;
 use crate::outcomes::Outcomes;
 use crate::refused::OutcomesRefused;
+use crate::until::Until;
 use crate::unwritten::list_unwritten;
 use condensed_machine::{Begun, CondensedMachine, State};
 use elf_image::Image;
 use sc_machine::PlainRefused;
-use searches::{Onlooker, Search, SearchStopped, explore};
-use std::alloc::Global;
+use searches::{Explored, Extent, Onlooker, Search, explore};
+use std::alloc::{AllocError, Global};
 use watched_outcomes::{Watch, WatchedBytes};
 
-/// Finds all outcomes of a program of 1 to `MOST_HARTS` harts, by a search over at most `budget` states of
+/// Finds the outcomes of a program of 1 to `MOST_HARTS` harts, by a search over at most `budget` states of
 /// the plain machine. The onlooker is told now and then how far the search is.
 ///
-/// Whatever order the harts take, where it leads to an end that end is found; each that is found has an
-/// order that leads there; and every core that runs the program to its end, in whatever way, ends as one
-/// of them says. Of each watched place in memory it is found too whether any order writes there.
-pub fn find_outcomes<O: Onlooker>(
+/// Each outcome that is found has an order that leads there. Where the search is whole, whatever order the harts
+/// take, if it leads to an end that end is found; and every core that runs the program to its end, in whatever
+/// way, ends as one of them says. Of each watched place in memory it is found then too whether any order writes
+/// there.
+///
+/// Where there are more states than the budget, the search goes on as far as some ends, and tells what it has found
+/// until then. It ends early with the first outcome that `until` asks for.
+pub fn find_outcomes<O: Onlooker, U: Until>(
     image: &Image,
     harts: u8,
     watch: &Watch,
     budget: u32,
     onlooker: &O,
+    until: &U,
     alloc: Global,
 ) -> Result<Outcomes, OutcomesRefused>
-    ensures all { IfOk result (λ found.
-        InEachSetup image.now harts (λ setup. IsExactList setup watch.now found)) }
-    ensures cores { IfOk result (λ found.
-        InEachSetup image.now harts (λ setup. CoversCores setup watch.now found)) }
+    ensures found { IfOk result (IsListing image.now harts watch.now budget) }
     ensures once { IfOk result IsOnce }
+    ensures asked { IfOk result (IsAskedFor (U.Asks until.now)) }
     ensures present { OnOk result (AreThere harts watch.now × AreWords image.now watch.now) }
-    ensures refused { IfErr result (IsRefusedFor image.now harts watch.now budget) }
+    ensures refused { IfErr result (IsRefusedFor image.now harts watch.now) }
 {
     let machine = match new_machine(image, harts, watch, alloc) {
         Ok(machine) => machine,
         Err(why) => return Err(why),
     };
-    search_all(machine, watch, budget, onlooker, alloc)
+    search_all(machine, watch, budget, onlooker, until, alloc)
 }
 
 /// The machine that is searched.
@@ -64,7 +71,7 @@ fn new_machine(
     ensures sound { IfOk result (λ machine. IsSound machine.program) }
     ensures watched { IfOk result (λ machine. AreWatched machine.program.watched watch.now) }
     ensures refused { IfErr result
-        (λ why. (budget : ℕ) → IsRefusedFor image.now harts watch.now budget why) }
+        (IsRefusedFor image.now harts watch.now) }
 {
     match CondensedMachine::new(image, harts, watch.registers_watched(), alloc) {
         Ok(machine) => Ok(machine),
@@ -73,25 +80,25 @@ fn new_machine(
     }
 }
 
-/// Finds all outcomes of a machine that knows no state.
-fn search_all<O: Onlooker>(
+/// Finds outcomes of a machine that knows no state.
+fn search_all<O: Onlooker, U: Until>(
     machine: CondensedMachine,
     watch: &Watch,
     budget: u32,
     onlooker: &O,
+    until: &U,
     alloc: Global,
 ) -> Result<Outcomes, OutcomesRefused>
     requires sound { IsSound machine.program }
     requires watched { AreWatched machine.program.watched watch.now }
-    ensures all { IfOk result (λ found. InEachSetup machine.program.image machine.program.harts
-        (λ setup. IsExactList setup watch.now found)) }
-    ensures cores { IfOk result (λ found. InEachSetup machine.program.image machine.program.harts
-        (λ setup. CoversCores setup watch.now found)) }
+    ensures found { IfOk result
+        (IsListing machine.program.image machine.program.harts watch.now budget) }
     ensures once { IfOk result IsOnce }
+    ensures asked { IfOk result (IsAskedFor (U.Asks until.now)) }
     ensures present { OnOk result (AreThere machine.program.harts watch.now
         × AreWords machine.program.image watch.now) }
     ensures refused { IfErr result
-        (IsRefusedFor machine.program.image machine.program.harts watch.now budget) }
+        (IsRefusedFor machine.program.image machine.program.harts watch.now) }
 {
     let mut machine = machine;
     match check_watch(&machine, watch) {
@@ -101,19 +108,19 @@ fn search_all<O: Onlooker>(
     let Ok(begun) = machine.begin() else {
         return Err(OutcomesRefused::Memory);
     };
-    let search = match search_from(&mut machine, begun, watch, budget, onlooker, alloc) {
-        Ok(search) => search,
+    let explored = match search_from(&mut machine, begun, watch, budget, onlooker, until, alloc) {
+        Ok(explored) => explored,
         Err(why) => return Err(why),
     };
-    outcomes_of(&machine, begun, search, watch, alloc)
+    outcomes_of(&machine, begun, explored, watch, budget, until, alloc)
 }
 
 /// Looks whether all that is watched is there.
 fn check_watch(machine: &CondensedMachine, watch: &Watch) -> Result<(), OutcomesRefused>
     ensures registers { OnOk result (AreThere machine.now.program.harts watch.now) }
     ensures words { OnOk result (AreWords machine.now.program.image watch.now) }
-    ensures refused { IfErr result (λ why. (budget : ℕ)
-        → IsRefusedFor machine.now.program.image machine.now.program.harts watch.now budget why) }
+    ensures refused { IfErr result
+        (IsRefusedFor machine.now.program.image machine.now.program.harts watch.now) }
 {
     if let Some(index) = watch.absent_register(machine.harts()) {
         return Err(OutcomesRefused::Register(index));
@@ -127,37 +134,50 @@ fn check_watch(machine: &CondensedMachine, watch: &Watch) -> Result<(), Outcomes
     Ok(())
 }
 
-/// Visits all states behind the first one.
-fn search_from<O: Onlooker>(
+/// Visits the states behind the first one.
+fn search_from<O: Onlooker, U: Until>(
     machine: &mut CondensedMachine,
     begun: Begun,
     watch: &Watch,
     budget: u32,
     onlooker: &O,
+    until: &U,
     alloc: Global,
-) -> Result<Search<State, u16>, OutcomesRefused>
+) -> Result<Explored<State, u16>, OutcomesRefused>
     requires known { Knows machine.old begun.state }
     requires begun { HasBegun machine.old begun }
+    requires registers { AreThere machine.old.program.harts watch.now }
+    requires words { AreWords machine.old.program.image watch.now }
     ensures program { machine.new.program ≡ machine.old.program }
     ensures begun { HasBegun machine.new begun }
-    ensures graph { IfOk result (IsGraph (Steps machine.new) machine.new.program.harts begun.state) }
-    ensures known { IfOk result (λ search. (s : State) → Contains search.states s → Knows machine.new s) }
-    ensures refused { IfErr result
-        (IsRefusedFor machine.old.program.image machine.old.program.harts watch.now budget) }
+    ensures explored { IfOk result (λ explored. IsExplored (Steps machine.new) machine.new.program.harts
+        begun.state budget explored.search explored.extent) }
+    ensures known { IfOk result (λ explored. (s : State) → Contains explored.search.states s
+        → Knows machine.new s) }
+    ensures asked { IfOk result (λ explored. IsToldFor (IsAskedAt (U.Asks until.now) machine.new watch.now)
+        explored.search explored.extent) }
+    ensures refused { IfErr result (λ why. why ≡ Memory) }
 {
-    match explore(machine, begun.state, budget, onlooker, alloc) {
-        Ok(search) => Ok(search),
-        Err(SearchStopped::Budget) => Err(OutcomesRefused::Budget),
-        Err(SearchStopped::Memory) => Err(OutcomesRefused::Memory),
+    let goal = EndingGoal {
+        watch,
+        until,
+        alloc,
+    };
+    match explore(machine, begun.state, budget, onlooker, &goal, alloc) {
+        Ok(explored) => Ok(explored),
+        Err(AllocError) => Err(OutcomesRefused::Memory),
     }
 }
 
-/// The outcomes of a search's ends, whether each state can go on to one, and what is watched for nothing.
-fn outcomes_of(
+/// The outcomes of a search's ends; and, where it was whole, whether each state can go on to one, and what is
+/// watched for nothing.
+fn outcomes_of<U: Until>(
     machine: &CondensedMachine,
     begun: Begun,
-    search: Search<State, u16>,
+    explored: Explored<State, u16>,
     watch: &Watch,
+    budget: u32,
+    until: &U,
     alloc: Global,
 ) -> Result<Outcomes, OutcomesRefused>
     requires sound { IsSound machine.now.program }
@@ -165,22 +185,25 @@ fn outcomes_of(
     requires registers { AreThere machine.now.program.harts watch.now }
     requires words { AreWords machine.now.program.image watch.now }
     requires begun { HasBegun machine.now begun }
-    requires graph { IsGraph (Steps machine.now) machine.now.program.harts begun.state search }
-    requires known { (s : State) → Contains search.states s → Knows machine.now s }
-    ensures all { IfOk result (λ found. InEachSetup machine.now.program.image machine.now.program.harts
-        (λ setup. IsExactList setup watch.now found)) }
-    ensures cores { IfOk result (λ found. InEachSetup machine.now.program.image machine.now.program.harts
-        (λ setup. CoversCores setup watch.now found)) }
+    requires explored { IsExplored (Steps machine.now) machine.now.program.harts begun.state budget
+        explored.search explored.extent }
+    requires known { (s : State) → Contains explored.search.states s → Knows machine.now s }
+    requires asked { IsToldFor (IsAskedAt (U.Asks until.now) machine.now watch.now) explored.search
+        explored.extent }
+    ensures found { IfOk result
+        (IsListing machine.now.program.image machine.now.program.harts watch.now budget) }
     ensures once { IfOk result IsOnce }
+    ensures asked { IfOk result (IsAskedFor (U.Asks until.now)) }
     ensures refused { IfErr result (λ why. why ≡ Memory) }
 {
+    let Explored { search, extent } = explored;
     let Ok(listed) = list_outcomes(machine, &search, watch, alloc) else {
         return Err(OutcomesRefused::Memory);
     };
-    let Ok(stuck) = search.stuck(alloc) else {
+    let Ok(stuck) = stuck_of(&search, extent, alloc) else {
         return Err(OutcomesRefused::Memory);
     };
-    let Ok(unwritten) = list_unwritten(machine, &search, watch, alloc) else {
+    let Ok(unwritten) = unwritten_of(machine, &search, extent, watch, alloc) else {
         return Err(OutcomesRefused::Memory);
     };
     let ways = begun.ways;
@@ -188,8 +211,43 @@ fn outcomes_of(
         harts: machine.harts(),
         ways,
         search,
+        extent,
         listed,
         stuck,
         unwritten,
     })
+}
+
+/// The place of a state that has no way to an end. A part of the states tells none. Errors: want of memory.
+fn stuck_of(
+    search: &Search<State, u16>,
+    extent: Extent,
+    alloc: Global,
+) -> Result<Option<u32>, AllocError>
+    ensures whole { IfOk result (λ stuck. extent ≡ Whole → IsLeastStuck search.now stuck) }
+    ensures inside { IfOk result (λ stuck. IfSome stuck (λ place. place < length search.now.states)) }
+{
+    match extent {
+        Extent::Whole => search.stuck(alloc),
+        Extent::Beyond | Extent::First => Ok(None),
+    }
+}
+
+/// What is watched for nothing. A part of the states doesn't tell it. Errors: want of memory.
+fn unwritten_of(
+    machine: &CondensedMachine,
+    search: &Search<State, u16>,
+    extent: Extent,
+    watch: &Watch,
+    alloc: Global,
+) -> Result<Vec<bool>, AllocError>
+    requires known { (s : State) → Contains search.now.states s → Knows machine.now s }
+    requires words { AreWords machine.now.program.image watch.now }
+    ensures { IfOk result (λ unwritten. extent ≡ Whole
+        → unwritten.items ≡ map (is_unwritten machine.now search.now.states) watch.now.words.items) }
+{
+    match extent {
+        Extent::Whole => list_unwritten(machine, search, watch, alloc),
+        Extent::Beyond | Extent::First => Ok(Vec::new(alloc)),
+    }
 }

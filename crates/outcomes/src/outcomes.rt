@@ -1,27 +1,30 @@
 ghost use Rattle.std.specs.Prelude.{◌≡◌, ◌<◌, ◌≤◌, ◌++◌, IfOk, OnOk, Some, length, replicate, option_map};
 ghost use Rattle.std.specs.Prelude.{false, slice_index_or};
 ghost use Rattle.numbers.specs.Sizes.{most_harts};
+ghost use Rattle.searches.specs.declared.extent.Extent.TheVariants.{Whole};
 ghost use Rattle.outcomes.specs.Told.{ending_listed, order_listed, order_at, moved};
 
 use crate::listed::Listed;
 use condensed_machine::State;
 use numbers::sizes::HART_ROOM;
-use searches::{Move, Search};
+use searches::{Extent, Move, Search};
 use std::alloc::{AllocError, Global};
 use std::marker::Model;
 use watched_outcomes::Outcome;
 
-/// All outcomes of a program, sorted, each once and each with an order of harts that leads to it.
+/// Outcomes of a program, sorted, each once and each with an order of harts that leads to it: all of them where the
+/// extent is whole, else some.
 #[derive(Drop)]
 pub struct Outcomes {
     pub(crate) harts: u8,
     /// By how many local steps each hart in turn has come to the first state.
     pub(crate) ways: [u16; HART_ROOM],
     pub(crate) search: Search<State, u16>,
+    pub(crate) extent: Extent,
     pub(crate) listed: Vec<Listed>,
-    /// The place of a state that has no way to an end.
+    /// The place of a state that has no way to an end, where the search was whole.
     pub(crate) stuck: Option<u32>,
-    /// Of each place in memory that was watched, whether 0 is there in all states.
+    /// Of each place in memory that was watched, whether 0 is there in all states; of none where there are others.
     pub(crate) unwritten: Vec<bool>,
 }
 
@@ -54,11 +57,18 @@ impl Outcomes {
         }
     }
 
-    /// How many states of the plain machine were visited.
-    pub fn states(&self) -> u32
+    /// Whether these are all outcomes.
+    pub fn extent(&self) -> Extent
+        ensures { result ≡ self.now.extent }
+    {
+        self.extent
+    }
+
+    /// How many states of the plain machine were found.
+    pub fn states(&self) -> u64
         ensures { result ≡ self.now.states }
     {
-        self.search.states()
+        self.search.states() as u64
     }
 
     /// An order of harts that leads to an outcome, the first step first: of those that the search has seen
@@ -73,8 +83,9 @@ impl Outcomes {
     }
 
     /// An order of harts that leads to where no order leads on to an end; none where some order does from
-    /// every state. Errors: want of memory.
+    /// every state. A part of the states tells neither. Errors: want of memory.
     pub fn stuck(&self, alloc: Global) -> Result<Option<Vec<u8>>, AllocError>
+        requires { self.now.extent ≡ Whole }
         ensures { IfOk result (λ order. option_map (λ it. it.items) order ≡ self.now.stuck) }
     {
         match self.stuck {
@@ -87,8 +98,9 @@ impl Outcomes {
     }
 
     /// Whether the place in memory that was watched with this index holds 0 in whatever state an order leads to, from
-    /// the start on; false where none has the index.
+    /// the start on; false where none has the index. A part of the states doesn't tell it.
     pub fn is_unwritten(&self, index: usize) -> bool
+        requires { self.now.extent ≡ Whole }
         ensures { result ≡ slice_index_or self.now.unwritten index false }
     {
         match self.unwritten.get(index) {

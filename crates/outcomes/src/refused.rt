@@ -7,8 +7,6 @@ pub enum OutcomesRefused {
     Register(usize),
     /// No word can be loaded at the watched address with this index.
     Word(usize),
-    /// There are more states than were to be visited.
-    Budget,
     /// There isn't enough memory.
     Memory,
 }

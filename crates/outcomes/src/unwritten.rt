@@ -52,7 +52,7 @@ fn is_zero_at(
     machine: &CondensedMachine,
     search: &Search<State, u16>,
     bytes: WatchedBytes,
-    place: u32,
+    place: usize,
 ) -> bool
     requires known { (s : State) → Contains search.now.states s → Knows machine.now s }
     requires word { CanLoad machine.now.program.image bytes }

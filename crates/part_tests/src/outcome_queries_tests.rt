@@ -4,8 +4,8 @@
 use arrayvec::ArrayVec;
 use numbers::sizes::HART_ROOM;
 use outcome_queries::{
-    Expected, Watched, absent_hart, holds, name_asked, read_condition, read_watch_list, watch_of,
-    with_terms,
+    ConditionRefused, Expected, Watched, absent_hart, holds, name_asked, read_condition,
+    read_watch_list, terms_of, watch_of, with_terms,
 };
 use smt_model::Status;
 use std::alloc::Global;
@@ -58,9 +58,10 @@ fn list_refused(text: &[u8], alloc: Global) -> Option<(usize, Expected)> {
 /// Why a condition is.
 fn condition_refused(text: &[u8], alloc: Global) -> Option<(usize, Expected)> {
     let names = read(&FILE, alloc).ok()?;
-    match read_condition(text, &names) {
+    match read_condition(text, &names, alloc) {
         Ok(_) => None,
-        Err(why) => Some((why.column, why.expected)),
+        Err(ConditionRefused::Text(why)) => Some((why.column, why.expected)),
+        Err(ConditionRefused::Memory) => Some((0, Expected::End)),
     }
 }
 
@@ -68,8 +69,8 @@ fn condition_refused(text: &[u8], alloc: Global) -> Option<(usize, Expected)> {
 fn count_watched(list: &[u8], condition: &[u8], alloc: Global) -> Option<usize> {
     let names = read(&FILE, alloc).ok()?;
     let list = read_watch_list(list, &names).ok()?;
-    let terms = read_condition(condition, &names).ok()?;
-    let all = with_terms(list.as_slice(), terms.as_slice())?;
+    let condition = read_condition(condition, &names, alloc).ok()?;
+    let all = with_terms(list.as_slice(), terms_of(&condition).as_slice())?;
     Some(all.len())
 }
 
@@ -98,7 +99,7 @@ fn harts_refused(count: u8, alloc: Global) -> Option<(usize, Expected)> {
     list_refused(list.as_slice(), alloc)
 }
 
-/// An outcome of two harts, of which a register and two places in memory were watched.
+/// An outcome of two harts, of which a register and two places in memory were watched; two bytes were put out.
 fn outcome_of(alloc: Global) -> Option<Outcome> {
     let mut statuses = ArrayVec::<Status, HART_ROOM>::new();
     statuses.push(Status::Ended(0));
@@ -107,7 +108,7 @@ fn outcome_of(alloc: Global) -> Option<Outcome> {
         statuses,
         registers: Vec::from_slice(alloc, &[7]).ok()?,
         words: Vec::from_slice(alloc, &[2, 0xffff]).ok()?,
-        output: Vec::new(alloc),
+        output: Vec::from_slice(alloc, &[0x41, 0xb2]).ok()?,
     })
 }
 
@@ -115,16 +116,16 @@ fn outcome_of(alloc: Global) -> Option<Outcome> {
 fn holds_there(condition: &[u8], alloc: Global) -> Option<bool> {
     let names = read(&FILE, alloc).ok()?;
     let list = read_watch_list(b"x10@1,counter,half", &names).ok()?;
-    let terms = read_condition(condition, &names).ok()?;
+    let condition = read_condition(condition, &names, alloc).ok()?;
     let outcome = outcome_of(alloc)?;
-    Some(holds(terms.as_slice(), &watch_of(list.as_slice()), &outcome))
+    Some(holds(&condition, &watch_of(list.as_slice()), &outcome))
 }
 
 /// The first hart that a condition names and that isn't one of so many.
 fn absent(condition: &[u8], harts: u8, alloc: Global) -> Option<u8> {
     let names = read(&FILE, alloc).ok()?;
-    let terms = read_condition(condition, &names).ok()?;
-    absent_hart(terms.as_slice(), harts)
+    let condition = read_condition(condition, &names, alloc).ok()?;
+    absent_hart(terms_of(&condition).as_slice(), harts)
 }
 
 /// Whether a text begins with this name, of this file.
@@ -201,10 +202,110 @@ fn a_condition_holds_where_all_its_terms_do(rt: HostRuntime) {
 }
 
 #[test]
+fn joints_bind_in_their_order(rt: HostRuntime) {
+    let alloc = rt.alloc();
+    // `|` binds least: the first alone holds.
+    assert!(rt; holds_there(b"h0=0 | h0=1 & h0=2", alloc) == Some(true));
+    assert!(rt; holds_there(b"(h0=0 | h0=1) & h0=2", alloc) == Some(false));
+    assert!(rt; holds_there(b"!h0=1 & counter=2", alloc) == Some(true));
+    assert!(rt; holds_there(b"!(h0=1 & counter=2)", alloc) == Some(true));
+    assert!(rt; holds_there(b"!(h0=0 | counter=3)", alloc) == Some(false));
+    assert!(rt; holds_there(b"! ! h0=0", alloc) == Some(true));
+    assert!(rt; holds_there(b"((h0=0))&(h1=stopped)", alloc) == Some(true));
+}
+
+#[test]
+fn numbers_are_compared_without_a_sign(rt: HostRuntime) {
+    let alloc = rt.alloc();
+    assert!(rt; holds_there(b"counter<3 & counter>=2", alloc) == Some(true));
+    assert!(rt; holds_there(b"counter<2 | counter>=3", alloc) == Some(false));
+    assert!(rt; holds_there(b"counter!=2", alloc) == Some(false));
+    assert!(rt; holds_there(b"a0@1!=8", alloc) == Some(true));
+    assert!(rt; holds_there(b"half>=0x8000", alloc) == Some(true));
+    assert!(rt; holds_there(b"h0<1 & h0>=0 & h0!=1", alloc) == Some(true));
+    // A hart that has stopped has ended with no number.
+    assert!(rt; holds_there(b"h1!=0", alloc) == Some(true));
+    assert!(rt; holds_there(b"h1<5 | h1>=5", alloc) == Some(false));
+}
+
+#[test]
+fn harts_and_output_are_asked_for(rt: HostRuntime) {
+    let alloc = rt.alloc();
+    assert!(rt; holds_there(b"h1=stopped & h1=stopped 4", alloc) == Some(true));
+    assert!(rt; holds_there(b"h1=stopped 5 | h0=stopped", alloc) == Some(false));
+    assert!(rt; holds_there(b"h1!=stopped 5 & h0!=stopped", alloc) == Some(true));
+    assert!(rt; holds_there(b"h*=0", alloc) == Some(false));
+    assert!(rt; holds_there(b"h*!=1", alloc) == Some(true));
+    assert!(rt; holds_there(b"h*=stopped", alloc) == Some(false));
+    assert!(rt; holds_there(b"out=41b2", alloc) == Some(true));
+    assert!(rt; holds_there(b"out=41 | out=41b200 | out=", alloc) == Some(false));
+    assert!(rt; holds_there(b"out!=42", alloc) == Some(true));
+}
+
+/// A condition of so many terms, each behind a `!`.
+fn of_terms(count: u8, alloc: Global) -> Option<Vec<u8>> {
+    let mut text = Vec::new(alloc);
+    for index in 0..count {
+        if index > 0 {
+            text.push(b'|').ok()?;
+        }
+        text.extend_from_slice(b"!h0=1").ok()?;
+    }
+    Some(text)
+}
+
+fn terms_refused(count: u8, alloc: Global) -> Option<(usize, Expected)> {
+    let text = of_terms(count, alloc)?;
+    condition_refused(text.as_slice(), alloc)
+}
+
+/// A term behind so many signs.
+fn behind_signs(sign: u8, count: u8, alloc: Global) -> Option<(usize, Expected)> {
+    let mut text = Vec::new(alloc);
+    for _ in 0..count {
+        text.push(sign).ok()?;
+    }
+    text.extend_from_slice(b"h0=1").ok()?;
+    if sign == b'(' {
+        for _ in 0..count {
+            text.push(b')').ok()?;
+        }
+    }
+    condition_refused(text.as_slice(), alloc)
+}
+
+#[test]
+fn a_condition_is_refused_at_its_first_fault(rt: HostRuntime) {
+    let alloc = rt.alloc();
+    assert!(rt;
+        condition_refused(b"h0=1 & (counter=2 | half=1", alloc) == Some((8, Expected::Closing))
+    );
+    assert!(rt; condition_refused(b"(h0=1) h1=1", alloc) == Some((1, Expected::Closing)));
+    assert!(rt; condition_refused(b"h0=1)", alloc) == Some((1, Expected::Term)));
+    assert!(rt; condition_refused(b"h0=1 | ", alloc) == Some((7, Expected::Term)));
+    assert!(rt; condition_refused(b"!(h0=1 & lost<2)", alloc) == Some((9, Expected::Name)));
+    assert!(rt; condition_refused(b"h0<stopped", alloc) == Some((1, Expected::Term)));
+    assert!(rt; condition_refused(b"out=0", alloc) == Some((1, Expected::Name)));
+    assert!(rt; condition_refused(b"out=0A", alloc) == Some((1, Expected::Term)));
+    assert!(rt;
+        condition_refused(b"'any name'<1 & 'any (& name'=1", alloc) == Some((15, Expected::Name))
+    );
+    // Of 33 terms with six bytes each the last begins behind its `!`.
+    assert!(rt; terms_refused(32, alloc) == None);
+    assert!(rt; terms_refused(33, alloc) == Some((194, Expected::Terms)));
+    assert!(rt; behind_signs(b'(', 16, alloc) == None);
+    assert!(rt; behind_signs(b'(', 17, alloc) == Some((17, Expected::Levels)));
+    assert!(rt; behind_signs(b'!', 17, alloc) == Some((17, Expected::Levels)));
+}
+
+#[test]
 fn a_text_begins_with_a_name(rt: HostRuntime) {
     assert!(rt; begins_with(b"lock.c:wait[3]=1 & h0=1", Some(b"lock.c"), b"wait"));
     assert!(rt; begins_with(b"'a,b'=1,counter", None, b"a,b"));
     assert!(rt; begins_with(b" counter = 1", None, b"counter"));
+    assert!(rt; begins_with(b"counter!=1 | h0=1", None, b"counter"));
+    assert!(rt; begins_with(b"next[3]>=0x4)", None, b"next"));
+    assert!(rt; begins_with(b"half<5", None, b"half"));
     assert!(rt; name_asked(b"h0=1").is_none());
     assert!(rt; name_asked(b"a0@1").is_none());
 }

@@ -1,25 +1,32 @@
--- What is refused of a search for outcomes is refused of the command, and what is put into a file of what it found.
-use Rattle.std.specs.Prelude.{◌≡◌, ℕ, ◌+◌, ◌<◌, Bool, Option, Some, None, List, ◌++◌, length, take, get_or}
-use Rattle.std.specs.Prelude.{[], Result, Ok, Err, IfOk}
+-- What is refused of a search for outcomes is refused of the command, and so is what it found.
+use Rattle.std.specs.Prelude.{◌≡◌, ◌⊎◌, ℕ, ◌+◌, ◌<◌, Bool, Option, Some, None, List, ◌++◌, length, take, get_or}
+use Rattle.std.specs.Prelude.{[], false}
 use Rattle.std.specs.Io.KnownBytes.{Appends}
-use Rattle.std.proofs.Common.{inl, inr, sym, ap, subst, ◌∙◌}
+use Rattle.std.proofs.Common.{inl, inr, sym, ap, subst, refl, ◌∙◌}
 use Rattle.std.proofs.{lemmas.List.take_more, lemmas.List.flat_map_more}
 use Rattle.text_fields.proofs.Appending.{appends_more}
 use Rattle.stress_runs.specs.Kept.{order_line, order_text}
 use Rattle.elf_image.specs.Image.{ProgramImage}
 use Rattle.outcomes.specs.{Found.Found}
 use Rattle.watched_outcomes.specs.{declared.watch.Watch.Watch}
-use Rattle.core_state.specs.Setup.{setup_of}
-use Rattle.event_text.specs.Sinking.{HasPut}
-use Rattle.outcome_queries.specs.declared.term.Term.{Term}
 use Rattle.sim_inputs.specs.{declared.settings.Settings.Settings}
 use Rattle.sim_inputs.specs.{declared.line.OutcomesCommand.OutcomesCommand}
 use Rattle.command_parts.specs.declared.refused.Refused.{Refused}
 use Rattle.command_parts.specs.declared.refused.Refused.TheVariants as reason
 use Rattle.symbols.specs.Tables.{Table}
 use Rattle.outcome_queries.specs.{declared.watched.Asked.Asked, Watches.registers_in, Watches.words_in}
-use Rattle.plain_commands.specs.Outcomes.{IsAsked, IsWatchOf, IsFound, IsFiled, IsOrderPut, IsTextFor, order_wanted}
+use Rattle.outcome_queries.specs.declared.question.Question.{Question}
+use Rattle.address_labels.specs.Labels.{Marks}
+use Rattle.story_text.specs.Text.{Plan}
+use Rattle.outcome_queries.specs.{declared.term.Term.Term, Harts.IsHartThere}
+use Rattle.std.specs.List.{All}
+use Rattle.plain_commands.specs.Questions.{IsQuestionOf, terms_asked}
+use Rattle.plain_commands.specs.WrittenOrders.{HasPutOrder, line_wanted, order_wanted, wants_order}
+use Rattle.plain_commands.specs.Outcomes.{HasPutText, HasTold, HasToldFound, IsAsked, OutcomesComeTo, found_text}
+use Rattle.plain_commands.specs.Outcomes.{plan_for, status_found}
+use Rattle.plain_commands.specs.Outcomes.{IsAnyRefusal, IsAsking, IsFound, IsFoundRefusal, IsWatchOf, OfFound}
 use Rattle.plain_commands.specs.Outcomes.{IsSearchRefusal, IsOutcomesRefusal}
+use Rattle.plain_commands.proofs.OfWrittenOrders.{text_put}
 
 -- What is watched for a list, as that is lent.
 pub watch_of_lent : (watch : Watch) (lent all : List Asked) → lent ≡ all → watch.registers.items ≡ registers_in lent
@@ -29,9 +36,17 @@ watch_of_lent watch lent all same registers words = record {
   words = words ∙ ap words_in same;
 }
 
-module _ (settings : Settings) (image : ProgramImage) (names : Table) (command : OutcomesCommand) (watch : Watch)
-    (terms : List Term) (all : List Asked) (asked : IsAsked names command all terms) (is_of : IsWatchOf watch all) where
-  pub search_refused : (why : Refused) → IsSearchRefusal image settings.config.harts watch why
+-- No order is refused so, be it for its script or by the machine.
+neither : {A : Type 0} → (order : List ℕ) × ((A × ⊥) ⊎ ⊥) → ⊥
+neither is = elim is.1 [
+  | inl script ↦ script.1
+  | inr machine ↦ machine
+]
+
+module _ (settings : Settings) (image : ProgramImage) (names : Table) (command : OutcomesCommand)
+    (question : Option Question) (all : List Asked) (watch : Watch)
+    (asking : IsAsking settings names command question all watch) where
+  search_refused : (why : Refused) → IsSearchRefusal image settings.config.harts watch why
       → IsOutcomesRefusal settings image names command why
   search_refused (reason.Image number) is = absurd is
   search_refused reason.Config is = inl is
@@ -47,11 +62,10 @@ module _ (settings : Settings) (image : ProgramImage) (names : Table) (command :
   search_refused (reason.NoUnit kind) is = absurd is
   search_refused (reason.Limit least) is = absurd is
   search_refused (reason.NoHart hart) is = inr (record {
-    watch = watch;
-    terms = terms;
+    question = question;
     all = all;
-    asked = asked;
-    is_of = is_of;
+    watch = watch;
+    asking = asking;
     watched = is.0;
     contained = is.1;
     is = is.3;
@@ -66,16 +80,78 @@ module _ (settings : Settings) (image : ProgramImage) (names : Table) (command :
   search_refused (reason.Watch why) is = absurd is
   search_refused (reason.Condition why) is = absurd is
   search_refused reason.ManyWatched is = absurd is
-  search_refused (reason.NoWord address) is =
-      record { watch = watch; terms = terms; all = all; asked = asked; is_of = is_of; contained = is.0; fault = is.1 }
+  search_refused (reason.NoWord address) is = record {
+    question = question;
+    all = all;
+    watch = watch;
+    asking = asking;
+    contained = is.0;
+    fault = is.1;
+  }
   search_refused (reason.NoOutcome number) is = absurd is
   search_refused reason.NotStuck is = absurd is
+  search_refused reason.NoAnswer is = absurd is
   search_refused (reason.Litmus place fault) is = absurd is
   search_refused reason.NothingToDraw is = absurd is
   search_refused reason.Memory is = tt
   search_refused reason.Thread is = absurd is
   search_refused reason.File is = absurd is
   search_refused reason.Output is = absurd is
+
+  of_found : (Holds : Watch → Option Question → Found → Type 0) (found : Found)
+      → IsFound settings image command watch question found → Holds watch question found
+      → OfFound settings image names command Holds
+  of_found Holds found is_found holds = record {
+    question = question;
+    all = all;
+    watch = watch;
+    found = found;
+    asking = asking;
+    is_found = is_found;
+    holds = holds;
+  }
+
+  module _ (found : Found) (is_found : IsFound settings image command watch question found) where
+    found_refused : (why : Refused) → IsFoundRefusal settings image command watch question found why
+        → IsOutcomesRefusal settings image names command why
+    found_refused (reason.Image number) is = of_found _ found is_found is
+    found_refused reason.Config is = inr (of_found _ found is_found is)
+    found_refused reason.Harts is = of_found _ found is_found is
+    found_refused (reason.Script number) is = of_found _ found is_found is
+    found_refused (reason.Order index) is = of_found _ found is_found is
+    found_refused (reason.Step index stopped) is = of_found _ found is_found is
+    found_refused (reason.Trace line rule) is = of_found _ found is_found is
+    found_refused reason.Version is = of_found _ found is_found is
+    found_refused (reason.Event index rule) is = of_found _ found is_found is
+    found_refused (reason.Prediction index) is = of_found _ found is_found is
+    found_refused (reason.Register index) is = of_found _ found is_found is
+    found_refused (reason.NoUnit kind) is = of_found _ found is_found is
+    found_refused (reason.Limit least) is = of_found _ found is_found is
+    found_refused (reason.NoHart hart) is = absurd (neither is)
+    found_refused (reason.Lines number fault) is = of_found _ found is_found is
+    found_refused (reason.NamesNothing option) is = of_found _ found is_found is
+    found_refused (reason.NamesSeveral option) is = of_found _ found is_found is
+    found_refused (reason.NeverFetched option) is = of_found _ found is_found is
+    found_refused (reason.Turned from to) is = of_found _ found is_found is
+    found_refused (reason.Picture last) is = of_found _ found is_found is
+    found_refused (reason.Watch why) is = absurd (neither is)
+    found_refused (reason.Condition why) is = absurd (neither is)
+    found_refused reason.ManyWatched is = absurd (neither is)
+    found_refused (reason.NoWord address) is = absurd (neither is)
+    found_refused (reason.NoOutcome number) is = of_found _ found is_found is
+    found_refused reason.NotStuck is = of_found _ found is_found is
+    found_refused reason.NoAnswer is = of_found _ found is_found is
+    found_refused (reason.Litmus place fault) is = of_found _ found is_found is
+    found_refused reason.NothingToDraw is = of_found _ found is_found is
+    found_refused reason.Memory is = tt
+    found_refused reason.Thread is = of_found _ found is_found is
+    found_refused reason.File is = of_found _ found is_found is
+    found_refused reason.Output is = tt
+
+  pub any_refused : (why : Refused) → IsAnyRefusal settings image command watch question why
+      → IsOutcomesRefusal settings image names command why
+  any_refused why (inl is) = search_refused why is
+  any_refused why (inr is) = found_refused is.0 is.1 why is.2
 
 -- A line more of an order.
 pub order_step : (old mid new : Option (List ℕ)) (order : List ℕ) (i d : ℕ) → i < length order
@@ -86,46 +162,55 @@ order_step old mid new order i d inside first next =
     ap order_text (take_more order i d inside) ∙ sym (flat_map_more order_line [] (take i order) (get_or order i d)) in
     subst (λ t. Appends old new t) (sym more) (appends_more old mid new _ _ first next)
 
--- What holds of each answer holds of this one.
-pub of_each : {A E : Type 0} (answer : Result A E) (P : A → Type 0) → ((x : A) → P x) → IfOk answer P
-of_each (Ok x) P each = each x
-of_each (Err e) P each = tt
+-- What is asked, and what is watched for it.
+pub asks_so : (settings : Settings) (names : Table) (command : OutcomesCommand) (question : Option Question)
+    (all : List Asked) (watch : Watch) (terms : List Term) → terms ≡ terms_asked question
+    → IsQuestionOf names command.question question → IsAsked names command all terms → IsWatchOf watch all
+    → All (IsHartThere settings.config.harts) terms → IsAsking settings names command question all watch
+asks_so settings names command question all watch terms same asks asked watched there = record {
+  asks = asks;
+  asked = rw (sym same) asked;
+  watched = watched;
+  there = rw (sym same) there;
+}
 
-module _ {S : Type 0} (written : S → Option (List ℕ)) (has_failed : S → Bool) (old new : S) (settings : Settings)
-    (image : ProgramImage) (command : OutcomesCommand) (found : Found) where
-  -- The order that is wanted has a text, and that was put.
-  pub order_put : (order : List ℕ) → order_wanted command.outcome found ≡ Some order
-      → ((text : List ℕ) × IsTextFor command.script (setup_of image settings.config) settings.limit order text
-      × HasPut written has_failed old new text)
-      → IsOrderPut written has_failed old new settings image command found
-  order_put order wanted put = record { order = order; text = put.0; wanted = wanted; is = put.1; put = put.2 }
+-- What the command comes to, by what it tells of what was found.
+pub comes_to : (settings : Settings) (image : ProgramImage) (names : Table) (marks : Marks) (command : OutcomesCommand)
+    (question : Option Question) (all : List Asked) (watch : Watch)
+    → IsAsking settings names command question all watch
+    → (plan : Plan) (Put : Option (List ℕ) → Type 0) (old new : Option (List ℕ))
+    → plan ≡ plan_for settings names marks command → (status : ℕ)
+    → HasToldFound settings image command plan all watch question Put old new status
+    → OutcomesComeTo settings image names marks command Put old new status
+comes_to settings image names marks command question all watch asking plan Put old new is status told = record {
+  question = question;
+  all = all;
+  watch = watch;
+  asking = asking;
+  told = rw (sym is) told;
+}
 
-  -- It was wanted by its number.
-  pub listed_put : (order : List ℕ) (number : ℕ) → command.outcome ≡ Some number
-      → order_wanted (Some number) found ≡ Some order
-      → ((text : List ℕ) × IsTextFor command.script (setup_of image settings.config) settings.limit order text
-      × HasPut written has_failed old new text)
-      → IsOrderPut written has_failed old new settings image command found
-  listed_put order number is listed put = order_put order (ap (λ o. order_wanted o found) is ∙ listed) put
+-- No order is wanted where none is written.
+pub unwanted_order : (command : OutcomesCommand) (watch : Watch) (question : Option Question) (found : Found)
+    → wants_order command ≡ false → order_wanted command watch question found ≡ None
+unwanted_order command watch question found unwanted = rw unwanted refl
 
-  -- Or an order to a state that is stuck.
-  pub stuck_put : (order : List ℕ) → command.outcome ≡ None → found.stuck ≡ Some order
-      → ((text : List ℕ) × IsTextFor command.script (setup_of image settings.config) settings.limit order text
-      × HasPut written has_failed old new text)
-      → IsOrderPut written has_failed old new settings image command found
-  stuck_put order is stuck put = order_put order (ap (λ o. order_wanted o found) is ∙ stuck) put
-
-  pub filed_so : (names : Table) (watch : Watch) (terms : List Term) (all : List Asked)
-      → IsAsked names command all terms → IsWatchOf watch all → IsFound settings image watch found
-      → IsOrderPut written has_failed old new settings image command found
-      → IsFiled written has_failed old new settings image names command
-  filed_so names watch terms all asked is_of is_found put = record {
-    watch = watch;
-    terms = terms;
-    found = found;
-    all = all;
-    asked = asked;
-    is_of = is_of;
-    is_found = is_found;
-    filed = put;
-  }
+module _ {S : Type 0} (written : S → Option (List ℕ)) (has_failed : S → Bool) (before after : S) (settings : Settings)
+    (image : ProgramImage) (command : OutcomesCommand) (plan : Plan) (all : List Asked) (watch : Watch)
+    (question : Option Question) (found : Found) where
+  -- It has told what was found, and put its order.
+  pub told_so : (order line : Option (List ℕ)) (old new : Option (List ℕ)) (status : ℕ)
+      → order ≡ order_wanted command watch question found → line ≡ line_wanted command all watch question found
+      → HasPutOrder written has_failed before after settings image command plan order line
+      → Appends old new (found_text command all watch question found) → status ≡ status_found watch question found
+      → HasTold settings image command plan all watch question found (HasPutText written has_failed before after) old new
+      status
+  told_so order line old new status wanted closed put printed is =
+      let text = text_put written has_failed before after settings image command plan order line put in
+      record {
+        text = text.0;
+        printed = printed;
+        status = is;
+        is_text = rw (sym wanted, sym closed) text.1;
+        put = text.2;
+      }

@@ -5,8 +5,7 @@ use Rattle.std.specs.Io.KnownBytes.{Appends}
 use Rattle.elf_image.specs.Image.{ProgramImage}
 use Rattle.outcomes.specs.{Found.Found, Found.Told}
 use Rattle.watched_outcomes.specs.{declared.watch.Watch.Watch}
-use Rattle.outcomes.specs.{Found.InEachSetup, Found.IsExactList, Found.CoversCores, Found.IsOnce, Refusals.IsRefusedFor}
-use Rattle.outcomes.specs.declared.refused.OutcomesRefused.TheVariants as search
+use Rattle.outcomes.specs.{Found.InEachSetup, Found.IsExactList, Found.CoversCores, Found.IsOnce, Refusals.IsBeyond}
 use Rattle.outcome_text.specs.Listing.{incomplete_text}
 use Rattle.litmus_tests.specs.declared.test.LitmusTest.{LitmusTest}
 use Rattle.litmus_tests.specs.{WellFormed.IsWellFormed, Conditions.holding}
@@ -51,13 +50,13 @@ pub record PrintsAllStates (test : LitmusTest) (command : LitmusCommand) (old ne
   pub told : IsTold test command found.listed old new
   pub zero : exit_status ≡ 0
 
--- There are more states than were to be looked at, and that is printed.
+-- More states than were to be looked at can be reached, and that is printed.
 pub record PrintsIncompleteTest (test : LitmusTest) (command : LitmusCommand) (old new : Option (List ℕ))
     (exit_status : ℕ) : Type 0 where
   pub image : ProgramImage
   pub watch : Watch
   pub searched : IsSearched test image watch
-  pub beyond : IsRefusedFor image (length test.threads.items) watch command.states search.Budget
+  pub beyond : IsBeyond image (length test.threads.items) command.states
   pub printed : Appends old new (incomplete_text command.states)
   pub three : exit_status ≡ 3
 

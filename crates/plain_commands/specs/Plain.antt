@@ -1,5 +1,5 @@
 -- The command `plain`: an order of harts, run on the plain machine. (This project's own choice.)
-use Rattle.std.specs.Prelude.{◌≡◌, ℕ, Bool, false, List, ◌++◌, Option, Some, length, map, reverse}
+use Rattle.std.specs.Prelude.{◌≡◌, ℕ, Bool, false, List, [], ◌++◌, Option, Some, None, length, map, reverse}
 use Rattle.std.specs.Io.KnownBytes.{Appends}
 use Rattle.elf_image.specs.Image.{ProgramImage}
 use Rattle.events.specs.declared.effect.Record.{Record}
@@ -7,6 +7,11 @@ use Rattle.smt_model.specs.{declared.config.Status.Status, Basics.below, Plain.R
 use Rattle.sc_machine.specs.{Steps.are_harts}
 use Rattle.plain_run.specs.Orders.{IsStoppedAt}
 use Rattle.core_state.specs.Setup.{setup_of}
+use Rattle.smt_model.specs.Setup.{Setup}
+use Rattle.stories.specs.Story.{steps}
+use Rattle.story_text.specs.Text.{Plan, story_text}
+use Rattle.story_text.specs.declared.order.Untold.{Untold}
+use Rattle.story_text.specs.declared.order.Untold.TheVariants as untold
 use Rattle.scripts.specs.Order.{IsOrder, IsFirstNoHart}
 use Rattle.sim_inputs.specs.{declared.settings.Settings.Settings}
 use Rattle.address_labels.specs.Labels.{Marks}
@@ -45,12 +50,30 @@ IsMachineRefusal image harts order (Step index why) = IsStoppedAt image harts or
 IsMachineRefusal image harts order Memory = Unit {0}
 IsMachineRefusal image harts order _ = ⊥
 
+-- So it is where the order's story is told too: that may fail to be written.
+abbrev pub IsStoryRefusal : ProgramImage → ℕ → List ℕ → Refused → Type 0
+IsStoryRefusal image harts order Config = are_harts harts ≡ false
+IsStoryRefusal image harts order (Step index why) = IsStoppedAt image harts order index why
+IsStoryRefusal image harts order Memory = Unit {0}
+IsStoryRefusal image harts order Output = Unit {0}
+IsStoryRefusal image harts order _ = ⊥
+
 -- What the steps of a run have retired, the oldest first; and how so many harts stand behind it.
 abbrev pub retired_by : Run → List Record
 retired_by ran = reverse ran.records
 
 abbrev pub standing : ℕ → Run → List Status
 standing harts ran = map ran.state.statuses (below harts)
+
+-- The refusal where a story isn't told to its end.
+abbrev pub refused_for : Untold → Refused
+refused_for (untold.Step at) = Step at.index at.why
+refused_for untold.Output = Output
+
+-- The story of an order, newest first, where one is told.
+abbrev pub told_text : Option Plan → Setup → List ℕ → List ℕ
+told_text None setup order = []
+told_text (Some plan) setup order = story_text plan (steps setup order)
 
 -- What is printed of a run of so many harts: its records, where they are wanted, with these marks beside them, and its
 -- report.
@@ -63,10 +86,12 @@ plain_text with_records marks harts ran =
 -- settings' harts, in the order that the text says. What was printed is what is printed of it; the
 -- exit status is that of its harts.
 pub record PlainComesTo (settings : Settings) (image : ProgramImage) (order : List ℕ)
-    (with_records : Bool) (marks : Marks) (old new : Option (List ℕ)) (exit_status : ℕ) : Type 0 where
+    (told : Option Plan) (with_records : Bool) (marks : Marks) (old new : Option (List ℕ)) (exit_status : ℕ)
+    : Type 0 where
   pub harts : List ℕ
   pub is_order : IsOrder order harts
   pub ran : Run
   pub runs : run (setup_of image settings.config) (reverse harts) ≡ Some ran
-  pub printed : Appends old new (plain_text with_records marks settings.config.harts ran)
+  pub printed : Appends old new (told_text told (setup_of image settings.config) (reverse harts)
+      ++ plain_text with_records marks settings.config.harts ran)
   pub stands : exit_status ≡ status_number (standing settings.config.harts ran)

@@ -1,167 +1,288 @@
 //! The command `outcomes`: every end that a program has on the plain machine.
 
-ghost use Rattle.std.specs.Prelude.{◌≡◌, IfOk, IfErr, OnOk, true, false};
-ghost use Rattle.command_parts.specs.declared.refused.Refused.TheVariants.{Output};
-ghost use Rattle.plain_commands.specs.Outcomes.{IsOutcomesRefusal, OutcomesComeTo, wants_order};
-ghost use Rattle.plain_commands.specs.Outcomes.{IsAsked, IsConditionOf, IsListOf, IsConditionRefusal};
-ghost use Rattle.plain_commands.specs.Outcomes.{IsWatchRefusal, IsSearchRefusal, IsOrderRefusal, IsPutRefusal};
-ghost use Rattle.plain_commands.specs.Outcomes.{IsTextRefusal, condition_text, IsFiled, IsOrderPut, IsTextFor};
-ghost use Rattle.plain_commands.specs.Outcomes.{IsHartRefusal};
-ghost use Rattle.symbols.specs.Tables.{table_of};
-ghost use Rattle.watched_outcomes.specs.declared.watch.Watch.{Watch as AnyWatch};
-ghost use Rattle.outcome_queries.specs.Watches.{memory_asked, registers_asked};
-ghost use Rattle.plain_commands.specs.Outcomes.{IsWatchOf};
-ghost use Rattle.outcome_queries.specs.Harts.{IsHartThere};
-ghost use Rattle.std.specs.List.{All};
-ghost use Rattle.core_state.specs.Setup.{setup_of};
-ghost use Rattle.event_text.specs.Sinking.{HasPut};
-ghost use Rattle.stress_runs.specs.Kept.{order_line, order_text};
-ghost use Rattle.std.specs.Prelude.{◌++◌, ◌-◌, ℕ, List, Some, option_map};
+ghost use Rattle.std.specs.Prelude.{◌≡◌, ◌++◌, ℕ, List, IfOk, IfErr, OnOk, true, false, is_some, option_map};
 ghost use Rattle.std.specs.Io.KnownBytes.{Appends};
 ghost use Rattle.elf_image.specs.Image.{ProgramImage};
-ghost use Rattle.outcomes.specs.{Refusals.IsRefusedFor, Told.order_listed};
+ghost use Rattle.address_labels.specs.Labels.{marks_of};
+ghost use Rattle.symbols.specs.Tables.{table_of};
+ghost use Rattle.story_text.specs.Text.{plan_of};
+ghost use Rattle.outcomes.specs.Refusals.{IsRefusedFor};
 ghost use Rattle.outcome_text.specs.Listing.{outcomes_text};
-ghost use Rattle.command_parts.specs.declared.refused.Refused.TheVariants.{Memory};
+ghost use Rattle.outcome_queries.specs.Watches.{memory_asked, registers_asked};
+ghost use Rattle.command_parts.specs.declared.refused.Refused.TheVariants.{Memory, NoAnswer};
+ghost use Rattle.plain_commands.specs.Outcomes.{IsOutcomesRefusal, OutcomesComeTo, IsSearchRefusal, IsFoundRefusal};
+ghost use Rattle.plain_commands.specs.Outcomes.{HasPutText, HasTold, HasToldFound, IsAnyRefusal, IsWant};
+ghost use Rattle.plain_commands.specs.Outcomes.{found_text, plan_for, question_text, status_found};
+ghost use Rattle.plain_commands.specs.WrittenOrders.{is_answer_wanted, order_wanted, stuck_told, wants_order};
 
-use crate::schedule::schedule_of;
+use crate::asking::{question_of, see_harts, terms_asked, watched_for};
 use crate::searching::find_shown;
+use crate::settling::{FirstSettling, status_of_answer, status_of_extent};
+use crate::written_orders::{is_answer_wanted, order_wanted, put_order, stuck_order};
+use crate::written_stories::line_wanted;
 use actors::Gate;
-use command_parts::{Context, Refused, put_text};
+use address_labels::Labels;
+use command_parts::{Context, Refused};
 use elf_image::Image;
-use outcome_queries::{
-    Condition, WatchList, absent_hart, columns_of, read_condition, read_watch_list, watch_of,
-    with_terms,
-};
-use outcome_text::{write_exists, write_incomplete, write_outcomes};
-use outcomes::{Outcomes, OutcomesRefused};
+use outcome_queries::{Question, WatchList, columns_of, watch_of};
+use outcome_text::{answer_of, write_answer, write_outcomes};
+use outcomes::{Extent, Outcomes, OutcomesRefused};
 use sim_inputs::{OutcomesCommand, Settings};
-use std::alloc::{AllocError, Global};
-use std::io;
+use std::alloc::Global;
 use std::io::Write;
+use story_text::StoryForm;
 use stress_runs::EndFiles;
 use symbols::Symbols;
 use watched_outcomes::Watch;
 
-/// Writes a line for each outcome of an image, for as many harts as the settings say, how many there are,
-/// whether each state can go on to an end, and of which outcomes a condition holds. An order that is
-/// wanted goes into `files` first, or its script.
+/// Writes a line for each outcome of an image that is found, for as many harts as the settings say, how many there
+/// are, whether these are all, whether each state can go on to an end, and the answer to the command's question. An
+/// order that is wanted goes into the context's files first, as it is, as its script or as its story.
 ///
-/// Answers the exit status: 0, or 3 where there are more states than were to be looked at; then only that
-/// is said, and nothing goes into `files`. Refused are, in this order, a condition or a list that is
-/// misspelled, a hart that isn't there (of the condition first), a word that isn't, an outcome and a stuck
-/// state that aren't there, and what `perform_schedule` refuses; then nothing is printed. `Output` is
-/// answered where `out` or `files` failed. The gate is shown how far the search is.
+/// Answers the exit status: of a question 0 where it is so, 1 where it isn't, and 3 where what was found doesn't tell;
+/// without a question 0 where these are all outcomes, else 3. Refused are, in this order, a condition or a list that is
+/// misspelled, more than can be watched, a hart that isn't there (of the condition first), a word that isn't, an outcome
+/// and a stuck state that aren't there, and what `perform_schedule` refuses; then nothing is printed. `NoAnswer` is
+/// answered where the order of what answers the question is wanted and nothing does; then all else is printed.
+/// `Output` is answered where `out` or `files` failed. The gate is shown how far the search is.
 #[inline(never)]
 pub fn perform_outcomes<R, G: Gate, P, S: EndFiles, W: Write>(
     context: &mut Context<'_, R, G, P, S, W>,
     image: &Image,
     settings: &Settings,
     names: &Symbols<'_>,
+    labels: &Labels<'_>,
     command: &OutcomesCommand<'_>,
 ) -> Result<u8, Refused>
     requires works { S.has_failed context.old.files ≡ false }
     requires finished { S.is_finished context.old.files ≡ true }
     ensures refused { IfErr result (IsOutcomesRefusal settings.now image.now (table_of names.now) command.now) }
-    ensures ended { IfOk result (OutcomesComeTo settings.now image.now (table_of names.now) command.now
+    ensures ended { IfOk result (OutcomesComeTo settings.now image.now (table_of names.now) (marks_of labels.now)
+        command.now (HasPutText S.written S.has_failed context.old.files context.new.files)
         (W.contents context.old.out) (W.contents context.new.out)) }
     ensures unwanted { wants_order command.now ≡ false → context.new.files ≡ context.old.files }
-    ensures filed { IfOk result (λ status. status ≡ 0 → wants_order command.now ≡ true
-        → IsFiled S.written S.has_failed context.old.files context.new.files settings.now image.now
-        (table_of names.now) command.now) }
     ensures unbroken { OnOk result (S.has_failed context.new.files ≡ false) }
     ensures finished { OnOk result (S.is_finished context.new.files ≡ true) }
     ensures unreported { S.has_failed context.new.files ≡ true
         → W.contents context.new.out ≡ W.contents context.old.out }
 {
-    let terms = condition_of(command, names)?;
-    let list = watched_for(command, names, &terms)?;
+    let question = match question_of(command, names, context.alloc) {
+        Ok(question) => question,
+        Err(refused) => return Err(refused),
+    };
+    let terms = terms_asked(&question);
+    let list = match watched_for(command, names, &terms) {
+        Ok(list) => list,
+        Err(refused) => return Err(refused),
+    };
+    match see_harts(&terms, settings.config.harts) {
+        Ok(()) => {}
+        Err(refused) => return Err(refused),
+    }
     let watch = watch_of(list.as_slice());
+    let form = form_of(settings, names, labels, command);
+    search(
+        context, image, settings, command, &form, &watch, &list, &question,
+    )
+}
+
+/// How a story is told that a command writes.
+fn form_of<'a>(
+    settings: &Settings,
+    names: &'a Symbols<'a>,
+    labels: &'a Labels<'a>,
+    command: &OutcomesCommand<'_>,
+) -> StoryForm<'a>
+    ensures plan { plan_of result ≡ plan_for settings.now (table_of names.now) (marks_of labels.now) command.now }
+    ensures harts { result.harts ≡ settings.now.config.harts }
+{
+    StoryForm {
+        harts: settings.config.harts,
+        all: command.all,
+        names,
+        labels: *labels,
+    }
+}
+
+/// Searches for the outcomes of which this is watched, writes the order that is wanted of them, and prints them.
+fn search<R, G: Gate, P, S: EndFiles, W: Write>(
+    context: &mut Context<'_, R, G, P, S, W>,
+    image: &Image,
+    settings: &Settings,
+    command: &OutcomesCommand<'_>,
+    form: &StoryForm<'_>,
+    watch: &Watch,
+    list: &WatchList<'_>,
+    question: &Option<Question<'_>>,
+) -> Result<u8, Refused>
+    requires works { S.has_failed context.old.files ≡ false }
+    requires finished { S.is_finished context.old.files ≡ true }
+    requires harts { form.now.harts ≡ settings.now.config.harts }
+    ensures refused { IfErr result
+        (IsAnyRefusal settings.now image.now command.now watch.now question.now) }
+    ensures told { IfOk result (HasToldFound settings.now image.now command.now (plan_of form.now) list.now.items
+        watch.now question.now (HasPutText S.written S.has_failed context.old.files context.new.files)
+        (W.contents context.old.out) (W.contents context.new.out)) }
+    ensures unwanted { wants_order command.now ≡ false → context.new.files ≡ context.old.files }
+    ensures unbroken { OnOk result (S.has_failed context.new.files ≡ false) }
+    ensures finished { OnOk result (S.is_finished context.new.files ≡ true) }
+    ensures unreported { S.has_failed context.new.files ≡ true
+        → W.contents context.new.out ≡ W.contents context.old.out }
+{
     let harts = settings.config.harts;
-    see_harts(&terms, harts)?;
+    let until = FirstSettling {
+        question,
+        watch,
+        first: command.first,
+    };
     let (gate, alloc) = (context.gate, context.alloc);
-    match find_shown(image, harts, &watch, command.states, gate, alloc) {
-        Ok(outcomes) => {
-            let stuck = stuck_order(&outcomes, alloc)?;
-            put_order(context, image, settings, command, &outcomes, &stuck)?;
-            print_found(
-                &outcomes,
-                &list,
-                stuck.is_some(),
-                command,
-                &terms,
-                &mut context.out,
-            )
-        }
-        Err(OutcomesRefused::Budget) => match write_incomplete(command.states, &mut context.out) {
-            Ok(()) => Ok(3),
-            Err(_) => Err(Refused::Output),
-        },
-        Err(why) => Err(search_refusal(why, &watch)),
+    match find_shown(image, harts, watch, command.states, gate, &until, alloc) {
+        Ok(outcomes) => tell(
+            context, image, settings, command, form, &outcomes, watch, list, question,
+        ),
+        Err(why) => Err(search_refusal(why, watch)),
     }
 }
 
-/// The terms of the condition; none where there is no condition.
-fn condition_of<'a>(
-    command: &OutcomesCommand<'a>,
-    names: &Symbols<'_>,
-) -> Result<Condition<'a>, Refused>
-    ensures read { IfOk result (λ terms. IsConditionOf (table_of names.now) command.now.exists terms.items) }
-    ensures refused { IfErr result (IsConditionRefusal (table_of names.now) command.now) }
+/// Puts the order that is wanted into the file, and prints what was found.
+fn tell<R, G, P, S: EndFiles, W: Write>(
+    context: &mut Context<'_, R, G, P, S, W>,
+    image: &Image,
+    settings: &Settings,
+    command: &OutcomesCommand<'_>,
+    form: &StoryForm<'_>,
+    outcomes: &Outcomes,
+    watch: &Watch,
+    list: &WatchList<'_>,
+    question: &Option<Question<'_>>,
+) -> Result<u8, Refused>
+    requires works { S.has_failed context.old.files ≡ false }
+    requires finished { S.is_finished context.old.files ≡ true }
+    requires harts { form.now.harts ≡ settings.now.config.harts }
+    ensures refused { IfErr result
+        (IsFoundRefusal settings.now image.now command.now watch.now question.now outcomes.now) }
+    ensures told { IfOk result (HasTold settings.now image.now command.now (plan_of form.now) list.now.items watch.now
+        question.now outcomes.now (HasPutText S.written S.has_failed context.old.files context.new.files)
+        (W.contents context.old.out) (W.contents context.new.out)) }
+    ensures unwanted { wants_order command.now ≡ false → context.new.files ≡ context.old.files }
+    ensures unbroken { OnOk result (S.has_failed context.new.files ≡ false) }
+    ensures finished { OnOk result (S.is_finished context.new.files ≡ true) }
+    ensures unreported { S.has_failed context.new.files ≡ true
+        → W.contents context.new.out ≡ W.contents context.old.out }
 {
-    let Some(text) = command.exists else {
-        return Ok(Condition::new());
+    let alloc = context.alloc;
+    let order = match order_wanted(command, outcomes, watch, question, alloc) {
+        Ok(order) => order,
+        Err(refused) => return Err(refused),
     };
-    match read_condition(text.as_bytes(), names) {
-        Ok(terms) => Ok(terms),
-        Err(why) => Err(Refused::Condition(why)),
-    }
-}
-
-/// Refuses a condition that names a hart which isn't there.
-fn see_harts(terms: &Condition<'_>, harts: u8) -> Result<(), Refused>
-    ensures there { OnOk result (All (IsHartThere harts) terms.now.items) }
-    ensures refused { IfErr result (IsHartRefusal harts terms.now.items) }
-{
-    match absent_hart(terms.as_slice(), harts) {
-        None => Ok(()),
-        Some(hart) => Err(Refused::NoHart(u32::from(hart))),
-    }
-}
-
-/// What is watched for the list and the condition of a command.
-fn watched_for<'a>(
-    command: &OutcomesCommand<'a>,
-    names: &Symbols<'_>,
-    terms: &Condition<'a>,
-) -> Result<WatchList<'a>, Refused>
-    requires { IsConditionOf (table_of names.now) command.now.exists terms.now.items }
-    ensures asked { IfOk result (λ all. IsAsked (table_of names.now) command.now all.items terms.now.items) }
-    ensures refused { IfErr result (IsWatchRefusal (table_of names.now) command.now) }
-{
-    let list = list_of(command, names)?;
-    match with_terms(list.as_slice(), terms.as_slice()) {
-        Some(all) => Ok(all),
-        None => Err(Refused::ManyWatched),
-    }
-}
-
-/// What the list of a command names; nothing where there is no list.
-fn list_of<'a>(command: &OutcomesCommand<'a>, names: &Symbols<'_>) -> Result<WatchList<'a>, Refused>
-    ensures read { IfOk result (λ list. IsListOf (table_of names.now) command.now.watch list.items) }
-    ensures refused { IfErr result (IsWatchRefusal (table_of names.now) command.now) }
-{
-    let Some(text) = command.watch else {
-        return Ok(WatchList::new());
+    let is_stuck = match stuck_order(outcomes, alloc) {
+        Ok(order) => order.is_some(),
+        Err(refused) => return Err(refused),
     };
-    match read_watch_list(text.as_bytes(), names) {
-        Ok(list) => Ok(list),
-        Err(why) => Err(Refused::Watch(why)),
+    let line = match line_wanted(command, outcomes, list, watch, question, alloc) {
+        Ok(line) => line,
+        Err(refused) => return Err(refused),
+    };
+    match put_order(
+        image,
+        settings,
+        command,
+        &order,
+        &line,
+        form,
+        &mut context.files,
+        alloc,
+    ) {
+        Ok(()) => {}
+        Err(refused) => return Err(refused),
+    }
+    let status = match print_found(
+        outcomes,
+        list,
+        watch,
+        is_stuck,
+        command,
+        question,
+        &mut context.out,
+        alloc,
+    ) {
+        Ok(status) => status,
+        Err(refused) => return Err(refused),
+    };
+    if is_answer_wanted(command) && order.is_none() {
+        return Err(Refused::NoAnswer);
+    }
+    Ok(status)
+}
+
+/// Prints what was found, with the answer, and flushes it: a refusal may stand behind. Answers the exit status.
+fn print_found<W: Write>(
+    outcomes: &Outcomes,
+    list: &WatchList<'_>,
+    watch: &Watch,
+    is_stuck: bool,
+    command: &OutcomesCommand<'_>,
+    question: &Option<Question<'_>>,
+    out: &mut W,
+    alloc: Global,
+) -> Result<u8, Refused>
+    requires stuck { is_stuck ≡ is_some (stuck_told outcomes.now) }
+    ensures printed { OnOk result (Appends (W.contents out.old) (W.contents out.new)
+        (found_text command.now list.now.items watch.now question.now outcomes.now)) }
+    ensures status { IfOk result (λ status. status ≡ status_found watch.now question.now outcomes.now) }
+    ensures refused { IfErr result IsWant }
+{
+    let mut text = Vec::new(alloc);
+    let status = match write_question(outcomes, watch, is_stuck, question, &mut text) {
+        Ok(status) => status,
+        Err(refused) => return Err(refused),
+    };
+    let columns = columns_of(list.as_slice());
+    match write_outcomes(
+        outcomes,
+        &columns,
+        is_stuck,
+        command.states,
+        text.as_slice(),
+        out,
+    ) {
+        Ok(()) => {}
+        Err(_) => return Err(Refused::Output),
+    }
+    match out.flush() {
+        Ok(()) => Ok(status),
+        Err(_) => Err(Refused::Output),
     }
 }
 
-/// What is refused where the search found nothing. The budget is told of otherwise.
+/// Writes the line of the answer, where something is asked. Answers the exit status.
+fn write_question(
+    outcomes: &Outcomes,
+    watch: &Watch,
+    is_stuck: bool,
+    question: &Option<Question<'_>>,
+    text: &mut Vec<u8>,
+) -> Result<u8, Refused>
+    requires stuck { is_stuck ≡ is_some (stuck_told outcomes.now) }
+    ensures written { OnOk result
+        (text.new.items ≡ text.old.items ++ question_text watch.now question.now outcomes.now) }
+    ensures status { IfOk result (λ status. status ≡ status_found watch.now question.now outcomes.now) }
+    ensures refused { IfErr result (λ why. why ≡ Memory) }
+{
+    let Some(question) = question else {
+        return Ok(status_of_extent(outcomes.extent()));
+    };
+    let is_whole = outcomes.extent() == Extent::Whole;
+    let answer = answer_of(question, outcomes, watch, is_whole, is_stuck);
+    match write_answer(question, answer, outcomes, watch, text) {
+        Ok(()) => Ok(status_of_answer(answer)),
+        Err(_) => Err(Refused::Memory),
+    }
+}
+
+/// What is refused where the search found nothing.
 fn search_refusal(why: OutcomesRefused, watch: &Watch) -> Refused
-    ensures { (image : ProgramImage) (harts budget : ℕ) → IsRefusedFor image harts watch.now budget why
+    ensures { (image : ProgramImage) (harts : ℕ) → IsRefusedFor image harts watch.now why
         → IsSearchRefusal image harts watch.now result }
 {
     match why {
@@ -174,164 +295,6 @@ fn search_refusal(why: OutcomesRefused, watch: &Watch) -> Refused
             Some(bytes) => Refused::NoWord(*bytes),
             None => Refused::Memory,
         },
-        OutcomesRefused::Budget | OutcomesRefused::Memory => Refused::Memory,
-    }
-}
-
-/// An order to a state from which nothing can end, if there is one.
-fn stuck_order(outcomes: &Outcomes, alloc: Global) -> Result<Option<Vec<u8>>, Refused>
-    ensures order { IfOk result (λ order. option_map (λ it. it.items) order ≡ outcomes.now.stuck) }
-    ensures refused { IfErr result (λ why. why ≡ Memory) }
-{
-    match outcomes.stuck(alloc) {
-        Ok(order) => Ok(order),
-        Err(AllocError) => Err(Refused::Memory),
-    }
-}
-
-/// Puts the order that is wanted into the file, or its script.
-fn put_order<R, G, P, S: EndFiles, W>(
-    context: &mut Context<'_, R, G, P, S, W>,
-    image: &Image,
-    settings: &Settings,
-    command: &OutcomesCommand<'_>,
-    outcomes: &Outcomes,
-    stuck: &Option<Vec<u8>>,
-) -> Result<(), Refused>
-    requires works { S.has_failed context.old.files ≡ false }
-    requires finished { S.is_finished context.old.files ≡ true }
-    requires stuck { option_map (λ it. it.items) stuck.now ≡ outcomes.now.stuck }
-    ensures refused { IfErr result
-        (IsPutRefusal settings.now image.now command.now outcomes.now) }
-    ensures unwanted { wants_order command.now ≡ false → context.new.files ≡ context.old.files }
-    ensures put { OnOk result (wants_order command.now ≡ true → IsOrderPut S.written S.has_failed
-        context.old.files context.new.files settings.now image.now command.now outcomes.now) }
-    ensures unbroken { OnOk result (S.has_failed context.new.files ≡ false) }
-    ensures finished { OnOk result (S.is_finished context.new.files ≡ true) }
-    ensures unprinted { context.new.out ≡ context.old.out }
-{
-    let alloc = context.alloc;
-    let file = &mut context.files;
-    if let Some(number) = command.outcome {
-        let order = order_of(outcomes, number, alloc)?;
-        return put_written(image, settings, command, order.as_slice(), file, alloc);
-    }
-    if !command.stuck {
-        return Ok(());
-    }
-    match stuck {
-        Some(order) => put_written(image, settings, command, order.as_slice(), file, alloc),
-        None => Err(Refused::NotStuck),
-    }
-}
-
-/// The order of the outcome with this number, from 1.
-fn order_of(outcomes: &Outcomes, number: u32, alloc: Global) -> Result<Vec<u8>, Refused>
-    ensures order { IfOk result
-        (λ order. order_listed outcomes.now.listed (number - 1) ≡ Some order.items) }
-    ensures refused { IfErr result (IsOrderRefusal outcomes.now number) }
-{
-    let index = number as usize;
-    if index == 0 || index > outcomes.count() {
-        return Err(Refused::NoOutcome(number));
-    }
-    match outcomes.witness(index - 1, alloc) {
-        Ok(order) => Ok(order),
-        Err(AllocError) => Err(Refused::Memory),
-    }
-}
-
-/// Puts an order into the file, or its script where that is wanted.
-fn put_written<S: EndFiles>(
-    image: &Image,
-    settings: &Settings,
-    command: &OutcomesCommand<'_>,
-    order: &[u8],
-    file: &mut S,
-    alloc: Global,
-) -> Result<(), Refused>
-    requires works { S.has_failed file.old ≡ false }
-    requires finished { S.is_finished file.old ≡ true }
-    ensures refused { IfErr result (IsTextRefusal settings.now image.now command.now) }
-    ensures put { OnOk result ((text : List ℕ)
-        × IsTextFor command.now.script (setup_of image.now settings.now.config) settings.now.limit
-        order.now text × HasPut S.written S.has_failed file.old file.new text) }
-    ensures unbroken { OnOk result (S.has_failed file.new ≡ false) }
-    ensures finished { OnOk result (S.is_finished file.new ≡ true) }
-{
-    let text = text_of(image, settings, command, order, alloc)?;
-    put_text(text.as_slice(), file)?;
-    Ok(())
-}
-
-/// The text of an order, or of its script where that is wanted.
-fn text_of(
-    image: &Image,
-    settings: &Settings,
-    command: &OutcomesCommand<'_>,
-    order: &[u8],
-    alloc: Global,
-) -> Result<Vec<u8>, Refused>
-    ensures text { IfOk result (λ text. IsTextFor command.now.script
-        (setup_of image.now settings.now.config) settings.now.limit order.now text.items) }
-    ensures refused { IfErr result (IsTextRefusal settings.now image.now command.now) }
-{
-    let mut text = Vec::new(alloc);
-    if command.script.is_some() {
-        let script = schedule_of(image, settings, order, alloc)?;
-        return match script.write(&mut text) {
-            Ok(()) => Ok(text),
-            Err(_) => Err(Refused::Memory),
-        };
-    }
-    match write_order(order, &mut text) {
-        Ok(()) => Ok(text),
-        Err(_) => Err(Refused::Memory),
-    }
-}
-
-/// Writes an order, a line for each hart.
-fn write_order<W: Write>(order: &[u8], out: &mut W) -> io::Result<()>
-    ensures { OnOk result (Appends (W.contents out.old) (W.contents out.new) (order_text order.now)) }
-{
-    for hart in order {
-        write_hart(*hart, out)?;
-    }
-    Ok(())
-}
-
-fn write_hart<W: Write>(hart: u8, out: &mut W) -> io::Result<()>
-    ensures { OnOk result (Appends (W.contents out.old) (W.contents out.new) (order_line hart)) }
-{
-    writeln!(out, "{hart}")
-}
-
-/// Prints what was found, of which all of a list was watched.
-fn print_found<W: Write>(
-    outcomes: &Outcomes,
-    list: &WatchList<'_>,
-    is_stuck: bool,
-    command: &OutcomesCommand<'_>,
-    terms: &Condition<'_>,
-    out: &mut W,
-) -> Result<u8, Refused>
-    ensures printed { OnOk result ((watch : AnyWatch) → IsWatchOf watch list.now.items
-        → Appends (W.contents out.old) (W.contents out.new)
-        (outcomes_text (registers_asked list.now.items) (memory_asked list.now.items) outcomes.now is_stuck
-        ++ condition_text command.now watch terms.now.items outcomes.now.listed)) }
-    ensures zero { IfOk result (λ status. status ≡ 0) }
-    ensures refused { IfErr result (λ why. why ≡ Output) }
-{
-    let columns = columns_of(list.as_slice());
-    let Ok(()) = write_outcomes(outcomes, &columns, is_stuck, out) else {
-        return Err(Refused::Output);
-    };
-    if command.exists.is_none() {
-        return Ok(0);
-    }
-    let watch = watch_of(list.as_slice());
-    match write_exists(outcomes, &watch, terms.as_slice(), out) {
-        Ok(()) => Ok(0),
-        Err(_) => Err(Refused::Output),
+        OutcomesRefused::Memory => Refused::Memory,
     }
 }

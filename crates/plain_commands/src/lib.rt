@@ -1,18 +1,23 @@
 //! The commands over the plain machine, and over orders of its harts.
 //!
 //! A module a command: `plain` and `plain_rounds` (an order, and turns without one), `schedule` (the script that
-//! makes a core retire in an order), `all_outcomes` and `litmus` (both over `searching`). `retiring` has the law
-//! that a printed schedule is retired. What each command comes to, and when each of its refusals comes, stands in
+//! makes a core retire in an order), `all_outcomes` and `litmus` (both over `searching`). Beside the first of these
+//! stand `asking` (its question, and what is watched), `settling` (which outcome answers it) and `written_orders` (the
+//! order that it writes). `retiring` has the law that a printed schedule is retired. What each command comes to, and when each of its refusals comes, stands in
 //! `specs` under the command's name.
 #![tactic(auto)]
 
 mod all_outcomes;
+mod asking;
 mod litmus;
 mod plain;
 mod plain_rounds;
 pub mod retiring;
 mod schedule;
 mod searching;
+mod settling;
+mod written_orders;
+mod written_stories;
 
 pub use all_outcomes::perform_outcomes;
 pub use litmus::{perform_litmus, perform_test};

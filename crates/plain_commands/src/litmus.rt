@@ -20,7 +20,7 @@ use litmus_reading::{ReadingRefused, read_litmus};
 use litmus_tests::LitmusTest;
 use litmus_text::{holds_of_any, write_states};
 use outcome_text::write_incomplete;
-use outcomes::{Outcomes, OutcomesRefused};
+use outcomes::{Extent, Outcomes};
 use sim_inputs::LitmusCommand;
 use std::alloc::{AllocError, Global};
 use std::io;
@@ -101,11 +101,21 @@ pub fn perform_test<G: Gate, S: EndFiles, W: Write>(
     };
     put_image(&image, command, file, alloc)?;
     let watch = watch_of(test);
-    match find_shown(&image, harts_of(test), &watch, command.states, gate, alloc) {
-        Ok(outcomes) => draw_and_print(test, &outcomes, command, file, out, alloc),
-        Err(OutcomesRefused::Budget) => match write_incomplete(command.states, out) {
-            Ok(()) => Ok(3),
-            Err(_) => Err(Refused::Output),
+    match find_shown(
+        &image,
+        harts_of(test),
+        &watch,
+        command.states,
+        gate,
+        &(),
+        alloc,
+    ) {
+        Ok(outcomes) => match outcomes.extent() {
+            Extent::Whole => draw_and_print(test, &outcomes, command, file, out, alloc),
+            Extent::Beyond | Extent::First => match write_incomplete(command.states, out) {
+                Ok(()) => Ok(3),
+                Err(_) => Err(Refused::Output),
+            },
         },
         // The harts, registers and words of a test that makes sense are there.
         Err(_) => Err(Refused::Memory),

@@ -1,11 +1,14 @@
 //! The command `plain`: an order of harts, run on the plain machine.
 
-ghost use Rattle.std.specs.Prelude.{IfOk, IfErr};
+ghost use Rattle.std.specs.Prelude.{◌≡◌, [], IfOk, IfErr, IfSome, OnOk, option_map, reverse};
+ghost use Rattle.std.specs.Io.KnownBytes.{Appends};
 ghost use Rattle.plain_run.specs.Orders.{HasLeft, OfEachSetup};
 ghost use Rattle.address_labels.specs.Labels.{marks_of};
 ghost use Rattle.scripts.specs.Order.{IsOrder};
-ghost use Rattle.plain_commands.specs.Plain.{IsPlainRefusal, PlainComesTo};
-ghost use Rattle.plain_commands.specs.Plain.{IsOrderRefusal, IsMachineRefusal};
+ghost use Rattle.command_parts.specs.declared.refused.Refused.TheVariants.{Output};
+ghost use Rattle.story_text.specs.Text.{plan_of};
+ghost use Rattle.plain_commands.specs.Plain.{IsPlainRefusal, PlainComesTo, refused_for, told_text};
+ghost use Rattle.plain_commands.specs.Plain.{IsOrderRefusal, IsMachineRefusal, IsStoryRefusal};
 
 use address_labels::Labels;
 use command_parts::Refused;
@@ -13,13 +16,15 @@ use elf_image::Image;
 use plain_run::{OrderStopped, PlainRun, run_order};
 use report_lines::status_of;
 use reports::report_plain;
+use sc_machine::{Plain, PlainRefused};
 use scripts::{OrderRefused, read_order};
 use sim_inputs::Settings;
 use std::alloc::Global;
 use std::io::Write;
+use story_text::{StoryForm, Untold, tell_order};
 
-/// Runs the plain machine of an image in the order that a text says, and writes what it comes to: the
-/// records where they are wanted, and the report. Answers the exit status: how the harts stand.
+/// Runs the plain machine of an image in the order that a text says, and writes what it comes to: the story of the
+/// order and the records, where they are wanted, and the report. Answers the exit status: how the harts stand.
 ///
 /// Refused are, in this order, the first word of the order that is no number, a number of harts that
 /// the machine doesn't have, and the first step that it doesn't make; then nothing is printed.
@@ -29,17 +34,27 @@ pub fn perform_plain<W: Write>(
     image: &Image,
     settings: &Settings,
     order: &[u8],
+    story: &Option<StoryForm<'_>>,
     records: bool,
     labels: &Labels<'_>,
     out: &mut W,
     alloc: Global,
 ) -> Result<u8, Refused>
+    requires { IfSome story.now (λ form. form.harts ≡ settings.now.config.harts) }
     ensures refused { IfErr result (IsPlainRefusal settings.now image.now order.now) }
-    ensures ended { IfOk result (PlainComesTo settings.now image.now order.now records
+    ensures ended { IfOk result (PlainComesTo settings.now image.now order.now (option_map plan_of story.now) records
         (marks_of labels.now) (W.contents out.old) (W.contents out.new)) }
 {
     let harts = harts_of(order, alloc)?;
     let ran = run_image(image, settings.config.harts, harts.as_slice(), alloc)?;
+    tell_image(
+        image,
+        settings.config.harts,
+        harts.as_slice(),
+        story,
+        out,
+        alloc,
+    )?;
     match report_plain(&ran, records, labels, out) {
         Ok(()) => Ok(status_of(ran.statuses().as_slice())),
         Err(_) => Err(Refused::Output),
@@ -69,5 +84,58 @@ fn run_image(image: &Image, harts: u8, order: &[u8], alloc: Global) -> Result<Pl
         Err(OrderStopped::Harts) => Err(Refused::Config),
         Err(OrderStopped::Memory) => Err(Refused::Memory),
         Err(OrderStopped::Step { index, why }) => Err(Refused::Step { index, why }),
+    }
+}
+
+/// Tells the story of an order that the plain machine of an image makes, where it is wanted.
+pub(crate) fn tell_image<W: Write>(
+    image: &Image,
+    harts: u8,
+    order: &[u8],
+    story: &Option<StoryForm<'_>>,
+    out: &mut W,
+    alloc: Global,
+) -> Result<(), Refused>
+    requires { IfSome story.now (λ form. form.harts ≡ harts) }
+    ensures told { OnOk result (OfEachSetup image.now harts (λ setup. Appends (W.contents out.old) (W.contents out.new)
+        (told_text (option_map plan_of story.now) setup (reverse order.now)))) }
+    ensures refused { IfErr result (IsStoryRefusal image.now harts order.now) }
+{
+    let Some(form) = story else {
+        return write_nothing(out);
+    };
+    let mut machine = match Plain::new(image, harts, order.len(), alloc) {
+        Ok(machine) => machine,
+        Err(PlainRefused::Harts) => return Err(Refused::Config),
+        Err(PlainRefused::Memory) => return Err(Refused::Memory),
+    };
+    let _harts = machine.harts();
+    match tell_order(&mut machine, order, form, out) {
+        Ok(()) => Ok(()),
+        Err(why) => Err(refused_for(why)),
+    }
+}
+
+/// The refusal where a story isn't told to its end.
+fn refused_for(why: Untold) -> Refused
+    ensures { result ≡ refused_for why }
+{
+    match why {
+        Untold::Step(at) => Refused::Step {
+            index: at.index,
+            why: at.why,
+        },
+        Untold::Output => Refused::Output,
+    }
+}
+
+/// Writes nothing, so that no more was written.
+fn write_nothing<W: Write>(out: &mut W) -> Result<(), Refused>
+    ensures nothing { OnOk result (Appends (W.contents out.old) (W.contents out.new) []) }
+    ensures refused { IfErr result (λ why. why ≡ Output) }
+{
+    match out.write_all(b"") {
+        Ok(()) => Ok(()),
+        Err(_) => Err(Refused::Output),
     }
 }

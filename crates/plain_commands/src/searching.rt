@@ -1,13 +1,13 @@
 //! The search for all outcomes, and who is shown how far it is.
 
 ghost use Rattle.std.specs.Prelude.{IfOk, IfErr, OnOk};
-ghost use Rattle.outcomes.specs.Found.{InEachSetup, IsExactList, CoversCores, IsOnce};
+ghost use Rattle.outcomes.specs.{Found.IsOnce, Parts.IsAskedFor, Parts.IsListing};
 ghost use Rattle.outcomes.specs.Refusals.{IsRefusedFor, AreWords};
 ghost use Rattle.watched_outcomes.specs.Watching.{AreThere};
 
 use actors::Gate;
 use elf_image::Image;
-use outcomes::{Onlooker, Outcomes, OutcomesRefused, find_outcomes};
+use outcomes::{Onlooker, Outcomes, OutcomesRefused, Until, find_outcomes};
 use std::alloc::Global;
 use watched_outcomes::Watch;
 
@@ -23,25 +23,24 @@ impl<G: Gate> Onlooker for Shown<'_, G> {
     }
 }
 
-/// Finds all outcomes of a program, as `find_outcomes` does; `gate` is shown how far it is.
-pub(crate) fn find_shown<G: Gate>(
+/// Finds outcomes of a program, as `find_outcomes` does; `gate` is shown how far it is.
+pub(crate) fn find_shown<G: Gate, U: Until>(
     image: &Image,
     harts: u8,
     watch: &Watch,
     budget: u32,
     gate: &G,
+    until: &U,
     alloc: Global,
 ) -> Result<Outcomes, OutcomesRefused>
-    ensures all { IfOk result (λ found.
-        InEachSetup image.now harts (λ setup. IsExactList setup watch.now found)) }
-    ensures cores { IfOk result (λ found.
-        InEachSetup image.now harts (λ setup. CoversCores setup watch.now found)) }
+    ensures asked { IfOk result (IsAskedFor (U.Asks until.now)) }
+    ensures found { IfOk result (IsListing image.now harts watch.now budget) }
     ensures once { IfOk result IsOnce }
     ensures present { OnOk result (AreThere harts watch.now × AreWords image.now watch.now) }
-    ensures refused { IfErr result (IsRefusedFor image.now harts watch.now budget) }
+    ensures refused { IfErr result (IsRefusedFor image.now harts watch.now) }
 {
     gate.begin_search();
-    let found = find_outcomes(image, harts, watch, budget, &Shown { gate }, alloc);
+    let found = find_outcomes(image, harts, watch, budget, &Shown { gate }, until, alloc);
     gate.end();
     found
 }

@@ -71,7 +71,7 @@ no_step true true true true why x room is = absurd (room (cc))
 no_step true true true false why x room is = absurd (cc)
 no_step true true false full why x room is = absurd (cc)
 
-never_full : (setup : Setup) (room : ℕ) (before : Run) (h : ℕ) (why : Stopped)
+pub never_full : (setup : Setup) (room : ℕ) (before : Run) (h : ℕ) (why : Stopped)
     → length before.state.output < room → refusal setup room before.state h ≡ Some why → why ≢ OutputFull
 never_full setup room before h why free is =
     let left : nat_le room (length before.state.output) ≡ false = grind (arith, nat_tests) in
@@ -91,7 +91,7 @@ none_after : (setup : Setup) (later earlier : List ℕ) → run setup earlier �
 none_after setup [] earlier none = none
 none_after setup (h ∷ later) earlier none = ap (step setup h) (none_after setup later earlier none)
 
-no_run : (setup : Setup) (order : List ℕ) (index room : ℕ) (before : Run) (why : Stopped) → index < length order
+pub no_run : (setup : Setup) (order : List ℕ) (index room : ℕ) (before : Run) (why : Stopped) → index < length order
     → run setup (reverse (take index order)) ≡ Some before → why ≢ OutputFull
     → refusal setup room before.state (get_or order index 0) ≡ Some why → run setup (reverse order) ≡ None
 no_run setup order index room before why inside runs not_full is =
@@ -107,7 +107,7 @@ no_run setup order index room before why inside runs not_full is =
 -- ---- Together
 
 -- Room for a byte for each step is enough.
-has_room : (setup : Setup) (order : List ℕ) (index : ℕ) (before : Run) → index < length order
+pub has_room : (setup : Setup) (order : List ℕ) (index : ℕ) (before : Run) → index < length order
     → run setup (reverse (take index order)) ≡ Some before → length before.state.output < length order
 has_room setup order index before inside runs =
     let within = output_within setup (reverse (take index order)) before runs in

@@ -122,6 +122,8 @@ pub fn plain_line(records: bool) -> Line<'static> {
         lines: None,
         names: false,
         records,
+        story: false,
+        all: false,
     },))
 }
 
@@ -181,11 +183,15 @@ pub fn outcomes_line(states: u32) -> Line<'static> {
         image: "image",
         states,
         watch: None,
-        exists: None,
+        question: None,
+        first: false,
         outcome: None,
         stuck: false,
         witness: None,
         script: None,
+        story: None,
+        all: false,
+        lines: None,
     },))
 }
 

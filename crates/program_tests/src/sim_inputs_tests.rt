@@ -10,7 +10,7 @@ use crate::rows::holds;
 use sim_inputs::{
     Beside, ChartCommand, ChartEnd, CheckCommand, Command, ExplainCommand, HintsWanted, Line,
     ListCommand, LitmusCommand, MigrateCommand, OutcomesCommand, PlainCommand, ProgramCommand,
-    RunCommand, ScheduleCommand, ScriptCommand, StepCommand, read_words,
+    QuestionText, RunCommand, ScheduleCommand, ScriptCommand, StepCommand, read_words,
 };
 use std::alloc::{AllocError, Global};
 
@@ -24,7 +24,7 @@ fn words_of(text: &str, alloc: Global) -> Result<Vec<&str>, AllocError> {
 }
 
 /// Words, and what they ask for.
-const LINES: [(&str, Line<'_>); 41] = [
+const LINES: [(&str, Line<'_>); 43] = [
     (
         "smtsim chart a t",
         Line {
@@ -342,6 +342,8 @@ const LINES: [(&str, Line<'_>); 41] = [
                 lines: None,
                 names: false,
                 records: false,
+                story: false,
+                all: false,
             })),
         },
     ),
@@ -360,6 +362,8 @@ const LINES: [(&str, Line<'_>); 41] = [
                 lines: None,
                 names: false,
                 records: true,
+                story: false,
+                all: false,
             })),
         },
     ),
@@ -531,6 +535,8 @@ const LINES: [(&str, Line<'_>); 41] = [
                 lines: None,
                 names: false,
                 records: false,
+                story: false,
+                all: false,
             })),
         },
     ),
@@ -549,6 +555,8 @@ const LINES: [(&str, Line<'_>); 41] = [
                 lines: None,
                 names: false,
                 records: true,
+                story: false,
+                all: false,
             })),
         },
     ),
@@ -610,11 +618,15 @@ const LINES: [(&str, Line<'_>); 41] = [
                 image: "a",
                 states: 1_000_000,
                 watch: None,
-                exists: None,
+                question: None,
+                first: false,
                 outcome: None,
                 stuck: false,
                 witness: None,
                 script: None,
+                story: None,
+                all: false,
+                lines: None,
             })),
         },
     ),
@@ -628,11 +640,59 @@ const LINES: [(&str, Line<'_>); 41] = [
                 image: "a",
                 states: 4_294_967_295,
                 watch: Some("a0@1"),
-                exists: Some("h0=1"),
+                question: Some(QuestionText::Exists("h0=1")),
+                first: false,
                 outcome: Some(2),
                 stuck: false,
                 witness: Some("w"),
                 script: None,
+                story: None,
+                all: false,
+                lines: None,
+            })),
+        },
+    ),
+    (
+        "smtsim outcomes a --forall x=1 --first --story t --all --lines l",
+        Line {
+            config: None,
+            harts: None,
+            hints: HintsWanted::Auto,
+            command: Command::OfProgram(ProgramCommand::Outcomes(OutcomesCommand {
+                image: "a",
+                states: 1_000_000,
+                watch: None,
+                question: Some(QuestionText::ForAll("x=1")),
+                first: true,
+                outcome: None,
+                stuck: false,
+                witness: None,
+                script: None,
+                story: Some("t"),
+                all: true,
+                lines: Some("l"),
+            })),
+        },
+    ),
+    (
+        "smtsim outcomes a --never-stuck --witness w",
+        Line {
+            config: None,
+            harts: None,
+            hints: HintsWanted::Auto,
+            command: Command::OfProgram(ProgramCommand::Outcomes(OutcomesCommand {
+                image: "a",
+                states: 1_000_000,
+                watch: None,
+                question: Some(QuestionText::NeverStuck),
+                first: false,
+                outcome: None,
+                stuck: false,
+                witness: Some("w"),
+                script: None,
+                story: None,
+                all: false,
+                lines: None,
             })),
         },
     ),
@@ -646,11 +706,15 @@ const LINES: [(&str, Line<'_>); 41] = [
                 image: "-",
                 states: 1,
                 watch: None,
-                exists: None,
+                question: None,
+                first: false,
                 outcome: None,
                 stuck: true,
                 witness: None,
                 script: Some("s"),
+                story: None,
+                all: false,
+                lines: None,
             })),
         },
     ),
@@ -845,11 +909,23 @@ fn a_chart_goes_from_function_to_function(rt: HostRuntime) {
     assert!(rt; read_words(&quote, rt.alloc()).is_err());
 }
 
+/// The condition of which a question asks whether some outcome has it.
+fn exists_in<'a>(question: Option<QuestionText<'a>>) -> Option<&'a str> {
+    match question {
+        Some(QuestionText::Exists(condition)) => Some(condition),
+        _ => None,
+    }
+}
+
 /// The texts of a line that asks for outcomes, and whether its file is a script.
 fn texts_of<'a>(line: &Line<'a>) -> (Option<&'a str>, Option<&'a str>, bool) {
     match line.command {
         Command::OfProgram(ProgramCommand::Outcomes(outcomes)) => {
-            (outcomes.watch, outcomes.exists, outcomes.script.is_some())
+            (
+                outcomes.watch,
+                exists_in(outcomes.question),
+                outcomes.script.is_some(),
+            )
         }
         _ => (None, None, false),
     }
@@ -975,6 +1051,8 @@ const NAMED: [(Line<'_>, Named<'_>); 14] = [
                 lines: None,
                 names: false,
                 records: false,
+                story: false,
+                all: false,
             })),
         },
         (Some("c"), Some("a"), Some("b"), None),
@@ -1037,11 +1115,15 @@ const NAMED: [(Line<'_>, Named<'_>); 14] = [
                 image: "a",
                 states: 1,
                 watch: None,
-                exists: None,
+                question: None,
+                first: false,
                 outcome: Some(1),
                 stuck: false,
                 witness: Some("w"),
                 script: None,
+                story: None,
+                all: false,
+                lines: None,
             })),
         },
         (None, Some("a"), None, Some("w")),
@@ -1055,11 +1137,15 @@ const NAMED: [(Line<'_>, Named<'_>); 14] = [
                 image: "a",
                 states: 1,
                 watch: None,
-                exists: None,
+                question: None,
+                first: false,
                 outcome: None,
                 stuck: true,
                 witness: None,
                 script: Some("s"),
+                story: None,
+                all: false,
+                lines: None,
             })),
         },
         (Some("c"), Some("a"), None, Some("s")),

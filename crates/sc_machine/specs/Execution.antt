@@ -1,9 +1,11 @@
 -- What a hart does next.
-use Rattle.std.specs.Prelude.{◌≡◌, ℕ, ◌<◌, length, is_some, IsTrue, IfSome}
+use Rattle.std.specs.Prelude.{◌≡◌, ℕ, ◌<◌, false, None, length, is_some, IsTrue, IfSome}
+use Rattle.elf_image.specs.Image.{ProgramImage}
 use Rattle.rv_instr.specs.Kinds.{destination, first_source, second_source}
+use Rattle.rv_instr.specs.Table.{OpInRange}
 use Rattle.shared_memory.specs.Contents.{Contents, CanWrite}
 use Rattle.smt_model.specs.{Setup.Setup, Plain.Plain, Plain.op_at_pc, Plain.computes}
-use Rattle.smt_model.specs.{Plain.record_at}
+use Rattle.smt_model.specs.{Plain.record_at, Nexts.is_last, Faults.fault}
 use Rattle.sc_machine.specs.{Access.WritesAlone, Machine.Machine}
 use Rattle.sc_machine.specs.{Here.word_here, Here.op_here, Here.computed_here, Here.effect_here}
 use Rattle.sc_machine.specs.{declared.hart.Hart.Hart}
@@ -18,6 +20,10 @@ pub record IsNext (m : Contents) (h : ℕ) (x : Hart) (e : Execution) : Type 0 w
   pub word : e.record.word ≡ word_here m x
   pub effect : e.record.effect ≡ effect_here m h (op_here m x) (computed_here m x (op_here m x))
 
+-- The access of one that goes on has no fault.
+abbrev pub IsUnfaulted : ProgramImage → Execution → Type 0
+IsUnfaulted image e = is_last e.record.effect.next ≡ false → fault image e.op e.addr ≡ None
+
 -- Its registers are there, and it may touch what it touches.
 pub record IsAllowed (m : Contents) (e : Execution) : Type 0 where
   pub destination : destination e.op < 32
@@ -25,6 +31,8 @@ pub record IsAllowed (m : Contents) (e : Execution) : Type 0 where
   pub second : second_source e.op < 32
   pub write : IfSome e.record.effect.write (CanWrite m.image)
   pub alone : WritesAlone e.record.effect
+  pub unfaulted : IsUnfaulted m.image e
+  pub in_range : OpInRange e.op
 
 -- There is room for the byte that it puts out.
 abbrev pub HasRoom : Machine → Execution → Type 0

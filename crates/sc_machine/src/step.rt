@@ -4,8 +4,9 @@ ghost use Rattle.std.specs.Prelude.{◌≡◌, ◌<◌, ◌≤◌, ◌&&◌, ℕ
 ghost use Rattle.std.specs.Prelude.{is_some, IsTrue, IfOk, IfErr, OnOk, OnErr, slice_index};
 ghost use Rattle.std.specs.Prelude.{vec_capacity};
 ghost use Rattle.std.specs.Bool.{OnFalse};
+ghost use Rattle.rv_instr.specs.Table.{OpInRange};
 ghost use Rattle.smt_model.specs.Plain.{after, is_going_status, output_after};
-ghost use Rattle.sc_machine.specs.Execution.{IsExecution, IsAllowed, HasRoom};
+ghost use Rattle.sc_machine.specs.Execution.{IsExecution, IsAllowed, IsUnfaulted, HasRoom};
 ghost use Rattle.sc_machine.specs.Machine.{InEachState, Agrees};
 ghost use Rattle.sc_machine.specs.Refusals.{refusal};
 ghost use Rattle.sc_machine.specs.Steps.{InEachRun, IsStep, Runs};
@@ -63,6 +64,17 @@ impl Plain {
             }
         }
         Ok(())
+    }
+
+    /// What a hart's step would be, were it made now: its instruction, the address that this touches, and its record.
+    /// Nothing changes.
+    pub fn next_step(&self, hart: u8) -> Execution
+        requires { hart < length self.now.harts }
+        ensures is { InEachState self.now (λ setup s. IsExecution setup s hart result) }
+        ensures no_fault { IsUnfaulted self.now.memory.image result }
+        ensures in_range { OpInRange result.op }
+    {
+        self.execution(hart)
     }
 
     /// Whether a hart goes on.

@@ -1,21 +1,22 @@
 -- What a search has when all of its states are swept.
-use Rattle.std.proofs.Common.{◌≡◌, ◌≢◌, ℕ, ◌+◌, ◌*◌, ◌^◌, ◌<◌, ◌≤◌, ◌⊎◌, [], ◌∷◌, length}
-use Rattle.std.proofs.Common.{slice_get, Option, Some, Contains, refl, ap, subst, ◌∙◌, inl, inr, arith}
+use Rattle.std.proofs.Common.{◌≡◌, ◌≢◌, ℕ, ◌+◌, ◌*◌, ◌^◌, ◌<◌, ◌≤◌, [], ◌∷◌, length}
+use Rattle.std.proofs.Common.{slice_get, Option, Some, refl, ap, subst, ◌∙◌, inl, inr, arith}
 use Rattle.std.proofs.lemmas.List.Quantifiers.{all_pairs_push}
-use Rattle.std.proofs.lemmas.List.Elements.{Contains-push_cases}
 use Rattle.std.proofs.lemmas.Option.{slice_get_within}
 use Rattle.searches.specs.declared.step.Step.{Step}
-use Rattle.searches.specs.Orders.{IsReachable}
-use Rattle.searches.specs.Found.{Found, Exceeds, IsGraph}
-use Rattle.searches.specs.Sweeps.{IsSwept}
-use Rattle.searches.specs.Whole.{IsWhole}
+use Rattle.searches.specs.Found.{Found, IsGraph}
+use Rattle.searches.specs.Sweeps.{IsSwept, IsTree}
+use Rattle.searches.specs.Tied.{IsTied}
 use Rattle.searches.proofs.Places.{push-cases}
 use Rattle.searches.proofs.Edges.{before}
-use Rattle.searches.proofs.Walking.{origin_of, parent_before, reached, walk}
+use Rattle.searches.proofs.Walking.{tree_of, origin_of, parent_before, reached, walk}
 
 module _ {S W : Type 0} (Knows : S → Type 0) (Steps : S → ℕ → Option (Step S W) → Type 0) (place : ℕ)
     (found : Found S W)
     (swept : IsSwept Knows Steps place 0 found) (over : place ≡ length found.states) where
+  abbrev tree : IsTree Knows Steps found
+  tree = tree_of Knows Steps place 0 found swept.listed
+
   all_filled : length found.edges ≡ length found.states * found.harts
   all_filled = swept.listed.filled ∙ zero_more (place * found.harts) ∙ ap (λ n. n * found.harts) over
     where
@@ -32,7 +33,7 @@ module _ {S W : Type 0} (Knows : S → Type 0) (Steps : S → ℕ → Option (St
           swept.listed.along k h s at below
           (omega (arith, before k found.harts h (length found.states) inside below, all_filled));
       origin = λ k t at.
-          let o = origin_of Knows Steps place 0 found swept.listed k t at in
+          let o = origin_of Knows Steps found tree k t at in
           (o.0, o.1, swept.listed.stepped k t o.0 at o.1, swept.told k o.0 o.1);
       end = λ k. (
         λ is.
@@ -41,7 +42,7 @@ module _ {S W : Type 0} (Knows : S → Type 0) (Steps : S → ℕ → Option (St
         λ none. (swept.listed.end k (omega (arith, none.0, over))).1 none.1,
       );
       rising = swept.listed.rising;
-      moved = reached Knows Steps place 0 found swept.listed start first;
+      moved = reached Knows Steps found tree start first;
       shortest = λ k way f.
           let least = walk Knows Steps place 0 found swept.listed way 0 k
           (slice_get_within found.states 0 start first) f in
@@ -51,31 +52,16 @@ module _ {S W : Type 0} (Knows : S → Type 0) (Steps : S → ℕ → Option (St
     pub is_graph : (harts : ℕ) → found.harts ≡ harts → IsGraph Steps harts start found
     is_graph harts same = subst (λ n. IsGraph Steps n start found) same own_graph
 
-  pub is_whole : (budget : ℕ) → length found.states ≤ budget → budget < 2 ^ 32
-      → IsWhole found.harts found.states found.origins found.edges found.ends
-  is_whole budget few fits = record {
-    few = omega (arith, few, fits);
+  pub is_tied : length found.states ≤ 2 ^ 32
+      → IsTied found.harts found.states found.origins found.edges found.ends
+  is_tied few = record {
+    few = few;
     paired = swept.listed.paired;
-    before = parent_before Knows Steps place 0 found swept.listed;
-    filled = all_filled;
+    before = parent_before Knows Steps found tree;
+    filled = omega (arith, all_filled);
     inside = swept.listed.inside;
     ends_inside = λ k is. omega (arith, swept.listed.ends_before k is, over);
   }
-
--- The start alone is more than none.
-pub exceeds_none : {S W : Type 0} (Steps : S → ℕ → Option (Step S W) → Type 0) (start : S) (budget : ℕ) → budget ≡ 0
-    → Exceeds Steps start budget
-exceeds_none {S} Steps start budget none = (
-  start ∷ [],
-  all_pairs_push (λ s t. s ≢ t) [] start (λ i j d less below. absurd (omega (arith, below)))
-      (λ k d below. absurd (omega (arith, below))),
-  omega (arith, none),
-  λ t there. by t (Contains-push_cases [] start t there),
-)
-  where
-    by : (t : S) → (Contains [] t) ⊎ (start ≡ t) → IsReachable Steps start t
-    by t (inl none) = absurd (omega (arith, none.1))
-    by t (inr same) = ([], same)
 
 -- A search begins with the start alone.
 pub begun : {S W : Type 0} (Knows : S → Type 0) (Steps : S → ℕ → Option (Step S W) → Type 0) (start : S) (harts : ℕ)

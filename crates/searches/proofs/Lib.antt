@@ -8,4 +8,6 @@ mod Adding
 mod Noting
 mod Turning
 mod Finding
+mod Tracing
+mod Extents
 mod Marking

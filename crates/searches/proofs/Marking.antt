@@ -3,6 +3,7 @@ use Rattle.std.proofs.Common.{◌≡◌, ◌≢◌, ℕ, zero, suc, ◌+◌, ◌
 use Rattle.std.proofs.Common.{[], ◌∷◌, length, get_or, set, replicate}
 use Rattle.std.proofs.Common.{slice_get, Option, None, Some, Contains, refl, sym, ap, subst, ◌∙◌, inl, inr, arith}
 use Rattle.std.proofs.Common.{true≢false}
+use Rattle.std.specs.Prelude.{IfSome}
 use Rattle.std.proofs.Math.Nat.{mul-le-mul_right}
 use Rattle.std.proofs.lemmas.List.{length-set, length-replicate, get_or-set_same, get_or-set_other, get_or-replicate}
 use Rattle.std.proofs.lemmas.Option.{slice_get_within, slice_get-get_or, get_or_from_slice_get}
@@ -12,7 +13,7 @@ use Rattle.searches.specs.Marks.{IsMarked, AreMarkedEnds, AreMarks, IsMarkedAfte
 use Rattle.searches.specs.Marks.{MarksFrom, MarksAt, IsFirstUnmarked}
 use Rattle.searches.proofs.Numbers.{less_or_more, less_or_same, same_or_other}
 use Rattle.searches.proofs.Places.{place_of, contains_at, same_element}
-use Rattle.searches.proofs.Edges.{edge_within}
+use Rattle.searches.proofs.Edges.{edge_within, read}
 
 not_both : (r : Option Bool) → r ≡ Some true → r ≡ Some false → ⊥
 not_both r e f = true≢false (got (sym e ∙ f))
@@ -188,8 +189,16 @@ module _ {S W : Type 0} (found : Found S W) where
         → MarksAt found (place - 1) now new marks_it → MarksFrom found (place - 1) old new is_more
     from_left is_more from marks_it e at = stays is_more from (subst (MarksAt found (place - 1) now new) e at)
 
+  -- An edge leads to a place that is there.
+  pub leads_inside : ((at q : ℕ) → slice_get found.edges at ≡ Some (Some q) → q < length found.states) → (count : ℕ)
+      → count ≡ length found.states → (place h : ℕ) (edge : Option ℕ) → edge ≡ edge_at found place h
+      → IfSome edge (λ q. q < count)
+  leads_inside inside count same place h None e = tt
+  leads_inside inside count same place h (Some q) e =
+      omega (arith, inside (place * found.harts + h) q (read found.edges (place * found.harts + h) q (sym e)), same)
+
   -- No edge leads from beyond the last place.
-  pub left_beyond : length found.edges ≡ length found.states * found.harts → (marks : List Bool) (place : ℕ)
+  pub left_beyond : length found.edges ≤ length found.states * found.harts → (marks : List Bool) (place : ℕ)
       → length found.states ≤ place
       → IsLeft found marks place
   left_beyond filled marks place beyond leads = by (edge_at found place leads.0) refl leads.2
@@ -199,7 +208,7 @@ module _ {S W : Type 0} (found : Found S W) where
       by (Some q) e is =
           absurd (omega (arith, edge_within found place leads.0 q e, filled, mul-le-mul_right found.harts beyond))
 
-  pub first_from : length found.edges ≡ length found.states * found.harts → (marks : List Bool)
+  pub first_from : length found.edges ≤ length found.states * found.harts → (marks : List Bool)
       → MarksFrom found (length found.states) marks marks false
   first_from filled marks = (refl, left_beyond filled marks)
 

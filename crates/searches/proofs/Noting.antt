@@ -13,15 +13,9 @@ use Rattle.std.proofs.lemmas.Option.{slice_get-get_or, slice_get_within, get_or_
 use Rattle.indexmap.specs.IndexSet.{insert_key}
 use Rattle.searches.specs.declared.origin.Origin.{Origin}
 use Rattle.searches.specs.declared.step.Step.{Step}
-use Rattle.searches.specs.declared.stopped.SearchStopped.{SearchStopped}
-use Rattle.searches.specs.declared.stopped.SearchStopped.TheVariants.{Budget, Memory}
-use Rattle.searches.specs.declared.moves.Move.{Move}
-use Rattle.searches.specs.Orders.{IsReachable}
-use Rattle.searches.specs.Found.{Found, IsStoppedFor, moves_at}
-use Rattle.searches.specs.Sweeps.{IsSwept, IsNoted, IsOver, Keeps, with_edge, with_state}
-use Rattle.searches.proofs.Places.{contains_at, push-old, push-cases, place_of}
-use Rattle.searches.proofs.Orders.{Leads-push}
-use Rattle.searches.proofs.Walking.{reached}
+use Rattle.searches.specs.Found.{Found}
+use Rattle.searches.specs.Sweeps.{IsSwept, IsNoted, Keeps, with_edge, with_state}
+use Rattle.searches.proofs.Places.{contains_at, push-old, push-cases}
 use Rattle.searches.proofs.Adding.{follows_old, follows_new}
 
 -- What `insert_full` answers, in these words.
@@ -57,22 +51,34 @@ module _ {S W : Type 0} (eq : S → S → Bool) (old : Found S W) (state : S) (p
           absurd (true≢false (sym (list_any_at (eq state) old.states place stored.0 within is) ∙ e))
       by (inr last) = last.0
 
--- What was found keeps its place, and there are no more states than there may be.
-module _ {S W : Type 0} (eq : S → S → Bool) (budget : ℕ) (old : Found S W) (state : S) (origin : Origin W)
+-- What was found keeps its place, and there is one state more at the most, among which that at the place is.
+module _ {S W : Type 0} (eq : S → S → Bool) (old : Found S W) (state : S) (origin : Origin W)
     (new : Found S W) (place : ℕ) where
-  pub keeps : IsNoted eq budget old state origin new place → Keeps old.states new.states
+  pub keeps : IsNoted eq old state origin new place → Keeps old.states new.states
   keeps (inl there) k x e = subst (λ (f : Found S W). slice_get f.states k ≡ Some x) (sym there.0) e
   keeps (inr added) k x e = subst (λ (f : Found S W). slice_get f.states k ≡ Some x) (sym added.0)
       (push-old old.states state k x e)
 
-  pub few_left : IsNoted eq budget old state origin new place → length old.states ≤ budget → length new.states ≤ budget
-  few_left (inl there) few = subst (λ (f : Found S W). length f.states ≤ budget) (sym there.0) few
-  few_left (inr added) few =
-      subst (λ (f : Found S W). length f.states ≤ budget) (sym added.0)
-      (omega (arith, length-append old.states (state ∷ []), added.1, added.2))
+  pub one_more : IsNoted eq old state origin new place → length new.states ≤ length old.states + 1
+  one_more (inl there) = subst (λ (f : Found S W). length f.states ≤ length old.states + 1) (sym there.0) (omega arith)
+  one_more (inr added) =
+      subst (λ (f : Found S W). length f.states ≤ length old.states + 1) (sym added.0)
+      (omega (arith, length-append old.states (state ∷ [])))
+
+  pub harts_stay : IsNoted eq old state origin new place → new.harts ≡ old.harts
+  harts_stay (inl there) = ap (λ (f : Found S W). f.harts) there.0
+  harts_stay (inr added) = ap (λ (f : Found S W). f.harts) added.0
+
+  pub stands_inside : IsNoted eq old state origin new place → place < length new.states
+  stands_inside (inl there) =
+      let within = slice_get_within old.states place there.1.0 there.1.1 in
+      subst (λ (f : Found S W). place < length f.states) (sym there.0) within
+  stands_inside (inr added) =
+      subst (λ (f : Found S W). place < length f.states) (sym added.0)
+      (omega (arith, length-append old.states (state ∷ []), added.1))
 
 module _ {S W : Type 0} (eq : S → S → Bool) (laws : IsEquivalence eq) (same : (x y : S) → eq x y ≡ true → x ≡ y)
-    (Knows : S → Type 0) (Steps : S → ℕ → Option (Step S W) → Type 0) (place hart budget : ℕ) (found : Found S W)
+    (Knows : S → Type 0) (Steps : S → ℕ → Option (Step S W) → Type 0) (place hart : ℕ) (found : Found S W)
     (swept : IsSwept Knows Steps place hart found) (s : S) (at : slice_get found.states place ≡ Some s)
     (t : S) (w : W) (next : Steps s hart (Some (record { state = t; way = w }))) where
   another : list_any (eq t) found.states ≡ false → (k : ℕ) → slice_get found.states k ≡ Some t → ⊥
@@ -81,7 +87,7 @@ module _ {S W : Type 0} (eq : S → S → Bool) (laws : IsEquivalence eq) (same 
 
   -- The step leads to where its state was noted.
   pub noted : hart < found.harts → Knows t → (new : Found S W) (q : ℕ)
-      → IsNoted eq budget found t (record { parent = place; hart = hart; way = w }) new q
+      → IsNoted eq found t (record { parent = place; hart = hart; way = w }) new q
       → IsSwept Knows Steps place (hart + 1) (with_edge new (Some q))
   noted below known new q (inl there) =
       let (x, stands, equal) = there.1 in
@@ -92,36 +98,14 @@ module _ {S W : Type 0} (eq : S → S → Bool) (laws : IsEquivalence eq) (same 
       subst (λ (f : Found S W). IsSwept Knows Steps place (hart + 1) (with_edge f (Some q))) (sym added.0)
       (subst (λ n. IsSwept Knows Steps place (hart + 1)
       (with_edge (with_state found t (record { parent = place; hart = hart; way = w })) (Some n))) (sym added.1)
-      (follows_new Knows Steps place hart found swept below s at t w known next (another added.3)))
-
-  -- Why noting it stopped.
-  module _ (start : S) (first : slice_get found.states 0 ≡ Some start) where
-    reaches : (x : S) → Contains (found.states ++ t ∷ []) x → IsReachable Steps start x
-    reaches x there = by (Contains-push_cases found.states t x there)
-      where
-        by : (Contains found.states x) ⊎ (t ≡ x) → IsReachable Steps start x
-        by (inl old) =
-            let k = place_of found.states x old in
-            (moves_at found.origins k.0, reached Knows Steps place hart found swept.listed start first k.0 x k.1)
-        by (inr new) =
-            let m : Move W = record { hart = hart; way = w } in
-            subst (IsReachable Steps start) new (
-              moves_at found.origins place ++ m ∷ [],
-              Leads-push Steps start (moves_at found.origins place) s t m
-                  (reached Knows Steps place hart found swept.listed start first place s at) next,
-            )
-
-    pub stopped_by : (why : SearchStopped) → IsOver eq budget found t why → IsStoppedFor Steps start budget why
-    stopped_by Budget over = (
-      found.states ++ t ∷ [],
-      all_pairs_push (λ x y. x ≢ y) found.states t swept.listed.different
-          (λ k d less e. another over.1 k (slice_get-get_or found.states k d less ∙ ap Some e)),
-      omega (arith, length-append found.states (t ∷ []), over.0),
-      reaches,
-    )
-    stopped_by Memory over = tt
+      (follows_new Knows Steps place hart found swept below s at t w known next (another added.2)))
 
 -- It is new where it wasn't there.
 pub is_absent : (there is_new : Bool) → is_new ≡ not there → is_new ≡ true → there ≡ false
 is_absent true is_new e f = absurd (true≢false (sym f ∙ e))
 is_absent false is_new e f = refl
+
+-- It was there where it isn't new.
+pub is_there : (there is_new : Bool) → is_new ≡ not there → is_new ≡ false → there ≡ true
+is_there true is_new e f = refl
+is_there false is_new e f = absurd (true≢false (sym e ∙ f))

@@ -6,6 +6,7 @@ use Rattle.std.proofs.lemmas.Option.{slice_get_within, slice_get-get_or, get_or_
 use Rattle.std.proofs.lemmas.List.{get_or_push}
 use Rattle.std.proofs.Math.ListN.{get_or-append}
 use Rattle.searches.specs.Sweeps.{Keeps}
+use Rattle.searches.proofs.Numbers.{less_or_more}
 
 module _ {X : Type 0} where
   pub place_of : (xs : List X) (x : X) → Contains xs x → (k : ℕ) × (slice_get xs k ≡ Some x)
@@ -17,6 +18,12 @@ module _ {X : Type 0} where
   pub element_at : (xs : List X) (k : ℕ) → k < length xs → (x : X) × (slice_get xs k ≡ Some x)
   element_at xs k below =
       elim (slice_get_cases xs k).1 [ inl c ↦ (c.0, c.2) | inr c ↦ absurd (omega (arith, c.0)) ]
+
+  -- An element that was read of the list, or of its slice.
+  pub read_at : (xs ys : List X) (k : ℕ) (x : X) → ys ≡ xs → k < length xs → x ≡ get_or ys k x
+      → slice_get xs k ≡ Some x
+  read_at xs ys k x same below is =
+      slice_get-get_or xs k x below ∙ ap Some (ap (λ l. get_or l k x) (sym same) ∙ sym is)
 
   pub push-old : (xs : List X) (y : X) (k : ℕ) (x : X) → slice_get xs k ≡ Some x → slice_get (xs ++ y ∷ []) k ≡ Some x
   push-old xs y k x e =
@@ -58,3 +65,10 @@ module _ {X : Type 0} where
   keeps_within old new kept k below =
       let x = element_at old k below in
       slice_get_within new k x.0 (kept k x.0 x.1)
+
+  pub keeps_long : (old new : List X) → Keeps old new → length old ≤ length new
+  keeps_long old new kept = by (less_or_more (length new) (length old))
+    where
+      by : (length new < length old) ⊎ (length old ≤ length new) → length old ≤ length new
+      by (inl less) = absurd (omega (arith, keeps_within old new kept (length new) less))
+      by (inr le) = le

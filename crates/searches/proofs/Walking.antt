@@ -7,22 +7,31 @@ use Rattle.searches.specs.declared.origin.Origin.{Origin}
 use Rattle.searches.specs.declared.step.Step.{Step}
 use Rattle.searches.specs.Orders.{Leads}
 use Rattle.searches.specs.Found.{Found, edge_at, moves_at, Follows, Exceeds}
-use Rattle.searches.specs.Sweeps.{AreListed}
+use Rattle.searches.specs.Sweeps.{AreListed, IsTree}
 use Rattle.searches.proofs.Places.{element_at, same_element, place_of}
 use Rattle.searches.proofs.Edges.{read}
 use Rattle.searches.proofs.Orders.{move_of, Leads-push, moves_at-step, length-step}
 
-module _ {S W : Type 0} (Knows : S → Type 0) (Steps : S → ℕ → Option (Step S W) → Type 0) (place hart : ℕ)
-    (found : Found S W)
-    (listed : AreListed Knows Steps place hart found) where
+-- The tree of a sweep's states.
+pub tree_of : {S W : Type 0} (Knows : S → Type 0) (Steps : S → ℕ → Option (Step S W) → Type 0) (place hart : ℕ)
+    (found : Found S W) → AreListed Knows Steps place hart found → IsTree Knows Steps found
+tree_of Knows Steps place hart found listed = record {
+  paired = listed.paired;
+  known = listed.known;
+  different = listed.different;
+  stepped = listed.stepped;
+}
+
+module _ {S W : Type 0} (Knows : S → Type 0) (Steps : S → ℕ → Option (Step S W) → Type 0) (found : Found S W)
+    (tree : IsTree Knows Steps found) where
   pub origin_of : (k : ℕ) (t : S) → slice_get found.states (k + 1) ≡ Some t → (o : Origin W)
       × (slice_get found.origins k ≡ Some o)
-  origin_of k t e = element_at found.origins k (omega (arith, slice_get_within found.states (k + 1) t e, listed.paired))
+  origin_of k t e = element_at found.origins k (omega (arith, slice_get_within found.states (k + 1) t e, tree.paired))
 
   pub parent_before : (k : ℕ) (o : Origin W) → slice_get found.origins k ≡ Some o → o.parent ≤ k
   parent_before k o e =
-      let t = element_at found.states (k + 1) (omega (arith, slice_get_within found.origins k o e, listed.paired)) in
-      let from = listed.stepped k t.0 o t.1 e in
+      let t = element_at found.states (k + 1) (omega (arith, slice_get_within found.origins k o e, tree.paired)) in
+      let from = tree.stepped k t.0 o t.1 e in
       omega (arith, from.1)
 
   -- The moves of a state's origins lead to it.
@@ -36,7 +45,7 @@ module _ {S W : Type 0} (Knows : S → Type 0) (Steps : S → ℕ → Option (St
         let here : slice_get found.states (k + 1) ≡ Some t =
         subst (λ m. slice_get found.states m ≡ Some t) (sym next) e in
         let (o, at) = origin_of k t here in
-        let from = listed.stepped k t o here at in
+        let from = tree.stepped k t o here at in
         subst (λ m. Leads Steps start (moves_at found.origins m) t) next
         (subst (λ l. Leads Steps start l t) (sym (moves_at-step found.origins parent_before k o at))
         (Leads-push Steps start (moves_at found.origins o.parent) from.0 t (move_of o)
@@ -49,12 +58,18 @@ module _ {S W : Type 0} (Knows : S → Type 0) (Steps : S → ℕ → Option (St
     pub exceeded : (budget : ℕ) → budget < length found.states → Exceeds Steps start budget
     exceeded budget over = (
       found.states,
-      listed.different,
+      tree.different,
       over,
       λ t there.
           let k = place_of found.states t there in
           (moves_at found.origins k.0, reached k.0 t k.1),
     )
+
+module _ {S W : Type 0} (Knows : S → Type 0) (Steps : S → ℕ → Option (Step S W) → Type 0) (place hart : ℕ)
+    (found : Found S W)
+    (listed : AreListed Knows Steps place hart found) where
+  before : (k : ℕ) (o : Origin W) → slice_get found.origins k ≡ Some o → o.parent ≤ k
+  before = parent_before Knows Steps found (tree_of Knows Steps place hart found listed)
 
   -- States that stand later were found by no fewer steps.
   later_within : (n i j : ℕ) → j ≤ n → i ≤ j → j < length found.states
@@ -65,10 +80,10 @@ module _ {S W : Type 0} (Knows : S → Type 0) (Steps : S → ℕ → Option (St
   later_within (suc n) (suc i) (suc j) b le in' =
       let a = element_at found.origins i (omega (arith, listed.paired, in', le)) in
       let z = element_at found.origins j (omega (arith, listed.paired, in')) in
-      let before : z.0.parent ≤ j = parent_before j z.0 z.1 in
+      let first : z.0.parent ≤ j = before j z.0 z.1 in
       let rest : length (moves_at found.origins a.0.parent) ≤ length (moves_at found.origins z.0.parent) =
-      later_within n a.0.parent z.0.parent (omega (arith, before, b))
-      (listed.ordered i j a.0 z.0 (omega (arith, le)) a.1 z.1) (omega (arith, before, in')) in
+      later_within n a.0.parent z.0.parent (omega (arith, first, b))
+      (listed.ordered i j a.0 z.0 (omega (arith, le)) a.1 z.1) (omega (arith, first, in')) in
       let da : length (moves_at found.origins (suc i)) ≡ length (moves_at found.origins a.0.parent) + 1 =
       steps i a.0 a.1 in
       let dz : length (moves_at found.origins (suc j)) ≡ length (moves_at found.origins z.0.parent) + 1 =
@@ -80,7 +95,7 @@ module _ {S W : Type 0} (Knows : S → Type 0) (Steps : S → ℕ → Option (St
       steps k o e =
           let next : k + 1 ≡ suc k = omega arith in
           subst (λ n. length (moves_at found.origins n) ≡ length (moves_at found.origins o.parent) + 1) next
-          (length-step found.origins parent_before k o e)
+          (length-step found.origins before k o e)
 
   -- An edge leads to a state that was found by at most one step more.
   edge_near : (k h q : ℕ) → k < length found.states → h < found.harts → edge_at found k h ≡ Some q
@@ -91,7 +106,7 @@ module _ {S W : Type 0} (Knows : S → Type 0) (Steps : S → ℕ → Option (St
       let inside = listed.inside (k * found.harts + h) (suc q) (read found.edges (k * found.harts + h) (suc q) e) in
       let o = element_at found.origins q (omega (arith, inside, listed.paired)) in
       let near = listed.near k h q o.0 below (e ∙ ap Some next) o.1 in
-      let d = length-step found.origins parent_before q o.0 o.1 in
+      let d = length-step found.origins before q o.0 o.1 in
       let l = later_within k o.0.parent k (omega arith) near in' in
       subst (λ n. length (moves_at found.origins n) ≤ length (moves_at found.origins k) + 1) (sym next)
       (omega (arith, d, l))

@@ -5,8 +5,8 @@ use Rattle.std.specs.Prelude.{slice_get, slice_index_or, Option, Some, None, Con
 use Rattle.searches.specs.declared.moves.Move.{Move}
 use Rattle.searches.specs.declared.origin.Origin.{Origin}
 use Rattle.searches.specs.declared.step.Step.{Step}
-use Rattle.searches.specs.declared.stopped.SearchStopped.{SearchStopped}
-use Rattle.searches.specs.declared.stopped.SearchStopped.TheVariants.{Budget, Memory}
+use Rattle.searches.specs.declared.extent.Extent.{Extent}
+use Rattle.searches.specs.declared.extent.Extent.TheVariants.{Whole, Beyond, First}
 use Rattle.searches.specs.Orders.{Leads, IsReachable}
 
 pub record Found (S W : Type 0) : Type 0 where
@@ -85,7 +85,40 @@ Exceeds {S} Steps start budget =
     (states : List S) × AllPairs (λ s t. s ≢ t) states × (budget < length states)
     × ((t : S) → Contains states t → IsReachable Steps start t)
 
--- It stopped for this reason: for its budget only where there is more than that.
-abbrev pub IsStoppedFor : {S W : Type 0} → (S → ℕ → Option (Step S W) → Type 0) → S → ℕ → SearchStopped → Type 0
-IsStoppedFor Steps start budget Budget = Exceeds Steps start budget
-IsStoppedFor Steps start budget Memory = Unit {0}
+-- Place k is that of an end: no hart has a step from its state.
+abbrev pub IsEndAt : {S W : Type 0} → (S → ℕ → Option (Step S W) → Type 0) → Found S W → ℕ → Type 0
+IsEndAt {S} Steps found k =
+    (s : S) × (slice_get found.states k ≡ Some s) × ((h : ℕ) → h < found.harts → Steps s h None)
+
+-- What was found is part of that graph: states to which steps lead from `start`, each once, and ends among them. Nothing
+-- is said of what wasn't found.
+pub record IsPart {S W : Type 0} (Steps : S → ℕ → Option (Step S W) → Type 0) (harts : ℕ) (start : S)
+    (found : Found S W) : Type 0
+  where
+    pub all_harts : found.harts ≡ harts
+    pub first : slice_get found.states 0 ≡ Some start
+    pub different : AllPairs (λ s t. s ≢ t) found.states
+    -- Each state but the first has an origin: it was found by that step.
+    pub origin : (before : ℕ) (t : S) → slice_get found.states (before + 1) ≡ Some t
+        → (o : Origin W) × (slice_get found.origins before ≡ Some o) × IsStepped Steps found (before + 1) t o
+    -- What is listed as an end is one.
+    pub end : (place : ℕ) → Contains found.ends place → IsEndAt Steps found place
+    -- The moves of a state's origins lead to it.
+    pub moved : (place : ℕ) (t : S) → slice_get found.states place ≡ Some t
+        → Leads Steps start (moves_at found.origins place) t
+
+-- All of the graph was found, by no more states than the budget; or a part of it, beyond the budget only where there is
+-- more than that.
+abbrev pub IsExplored : {S W : Type 0} → (S → ℕ → Option (Step S W) → Type 0) → ℕ → S → ℕ → Found S W → Extent → Type 0
+IsExplored Steps harts start budget found Whole =
+    IsGraph Steps harts start found × AllPairs (λ s t. s ≢ t) found.states × (length found.states ≤ budget)
+IsExplored Steps harts start budget found Beyond =
+    IsPart Steps harts start found × Exceeds Steps start budget
+IsExplored Steps harts start budget found First = IsPart Steps harts start found
+
+-- Where a search ended with the first end that meets its goal, that end is listed.
+abbrev pub IsToldFor : {S W : Type 0} → (S → Type 0) → Found S W → Extent → Type 0
+IsToldFor Meets found Whole = Unit {0}
+IsToldFor Meets found Beyond = Unit {0}
+IsToldFor {S} Meets found First =
+    (place : ℕ) × (s : S) × Contains found.ends place × (slice_get found.states place ≡ Some s) × Meets s

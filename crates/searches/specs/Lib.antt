@@ -1,6 +1,7 @@
 pub mod Orders
 pub mod Found
 pub mod Ending
-pub mod Whole
+pub mod Tied
 pub mod Sweeps
+pub mod Dives
 pub mod Marks

@@ -8,8 +8,8 @@ use std::alloc::{AllocError, Global};
 use std::hash::Hash;
 
 impl<S: Copy + Eq + Hash, W: Copy> Search<S, W> {
-    /// The least place from which no way along the harts' steps leads to an end. None where from
-    /// each place some way does. Errors: want of memory.
+    /// The least place from which no way along the steps that were looked at leads to an end. None where
+    /// from each place some way does. Errors: want of memory.
     pub fn stuck(&self, alloc: Global) -> Result<Option<u32>, AllocError>
         ensures { IfOk result (IsLeastStuck self.now) }
     {
@@ -94,9 +94,9 @@ impl<S: Copy + Eq + Hash, W: Copy> Search<S, W> {
         requires { length marks.now ≡ length self.now.states }
         ensures { IsFirstUnmarked marks.now result }
     {
-        for place in 0..self.states() {
-            if !marks[place as usize] {
-                return Some(place);
+        for place in 0..self.states.len() {
+            if !marks[place] {
+                return Some(place as u32);
             }
         }
         None

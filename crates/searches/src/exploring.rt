@@ -1,15 +1,18 @@
-ghost use Rattle.std.specs.Prelude.{◌≡◌, ◌≢◌, ◌+◌, ◌<◌, ◌≤◌, ◌++◌, ◌∷◌, [], Some, length, slice_get};
-ghost use Rattle.std.specs.Prelude.{IfOk, IfErr, OnOk, AllPairs, Contains};
-ghost use Rattle.searches.specs.Found.{IsGraph, IsStoppedFor};
-ghost use Rattle.searches.specs.Sweeps.{found_by, with_edge, Keeps, IsSwept};
+ghost use Rattle.std.specs.Prelude.{◌≡◌, ◌≢◌, ◌+◌, ◌^◌, ◌<◌, ◌≤◌, ◌++◌, ◌∷◌, [], Some, None, length, slice_get};
+ghost use Rattle.std.specs.Prelude.{IfOk, OnOk, Contains};
+ghost use Rattle.searches.specs.Found.{IsExplored, IsToldFor};
+ghost use Rattle.searches.specs.Sweeps.{found_by, with_edge, Keeps, IsSwept, AreTraced, IsEndedIf};
+ghost use Rattle.searches.specs.Sweeps.{IsSweptAs};
 
+use crate::diving::dive;
+use crate::explored::Explored;
+use crate::extent::Extent;
+use crate::goal::Goal;
 use crate::machine::Machine;
 use crate::onlooker::Onlooker;
 use crate::origin::Origin;
-use crate::search::Search;
-use crate::stopped::SearchStopped;
 use crate::sweep::Sweep;
-use std::alloc::Global;
+use std::alloc::{AllocError, Global};
 
 /// How many states are swept between two looks at the search.
 const STATES_BETWEEN_LOOKS: u32 = 4096;
@@ -17,65 +20,115 @@ const STATES_BETWEEN_LOOKS: u32 = 4096;
 /// Visits each state to which steps lead from the start, those first to which fewer steps lead, and
 /// keeps each hart's step from each of them. The onlooker is told now and then how far it is.
 ///
-/// Refused where there are more than `budget` states, or where memory is wanting.
-pub fn explore<M: Machine, O: Onlooker>(
+/// Where there are more than `budget` states it goes no further in breadth, and dives for ends from
+/// some of the states found last; what it finds there is beyond the budget. It ends early with the
+/// first end that meets the goal. Then what it has found is real, and isn't all. Errors: want of memory.
+pub fn explore<M: Machine, O: Onlooker, G: Goal<M>>(
     machine: &mut M,
     start: M::State,
     budget: u32,
     onlooker: &O,
+    goal: &G,
     alloc: Global,
-) -> Result<Search<M::State, M::Way>, SearchStopped>
-    requires { M.Knows machine.old start }
+) -> Result<Explored<M::State, M::Way>, AllocError>
+    requires fits { G.Fits goal.now machine.old }
+    requires known { M.Knows machine.old start }
     ensures grows { M.Grows machine.old machine.new }
-    ensures searched { IfOk result (IsGraph (M.Steps machine.new) (M.harts machine.new) start) }
-    ensures known { IfOk result (λ search. (s : M.State) → Contains search.states s
+    ensures explored { IfOk result (λ explored. IsExplored (M.Steps machine.new) (M.harts machine.new) start budget
+        explored.search explored.extent) }
+    ensures known { IfOk result (λ explored. (s : M.State) → Contains explored.search.states s
         → M.Knows machine.new s) }
-    ensures distinct { IfOk result (λ search. AllPairs (λ s t. s ≢ t) search.states) }
-    ensures within { IfOk result (λ search. length search.states ≤ budget) }
-    ensures stopped { IfErr result (IsStoppedFor (M.Steps machine.new) start budget) }
+    ensures told { IfOk result (λ explored. IsToldFor (G.Meets goal.now machine.new) explored.search
+        explored.extent) }
 {
-    if budget == 0 {
-        return Err(SearchStopped::Budget);
-    }
-    let Ok(mut sweep) = Sweep::begin(start, machine.harts(), alloc) else {
-        return Err(SearchStopped::Memory);
-    };
-    let mut place: u32 = 0;
-    while (place as usize) < sweep.states.len() {
-        expand(&mut sweep, machine, place, budget)?;
-        place += 1;
-        show_progress(onlooker, sweep.states.len() as u32, place);
-    }
-    let Sweep {
-        harts,
-        states,
-        origins,
-        edges,
-        ends,
-    } = sweep;
-    Ok(Search {
-        harts,
-        states,
-        origins,
-        edges,
-        ends,
+    let mut sweep = Sweep::begin(start, machine.harts(), alloc)?;
+    let extent = sweep_and_dive(&mut sweep, machine, budget, onlooker, goal)?;
+    Ok(Explored {
+        search: sweep.into_search(),
+        extent,
     })
 }
 
-/// Shows the onlooker how far the search is, once in so many states.
-fn show_progress<O: Onlooker>(onlooker: &O, states: u32, swept: u32) {
-    if swept % STATES_BETWEEN_LOOKS == 0 {
-        onlooker.see(states, swept);
+/// Sweeps the states; and dives, where there are too many.
+fn sweep_and_dive<M: Machine, O: Onlooker, G: Goal<M>>(
+    sweep: &mut Sweep<M::State, M::Way>,
+    machine: &mut M,
+    budget: u32,
+    onlooker: &O,
+    goal: &G,
+) -> Result<Extent, AllocError>
+    requires fits { G.Fits goal.now machine.old }
+    requires harts { sweep.old.harts ≡ M.harts machine.old }
+    requires swept { IsSwept (M.Knows machine.old) (M.Steps machine.old) 0 0 (found_by sweep.old) }
+    requires one { length sweep.old.states.keys ≤ 1 }
+    ensures grows { M.Grows machine.old machine.new }
+    ensures same { OnOk result (sweep.new.harts ≡ sweep.old.harts) }
+    ensures swept { IfOk result (IsSweptAs (M.Knows machine.new) (M.Steps machine.new)
+        (G.Meets goal.now machine.new) budget (found_by sweep.new)) }
+    ensures kept { OnOk result (Keeps sweep.old.states.keys sweep.new.states.keys) }
+    ensures few { OnOk result (length sweep.new.states.keys ≤ 2 ^ 32) }
+{
+    match sweep_all(sweep, machine, budget, onlooker, goal)? {
+        Extent::Whole => Ok(Extent::Whole),
+        Extent::First => Ok(Extent::First),
+        Extent::Beyond => {
+            let extent = dive(sweep, machine, budget, goal)?;
+            Ok(extent)
+        }
     }
 }
 
-/// Looks at the steps of all harts from the state at a place, the first that isn't swept.
-fn expand<M: Machine>(
+/// Sweeps the states in turn, until all are swept, there are too many, or an end meets the goal.
+fn sweep_all<M: Machine, O: Onlooker, G: Goal<M>>(
+    sweep: &mut Sweep<M::State, M::Way>,
+    machine: &mut M,
+    budget: u32,
+    onlooker: &O,
+    goal: &G,
+) -> Result<Extent, AllocError>
+    requires fits { G.Fits goal.now machine.old }
+    requires harts { sweep.old.harts ≡ M.harts machine.old }
+    requires swept { IsSwept (M.Knows machine.old) (M.Steps machine.old) 0 0 (found_by sweep.old) }
+    requires one { length sweep.old.states.keys ≤ 1 }
+    ensures grows { M.Grows machine.old machine.new }
+    ensures same { OnOk result (sweep.new.harts ≡ sweep.old.harts) }
+    ensures swept { IfOk result (IsSweptAs (M.Knows machine.new) (M.Steps machine.new)
+        (G.Meets goal.now machine.new) budget (found_by sweep.new)) }
+    ensures kept { OnOk result (Keeps sweep.old.states.keys sweep.new.states.keys) }
+    ensures few { OnOk result (length sweep.new.states.keys ≤ budget + 1) }
+{
+    let mut place: u32 = 0;
+    while (place as usize) < sweep.states.len() {
+        if sweep.states.len() > budget as usize {
+            return Ok(Extent::Beyond);
+        }
+        match expand(sweep, machine, place, budget, goal)? {
+            Some(extent) => return Ok(extent),
+            None => {}
+        }
+        place += 1;
+        show_progress(onlooker, sweep.states.len(), place);
+    }
+    Ok(Extent::Whole)
+}
+
+/// Shows the onlooker how far the search is, once in so many states.
+fn show_progress<O: Onlooker>(onlooker: &O, states: usize, swept: u32) {
+    if swept % STATES_BETWEEN_LOOKS == 0 {
+        onlooker.see(states.min(u32::MAX as usize) as u32, swept);
+    }
+}
+
+/// Looks at the steps of all harts from the state at a place, the first that isn't swept. Answers why
+/// the search ends here, if it does: there are too many states, or this is an end that meets the goal.
+fn expand<M: Machine, G: Goal<M>>(
     sweep: &mut Sweep<M::State, M::Way>,
     machine: &mut M,
     place: u32,
     budget: u32,
-) -> Result<(), SearchStopped>
+    goal: &G,
+) -> Result<Option<Extent>, AllocError>
+    requires fits { G.Fits goal.now machine.old }
     requires inside { place < length sweep.old.states.keys }
     requires few { length sweep.old.states.keys ≤ budget }
     requires harts { sweep.old.harts ≡ M.harts machine.old }
@@ -83,27 +136,33 @@ fn expand<M: Machine>(
         (found_by sweep.old) }
     ensures grows { M.Grows machine.old machine.new }
     ensures same { OnOk result (sweep.new.harts ≡ sweep.old.harts) }
-    ensures swept { OnOk result
-        (IsSwept (M.Knows machine.new) (M.Steps machine.new) (place + 1) 0 (found_by sweep.new)) }
+    ensures swept { IfOk result (λ ended. ended ≡ None
+        → IsSwept (M.Knows machine.new) (M.Steps machine.new) (place + 1) 0 (found_by sweep.new)) }
+    ensures traced { OnOk result
+        (AreTraced (M.Knows machine.new) (M.Steps machine.new) (found_by sweep.new)) }
+    ensures ended { IfOk result
+        (IsEndedIf (G.Meets goal.now machine.new) budget (found_by sweep.new)) }
     ensures kept { OnOk result (Keeps sweep.old.states.keys sweep.new.states.keys) }
-    ensures within { OnOk result (length sweep.new.states.keys ≤ budget) }
-    ensures stopped { IfErr result (λ why. (start : M.State)
-        → slice_get sweep.old.states.keys 0 ≡ Some start
-        → IsStoppedFor (M.Steps machine.new) start budget why) }
+    ensures few { OnOk result (length sweep.new.states.keys ≤ budget + 1) }
 {
     let state = sweep.states.as_slice()[place as usize];
     let mut is_end = true;
     for hart in 0..sweep.harts {
-        if follow(sweep, machine, state, place, hart, budget)?.is_some() {
+        if sweep.states.len() > budget as usize {
+            return Ok(Some(Extent::Beyond));
+        }
+        if follow(sweep, machine, state, place, hart)?.is_some() {
             is_end = false;
         }
     }
-    if is_end {
-        let Ok(()) = sweep.ends.push(place) else {
-            return Err(SearchStopped::Memory);
-        };
+    if !is_end {
+        return Ok(None);
     }
-    Ok(())
+    sweep.ends.push(place)?;
+    if goal.is_met(machine, state)? {
+        return Ok(Some(Extent::First));
+    }
+    Ok(None)
 }
 
 /// Keeps the edge of a hart's step from the state at a place, and answers it.
@@ -113,10 +172,9 @@ fn follow<M: Machine>(
     state: M::State,
     place: u32,
     hart: u8,
-    budget: u32,
-) -> Result<Option<u32>, SearchStopped>
+) -> Result<Option<u32>, AllocError>
     requires here { slice_get sweep.old.states.keys place ≡ Some state }
-    requires few { length sweep.old.states.keys ≤ budget }
+    requires few { length sweep.old.states.keys < 2 ^ 32 }
     requires present { hart < sweep.old.harts }
     requires harts { sweep.old.harts ≡ M.harts machine.old }
     requires swept { IsSwept (M.Knows machine.old) (M.Steps machine.old) place hart
@@ -126,17 +184,12 @@ fn follow<M: Machine>(
     ensures swept { OnOk result (IsSwept (M.Knows machine.new) (M.Steps machine.new) place (hart + 1)
         (found_by sweep.new)) }
     ensures kept { OnOk result (Keeps sweep.old.states.keys sweep.new.states.keys) }
-    ensures within { OnOk result (length sweep.new.states.keys ≤ budget) }
+    ensures one { OnOk result (length sweep.new.states.keys ≤ length sweep.old.states.keys + 1) }
     ensures edge { IfOk result
         (λ edge. sweep.new.edges.items ≡ sweep.old.edges.items ++ edge ∷ []) }
-    ensures stopped { IfErr result (λ why. (start : M.State)
-        → slice_get sweep.old.states.keys 0 ≡ Some start
-        → IsStoppedFor (M.Steps machine.new) start budget why) }
 {
-    let edge = next_edge(sweep, machine, state, place, hart, budget)?;
-    let Ok(()) = sweep.edges.push(edge) else {
-        return Err(SearchStopped::Memory);
-    };
+    let edge = next_edge(sweep, machine, state, place, hart)?;
+    sweep.edges.push(edge)?;
     Ok(edge)
 }
 
@@ -148,10 +201,9 @@ fn next_edge<M: Machine>(
     state: M::State,
     place: u32,
     hart: u8,
-    budget: u32,
-) -> Result<Option<u32>, SearchStopped>
+) -> Result<Option<u32>, AllocError>
     requires here { slice_get sweep.old.states.keys place ≡ Some state }
-    requires few { length sweep.old.states.keys ≤ budget }
+    requires few { length sweep.old.states.keys < 2 ^ 32 }
     requires present { hart < sweep.old.harts }
     requires harts { sweep.old.harts ≡ M.harts machine.old }
     requires swept { IsSwept (M.Knows machine.old) (M.Steps machine.old) place hart
@@ -162,15 +214,9 @@ fn next_edge<M: Machine>(
     ensures swept { IfOk result (λ edge. IsSwept (M.Knows machine.new) (M.Steps machine.new)
         place (hart + 1) (with_edge (found_by sweep.new) edge)) }
     ensures kept { OnOk result (Keeps sweep.old.states.keys sweep.new.states.keys) }
-    ensures within { OnOk result (length sweep.new.states.keys ≤ budget) }
-    ensures stopped { IfErr result (λ why. (start : M.State)
-        → slice_get sweep.old.states.keys 0 ≡ Some start
-        → IsStoppedFor (M.Steps machine.new) start budget why) }
+    ensures one { OnOk result (length sweep.new.states.keys ≤ length sweep.old.states.keys + 1) }
 {
-    let Ok(next) = machine.step(state, hart) else {
-        return Err(SearchStopped::Memory);
-    };
-    match next {
+    match machine.step(state, hart)? {
         None => Ok(None),
         Some(step) => {
             let origin = Origin {
@@ -178,7 +224,7 @@ fn next_edge<M: Machine>(
                 hart,
                 way: step.way,
             };
-            let found = sweep.note(step.state, origin, budget)?;
+            let found = sweep.note(step.state, origin)?;
             Ok(Some(found))
         }
     }

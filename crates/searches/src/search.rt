@@ -8,9 +8,9 @@ use std::alloc::{AllocError, Global};
 use std::hash::Hash;
 use std::marker::Model;
 
-/// What a search found: the states, in the order in which they were found, each hart's step from
-/// each of them, and which of them are ends. A state's place is its index in this order, and the
-/// start's is 0.
+/// What a search found: the states, in the order in which they were found, the harts' steps from
+/// those of them that were swept, and which of them are ends. A state's place is its index in this
+/// order, and the start's is 0.
 #[derive(Drop)]
 pub struct Search<S: Copy + Eq + Hash, W: Copy> {
     pub(crate) harts: u8,
@@ -22,7 +22,7 @@ pub struct Search<S: Copy + Eq + Hash, W: Copy> {
 
 impl<S: Copy + Eq + Hash, W: Copy> Model for Search<S, W> {
     ghost use Rattle.searches.specs.Found.{Found};
-    ghost use Rattle.searches.specs.Whole.{IsWhole};
+    ghost use Rattle.searches.specs.Tied.{IsTied};
 
     ghost Value = { Found S W };
 
@@ -34,38 +34,42 @@ impl<S: Copy + Eq + Hash, W: Copy> Model for Search<S, W> {
       ends = s.ends.items;
     } };
 
-    ghost invariant = { λ s. IsWhole s.harts s.states.keys s.origins.items s.edges.items s.ends.items };
+    ghost invariant = { λ s. IsTied s.harts s.states.keys s.origins.items s.edges.items s.ends.items };
 }
 
 impl<S: Copy + Eq + Hash, W: Copy> Search<S, W> {
     /// How many states were found.
-    pub fn states(&self) -> u32
+    pub fn states(&self) -> usize
         ensures { result ≡ length self.now.states }
     {
-        self.states.len() as u32
+        self.states.len()
     }
 
     /// The state at a place.
-    pub fn state(&self, place: u32) -> Option<S>
+    pub fn state(&self, place: usize) -> Option<S>
         ensures { result ≡ slice_get self.now.states place }
     {
-        self.states.get_index(place as usize).copied()
+        self.states.get_index(place).copied()
     }
 
-    /// The places of the ends, rising: the states in which no hart has a step.
+    /// The places of the ends that were found: states in which no hart has a step.
     pub fn ends(&self) -> &[u32]
         ensures { result.now ≡ self.now.ends }
     {
         self.ends.as_slice()
     }
 
-    /// The place of the state after a hart's step from the state at a place, where it has one.
+    /// The place of the state after a hart's step from the state at a place, where it has one that was
+    /// looked at.
     pub(crate) fn edge(&self, place: usize, hart: u8) -> Option<u32>
         requires inside { place < length self.now.states }
         requires present { hart < self.now.harts }
         ensures { result ≡ edge_at self.now place hart }
     {
-        self.edges[place * self.harts as usize + hart as usize]
+        match self.edges.get(place * self.harts as usize + hart as usize) {
+            Some(edge) => *edge,
+            None => None,
+        }
     }
 
     /// The moves by which the state at a place was found, the first move first. Errors: want of

@@ -1,8 +1,9 @@
-ghost use Rattle.std.specs.Prelude.{◌≡◌, ◌≤◌, [], ◌∷◌, length, IfOk, IfErr};
-ghost use Rattle.searches.specs.Sweeps.{found_by, IsNoted, IsOver};
+ghost use Rattle.std.specs.Prelude.{◌≡◌, ◌^◌, ◌<◌, [], ◌∷◌, length, IfOk};
+ghost use Rattle.searches.specs.Sweeps.{found_by, IsNoted};
+ghost use Rattle.searches.specs.Tied.{IsTied};
 
 use crate::origin::Origin;
-use crate::stopped::SearchStopped;
+use crate::search::Search;
 use indexmap::IndexSet;
 use std::alloc::{AllocError, Global};
 use std::hash::Hash;
@@ -40,30 +41,37 @@ impl<S: Copy + Eq + Hash, W: Copy> Sweep<S, W> {
         })
     }
 
-    /// Notes a state that was found, unless it was found before. Answers its place.
-    pub(crate) fn note(
-        &mut self,
-        state: S,
-        origin: Origin<W>,
-        budget: u32,
-    ) -> Result<u32, SearchStopped>
-        requires { length self.old.states.keys ≤ budget }
-        ensures noted { IfOk result
-            (IsNoted S.eq budget (found_by self.old) state origin (found_by self.new)) }
-        ensures over { IfErr result (IsOver S.eq budget (found_by self.old) state) }
+    /// Notes a state that was found, unless it was found before. Answers its place. Errors: want of memory.
+    pub(crate) fn note(&mut self, state: S, origin: Origin<W>) -> Result<u32, AllocError>
+        requires { length self.old.states.keys < 2 ^ 32 }
+        ensures noted { IfOk result (IsNoted S.eq (found_by self.old) state origin (found_by self.new)) }
     {
-        let Ok((place, is_new)) = self.states.insert_full(state) else {
-            return Err(SearchStopped::Memory);
-        };
+        let (place, is_new) = self.states.insert_full(state)?;
         if !is_new {
             return Ok(place as u32);
         }
-        if place >= budget as usize {
-            return Err(SearchStopped::Budget);
-        }
-        let Ok(()) = self.origins.push(origin) else {
-            return Err(SearchStopped::Memory);
-        };
+        self.origins.push(origin)?;
         Ok(place as u32)
+    }
+
+    /// What was found.
+    pub(crate) fn into_search(self) -> Search<S, W>
+        requires { IsTied self.harts self.states.keys self.origins.items self.edges.items self.ends.items }
+        ensures { result ≡ found_by self }
+    {
+        let Sweep {
+            harts,
+            states,
+            origins,
+            edges,
+            ends,
+        } = self;
+        Search {
+            harts,
+            states,
+            origins,
+            edges,
+            ends,
+        }
     }
 }

@@ -8,7 +8,7 @@ use Rattle.sim_inputs.specs.CommandLine.{IsChart, IsEnd, last_place, most_column
 use Rattle.sim_inputs.specs.declared.line.{ChartCommand.ChartCommand, ChartEnd.ChartEnd}
 use Rattle.sim_inputs.proofs.ChartEnds.{rise_alike}
 
-some_alike : (a b : Option (Bor Text)) → option_map (λ f. f.now) a ≡ option_map (λ f. f.now) b → is_some a ≡ is_some b
+pub some_alike : (a b : Option (Bor Text)) → option_map (λ f. f.now) a ≡ option_map (λ f. f.now) b → is_some a ≡ is_some b
 some_alike None None same = refl
 some_alike None (Some other) same = cc
 some_alike (Some one) None same = cc

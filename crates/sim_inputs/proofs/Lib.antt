@@ -4,9 +4,11 @@ pub mod Described
 pub mod Faults
 pub mod Found
 pub mod Harts
+pub mod Inputs
 pub mod Keys
 pub mod Names
 pub mod Refusals
 pub mod Rows
+pub mod Searches
 pub mod Subcommand
 pub mod Written

@@ -13,10 +13,10 @@ use Rattle.sim_inputs.specs.CommandLine.{IsCommandOf, Names}
 use Rattle.sim_inputs.specs.Files.{files_with, is_standard_input, writes_no_dash}
 use Rattle.sim_inputs.proofs.Subcommand.{is_line}
 
-abbrev text_of : Option (Bor Text) → Option Text
+abbrev pub text_of : Option (Bor Text) → Option Text
 text_of file = option_map (λ f. f.now) file
 
-abbrev either : Option Text → Option Text → Option Text
+abbrev pub either : Option Text → Option Text → Option Text
 either first second = if is_some first then first else second
 
 abbrev written_text : Text → List Row → Option Text
@@ -25,7 +25,8 @@ written_text name rows =
     else (if bytes_eq name (codes "run") then first_of (codes "trace") rows
     else (if bytes_eq name (codes "chart") then either (first_of (codes "svg") rows) (first_of (codes "kanata") rows)
     else (if bytes_eq name (codes "outcomes")
-    then either (first_of (codes "witness") rows) (first_of (codes "script") rows)
+    then either (first_of (codes "witness") rows)
+    (either (first_of (codes "script") rows) (first_of (codes "story") rows))
     else (if bytes_eq name (codes "litmus") then either (first_of (codes "image") rows) (first_of (codes "svg") rows)
     else (if bytes_eq name (codes "migrate") then first_of (codes "OUT") rows else None)))))
 
@@ -46,7 +47,8 @@ written_is name rows config (commands.OfProgram (program.List list)) is = rw is.
 written_is name rows config (commands.OfProgram (program.Chart chart)) is =
     rw is.0 (either_text chart.svg chart.kanata _ _ is.1.svg is.1.kanata)
 written_is name rows config (commands.OfProgram (program.Outcomes outcomes)) is =
-    rw is.0 (either_text outcomes.witness outcomes.script _ _ is.1.witness is.1.script)
+    let behind = either_text outcomes.script outcomes.story _ _ is.1.script is.1.story in
+    rw is.0 (either_text outcomes.witness _ _ _ is.1.witness (sym behind))
 written_is name rows config (commands.Explain explain) is = rw is.0 refl
 written_is name rows config (commands.Litmus litmus) is =
     rw is.0 (either_text litmus.image litmus.svg _ _ is.1.image is.1.svg)

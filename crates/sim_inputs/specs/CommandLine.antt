@@ -31,6 +31,8 @@ use Rattle.sim_inputs.specs.declared.line.OutcomesCommand.{OutcomesCommand}
 use Rattle.sim_inputs.specs.declared.line.{LitmusCommand.LitmusCommand, MigrateCommand.MigrateCommand}
 use Rattle.sim_inputs.specs.declared.line.{Beside.Beside}
 use Rattle.sim_inputs.specs.declared.line.Beside.TheVariants as beside
+use Rattle.sim_inputs.specs.declared.line.{QuestionText.QuestionText}
+use Rattle.sim_inputs.specs.declared.line.QuestionText.TheVariants as question
 use Rattle.sim_inputs.specs.declared.line.{ChartEnd.ChartEnd}
 use Rattle.sim_inputs.specs.declared.line.ChartEnd.TheVariants as ends
 use Rattle.sim_inputs.specs.ChartEnds.{do_ends_rise, IsEndOf}
@@ -169,11 +171,13 @@ pub record IsCheck (rows : List Row) (check : CheckCommand) : Type 0 where
   pub why : IsFlag rows (codes "why") check.why
 
 -- There is either an order or rounds, of an instruction at least, and what says more of rounds is there
--- with them alone.
+-- with them alone; a story is there with an order alone, and what says more of a story with one alone.
 abbrev pub can_be_plain : PlainCommand → Bool
 can_be_plain plain =
-    let ordered = is_some plain.order && not (is_some plain.steps) && not (is_some plain.seed) in
-    option_map_or (λ rounds. nat_le 1 rounds && not (is_some plain.order)) plain.rounds ordered
+    let told = plain.story || not plain.all in
+    let ordered = is_some plain.order && (not (is_some plain.steps) && (not (is_some plain.seed) && told)) in
+    option_map_or (λ rounds. nat_le 1 rounds && (not (is_some plain.order) && (not plain.story && told))) plain.rounds
+    ordered
 
 pub record IsPlain (rows : List Row) (plain : PlainCommand) : Type 0 where
   pub image : IsFile rows (codes "IMAGE") plain.image
@@ -184,6 +188,8 @@ pub record IsPlain (rows : List Row) (plain : PlainCommand) : Type 0 where
   pub lines : IsFileOption rows (codes "lines") plain.lines
   pub names : IsFlag rows (codes "names") plain.names
   pub records : IsFlag rows (codes "records") plain.records
+  pub story : IsFlag rows (codes "story") plain.story
+  pub all : IsFlag rows (codes "all") plain.all
   pub together : can_be_plain plain ≡ true
 
 pub record IsSchedule (rows : List Row) (schedule : ScheduleCommand) : Type 0 where
@@ -241,34 +247,64 @@ pub record IsExplain (rows : List Row) (explain : ExplainCommand) : Type 0 where
   pub image : IsFile rows (codes "IMAGE") explain.image
   pub beside : IsBeside rows explain.beside
 
--- An order has one file, as it is or as its script; or it has none.
+-- What is asked of outcomes: one question, or none.
+pub record IsAskedAlone (rows : List Row) (exists forall never : Option Text) (never_stuck : Bool) : Type 0 where
+  pub has_exists : first_of (codes "exists") rows ≡ exists
+  pub has_forall : first_of (codes "forall") rows ≡ forall
+  pub has_never : first_of (codes "never") rows ≡ never
+  pub has_never_stuck : is_flag_set (codes "never-stuck") rows ≡ never_stuck
+
+abbrev pub IsQuestion : List Row → Option QuestionText → Type 0
+IsQuestion rows None = IsAskedAlone rows None None None false
+IsQuestion rows (Some (question.Exists text)) = IsAskedAlone rows (Some text.now) None None false
+IsQuestion rows (Some (question.ForAll text)) = IsAskedAlone rows None (Some text.now) None false
+IsQuestion rows (Some (question.Never text)) = IsAskedAlone rows None None (Some text.now) false
+IsQuestion rows (Some question.NeverStuck) = IsAskedAlone rows None None None true
+
+abbrev pub has_condition : Option QuestionText → Bool
+has_condition None = false
+has_condition (Some question.NeverStuck) = false
+has_condition (Some other) = true
+
+-- An order has one file, as it is, as its script or as its story; or it has none.
 abbrev pub has_one_file : OutcomesCommand → Bool
 has_one_file outcomes =
-    if is_some outcomes.witness then not (is_some outcomes.script) else is_some outcomes.script
+    if is_some outcomes.witness then not (is_some outcomes.script) && not (is_some outcomes.story)
+    else (if is_some outcomes.script then not (is_some outcomes.story) else is_some outcomes.story)
 
 abbrev pub has_no_file : OutcomesCommand → Bool
-has_no_file outcomes = not (is_some outcomes.witness) && not (is_some outcomes.script)
+has_no_file outcomes =
+    not (is_some outcomes.witness) && not (is_some outcomes.script) && not (is_some outcomes.story)
 
 -- Some state is looked at. An order is written of an outcome, from 1, or of a state that is stuck, and
--- of one of them alone.
+-- of one of them alone; or of what answers the question.
 abbrev pub are_orders_together : OutcomesCommand → Bool
 are_orders_together outcomes =
-    let without = if outcomes.stuck then has_one_file outcomes else has_no_file outcomes in
+    let asked = if is_some outcomes.question then has_no_file outcomes || has_one_file outcomes
+    else has_no_file outcomes in
+    let without = if outcomes.stuck then has_one_file outcomes else asked in
     option_map_or (λ number. nat_le 1 number && not outcomes.stuck && has_one_file outcomes)
     outcomes.outcome without
 
+-- The search ends at the first answer where a condition is asked; what a story shows is said of a story.
 abbrev pub can_be_searched : OutcomesCommand → Bool
 can_be_searched outcomes = nat_le 1 outcomes.states && are_orders_together outcomes
+    && (not outcomes.first || has_condition outcomes.question)
+    && (is_some outcomes.story || (not outcomes.all && not (is_some outcomes.lines)))
 
 pub record IsOutcomes (rows : List Row) (outcomes : OutcomesCommand) : Type 0 where
   pub image : IsFile rows (codes "IMAGE") outcomes.image
   pub states : IsNumber rows (codes "states") usual_states most_states outcomes.states
   pub watch : IsFileOption rows (codes "watch") outcomes.watch
-  pub exists : IsFileOption rows (codes "exists") outcomes.exists
+  pub question : IsQuestion rows outcomes.question
+  pub first : IsFlag rows (codes "first") outcomes.first
   pub outcome : IsNumberOption rows (codes "outcome") most_states outcomes.outcome
   pub stuck : IsFlag rows (codes "stuck") outcomes.stuck
   pub witness : IsFileOption rows (codes "witness") outcomes.witness
   pub script : IsFileOption rows (codes "script") outcomes.script
+  pub story : IsFileOption rows (codes "story") outcomes.story
+  pub all : IsFlag rows (codes "all") outcomes.all
+  pub lines : IsFileOption rows (codes "lines") outcomes.lines
   pub together : can_be_searched outcomes ≡ true
 
 -- Some state is looked at, and one file at most is written: the image, or the picture.

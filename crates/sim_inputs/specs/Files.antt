@@ -17,9 +17,10 @@ use Rattle.sim_inputs.specs.declared.line.ProgramCommand.TheVariants as program
 abbrev pub written_chart : ChartCommand → Option (Bor (List ℕ))
 written_chart chart = if is_some chart.svg then chart.svg else chart.kanata
 
--- The file that an order is written to, or its script.
+-- The file that an order is written to, or its script, or its story.
 abbrev pub written_order : OutcomesCommand → Option (Bor (List ℕ))
-written_order outcomes = if is_some outcomes.witness then outcomes.witness else outcomes.script
+written_order outcomes = if is_some outcomes.witness then outcomes.witness
+    else (if is_some outcomes.script then outcomes.script else outcomes.story)
 
 -- The file that a test's image is written to, or the picture of why it can't end so.
 abbrev pub written_for_test : LitmusCommand → Option (Bor (List ℕ))
@@ -68,7 +69,7 @@ lines_of (program.Schedule schedule) = None
 lines_of (program.Script script) = None
 lines_of (program.List list) = list.lines
 lines_of (program.Chart chart) = None
-lines_of (program.Outcomes outcomes) = None
+lines_of (program.Outcomes outcomes) = outcomes.lines
 
 abbrev pub shows_names : ProgramCommand → Bool
 shows_names (program.Step step) = step.names

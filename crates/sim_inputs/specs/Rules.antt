@@ -60,6 +60,12 @@ looks_rule = flag_rule (codes "looks")
 abbrev pub records_rule : Rule
 records_rule = flag_rule (codes "records")
 
+abbrev pub story_rule : Rule
+story_rule = flag_rule (codes "story")
+
+abbrev pub all_rule : Rule
+all_rule = flag_rule (codes "all")
+
 abbrev pub show_rule : Rule
 show_rule = flag_rule (codes "show")
 
@@ -119,6 +125,18 @@ watch_rule = text_option_rule (codes "watch")
 abbrev pub exists_rule : Rule
 exists_rule = text_option_rule (codes "exists")
 
+abbrev pub forall_rule : Rule
+forall_rule = text_option_rule (codes "forall")
+
+abbrev pub never_rule : Rule
+never_rule = text_option_rule (codes "never")
+
+abbrev pub never_stuck_rule : Rule
+never_stuck_rule = flag_rule (codes "never-stuck")
+
+abbrev pub first_rule : Rule
+first_rule = flag_rule (codes "first")
+
 abbrev pub outcome_rule : Rule
 outcome_rule = number_option_rule (codes "outcome")
 
@@ -130,6 +148,9 @@ witness_rule = file_option_rule (codes "witness")
 
 abbrev pub written_script_rule : Rule
 written_script_rule = file_option_rule (codes "script")
+
+abbrev pub written_story_rule : Rule
+written_story_rule = file_option_rule (codes "story")
 
 abbrev pub explained_script_rule : Rule
 explained_script_rule = file_option_rule (codes "script")
@@ -172,11 +193,11 @@ abbrev pub check_command : App
 check_command = subcommand (codes "check") (image_rule ∷ trace_rule ∷ config_rule ∷ harts_rule ∷ counts_rule ∷ json_rule
     ∷ lines_rule ∷ names_rule ∷ records_rule ∷ why_rule ∷ [])
 
--- `plain IMAGE ORDER`, with `--config FILE`, `--harts N`, `--lines FILE`, `--names` and `--records`; or without the
--- order, and with `--rounds K`, `--steps N` and `--seed S`.
+-- `plain IMAGE ORDER`, with `--config FILE`, `--harts N`, `--lines FILE`, `--names`, `--records`, `--story` and `--all`;
+-- or without the order, and with `--rounds K`, `--steps N` and `--seed S`.
 abbrev pub plain_command : App
 plain_command = subcommand (codes "plain") (image_rule ∷ order_or_rounds_rule ∷ config_rule ∷ harts_rule ∷ lines_rule
-    ∷ names_rule ∷ records_rule ∷ rounds_rule ∷ steps_rule ∷ seed_rule ∷ [])
+    ∷ names_rule ∷ records_rule ∷ rounds_rule ∷ steps_rule ∷ seed_rule ∷ story_rule ∷ all_rule ∷ [])
 
 -- `schedule IMAGE ORDER`, with `--config FILE` and `--harts N`.
 abbrev pub schedule_command : App
@@ -203,10 +224,12 @@ explain_command = subcommand (codes "explain") (image_rule ∷ config_rule ∷ h
     ∷ explained_order_rule ∷ written_trace_rule ∷ [])
 
 -- `outcomes IMAGE`, with `--config FILE`, `--harts N`, `--states N`, `--watch LIST`, `--exists CONDITION`,
--- `--outcome N`, `--stuck`, `--witness FILE` and `--script FILE`.
+-- `--forall CONDITION`, `--never CONDITION`, `--never-stuck`, `--first`, `--outcome N`, `--stuck`, `--witness FILE`,
+-- `--script FILE`, `--story FILE`, `--all` and `--lines FILE`.
 abbrev pub outcomes_command : App
 outcomes_command = subcommand (codes "outcomes") (image_rule ∷ config_rule ∷ harts_rule ∷ states_rule ∷ watch_rule
-    ∷ exists_rule ∷ outcome_rule ∷ stuck_rule ∷ witness_rule ∷ written_script_rule ∷ [])
+    ∷ exists_rule ∷ forall_rule ∷ never_rule ∷ never_stuck_rule ∷ first_rule ∷ outcome_rule ∷ stuck_rule ∷ witness_rule
+    ∷ written_script_rule ∷ written_story_rule ∷ all_rule ∷ lines_rule ∷ [])
 
 -- `litmus TEST`, with `--config FILE`, `--states N`, `--image FILE`, `--why` and `--svg FILE`.
 abbrev pub litmus_command : App

@@ -116,6 +116,18 @@ pub(crate) const RECORDS: Argument = Argument {
     help: "Print a record of each retirement, before the report",
 };
 
+pub(crate) const STORY: Argument = Argument {
+    kind: Kind::Flag,
+    name: "story",
+    help: "Tell what steps show to other harts, before the report",
+};
+
+pub(crate) const ALL: Argument = Argument {
+    kind: Kind::Flag,
+    name: "all",
+    help: "Tell each step, with --story",
+};
+
 pub(crate) const SHOW: Argument = Argument {
     kind: Kind::Flag,
     name: "show",
@@ -236,6 +248,30 @@ pub(crate) const EXISTS: Argument = Argument {
     help: "Tell of which outcomes this holds",
 };
 
+pub(crate) const FORALL: Argument = Argument {
+    kind: Kind::Condition,
+    name: "forall",
+    help: "Tell whether this holds of each",
+};
+
+pub(crate) const NEVER: Argument = Argument {
+    kind: Kind::Condition,
+    name: "never",
+    help: "Tell whether this holds of none",
+};
+
+pub(crate) const NEVER_STUCK: Argument = Argument {
+    kind: Kind::Flag,
+    name: "never-stuck",
+    help: "Tell whether each state can go on to an end",
+};
+
+pub(crate) const FIRST: Argument = Argument {
+    kind: Kind::Flag,
+    name: "first",
+    help: "End the search at the first that answers",
+};
+
 pub(crate) const OUTCOME: Argument = Argument {
     kind: Kind::Number,
     name: "outcome",
@@ -258,6 +294,12 @@ pub(crate) const WRITTEN_SCRIPT: Argument = Argument {
     kind: Kind::Option,
     name: "script",
     help: "The file for the script of that order",
+};
+
+pub(crate) const WRITTEN_STORY: Argument = Argument {
+    kind: Kind::Option,
+    name: "story",
+    help: "The file for the story of that order",
 };
 
 pub(crate) const TEST: Argument = Argument {

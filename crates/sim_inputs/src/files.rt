@@ -38,14 +38,17 @@ impl<'a> ChartCommand<'a> {
 }
 
 impl<'a> OutcomesCommand<'a> {
-    /// The file that an order or its script is written to; none where nothing is written.
+    /// The file that an order, its script or its story is written to; none where nothing is written.
     pub fn written(&self) -> Option<&'a str>
         ensures { result ≡ written_order self.now }
     {
         if self.witness.is_some() {
             return self.witness;
         }
-        self.script
+        if self.script.is_some() {
+            return self.script;
+        }
+        self.story
     }
 }
 
@@ -111,7 +114,8 @@ impl<'a> ProgramCommand<'a> {
             ProgramCommand::Plain(plain) => plain.lines,
             ProgramCommand::List(list) => list.lines,
             ProgramCommand::Schedule(_) | ProgramCommand::Script(_) => None,
-            ProgramCommand::Chart(_) | ProgramCommand::Outcomes(_) => None,
+            ProgramCommand::Outcomes(outcomes) => outcomes.lines,
+            ProgramCommand::Chart(_) => None,
         }
     }
 

@@ -70,14 +70,17 @@ LIST is what tells outcomes apart, beside how harts end and what they put out:
 registers at harts, names of the program and words of memory, apart by commas:
 a0@1,counter,next[3],node+8,lock.c:lock,80001000:4; behind a name :2 or :1 is
 a half or a byte of it.
-CONDITION has terms joined by &, which hold together: h0=1 & a0@1=2.
+CONDITION has terms joined by &, | and !, with parentheses: h0=1 & !(a0@1=2).
   h0=1           hart 0 has ended with 1
-  h0=stopped 4   hart 0 has stopped with cause 4
+  h0=stopped 4   hart 0 has stopped with cause 4; h0=stopped: with any
+  h*=0           each hart has ended with 0
   a0@1=2         register a0 of hart 1 has 2 at the end
-  counter=7      the object of this name has 7
+  counter=7      the object of this name has 7; so !=, < and >=
   80001000:4=7   so has the word at this address, which is hexadecimal
+  out=4142       these bytes were put out
 Numbers are decimal, or hexadecimal behind 0x. What it names is watched too.
-Of outcomes it says: exists: yes, and which, or exists: no.";
+A question is answered by yes or no, and by outcomes that say why; the exit
+status is 0 for yes, 1 for no, and 3 where the search ended too early to know.";
 
 /// What a test is, for the help of `litmus`.
 pub(crate) const LITMUS_FORM: &str = "\

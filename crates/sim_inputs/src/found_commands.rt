@@ -4,7 +4,8 @@ ghost use Rattle.std.specs.Prelude.{◌≡◌};
 ghost use Rattle.clap.specs.Words.{found_of, rows_of};
 ghost use Rattle.sim_inputs.specs.CommandLine.{Finds, IsBeside, IsChart, IsCheck, IsExplain, IsList};
 ghost use Rattle.sim_inputs.specs.CommandLine.{IsLitmus, IsMigrate, IsOutcomes, IsPlain, IsRun, IsSchedule};
-ghost use Rattle.sim_inputs.specs.CommandLine.{IsScript, IsStep, are_orders_together, can_be_drawn};
+ghost use Rattle.sim_inputs.specs.CommandLine.{IsScript, IsStep, IsQuestion, has_condition, has_no_file};
+ghost use Rattle.sim_inputs.specs.CommandLine.{are_orders_together, can_be_drawn};
 ghost use Rattle.sim_inputs.specs.CommandLine.{can_be_plain, can_be_run, can_be_searched, can_be_tested};
 ghost use Rattle.sim_inputs.specs.CommandLine.{has_named_folder, has_one_file, is_reported};
 
@@ -13,7 +14,8 @@ use crate::files::is_standard_input;
 use crate::found_values::{is_set, number, number_or, value_of};
 use crate::line::{
     Beside, ChartCommand, CheckCommand, ExplainCommand, ListCommand, LitmusCommand, MigrateCommand,
-    OutcomesCommand, PlainCommand, RunCommand, ScheduleCommand, ScriptCommand, StepCommand,
+    OutcomesCommand, PlainCommand, QuestionText, RunCommand, ScheduleCommand, ScriptCommand,
+    StepCommand,
 };
 use clap::ArgMatches;
 use numbers::sizes::{MOST_EVENTS, MOST_HARTS};
@@ -138,6 +140,8 @@ pub(crate) fn plain_in<'a>(found: &ArgMatches<'a>) -> Option<PlainCommand<'a>>
         lines: value_of(found, "lines"),
         names: is_set(found, "names"),
         records: is_set(found, "records"),
+        story: is_set(found, "story"),
+        all: is_set(found, "all"),
     };
     if !can_be_plain(&plain) {
         return None;
@@ -145,14 +149,17 @@ pub(crate) fn plain_in<'a>(found: &ArgMatches<'a>) -> Option<PlainCommand<'a>>
     Some(plain)
 }
 
-/// Whether there is either an order or rounds, of an instruction at least, and whether what says more
-/// of rounds has some.
+/// Whether there is either an order or rounds, of an instruction at least, whether what says more
+/// of rounds has some, and whether a story has an order, and what says more of it a story.
 fn can_be_plain(plain: &PlainCommand<'_>) -> bool
     ensures { result ≡ can_be_plain plain.now }
 {
+    let is_told = plain.story || !plain.all;
     match plain.rounds {
-        Some(rounds) => rounds >= 1 && plain.order.is_none(),
-        None => plain.order.is_some() && plain.steps.is_none() && plain.seed.is_none(),
+        Some(rounds) => rounds >= 1 && plain.order.is_none() && !plain.story && is_told,
+        None => {
+            plain.order.is_some() && plain.steps.is_none() && plain.seed.is_none() && is_told
+        }
     }
 }
 
@@ -244,11 +251,15 @@ pub(crate) fn outcomes_in<'a>(found: &ArgMatches<'a>) -> Option<OutcomesCommand<
         image: value_of(found, "IMAGE")?,
         states: number_or(found, "states", USUAL_STATES, u32::MAX)?,
         watch: value_of(found, "watch"),
-        exists: value_of(found, "exists"),
+        question: question_in(found)?,
+        first: is_set(found, "first"),
         outcome: number(found, "outcome", u32::MAX)?,
         stuck: is_set(found, "stuck"),
         witness: value_of(found, "witness"),
         script: value_of(found, "script"),
+        story: value_of(found, "story"),
+        all: is_set(found, "all"),
+        lines: value_of(found, "lines"),
     };
     if !can_be_searched(&outcomes) {
         return None;
@@ -256,11 +267,30 @@ pub(crate) fn outcomes_in<'a>(found: &ArgMatches<'a>) -> Option<OutcomesCommand<
     Some(outcomes)
 }
 
-/// Whether some state is looked at, and the options of orders go together.
+/// The question that is asked of outcomes, if one is; none where it would be two.
+fn question_in<'a>(found: &ArgMatches<'a>) -> Option<Option<QuestionText<'a>>>
+    ensures { Finds (IsQuestion (rows_of (found_of found.now))) result }
+{
+    let (exists, for_all) = (value_of(found, "exists"), value_of(found, "forall"));
+    let (never, never_stuck) = (value_of(found, "never"), is_set(found, "never-stuck"));
+    match (exists, for_all, never, never_stuck) {
+        (None, None, None, false) => Some(None),
+        (Some(condition), None, None, false) => Some(Some(QuestionText::Exists(condition))),
+        (None, Some(condition), None, false) => Some(Some(QuestionText::ForAll(condition))),
+        (None, None, Some(condition), false) => Some(Some(QuestionText::Never(condition))),
+        (None, None, None, true) => Some(Some(QuestionText::NeverStuck)),
+        _ => None,
+    }
+}
+
+/// Whether some state is looked at, and the options of orders and of stories go together.
 fn can_be_searched(outcomes: &OutcomesCommand<'_>) -> bool
     ensures { result ≡ can_be_searched outcomes.now }
 {
-    outcomes.states >= 1 && are_orders_together(outcomes)
+    outcomes.states >= 1
+        && are_orders_together(outcomes)
+        && (!outcomes.first || has_condition(outcomes))
+        && (outcomes.story.is_some() || !outcomes.all && outcomes.lines.is_none())
 }
 
 /// Whether an order is written of one end alone, and into one file; or none is.
@@ -270,18 +300,35 @@ fn are_orders_together(outcomes: &OutcomesCommand<'_>) -> bool
     match outcomes.outcome {
         Some(number) => number >= 1 && !outcomes.stuck && has_one_file(outcomes),
         None if outcomes.stuck => has_one_file(outcomes),
-        None => outcomes.witness.is_none() && outcomes.script.is_none(),
+        None if outcomes.question.is_some() => has_no_file(outcomes) || has_one_file(outcomes),
+        None => has_no_file(outcomes),
     }
 }
 
-/// Whether an order is written, as it is or as its script, and not both.
+/// Whether an order is written in one way: as it is, as its script or as its story.
 fn has_one_file(outcomes: &OutcomesCommand<'_>) -> bool
     ensures { result ≡ has_one_file outcomes.now }
 {
-    if outcomes.witness.is_some() {
-        return outcomes.script.is_none();
+    match (outcomes.witness, outcomes.script, outcomes.story) {
+        (Some(_), None, None) | (None, Some(_), None) | (None, None, Some(_)) => true,
+        _ => false,
     }
-    outcomes.script.is_some()
+}
+
+fn has_no_file(outcomes: &OutcomesCommand<'_>) -> bool
+    ensures { result ≡ has_no_file outcomes.now }
+{
+    outcomes.witness.is_none() && outcomes.script.is_none() && outcomes.story.is_none()
+}
+
+/// Whether a question is asked that has a condition.
+fn has_condition(outcomes: &OutcomesCommand<'_>) -> bool
+    ensures { result ≡ has_condition outcomes.now.question }
+{
+    match outcomes.question {
+        Some(QuestionText::NeverStuck) | None => false,
+        Some(_) => true,
+    }
 }
 
 pub(crate) fn litmus_in<'a>(found: &ArgMatches<'a>) -> Option<LitmusCommand<'a>>

@@ -43,8 +43,8 @@ pub use hart_count::HartCount;
 pub use hints_wanted::{HintsWanted, hints_asked};
 pub use line::{
     Beside, ChartCommand, ChartEnd, CheckCommand, Command, ExplainCommand, Line, ListCommand,
-    LitmusCommand, MigrateCommand, OutcomesCommand, PlainCommand, ProgramCommand, RunCommand,
-    ScheduleCommand, ScriptCommand, StepCommand, WordsRefused,
+    LitmusCommand, MigrateCommand, OutcomesCommand, PlainCommand, ProgramCommand, QuestionText,
+    RunCommand, ScheduleCommand, ScriptCommand, StepCommand, WordsRefused,
 };
 pub use refused_words::add_refused_words;
 pub use settings::Settings;

@@ -133,6 +133,10 @@ pub struct PlainCommand<'a> {
     pub names: bool,
     /// `--records`: a line for each record is printed before the report.
     pub records: bool,
+    /// `--story`: what the order's steps show to other harts is told before all else. There is none with rounds.
+    pub story: bool,
+    /// `--all`: the story has a row for each step. There is none without a story.
+    pub all: bool,
 }
 
 /// `schedule IMAGE ORDER`: the script that makes the core retire in the order is printed.
@@ -219,18 +223,40 @@ pub struct OutcomesCommand<'a> {
     pub states: u32,
     /// `--watch LIST`: the registers and words that tell outcomes apart.
     pub watch: Option<&'a str>,
-    /// `--exists CONDITION`: which outcomes are asked for.
-    pub exists: Option<&'a str>,
+    /// What is asked of them.
+    pub question: Option<QuestionText<'a>>,
+    /// `--first`: the search ends at the first outcome that answers the question, which has a
+    /// condition.
+    pub first: bool,
     /// `--outcome N`: the outcome whose order is written, from 1.
     pub outcome: Option<u32>,
-    /// `--stuck`: in its place the order to a state from which nothing can end. One of the two is
-    /// there where a file is written, else none.
+    /// `--stuck`: in its place the order to a state from which nothing can end. Where neither is
+    /// there and a file is written, it is the order of the outcome that answers the question.
     pub stuck: bool,
     /// `--witness FILE`: the file that the order is written to.
     pub witness: Option<&'a str>,
-    /// `--script FILE`: the file that the order's script is written to. There is one of the two at
-    /// most.
+    /// `--script FILE`: the file that the order's script is written to.
     pub script: Option<&'a str>,
+    /// `--story FILE`: the file that the order's story is written to. There is one of the three at
+    /// most.
+    pub story: Option<&'a str>,
+    /// `--all`: each instruction has a row in the story.
+    pub all: bool,
+    /// `--lines FILE`: the file of source lines, which stand behind the rows of the story.
+    pub lines: Option<&'a str>,
+}
+
+/// A question about all outcomes, with its condition as it is spelled.
+#[derive(Clone, Copy, Drop)]
+pub enum QuestionText<'a> {
+    /// `--exists CONDITION`: does it hold of an outcome?
+    Exists(&'a str),
+    /// `--forall CONDITION`: does it hold of each?
+    ForAll(&'a str),
+    /// `--never CONDITION`: does it hold of none?
+    Never(&'a str),
+    /// `--never-stuck`: can each state go on to an end?
+    NeverStuck,
 }
 
 /// `litmus TEST`: every final state of a litmus test is listed, and whether they are as it asks.

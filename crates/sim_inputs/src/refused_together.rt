@@ -76,26 +76,84 @@ fn refused_of_plain(found: &ArgMatches<'_>) -> Option<RefusedOptions> {
         (false, false) => refused("neither ORDER nor --rounds", "one of them"),
         (true, false) if has(found, "steps") => refused("--steps", "--rounds K beside it"),
         (true, false) if has(found, "seed") => refused("--seed", "--rounds K beside it"),
+        (false, true) if has(found, "story") => refused("--story", "ORDER in place of --rounds"),
+        _ if has(found, "all") && !has(found, "story") => refused("--all", "--story beside it"),
         _ => None,
     }
 }
 
 fn refused_of_outcomes(found: &ArgMatches<'_>) -> Option<RefusedOptions> {
-    let (witness, script) = (has(found, "witness"), has(found, "script"));
+    if let Some(refused) = refused_of_questions(found) {
+        return Some(refused);
+    }
+    if let Some(refused) = refused_of_orders(found) {
+        return Some(refused);
+    }
+    if has(found, "story") {
+        return None;
+    }
+    if has(found, "all") {
+        return refused("--all", "--story FILE beside it");
+    }
+    if has(found, "lines") {
+        return refused("--lines", "--story FILE beside it");
+    }
+    None
+}
+
+/// Two questions, and `--first` without a condition.
+fn refused_of_questions(found: &ArgMatches<'_>) -> Option<RefusedOptions> {
+    let exists = has(found, "exists");
+    let (for_all, never) = (has(found, "forall"), has(found, "never"));
+    let stuck = has(found, "never-stuck");
+    let words = match (exists, for_all, never, stuck) {
+        (true, true, _, _) => "--exists --forall",
+        (true, false, true, _) => "--exists --never",
+        (true, false, false, true) => "--exists --never-stuck",
+        (false, true, true, _) => "--forall --never",
+        (false, true, false, true) => "--forall --never-stuck",
+        (false, false, true, true) => "--never --never-stuck",
+        (false, false, false, _) if has(found, "first") => return refused(
+            "--first",
+            "--exists, --forall or --never beside it",
+        ),
+        _ => return None,
+    };
+    refused(words, ONE_OF_THEM)
+}
+
+/// Orders of two ends, an order without its file or with two, and a file without an order.
+fn refused_of_orders(found: &ArgMatches<'_>) -> Option<RefusedOptions> {
+    let files = match (
+        has(found, "witness"),
+        has(found, "script"),
+        has(found, "story"),
+    ) {
+        (true, true, _) => return refused("--witness --script", ONE_OF_THEM),
+        (true, false, true) => return refused("--witness --story", ONE_OF_THEM),
+        (false, true, true) => return refused("--script --story", ONE_OF_THEM),
+        (true, false, false) => "--witness",
+        (false, true, false) => "--script",
+        (false, false, true) => "--story",
+        (false, false, false) => "",
+    };
     let words = match (has(found, "outcome"), has(found, "stuck")) {
         (true, true) => return refused("--outcome --stuck", ONE_OF_THEM),
-        (false, false) if witness => return refused(
-            "--witness",
-            "--outcome N or --stuck beside it",
-        ),
-        (false, false) if script => return refused("--script", "--outcome N or --stuck beside it"),
-        (false, false) => return None,
+        (false, false) if files.is_empty() || asks(found) => return None,
+        (false, false) => return refused(files, "--outcome N, --stuck or a question beside it"),
         (true, false) => "--outcome",
         (false, true) => "--stuck",
     };
-    match (witness, script) {
-        (true, true) => refused("--witness --script", ONE_OF_THEM),
-        (false, false) => refused(words, "--witness FILE or --script FILE beside it"),
-        _ => None,
+    if files.is_empty() {
+        return refused(
+            words,
+            "--witness FILE, --script FILE or --story FILE beside it",
+        );
     }
+    None
+}
+
+/// Whether a question is asked.
+fn asks(found: &ArgMatches<'_>) -> bool {
+    has(found, "exists") || has(found, "forall") || has(found, "never") || has(found, "never-stuck")
 }

@@ -20,7 +20,7 @@ for TOOLS in gnu llvm; do
     for level in O0 O2 Os; do
         CFLAGS="-Werror -$level" $examples/start/image.sh struct_copies.c "../images/c_struct_copies_${TOOLS}_$level.elf"
     done
-    for program in inside lock right both; do make $program $examples/locks/c/$program.c; done
+    for program in inside lock right both stack; do make $program $examples/locks/c/$program.c; done
     make two_counters two_counters.c two_counters_other.c
     make library --libc $examples/c/library.c
     for program in sort primes search; do make $program $examples/c/$program.c; done

@@ -54,8 +54,8 @@ F actor hart number pc word predicted|T actor number value next address data out
     (
         "smtsim outcomes --help",
         "Usage: smtsim outcomes [OPTIONS] <IMAGE>|--config <FILE>|--harts <N>|--states <N>|--watch <LIST>|\
---exists <CONDITION>|--outcome <N>|--stuck|--witness <FILE>|--script <FILE>|a0@1,counter,next[3],node+8|\
-h0=1 & a0@1=2",
+--exists <CONDITION>|--forall <CONDITION>|--never <CONDITION>|--never-stuck|--first|--outcome <N>|--stuck|\
+--witness <FILE>|--script <FILE>|--story <FILE>|--all|--lines <FILE>|a0@1,counter,next[3],node+8|h0=1 & !(a0@1=2)",
     ),
     (
         "smtsim litmus --help",

@@ -97,6 +97,20 @@ smtsim outcomes --outcome 1 --stuck --witness w a
 smtsim outcomes --outcome 1 --witness w --script s a
 smtsim outcomes --stuck --witness w --script s a
 smtsim outcomes --records a
+smtsim outcomes --story s a
+smtsim outcomes --exists x=1 --forall x=1 a
+smtsim outcomes --exists x=1 --never x=1 a
+smtsim outcomes --exists x=1 --never-stuck a
+smtsim outcomes --forall x=1 --never x=1 a
+smtsim outcomes --forall x=1 --never-stuck a
+smtsim outcomes --never x=1 --never-stuck a
+smtsim outcomes --first a
+smtsim outcomes --first --never-stuck a
+smtsim outcomes --exists x=1 --witness w --story s a
+smtsim outcomes --never x=1 --script s --story t a
+smtsim outcomes --exists x=1 --all a
+smtsim outcomes --exists x=1 --lines l a
+smtsim outcomes --exists x=1 --story - a
 smtsim litmus
 smtsim litmus a b
 smtsim litmus --states 0 a
@@ -143,6 +157,6 @@ fn other_words_are_refused(rt: HostRuntime) {
         holds(&rt, text, are_refused(text, rt.alloc()) == Ok(true));
         rows = rows.wrapping_add(1);
     }
-    assert!(rt; rows == 119);
+    assert!(rt; rows == 133);
     assert!(rt; is_refusal(read_words(&[], rt.alloc())));
 }

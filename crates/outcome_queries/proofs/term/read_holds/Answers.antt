@@ -6,10 +6,10 @@ use Rattle.outcome_queries.proofs.term.read_holds.Goals as goal
 
 pub returns-in_default-clause-refused : goal.returns-in_default-clause-refused
 returns-in_default-clause-refused c =
-    no_value (table_of c.args.names.now) c.args.left.now c.args.right.now c.in_default.ensures.none
+    no_value (table_of c.args.names.now) c.args.cut.left.now c.args.cut.right.now c.in_default.ensures.none
 
 pub returns-in-Err-clause-refused : goal.returns-in-Err-clause-refused
 returns-in-Err-clause-refused c =
-    subst (HoldsNothing (table_of c.args.names.now) c.args.left.now c.args.right.now) (sym c.of_term.ensures)
-    (unnamed_holds (table_of c.args.names.now) c.args.left.now c.args.right.now c.in-Some.value c.in-Err.expected
+    subst (HoldsNothing (table_of c.args.names.now) c.args.cut.left.now c.args.cut.right.now) (sym c.of_term.ensures)
+    (unnamed_holds (table_of c.args.names.now) c.args.cut.left.now c.args.cut.right.now c.in-Some.value c.in-Err.expected
     c.in-Some.ensures.found c.in-Err.ensures.refused)

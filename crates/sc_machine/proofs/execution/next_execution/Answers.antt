@@ -1,5 +1,7 @@
-use Rattle.std.proofs.Common.{◌<◌, subst}
+use Rattle.std.proofs.Common.{◌≡◌, ◌<◌, None, subst, sym}
+use Rattle.smt_model.specs.{Exec.Computed, Faults.fault}
 use Rattle.shared_memory.specs.Contents.{byte_of}
+use Rattle.sc_machine.proofs.Accesses.{unfaulted}
 use Rattle.sc_machine.proofs.execution.next_execution.Goals as goal
 
 pub compute-computed-requires : goal.compute-computed-requires
@@ -24,4 +26,9 @@ returns-clause-allowed c = record {
   second = c.second_source-second.ensures.below;
   write = c.effect_here-effect.ensures.allowed;
   alone = c.effect_here-effect.ensures.alone;
+  unfaulted = λ going. subst (λ (x : Computed). fault c.args.memory.now.image c.fetch-word.result.1 x.addr ≡ None)
+      (sym c.computed.view_is)
+      (unfaulted c.args.memory.now.image c.fetch-word.result.1 c.compute-computed.result _ _
+      c.effect_here-effect.result c.effect_here-effect.ensures.value c.compute-computed.ensures.no_fault going);
+  in_range = c.fetch-word.ensures.in_range c.args.memory.now.image (byte_of c.args.memory.now) c.requires.code;
 }

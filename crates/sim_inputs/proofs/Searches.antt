@@ -1,0 +1,86 @@
+-- The options of a search go together or don't, whatever search they are said to ask for.
+use Rattle.std.proofs.Common.{◌≡◌, ℕ, nat_le, not, ◌&&◌, ◌||◌, Bool, true, false, List, Option, None, Some, is_some, Bor}
+use Rattle.std.proofs.Common.{option_map, codes, refl, sym, ◌∙◌, if◌then◌else◌}
+use Rattle.std.proofs.lemmas.Option.{same_Some}
+use Rattle.std.specs.Option.{option_map_or}
+use Rattle.clap.specs.Words.{Row, Text, first_of}
+use Rattle.sim_inputs.specs.CommandLine.{IsOutcomes, IsQuestion, has_condition, is_flag_set, number_or, number_in}
+use Rattle.sim_inputs.specs.CommandLine.{usual_states, most_states}
+use Rattle.sim_inputs.specs.CommandLine.{are_orders_together, can_be_searched, has_no_file, has_one_file}
+use Rattle.sim_inputs.specs.declared.line.{OutcomesCommand.OutcomesCommand, QuestionText.QuestionText}
+use Rattle.sim_inputs.specs.declared.line.QuestionText.TheVariants as question
+use Rattle.sim_inputs.proofs.Charts.{some_alike}
+
+-- what the options ask for, whether they go together or not
+pub record AsksOutcomes (rows : List Row) (outcomes : OutcomesCommand) : Type 0 where
+  pub states : number_or usual_states most_states (first_of (codes "states") rows) ≡ Some outcomes.states
+  pub question : IsQuestion rows outcomes.question
+  pub first : is_flag_set (codes "first") rows ≡ outcomes.first
+  pub outcome : number_in most_states (first_of (codes "outcome") rows) ≡ Some outcomes.outcome
+  pub stuck : is_flag_set (codes "stuck") rows ≡ outcomes.stuck
+  pub witness : first_of (codes "witness") rows ≡ option_map (λ f. f.now) outcomes.witness
+  pub script : first_of (codes "script") rows ≡ option_map (λ f. f.now) outcomes.script
+  pub story : first_of (codes "story") rows ≡ option_map (λ f. f.now) outcomes.story
+  pub all : is_flag_set (codes "all") rows ≡ outcomes.all
+  pub lines : first_of (codes "lines") rows ≡ option_map (λ f. f.now) outcomes.lines
+
+asked_so : (rows : List Row) (outcomes : OutcomesCommand) → IsOutcomes rows outcomes → AsksOutcomes rows outcomes
+asked_so rows outcomes is = record {
+  states = is.states;
+  question = is.question;
+  first = is.first;
+  outcome = is.outcome;
+  stuck = is.stuck;
+  witness = is.witness;
+  script = is.script;
+  story = is.story;
+  all = is.all;
+  lines = is.lines;
+}
+
+-- a question is asked where one of its options is given, and has a condition where one of three is
+abbrev asks : List Row → Bool
+asks rows = is_some (first_of (codes "exists") rows) || is_some (first_of (codes "forall") rows)
+    || is_some (first_of (codes "never") rows)
+
+asks_conditions : (rows : List Row) (q : Option QuestionText) → IsQuestion rows q → has_condition q ≡ asks rows
+asks_conditions rows None is = rw (is.has_exists, is.has_forall, is.has_never) refl
+asks_conditions rows (Some (question.Exists text)) is = rw (is.has_exists) refl
+asks_conditions rows (Some (question.ForAll text)) is = rw (is.has_exists, is.has_forall) refl
+asks_conditions rows (Some (question.Never text)) is = rw (is.has_exists, is.has_forall, is.has_never) refl
+asks_conditions rows (Some question.NeverStuck) is = rw (is.has_exists, is.has_forall, is.has_never) refl
+
+asks_at_all : (rows : List Row) (q : Option QuestionText) → IsQuestion rows q
+    → is_some q ≡ (asks rows || is_flag_set (codes "never-stuck") rows)
+asks_at_all rows None is = rw (is.has_exists, is.has_forall, is.has_never, is.has_never_stuck) refl
+asks_at_all rows (Some (question.Exists text)) is = rw (is.has_exists) refl
+asks_at_all rows (Some (question.ForAll text)) is = rw (is.has_exists, is.has_forall) refl
+asks_at_all rows (Some (question.Never text)) is = rw (is.has_exists, is.has_forall, is.has_never) refl
+asks_at_all rows (Some question.NeverStuck) is =
+    rw (is.has_exists, is.has_forall, is.has_never, is.has_never_stuck) refl
+
+-- whatever search the options ask for, it can be made or it can't
+searched_alike : (rows : List Row) (a b : OutcomesCommand) → AsksOutcomes rows a → AsksOutcomes rows b
+    → can_be_searched a ≡ can_be_searched b
+searched_alike rows a b one two =
+    let states : a.states ≡ b.states = same_Some _ _ (sym one.states ∙ two.states) in
+    let outcome : a.outcome ≡ b.outcome = same_Some _ _ (sym one.outcome ∙ two.outcome) in
+    let stuck : a.stuck ≡ b.stuck = sym one.stuck ∙ two.stuck in
+    let first : a.first ≡ b.first = sym one.first ∙ two.first in
+    let every : a.all ≡ b.all = sym one.all ∙ two.all in
+    let witness : is_some a.witness ≡ is_some b.witness =
+    some_alike a.witness b.witness (sym one.witness ∙ two.witness) in
+    let script : is_some a.script ≡ is_some b.script = some_alike a.script b.script (sym one.script ∙ two.script) in
+    let story : is_some a.story ≡ is_some b.story = some_alike a.story b.story (sym one.story ∙ two.story) in
+    let lines : is_some a.lines ≡ is_some b.lines = some_alike a.lines b.lines (sym one.lines ∙ two.lines) in
+    let asked : is_some a.question ≡ is_some b.question =
+    asks_at_all rows a.question one.question ∙ sym (asks_at_all rows b.question two.question) in
+    let condition : has_condition a.question ≡ has_condition b.question =
+    asks_conditions rows a.question one.question ∙ sym (asks_conditions rows b.question two.question) in
+    rw (states, outcome, stuck, first, every, witness, script, story, lines, asked, condition) refl
+
+-- options that don't go together ask for no search
+pub no_search : (rows : List Row) (a : OutcomesCommand) → AsksOutcomes rows a → can_be_searched a ≡ false
+    → (b : OutcomesCommand) → IsOutcomes rows b → ⊥
+no_search rows a asks apart b is =
+    let off : false ≡ true = sym apart ∙ searched_alike rows a b asks (asked_so rows b is) ∙ is.together in cc

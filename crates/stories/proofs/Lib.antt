@@ -1,0 +1,4 @@
+pub mod Stepping
+pub mod Hearing
+pub mod Keeping
+pub mod Recording

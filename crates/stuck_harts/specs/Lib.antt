@@ -1,0 +1,3 @@
+pub mod Turns
+pub mod Spins
+pub mod Lines
