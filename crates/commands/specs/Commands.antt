@@ -15,7 +15,7 @@ use Rattle.core_commands.specs.Wanted.{step_wants, run_wants, check_wants}
 use Rattle.core_commands.specs.Step.{IsStepRefusal, StepComesTo, AreMarked}
 use Rattle.sim_inputs.specs.declared.line.RunCommand.{RunCommand}
 use Rattle.core_commands.specs.Run.{IsRunRefusal, RunComesTo, LackARole}
-use Rattle.core_commands.specs.{Stress.StressComesTo}
+use Rattle.core_commands.specs.Stress.{StressComesTo, IsStressRefusal}
 use Rattle.commands.specs.{Written.ToWrite, Written.TraceOf, Written.EndsOf, Written.TextIf}
 use Rattle.core_commands.specs.Check.{CheckComesTo, OfEvents, AreTooMany}
 use Rattle.core_commands.specs.Told.{IsCheckRefusalWith}
@@ -34,14 +34,20 @@ use Rattle.sim_inputs.specs.declared.line.ChartEnd.TheVariants as ends
 use Rattle.commands.specs.List.{IsListRefusal, ListComesTo}
 use Rattle.plain_commands.specs.{Outcomes.IsOutcomesRefusal, Outcomes.OutcomesComeTo, WrittenOrders.wants_order}
 
+-- When each refusal of `run` comes: of one run, or of as many as are asked for.
+abbrev pub IsRunsRefusal : Option ℕ → RunCommand → Settings → ProgramImage → Table → Refused → Type 0
+IsRunsRefusal None run settings image names reason = IsRunRefusal settings reason
+IsRunsRefusal (Some times) run settings image names reason = IsStressRefusal settings image names run.watch reason
+
 -- When each refusal of a command comes. One that has a second file is refused where that is unread;
 -- rounds have none.
 abbrev pub IsCommandRefusal : ProgramCommand → Settings → ProgramImage → Table → Read → Refused → Type 0
 IsCommandRefusal (commands.Step step) settings image names second reason =
     BehindFile second (IsStepRefusal settings) reason
-IsCommandRefusal (commands.Run run) settings image names second reason = IsRunRefusal settings reason
+IsCommandRefusal (commands.Run run) settings image names second reason =
+    IsRunsRefusal run.times run settings image names reason
 IsCommandRefusal (commands.Check check) settings image names second reason =
-    BehindFile second (IsCheckRefusalWith (is_some (check_wants check).ends) settings image) reason
+    BehindFile second (IsCheckRefusalWith (is_some (check_wants check names).ends) settings image) reason
 IsCommandRefusal (commands.Plain plain) settings image names second reason =
     InRounds (rounds_of plain) (λ rounds. IsRoundsRefusal settings reason)
     (BehindFile second (IsPlainRefusal settings image) reason)
@@ -56,12 +62,13 @@ IsCommandRefusal (commands.Chart chart) settings image names second reason =
     BehindFile second (λ trace. IsChartRefusal settings image trace chart names) reason
 
 -- What `run` comes to: one run, or as many as are asked for.
-abbrev pub RunsComeTo : Option ℕ → RunCommand → Settings → ProgramImage → Marks → (ToWrite → Type 0)
+abbrev pub RunsComeTo : Option ℕ → RunCommand → Settings → ProgramImage → Table → Marks → (ToWrite → Type 0)
     → Option (List ℕ) → Option (List ℕ) → ℕ → Type 0
-RunsComeTo None run settings image marks Traced old new status =
+RunsComeTo None run settings image names marks Traced old new status =
     RunComesTo settings image (run_wants run) marks (λ core. Traced (TraceOf (is_some run.trace) core)) old new status
-RunsComeTo (Some times) run settings image marks Traced old new status =
-    StressComesTo settings image times (λ cores. Traced (EndsOf (is_some run.keep) cores)) old new status
+RunsComeTo (Some times) run settings image names marks Traced old new status =
+    StressComesTo settings image names run.watch times
+    (λ watch cores. Traced (EndsOf (is_some run.keep) watch cores)) old new status
 
 -- How the story of an order is told, where it is wanted.
 abbrev pub story_plan : PlainCommand → Settings → Table → Marks → Option Plan
@@ -74,13 +81,13 @@ abbrev pub CommandComesTo : ProgramCommand → Settings → ProgramImage → Tab
     → (ToWrite → Type 0)
     → Option (List ℕ) → Option (List ℕ) → ℕ → Type 0
 CommandComesTo (commands.Step step) settings image names lines second Traced old new status =
-    OfFile second (λ script. StepComesTo settings image script step.why (step_wants step)
+    OfFile second (λ script. StepComesTo settings image script step.why (step_wants step names)
     (marks_where step.names names lines)
     (λ core. Traced (TraceOf (is_some step.trace) core)) old new status)
 CommandComesTo (commands.Run run) settings image names lines second Traced old new status =
-    RunsComeTo run.times run settings image (marks_where run.names names lines) Traced old new status
+    RunsComeTo run.times run settings image names (marks_where run.names names lines) Traced old new status
 CommandComesTo (commands.Check check) settings image names lines second Traced old new status =
-    OfFile second (λ trace. CheckComesTo settings image trace (check_wants check)
+    OfFile second (λ trace. CheckComesTo settings image trace (check_wants check names)
     (marks_where check.names names lines) old new status)
 CommandComesTo (commands.Plain plain) settings image names lines second Traced old new status =
     InRounds (rounds_of plain)
@@ -142,9 +149,9 @@ is_function (ends.Function name) = true
 abbrev pub wants_names : ProgramCommand → Bool
 wants_names (commands.Outcomes outcomes) = true
 wants_names (commands.Chart chart) = (chart.names || is_function chart.from) || is_function chart.to
-wants_names (commands.Step step) = step.names
-wants_names (commands.Run run) = run.names
-wants_names (commands.Check check) = check.names
+wants_names (commands.Step step) = step.names || step.story
+wants_names (commands.Run run) = run.names || is_some run.watch
+wants_names (commands.Check check) = check.names || check.story
 wants_names (commands.Plain plain) = plain.names || plain.story
 wants_names (commands.List list) = list.names
 wants_names (commands.Schedule schedule) = false

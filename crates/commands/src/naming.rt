@@ -20,9 +20,9 @@ pub(crate) fn wants_names(command: &ProgramCommand<'_>) -> bool
         ProgramCommand::Chart(chart) => {
             chart.names || is_function(chart.from) || is_function(chart.to)
         }
-        ProgramCommand::Step(step) => step.names,
-        ProgramCommand::Run(run) => run.names,
-        ProgramCommand::Check(check) => check.names,
+        ProgramCommand::Step(step) => step.names || step.story,
+        ProgramCommand::Run(run) => run.names || run.watch.is_some(),
+        ProgramCommand::Check(check) => check.names || check.story,
         ProgramCommand::Plain(plain) => plain.names || plain.story,
         ProgramCommand::List(list) => list.names,
         ProgramCommand::Schedule(_) | ProgramCommand::Script(_) => false,

@@ -302,13 +302,13 @@ fn perform_command<
     let labels = &labels_for(command, names, lines);
     match command {
         ProgramCommand::Step(step) => {
-            let wanted = Wanted::of_step(step);
+            let wanted = Wanted::of_step(step, names);
             let script = second?;
             perform_step(context, image, settings, script, step.why, wanted, labels)
         }
-        ProgramCommand::Run(run) => perform_runs(context, image, settings, run, labels),
+        ProgramCommand::Run(run) => perform_runs(context, image, settings, run, names, labels),
         ProgramCommand::Check(check) => {
-            let wanted = Wanted::of_check(check);
+            let wanted = Wanted::of_check(check, names);
             let text = second?;
             perform_check(
                 image,

@@ -1,32 +1,41 @@
-//! The command `run --times`: so many runs of one image, and how often each end came.
+//! The command `run --times`: so many runs of one image, and how often each end came, with what is watched of it.
 
-ghost use Rattle.std.specs.Prelude.{◌≡◌, ◌≤◌, IfErr, IfOk, OnOk, List, true, false};
+ghost use Rattle.std.specs.Prelude.{◌≡◌, ◌≤◌, IfErr, IfOk, OnOk, List, true, false, is_some};
 ghost use Rattle.stress_runs.specs.declared.tally.Row.{Row};
 ghost use Rattle.stress_runs.specs.Ends.{end_of, next_number};
 ghost use Rattle.command_parts.specs.declared.refused.Refused.TheVariants.{Output};
 ghost use Rattle.core_commands.specs.Run.{IsRunRefusal};
-ghost use Rattle.core_commands.specs.Stress.{StressComesTo, HasTallied, HasRunOnce, runs_of};
+ghost use Rattle.symbols.specs.Tables.{table_of};
+ghost use Rattle.watched_outcomes.specs.declared.watch.Watch.{Watch as AnyWatch};
+ghost use Rattle.core_commands.specs.Watching.{IsAllThere};
+ghost use Rattle.core_commands.specs.Stress.{StressComesTo, HasTallied, HasRunOnce, IsStressRefusal, runs_of};
 ghost use Rattle.core_commands.specs.Stress.{AreEndsWritten, IsEndWritten};
 
 use crate::run::run_image;
+use crate::watching::{asked_once, see_watched};
 use actors::Gate;
 use command_parts::{Context, Refused};
 use elf_image::Image;
-use sim_inputs::Settings;
+use outcome_queries::{columns_of, watch_of};
+use sim_inputs::{RunCommand, Settings};
 use smt_core::{Core, Predict};
 use std::alloc::{AllocError, Global};
 use std::io::Write;
 use std::sync::Wait;
 use std::thread::Threads;
 use stress_runs::{EndFiles, Tally, keep_end, report_tally};
+use symbols::Symbols;
+use watched_outcomes::Watch;
 
 /// Makes so many runs of an image (one, where that is 0), each with a thread for each actor, counts
-/// how often each end came, and writes the table of the ends. Where they are kept, the trace and the
-/// order of the run with which an end came first are put into `files`, before the next run. Answers
-/// the exit status of the worst run.
+/// how often each end came, and writes the table of the ends. What the list of the command asks for tells
+/// ends apart too, as it stands when a run has ended. Where ends are kept, the trace and the order of the
+/// run with which an end came first are put into `files`, before the next run. Answers the exit status of
+/// the worst run.
 ///
-/// A run is refused as that of `perform_run` is, and `Output` is answered where `files` or `out`
-/// took no more; then there is no table, and no other run is made.
+/// Refused are, in this order, a list that is misspelled, a register of a hart that isn't there, and a place
+/// in memory that isn't; then no run is made. A run is refused as that of `perform_run` is, and `Output` is
+/// answered where `files` or `out` took no more; then there is no table, and no other run is made.
 #[inline(never)]
 pub fn perform_stress<
     G: Gate + Sync,
@@ -38,26 +47,85 @@ pub fn perform_stress<
     context: &mut Context<'_, R, G, P, F, W>,
     image: &Image,
     settings: &Settings,
+    names: &Symbols<'_>,
+    command: &RunCommand<'_>,
     times: u32,
-    keep: bool,
 ) -> Result<u8, Refused>
     requires works { F.has_failed context.old.files ≡ false }
     requires finished { F.is_finished context.old.files ≡ true }
-    ensures refused { IfErr result (IsRunRefusal settings.now) }
-    ensures ended { IfOk result (StressComesTo settings.now image.now times
-        (AreEndsWritten F.begins F.written F.has_failed context.old.files context.new.files keep)
+    ensures refused { IfErr result
+        (IsStressRefusal settings.now image.now (table_of names.now) command.now.watch) }
+    ensures ended { IfOk result (StressComesTo settings.now image.now (table_of names.now) command.now.watch times
+        (AreEndsWritten F.begins F.written F.has_failed context.old.files context.new.files (is_some command.now.keep))
         (W.contents context.old.out) (W.contents context.new.out)) }
-    ensures unwanted { keep ≡ false → context.new.files ≡ context.old.files }
+    ensures unwanted { is_some command.now.keep ≡ false → context.new.files ≡ context.old.files }
     ensures unbroken { OnOk result (F.has_failed context.new.files ≡ false) }
     ensures finished { OnOk result (F.is_finished context.new.files ≡ true) }
     ensures unreported { F.has_failed context.new.files ≡ true
         → W.contents context.new.out ≡ W.contents context.old.out }
 {
+    // Handed on as it is: a `?` would leave the prover to find what the refusal becomes.
+    let list = match asked_once(command.watch, names) {
+        Ok(list) => list,
+        Err(refused) => return Err(refused),
+    };
+    let watch = watch_of(list.as_slice());
+    match see_watched(&watch, image, settings.config.harts, context.alloc) {
+        Ok(()) => {}
+        Err(refused) => return Err(refused),
+    }
     let count = runs_of(times);
+    let tally = match tally_runs(
+        context,
+        image,
+        settings,
+        &watch,
+        count,
+        command.keep.is_some(),
+    ) {
+        Ok(tally) => tally,
+        Err(refused) => return Err(refused),
+    };
+    let columns = columns_of(list.as_slice());
+    match report_tally(count, &tally, &columns, &mut context.out) {
+        Ok(()) => Ok(tally.status()),
+        Err(_) => Err(Refused::Output),
+    }
+}
+
+/// Makes so many runs, which the gate is shown, and counts their ends.
+fn tally_runs<
+    G: Gate + Sync,
+    P: Predict + Copy + Send,
+    F: EndFiles,
+    W: Write,
+    R: Threads + Wait + Sync,
+>(
+    context: &mut Context<'_, R, G, P, F, W>,
+    image: &Image,
+    settings: &Settings,
+    watch: &Watch,
+    count: u32,
+    keep: bool,
+) -> Result<Tally, Refused>
+    requires some { 1 ≤ count }
+    requires there { IsAllThere image.now settings.now.config.harts watch.now }
+    requires works { F.has_failed context.old.files ≡ false }
+    requires finished { F.is_finished context.old.files ≡ true }
+    ensures refused { IfErr result (IsRunRefusal settings.now) }
+    ensures tallied { IfOk result (HasTallied settings.now image.now watch.now
+        (AreEndsWritten F.begins F.written F.has_failed context.old.files context.new.files keep watch.now)
+        count) }
+    ensures unwanted { keep ≡ false → context.new.files ≡ context.old.files }
+    ensures unbroken { OnOk result (F.has_failed context.new.files ≡ false) }
+    ensures finished { OnOk result (F.is_finished context.new.files ≡ true) }
+    ensures unprinted { context.new.out ≡ context.old.out }
+{
     let runs = Runs {
         rt: context.rt,
         image,
         settings,
+        watch,
         gate: context.gate,
         predict: context.predict,
         alloc: context.alloc,
@@ -65,15 +133,7 @@ pub fn perform_stress<
     context.gate.begin_all(count);
     let tallied = runs.tally(count, keep, &mut context.files);
     context.gate.end_all();
-    // Handed on as it is: a `?` would leave the prover to find what the refusal becomes.
-    let tally = match tallied {
-        Ok(tally) => tally,
-        Err(refused) => return Err(refused),
-    };
-    match report_tally(count, &tally, &mut context.out) {
-        Ok(()) => Ok(tally.status()),
-        Err(_) => Err(Refused::Output),
-    }
+    tallied
 }
 
 /// How many runs are made where so many are asked for.
@@ -90,6 +150,7 @@ struct Runs<'a, G, P, R> {
     rt: &'a R,
     image: &'a Image,
     settings: &'a Settings,
+    watch: &'a Watch,
     gate: &'a G,
     predict: P,
     alloc: Global,
@@ -99,11 +160,12 @@ impl<G: Gate + Sync, P: Predict + Copy + Send, R: Threads + Wait + Sync> Runs<'_
     /// Makes so many runs, and counts their ends.
     fn tally<F: EndFiles>(&self, count: u32, keep: bool, files: &mut F) -> Result<Tally, Refused>
         requires some { 1 ≤ count }
+        requires there { IsAllThere self.now.image.now self.now.settings.now.config.harts self.now.watch.now }
         requires works { F.has_failed files.old ≡ false }
         requires finished { F.is_finished files.old ≡ true }
         ensures refused { IfErr result (IsRunRefusal self.now.settings.now) }
-        ensures tallied { IfOk result (HasTallied self.now.settings.now self.now.image.now
-            (AreEndsWritten F.begins F.written F.has_failed files.old files.new keep)
+        ensures tallied { IfOk result (HasTallied self.now.settings.now self.now.image.now self.now.watch.now
+            (AreEndsWritten F.begins F.written F.has_failed files.old files.new keep self.now.watch.now)
             count) }
         ensures unwanted { keep ≡ false → files.new ≡ files.old }
         ensures unbroken { OnOk result (F.has_failed files.new ≡ false) }
@@ -124,11 +186,12 @@ impl<G: Gate + Sync, P: Predict + Copy + Send, R: Threads + Wait + Sync> Runs<'_
         tally: &mut Tally,
         files: &mut F,
     ) -> Result<(), Refused>
+        requires there { IsAllThere self.now.image.now self.now.settings.now.config.harts self.now.watch.now }
         requires works { F.has_failed files.old ≡ false }
         requires finished { F.is_finished files.old ≡ true }
         ensures refused { IfErr result (IsRunRefusal self.now.settings.now) }
-        ensures ran { OnOk result (HasRunOnce self.now.settings.now self.now.image.now
-            (IsEndWritten F.begins F.written F.has_failed files.old files.new keep)
+        ensures ran { OnOk result (HasRunOnce self.now.settings.now self.now.image.now self.now.watch.now
+            (IsEndWritten F.begins F.written F.has_failed files.old files.new keep self.now.watch.now)
             tally.old tally.new) }
         ensures unwanted { keep ≡ false → files.new ≡ files.old }
         ensures unbroken { OnOk result (F.has_failed files.new ≡ false) }
@@ -142,7 +205,7 @@ impl<G: Gate + Sync, P: Predict + Copy + Send, R: Threads + Wait + Sync> Runs<'_
             self.predict,
             self.alloc,
         )?;
-        let number = match tally.count(&finished.core, self.alloc) {
+        let number = match tally.count(&finished.core, self.watch, self.alloc) {
             Ok(number) => number,
             Err(AllocError) => return Err(Refused::Memory),
         };
@@ -160,8 +223,9 @@ fn keep_first<F: EndFiles>(
     requires works { F.has_failed files.old ≡ false }
     requires finished { F.is_finished files.old ≡ true }
     ensures refused { IfErr result (λ reason. reason ≡ Output) }
-    ensures kept { OnOk result ((rows : List Row) → number ≡ next_number (end_of core.now) rows
-        → IsEndWritten F.begins F.written F.has_failed files.old files.new keep rows core.now) }
+    ensures kept { OnOk result ((watch : AnyWatch) (rows : List Row)
+        → number ≡ next_number (end_of watch core.now) rows
+        → IsEndWritten F.begins F.written F.has_failed files.old files.new keep watch rows core.now) }
     ensures unwanted { keep ≡ false → files.new ≡ files.old }
     ensures unbroken { OnOk result (F.has_failed files.new ≡ false) }
     ensures finished { OnOk result (F.is_finished files.new ≡ true) }

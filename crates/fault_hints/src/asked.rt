@@ -54,12 +54,20 @@ pub(crate) fn add_hart(
     hint: &mut Hint,
     alloc: Global,
 ) -> Result<(), AllocError> {
-    if let Command::OfProgram(ProgramCommand::Outcomes(asked)) = fault.line.command {
-        let (option, _) = condition_in(asked.question);
-        let word = format!(in alloc; "hart {hart} in {option} or --watch")?;
-        hint.add(Part::Word, word.as_bytes())?;
-        return add_harts(fault, hint, alloc);
-    }
+    let word = match fault.line.command {
+        Command::OfProgram(ProgramCommand::Outcomes(asked)) => {
+            let (option, _) = condition_in(asked.question);
+            format!(in alloc; "hart {hart} in {option} or --watch")?
+        }
+        Command::OfProgram(ProgramCommand::Run(_)) => format!(in alloc; "hart {hart} in --watch")?,
+        _ => return add_drawn_hart(hart, hint, alloc),
+    };
+    hint.add(Part::Word, word.as_bytes())?;
+    add_harts(fault, hint, alloc)
+}
+
+/// Adds that a hart was to be drawn that the core of a trace hasn't.
+fn add_drawn_hart(hart: u32, hint: &mut Hint, alloc: Global) -> Result<(), AllocError> {
     let word = format!(in alloc; "--hart {hart}")?;
     hint.add(Part::Word, word.as_bytes())?;
     hint.add(Part::Cause, b"the core of the trace has no such hart")
@@ -96,10 +104,12 @@ pub(crate) fn add_watch(
     hint: &mut Hint,
     alloc: Global,
 ) -> Result<(), AllocError> {
-    if let Command::OfProgram(ProgramCommand::Outcomes(asked)) = fault.line.command {
-        return add_query("--watch", asked.watch, why, fault, hint, alloc);
-    }
-    Ok(())
+    let list = match fault.line.command {
+        Command::OfProgram(ProgramCommand::Outcomes(asked)) => asked.watch,
+        Command::OfProgram(ProgramCommand::Run(run)) => run.watch,
+        _ => return Ok(()),
+    };
+    add_query("--watch", list, why, fault, hint, alloc)
 }
 
 /// Adds where a condition is misspelled.
@@ -154,11 +164,13 @@ pub(crate) fn add_absent_word(
     alloc: Global,
 ) -> Result<(), AllocError> {
     let address = bytes.address;
-    let option = match fault.line.command {
-        Command::OfProgram(ProgramCommand::Outcomes(asked)) => condition_in(asked.question).0,
-        _ => "--exists",
+    let word = match fault.line.command {
+        Command::OfProgram(ProgramCommand::Outcomes(asked)) => {
+            let (option, _) = condition_in(asked.question);
+            format!(in alloc; "{address:08x} in {option} or --watch")?
+        }
+        _ => format!(in alloc; "{address:08x} in --watch")?,
     };
-    let word = format!(in alloc; "{address:08x} in {option} or --watch")?;
     hint.add(Part::Word, word.as_bytes())?;
     let Ok(text) = fault.inputs.config else {
         return Ok(());

@@ -12,5 +12,5 @@ mod listing;
 mod unwritten;
 
 pub use answers::{answer_of, write_answer};
-pub use line::write_line;
+pub use line::{write_line, write_watched};
 pub use listing::{write_incomplete, write_outcomes};

@@ -21,6 +21,6 @@ mod written_stories;
 
 pub use all_outcomes::perform_outcomes;
 pub use litmus::{perform_litmus, perform_test};
-pub use plain::perform_plain;
+pub use plain::{perform_plain, tell_image};
 pub use plain_rounds::{MOST_STEPS, perform_rounds, rounds_of};
 pub use schedule::perform_schedule;

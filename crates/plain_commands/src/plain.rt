@@ -87,8 +87,12 @@ fn run_image(image: &Image, harts: u8, order: &[u8], alloc: Global) -> Result<Pl
     }
 }
 
-/// Tells the story of an order that the plain machine of an image makes, where it is wanted.
-pub(crate) fn tell_image<W: Write>(
+/// Tells the story of an order that the plain machine of an image makes, where it is wanted: it is told as it goes.
+///
+/// Refused are, in this order, a number of harts that the machine doesn't have, and the first step that it doesn't
+/// make, behind the story of those before it; `Memory` where there is none for the machine, and `Output` where `out`
+/// failed.
+pub fn tell_image<W: Write>(
     image: &Image,
     harts: u8,
     order: &[u8],

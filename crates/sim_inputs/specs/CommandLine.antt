@@ -120,6 +120,10 @@ pub record AreHarts (rows : List Row) (harts : Option ℕ) : Type 0 where
   pub found : IsNumberOption rows (codes "harts") most_harts harts
   pub some : option_map_or (λ count. nat_le 1 count) harts true ≡ true
 
+-- What says more of a story is there with one alone.
+abbrev pub can_be_told : Bool → Bool → Bool
+can_be_told story all = story || not all
+
 -- What was found for a subcommand's arguments and options is the command.
 pub record IsStep (rows : List Row) (step : StepCommand) : Type 0 where
   pub image : IsFile rows (codes "IMAGE") step.image
@@ -132,10 +136,13 @@ pub record IsStep (rows : List Row) (step : StepCommand) : Type 0 where
   pub names : IsFlag rows (codes "names") step.names
   pub records : IsFlag rows (codes "records") step.records
   pub show : IsFlag rows (codes "show") step.show
+  pub story : IsFlag rows (codes "story") step.story
+  pub all : IsFlag rows (codes "all") step.all
   pub why : IsFlag rows (codes "why") step.why
+  pub together : can_be_told step.story step.all ≡ true
 
 -- A run has an option of its report. Many runs have none, and a folder of theirs has a name, which is no dash; there
--- is one at least, and one alone has no folder.
+-- is one at least, and one alone has no folder, and nothing of it is watched.
 abbrev pub is_reported : RunCommand → Bool
 is_reported run = is_some run.trace || run.counts || run.json || is_some run.lines || run.names || run.records || run.why
 
@@ -144,7 +151,7 @@ has_named_folder run =
     option_map_or (λ folder. not (length folder.now == 0) && not (is_standard_input folder.now)) run.keep true
 
 abbrev pub can_be_run : RunCommand → Bool
-can_be_run run = let once = not (is_some run.keep) in
+can_be_run run = let once = not (is_some run.keep) && not (is_some run.watch) in
     option_map_or (λ times. nat_le 1 times && not (is_reported run) && has_named_folder run) run.times once
 
 pub record IsRun (rows : List Row) (run : RunCommand) : Type 0 where
@@ -157,6 +164,7 @@ pub record IsRun (rows : List Row) (run : RunCommand) : Type 0 where
   pub records : IsFlag rows (codes "records") run.records
   pub why : IsFlag rows (codes "why") run.why
   pub times : IsNumberOption rows (codes "times") most_times run.times
+  pub watch : IsFileOption rows (codes "watch") run.watch
   pub keep : IsFileOption rows (codes "keep") run.keep
   pub together : can_be_run run ≡ true
 
@@ -168,13 +176,16 @@ pub record IsCheck (rows : List Row) (check : CheckCommand) : Type 0 where
   pub lines : IsFileOption rows (codes "lines") check.lines
   pub names : IsFlag rows (codes "names") check.names
   pub records : IsFlag rows (codes "records") check.records
+  pub story : IsFlag rows (codes "story") check.story
+  pub all : IsFlag rows (codes "all") check.all
   pub why : IsFlag rows (codes "why") check.why
+  pub together : can_be_told check.story check.all ≡ true
 
 -- There is either an order or rounds, of an instruction at least, and what says more of rounds is there
 -- with them alone; a story is there with an order alone, and what says more of a story with one alone.
 abbrev pub can_be_plain : PlainCommand → Bool
 can_be_plain plain =
-    let told = plain.story || not plain.all in
+    let told = can_be_told plain.story plain.all in
     let ordered = is_some plain.order && (not (is_some plain.steps) && (not (is_some plain.seed) && told)) in
     option_map_or (λ rounds. nat_le 1 rounds && (not (is_some plain.order) && (not plain.story && told))) plain.rounds
     ordered

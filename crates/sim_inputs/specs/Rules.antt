@@ -176,22 +176,23 @@ abbrev pub subcommand : Text → List Rule → App
 subcommand name rules = with_rule (fold with_rule (new_app name) rules) hints_rule
 
 -- `step IMAGE SCRIPT`, with `--config FILE`, `--harts N`, `--counts`, `--json`, `--lines FILE`, `--looks`, `--names`,
--- `--records`, `--show`, `--why` and `--trace FILE`.
+-- `--records`, `--show`, `--story`, `--all`, `--why` and `--trace FILE`.
 abbrev pub step_command : App
 step_command = subcommand (codes "step") (image_rule ∷ script_rule ∷ config_rule ∷ harts_rule ∷ counts_rule ∷ json_rule
-    ∷ lines_rule ∷ looks_rule ∷ names_rule ∷ records_rule ∷ show_rule ∷ why_rule ∷ written_trace_rule ∷ [])
+    ∷ lines_rule ∷ looks_rule ∷ names_rule ∷ records_rule ∷ show_rule ∷ story_rule ∷ all_rule ∷ why_rule
+    ∷ written_trace_rule ∷ [])
 
--- `run IMAGE`, with `--config FILE`, `--harts N`, `--counts`, `--json`, `--lines FILE`, `--names`, `--records`, `--why`,
--- `--times N`, `--keep FOLDER` and `--trace FILE`.
+-- `run IMAGE`, with `--config FILE`, `--harts N`, `--counts`, `--json`, `--lines FILE`, `--names`, `--records`,
+-- `--why`, `--times N`, `--watch LIST`, `--keep FOLDER` and `--trace FILE`.
 abbrev pub run_command : App
 run_command = subcommand (codes "run") (image_rule ∷ config_rule ∷ harts_rule ∷ counts_rule ∷ json_rule ∷ lines_rule
-    ∷ names_rule ∷ records_rule ∷ why_rule ∷ times_rule ∷ keep_rule ∷ written_trace_rule ∷ [])
+    ∷ names_rule ∷ records_rule ∷ why_rule ∷ times_rule ∷ watch_rule ∷ keep_rule ∷ written_trace_rule ∷ [])
 
--- `check IMAGE TRACE`, with `--config FILE`, `--harts N`, `--counts`, `--json`, `--lines FILE`, `--names`, `--records`
--- and `--why`.
+-- `check IMAGE TRACE`, with `--config FILE`, `--harts N`, `--counts`, `--json`, `--lines FILE`, `--names`, `--records`,
+-- `--story`, `--all` and `--why`.
 abbrev pub check_command : App
 check_command = subcommand (codes "check") (image_rule ∷ trace_rule ∷ config_rule ∷ harts_rule ∷ counts_rule ∷ json_rule
-    ∷ lines_rule ∷ names_rule ∷ records_rule ∷ why_rule ∷ [])
+    ∷ lines_rule ∷ names_rule ∷ records_rule ∷ story_rule ∷ all_rule ∷ why_rule ∷ [])
 
 -- `plain IMAGE ORDER`, with `--config FILE`, `--harts N`, `--lines FILE`, `--names`, `--records`, `--story` and `--all`;
 -- or without the order, and with `--rounds K`, `--steps N` and `--seed S`.

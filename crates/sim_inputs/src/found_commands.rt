@@ -7,6 +7,7 @@ ghost use Rattle.sim_inputs.specs.CommandLine.{IsLitmus, IsMigrate, IsOutcomes, 
 ghost use Rattle.sim_inputs.specs.CommandLine.{IsScript, IsStep, IsQuestion, has_condition, has_no_file};
 ghost use Rattle.sim_inputs.specs.CommandLine.{are_orders_together, can_be_drawn};
 ghost use Rattle.sim_inputs.specs.CommandLine.{can_be_plain, can_be_run, can_be_searched, can_be_tested};
+ghost use Rattle.sim_inputs.specs.CommandLine.{can_be_told};
 ghost use Rattle.sim_inputs.specs.CommandLine.{has_named_folder, has_one_file, is_reported};
 
 use crate::chart_ends::{chart_end, do_ends_rise};
@@ -39,11 +40,11 @@ const MOST_COLUMNS: u32 = 10_000;
 const USUAL_STATES: u32 = 1_000_000;
 
 /// The command `step` of what was found; none where a file is missing that it must have. The eleven
-/// below answer for their commands; five of them have options that don't go together.
+/// below answer for their commands; six of them have options that don't go together, as this has.
 pub(crate) fn step_in<'a>(found: &ArgMatches<'a>) -> Option<StepCommand<'a>>
     ensures { Finds (IsStep (rows_of (found_of found.now))) result }
 {
-    Some(StepCommand {
+    let step = StepCommand {
         image: value_of(found, "IMAGE")?,
         script: value_of(found, "SCRIPT")?,
         trace: value_of(found, "trace"),
@@ -54,8 +55,21 @@ pub(crate) fn step_in<'a>(found: &ArgMatches<'a>) -> Option<StepCommand<'a>>
         names: is_set(found, "names"),
         records: is_set(found, "records"),
         show: is_set(found, "show"),
+        story: is_set(found, "story"),
+        all: is_set(found, "all"),
         why: is_set(found, "why"),
-    })
+    };
+    if !can_be_told(step.story, step.all) {
+        return None;
+    }
+    Some(step)
+}
+
+/// Whether what says more of a story has one.
+fn can_be_told(story: bool, all: bool) -> bool
+    ensures { result ≡ can_be_told story all }
+{
+    story || !all
 }
 
 pub(crate) fn run_in<'a>(found: &ArgMatches<'a>) -> Option<RunCommand<'a>>
@@ -71,6 +85,7 @@ pub(crate) fn run_in<'a>(found: &ArgMatches<'a>) -> Option<RunCommand<'a>>
         records: is_set(found, "records"),
         why: is_set(found, "why"),
         times: number(found, "times", MOST_TIMES)?,
+        watch: value_of(found, "watch"),
         keep: value_of(found, "keep"),
     };
     if !can_be_run(&run) {
@@ -79,14 +94,14 @@ pub(crate) fn run_in<'a>(found: &ArgMatches<'a>) -> Option<RunCommand<'a>>
     Some(run)
 }
 
-/// Whether the options of a run go together: there is one run at least, only many have a folder, which has
-/// a name, and only one has a report.
+/// Whether the options of a run go together: there is one run at least, only many are watched and have a
+/// folder, which has a name, and only one has a report.
 fn can_be_run(run: &RunCommand<'_>) -> bool
     ensures { result ≡ can_be_run run.now }
 {
     match run.times {
         Some(times) => times >= 1 && !is_reported(run) && has_named_folder(run),
-        None => run.keep.is_none(),
+        None => run.keep.is_none() && run.watch.is_none(),
     }
 }
 
@@ -116,7 +131,7 @@ fn is_reported(run: &RunCommand<'_>) -> bool
 pub(crate) fn check_in<'a>(found: &ArgMatches<'a>) -> Option<CheckCommand<'a>>
     ensures { Finds (IsCheck (rows_of (found_of found.now))) result }
 {
-    Some(CheckCommand {
+    let check = CheckCommand {
         image: value_of(found, "IMAGE")?,
         trace: value_of(found, "TRACE")?,
         counts: is_set(found, "counts"),
@@ -124,8 +139,14 @@ pub(crate) fn check_in<'a>(found: &ArgMatches<'a>) -> Option<CheckCommand<'a>>
         lines: value_of(found, "lines"),
         names: is_set(found, "names"),
         records: is_set(found, "records"),
+        story: is_set(found, "story"),
+        all: is_set(found, "all"),
         why: is_set(found, "why"),
-    })
+    };
+    if !can_be_told(check.story, check.all) {
+        return None;
+    }
+    Some(check)
 }
 
 pub(crate) fn plain_in<'a>(found: &ArgMatches<'a>) -> Option<PlainCommand<'a>>
@@ -154,7 +175,7 @@ pub(crate) fn plain_in<'a>(found: &ArgMatches<'a>) -> Option<PlainCommand<'a>>
 fn can_be_plain(plain: &PlainCommand<'_>) -> bool
     ensures { result ≡ can_be_plain plain.now }
 {
-    let is_told = plain.story || !plain.all;
+    let is_told = can_be_told(plain.story, plain.all);
     match plain.rounds {
         Some(rounds) => rounds >= 1 && plain.order.is_none() && !plain.story && is_told,
         None => {

@@ -63,6 +63,10 @@ pub struct StepCommand<'a> {
     pub records: bool,
     /// `--show`: the core's tables are printed between the asks and the report.
     pub show: bool,
+    /// `--story`: what the core's retirements show to other harts is told behind the asks.
+    pub story: bool,
+    /// `--all`: the story has a row for each retirement. There is none without a story.
+    pub all: bool,
     /// `--why`: each ask's line is explained, and a tally of the reasons comes behind them; behind the
     /// report, why each hart that hasn't ended stands where it does.
     pub why: bool,
@@ -89,6 +93,9 @@ pub struct RunCommand<'a> {
     /// `--times N`: that many runs, 1 to `MOST_TIMES`, and a table of their ends in place of a report.
     /// Then there is none of the seven options above.
     pub times: Option<u32>,
+    /// `--watch LIST`: what tells ends apart beside how the harts end and what was put out, as it is
+    /// spelled. There is none without `times`.
+    pub watch: Option<&'a str>,
     /// `--keep FOLDER`: the folder for a trace and an order of each end. There is none without
     /// `times`.
     pub keep: Option<&'a str>,
@@ -110,6 +117,10 @@ pub struct CheckCommand<'a> {
     pub names: bool,
     /// `--records`: a line for each record is printed before the report.
     pub records: bool,
+    /// `--story`: what the trace's retirements show to other harts is told before all else.
+    pub story: bool,
+    /// `--all`: the story has a row for each retirement. There is none without a story.
+    pub all: bool,
     /// `--why`: behind the report, why each hart that hasn't ended stands where it does.
     pub why: bool,
 }

@@ -19,6 +19,7 @@ const ONE_OF_THEM: &str = "one of them at most";
 /// The first options of a command that don't go together, if there are some.
 pub(crate) fn refused_together(command: &str, found: &ArgMatches<'_>) -> Option<RefusedOptions> {
     match command {
+        "step" | "check" => refused_of_stories(found),
         "run" => refused_of_runs(found),
         "plain" => refused_of_plain(found),
         "chart" if has(found, "svg") && has(found, "kanata") => {
@@ -42,6 +43,9 @@ fn has(found: &ArgMatches<'_>, name: &str) -> bool {
 
 fn refused_of_runs(found: &ArgMatches<'_>) -> Option<RefusedOptions> {
     if !has(found, "times") {
+        if has(found, "watch") {
+            return refused("--watch", "--times N beside it");
+        }
         if has(found, "keep") {
             return refused("--keep", "--times N beside it");
         }
@@ -70,6 +74,14 @@ fn refused_of_runs(found: &ArgMatches<'_>) -> Option<RefusedOptions> {
     refused(words, ONE_OF_THEM)
 }
 
+/// What says more of a story, without one.
+fn refused_of_stories(found: &ArgMatches<'_>) -> Option<RefusedOptions> {
+    if has(found, "all") && !has(found, "story") {
+        return refused("--all", "--story beside it");
+    }
+    None
+}
+
 fn refused_of_plain(found: &ArgMatches<'_>) -> Option<RefusedOptions> {
     match (has(found, "ORDER"), has(found, "rounds")) {
         (true, true) => refused("ORDER --rounds", ONE_OF_THEM),
@@ -77,8 +89,7 @@ fn refused_of_plain(found: &ArgMatches<'_>) -> Option<RefusedOptions> {
         (true, false) if has(found, "steps") => refused("--steps", "--rounds K beside it"),
         (true, false) if has(found, "seed") => refused("--seed", "--rounds K beside it"),
         (false, true) if has(found, "story") => refused("--story", "ORDER in place of --rounds"),
-        _ if has(found, "all") && !has(found, "story") => refused("--all", "--story beside it"),
-        _ => None,
+        _ => refused_of_stories(found),
     }
 }
 

@@ -8,6 +8,7 @@ use Rattle.event_text.specs.{Sinking.HasPut}
 use Rattle.reports.specs.{Traces.trace_of}
 use Rattle.smt_model.specs.Account.{order}
 use Rattle.core_state.specs.View.{CoreView}
+use Rattle.watched_outcomes.specs.declared.watch.Watch.{Watch}
 use Rattle.stress_runs.specs.declared.keeping.Part.{Part}
 use Rattle.stress_runs.specs.declared.keeping.Part.TheVariants.{Trace, Order}
 use Rattle.stress_runs.specs.declared.tally.Row.{Row}
@@ -43,17 +44,17 @@ IsKeptWhere begins written has_failed true number core old new =
     IsKept begins written has_failed old new number core
 IsKeptWhere begins written has_failed false number core old new = new ≡ old
 
--- Of a run behind others with these rows: where its end is new, its trace and its order are in the files of
--- this end, whose number is the next; else nothing was put.
+-- Of a run behind others with these rows: where its end, with what is watched, is new, its trace and its order are
+-- in the files of this end, whose number is the next; else nothing was put.
 abbrev pub IsNextKept : {S : Type 0} → (S → ℕ → Part → S → Type 0) → (S → Option (List ℕ)) → (S → Bool)
-    → List Row → CoreView → S → S → Type 0
-IsNextKept begins written has_failed rows core old new =
-    IsKeptWhere begins written has_failed (is_new (end_of core) rows) (length rows + 1) core old new
+    → Watch → List Row → CoreView → S → S → Type 0
+IsNextKept begins written has_failed watch rows core old new =
+    IsKeptWhere begins written has_failed (is_new (end_of watch core) rows) (length rows + 1) core old new
 
 -- So it is for each of some runs, the newest first.
 abbrev pub AreKept : {S : Type 0} → (S → ℕ → Part → S → Type 0) → (S → Option (List ℕ)) → (S → Bool)
-    → List CoreView → S → S → Type 0
-AreKept begins written has_failed [] old new = new ≡ old
-AreKept {S} begins written has_failed (core ∷ past) old new = (before : S)
-    × AreKept begins written has_failed past old before
-    × IsNextKept begins written has_failed (rows_of (map end_of past)) core before new
+    → Watch → List CoreView → S → S → Type 0
+AreKept begins written has_failed watch [] old new = new ≡ old
+AreKept {S} begins written has_failed watch (core ∷ past) old new = (before : S)
+    × AreKept begins written has_failed watch past old before
+    × IsNextKept begins written has_failed watch (rows_of (map (end_of watch) past)) core before new

@@ -1,4 +1,3 @@
-pub mod End
 pub mod Ends
 pub mod Table
 pub mod Kept

@@ -1,6 +1,6 @@
 //! How the runs of a program end, and how often each end comes.
 //!
-//! Read in this order: `end` (how a run has ended), `tally` (the ends that came, and how often),
+//! Read in this order: `end` (how a run has ended, with what is watched), `tally` (the ends that came, and how often),
 //! `table` (what is printed of them); `order` (the text of an order of harts), `keeping` (the files
 //! of a run that shows an end, and of any command that writes one), `finishing` (what goes into one file
 //! whole). Who makes the runs is `commands`.
@@ -13,7 +13,6 @@ mod order;
 mod table;
 pub mod tally;
 
-pub use end::End;
 pub use finishing::{put_file, put_trace_file};
 pub use keeping::{EndFiles, Part, keep_end};
 pub use table::report_tally;

@@ -20,6 +20,14 @@ output -
 ends 1
 ";
 
+/// The same, of which a register and the first word of its code are watched.
+const WATCHED: &str = "times 3
+end 1 came 3 times; a0@0=5, 80000000:4=5244179
+hart 0 ended 5
+output -
+ends 1
+";
+
 /// What three runs of the first program print and keep, and how they end.
 #[derive(Drop)]
 struct Stressed {
@@ -28,11 +36,16 @@ struct Stressed {
     ending: Ending,
 }
 
-fn perform_stress<R: Threads + Wait + Sync>(rt: &R, image: &[u8], alloc: Global) -> Stressed {
+fn perform_stress<R: Threads + Wait + Sync>(
+    rt: &R,
+    image: &[u8],
+    watch: Option<&'static str>,
+    alloc: Global,
+) -> Stressed {
     let inputs = read_inputs_of(b"", image, b"");
     let kept = Over::new(Vec::new(alloc));
     let mut context = context_of(rt, StaticPredictor, kept, Vec::new(alloc), alloc);
-    let ending = perform_with(&mut context, &stress_line(3), &inputs);
+    let ending = perform_with(&mut context, &stress_line(3, watch), &inputs);
     let Context { files, out, .. } = context;
     Stressed {
         kept: files.into_inner(),
@@ -44,7 +57,7 @@ fn perform_stress<R: Threads + Wait + Sync>(rt: &R, image: &[u8], alloc: Global)
 #[test]
 fn runs_of_one_end_are_counted_and_the_first_is_kept(rt: HostRuntime) {
     let image = file_of(ENDING, 0, rt.alloc()).expect(&rt, "an image");
-    let Stressed { kept, out, ending } = perform_stress(&rt, &image, rt.alloc());
+    let Stressed { kept, out, ending } = perform_stress(&rt, &image, None, rt.alloc());
     assert!(rt; ending.status == 1);
     assert!(rt; text_of(&out) == TABLE);
     // A trace of the one end, and behind it its order: three instructions of hart 0. What a unit
@@ -53,4 +66,22 @@ fn runs_of_one_end_are_counted_and_the_first_is_kept(rt: HostRuntime) {
     assert!(rt; text.starts_with("smt-trace 3\nconfig "));
     assert!(rt; text.contains("- e00000005 - - -\n"));
     assert!(rt; text.ends_with("\n0\n0\n0\n"));
+}
+
+#[test]
+fn what_is_watched_stands_in_the_line_of_an_end(rt: HostRuntime) {
+    let image = file_of(ENDING, 0, rt.alloc()).expect(&rt, "an image");
+    let watched = perform_stress(&rt, &image, Some("80000000:4,a0@0,x10@0"), rt.alloc());
+    assert!(rt; watched.ending.status == 1);
+    assert!(rt; text_of(&watched.out) == WATCHED);
+}
+
+#[test]
+fn a_hart_or_a_word_that_is_not_there_is_refused_before_any_run(rt: HostRuntime) {
+    let image = file_of(ENDING, 0, rt.alloc()).expect(&rt, "an image");
+    for watch in ["80000001:4,a0@1", "a0@0,80000001:4", "a0@0,b1@0"] {
+        let refused = perform_stress(&rt, &image, Some(watch), rt.alloc());
+        assert!(rt; refused.ending.status == 2);
+        assert!(rt; refused.out.is_empty() && refused.kept.is_empty());
+    }
 }

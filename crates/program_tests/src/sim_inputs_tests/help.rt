@@ -20,18 +20,19 @@ explain|outcomes|litmus|migrate|--version|harts|extra|queue|ram|limit|turns|acto
     ),
     (
         "smtsim step --help",
-        "Usage: smtsim step [OPTIONS] <IMAGE> <SCRIPT>|--config <FILE>|--harts <N>|--counts|--json|--lines <FILE>|--looks|\
---names|--records|--show|--why|--trace <FILE>",
+        "Usage: smtsim step [OPTIONS] <IMAGE> <SCRIPT>|--config <FILE>|--harts <N>|--counts|--json|--lines <FILE>|\
+--looks|--names|--records|--show|--story|--all|--why|--trace <FILE>",
     ),
     (
         "smtsim run --help",
         "Usage: smtsim run [OPTIONS] <IMAGE>|--config <FILE>|--harts <N>|--counts|--json|--lines <FILE>|\
---names|--records|--why|--times <N>|--keep <FOLDER>|--trace <FILE>",
+--names|--records|--why|--times <N>|--watch <LIST>|--keep <FOLDER>|--trace <FILE>",
     ),
     (
         "smtsim check --help",
         "Usage: smtsim check [OPTIONS] <IMAGE> <TRACE>|--config <FILE>|--harts <N>|--counts|--json|\
---lines <FILE>|--names|--records|--why|smt-trace 3|config harts extra queue role role ..|smt-trace 2|smt-trace 1|\
+--lines <FILE>|--names|--records|--story|--all|--why|smt-trace 3|\
+config harts extra queue role role ..|smt-trace 2|smt-trace 1|\
 F actor hart number pc word predicted|T actor number value next address data out",
     ),
     (

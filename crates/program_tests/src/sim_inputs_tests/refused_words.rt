@@ -15,6 +15,9 @@ smtsim step --fast first.elf first.script
 smtsim step --show --show a b
 smtsim step --show=yes a b
 smtsim step --looks --looks a b
+smtsim step --all a b
+smtsim step --story --story a b
+smtsim check --all a t
 smtsim step --record a b
 smtsim step a b --config
 smtsim step a b --trace
@@ -41,6 +44,8 @@ smtsim run --looks a
 smtsim run --times 0 a
 smtsim run --times 1000001 a
 smtsim run --keep f a
+smtsim run --watch a0@1 a
+smtsim run --times 2 --watch a0@1 --watch a1@1 a
 smtsim run --times 2 --keep= a
 smtsim run --times 2 --trace t a
 smtsim run --times 2 --records a

@@ -20,6 +20,6 @@ returns-clause-ran g c =
       core = c.in_ok-finished.finished.core;
       is = record { setup = ran.setup; limit = ran.limit; shown = ran.shown };
       counted = c.in-Ok.ensures.counted;
-      kept = kept _ c.in-Ok.ensures.first;
+      kept = kept c.args.self.now.watch.now _ c.in-Ok.ensures.first;
     })
     c.keep_first.ensures.kept
