@@ -288,6 +288,9 @@ of_plain plain settings program names lines (Ok order) = record {
         runs = of.runs;
         printed = kept old mid new _ of.printed flushed;
         stands = of.stands;
+        text = of.text;
+        is_text = of.is_text;
+        put = of.put;
       }) is;
   says = λ Traced old new status is.
       from_rounds (rounds_of plain) _ _ _

@@ -23,6 +23,8 @@ use Rattle.core_commands.specs.Chart.{IsChartRefusal, ChartComesTo}
 use Rattle.plain_commands.specs.Plain.{IsPlainRefusal, PlainComesTo}
 use Rattle.sim_inputs.specs.declared.line.PlainCommand.{PlainCommand}
 use Rattle.story_text.specs.Text.{Plan}
+use Rattle.story_pictures.specs.Form.{Plan as DrawnPlan}
+use Rattle.story_pictures.specs.declared.form.Theme.TheVariants.{Automatic}
 use Rattle.plain_commands.specs.PlainRounds.{rounds_of, InRounds, IsRoundsRefusal, RoundsComeTo}
 use Rattle.plain_commands.specs.Schedule.{IsScheduleRefusal, ScheduleComesTo}
 use Rattle.core_commands.specs.Script.{IsScriptingRefusal, ScriptComesTo}
@@ -50,7 +52,7 @@ IsCommandRefusal (commands.Check check) settings image names second reason =
     BehindFile second (IsCheckRefusalWith (is_some (check_wants check names).ends) settings image) reason
 IsCommandRefusal (commands.Plain plain) settings image names second reason =
     InRounds (rounds_of plain) (λ rounds. IsRoundsRefusal settings reason)
-    (BehindFile second (IsPlainRefusal settings image) reason)
+    (BehindFile second (λ order. IsPlainRefusal settings image order (is_some plain.story_svg)) reason)
 IsCommandRefusal (commands.Schedule schedule) settings image names second reason =
     BehindFile second (IsScheduleRefusal settings image) reason
 IsCommandRefusal (commands.Script script) settings image names second reason =
@@ -75,6 +77,18 @@ abbrev pub story_plan : PlainCommand → Settings → Table → Marks → Option
 story_plan plain settings names marks = if plain.story
     then Some (record { harts = settings.config.harts; all = plain.all; names = names; marks = marks }) else None
 
+-- How a picture of that story is drawn, where it is wanted.
+abbrev pub drawn_plan : PlainCommand → Settings → Table → Marks → Option DrawnPlan
+drawn_plan plain settings names marks = if is_some plain.story_svg
+    then Some (record {
+      harts = settings.config.harts;
+      names = names;
+      marks = marks;
+      is_stuck = false;
+      theme = Automatic;
+    })
+    else None
+
 -- What a command comes to. `Traced` says whether its files are written, where that is wanted: a trace of
 -- a core, or the files of ends.
 abbrev pub CommandComesTo : ProgramCommand → Settings → ProgramImage → Table → Option (List Origin) → Read
@@ -93,8 +107,9 @@ CommandComesTo (commands.Plain plain) settings image names lines second Traced o
     InRounds (rounds_of plain)
     (λ rounds. RoundsComeTo settings image rounds plain.records (marks_where plain.names names lines) old new status)
     (OfFile second (λ order. PlainComesTo settings image order
-    (story_plan plain settings names (marks_where plain.names names lines)) plain.records
-    (marks_where plain.names names lines) old new status))
+    (story_plan plain settings names (marks_where plain.names names lines))
+    (drawn_plan plain settings names (marks_where plain.names names lines)) plain.records
+    (marks_where plain.names names lines) (λ text. Traced (TextIf text)) old new status))
 CommandComesTo (commands.Schedule schedule) settings image names lines second Traced old new status =
     OfFile second (λ order. ScheduleComesTo settings image order old new status)
 CommandComesTo (commands.Script script) settings image names lines second Traced old new status =
@@ -122,21 +137,24 @@ AreUnfit _ settings image second = ⊥
 
 -- What a command prints that doesn't come to its report since its file couldn't be written: a
 -- core's answers to the asks, or what explains them, where it makes steps; nothing, where it runs
--- threads, or where the file is that of a chart or of an order. No other command of a program writes a file.
+-- threads, or where the file is that of a chart, of an order or of a picture. No other command of a program writes a
+-- file.
 abbrev pub IsProgramUnreported : ProgramCommand → Read → Option (List ℕ) → Option (List ℕ) → Type 0
 IsProgramUnreported (commands.Step step) second old new =
     (core : CoreView) × (idle : List ℕ) × (marks : Marks)
     × Prints old new (λ text. OfFile second (λ script. AreMarked step.why marks script core idle text))
 IsProgramUnreported (commands.Run run) second old new = new ≡ old
+IsProgramUnreported (commands.Plain plain) second old new = new ≡ old
 IsProgramUnreported (commands.Chart chart) second old new = new ≡ old
 IsProgramUnreported (commands.Outcomes outcomes) second old new = new ≡ old
 IsProgramUnreported _ second old new = ⊥
 
--- The command writes a file that is named for the trace of its core, for its chart or for an order, or files
--- of ends into a folder.
+-- The command writes a file that is named for the trace of its core, for its chart, for an order or for a picture of its
+-- story, or files of ends into a folder.
 abbrev pub program_writes_file : ProgramCommand → Bool
 program_writes_file (commands.Step step) = is_some step.trace
 program_writes_file (commands.Run run) = if is_some run.times then is_some run.keep else is_some run.trace
+program_writes_file (commands.Plain plain) = is_some plain.story_svg
 program_writes_file (commands.Chart chart) = is_some (written_chart chart)
 program_writes_file (commands.Outcomes outcomes) = wants_order outcomes
 program_writes_file _ = false
@@ -152,7 +170,7 @@ wants_names (commands.Chart chart) = (chart.names || is_function chart.from) || 
 wants_names (commands.Step step) = step.names || step.story
 wants_names (commands.Run run) = run.names || is_some run.watch
 wants_names (commands.Check check) = check.names || check.story
-wants_names (commands.Plain plain) = plain.names || plain.story
+wants_names (commands.Plain plain) = (plain.names || plain.story) || is_some plain.story_svg
 wants_names (commands.List list) = list.names
 wants_names (commands.Schedule schedule) = false
 wants_names (commands.Script script) = false

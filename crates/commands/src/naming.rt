@@ -23,7 +23,7 @@ pub(crate) fn wants_names(command: &ProgramCommand<'_>) -> bool
         ProgramCommand::Step(step) => step.names || step.story,
         ProgramCommand::Run(run) => run.names || run.watch.is_some(),
         ProgramCommand::Check(check) => check.names || check.story,
-        ProgramCommand::Plain(plain) => plain.names || plain.story,
+        ProgramCommand::Plain(plain) => { plain.names || plain.story || plain.story_svg.is_some() }
         ProgramCommand::List(list) => list.names,
         ProgramCommand::Schedule(_) | ProgramCommand::Script(_) => false,
     }

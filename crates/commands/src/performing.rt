@@ -18,7 +18,7 @@ ghost use Rattle.event_text.specs.Sinking.{HasPut};
 ghost use Rattle.commands.specs.Written.{IsWritten};
 
 use crate::explain_line::read_and_explain;
-use crate::labelling::{labels_for, story_for};
+use crate::labelling::{labels_for, picture_for, story_for};
 use crate::list::perform_list;
 use crate::naming::{names_where, wants_names};
 use crate::runs::perform_runs;
@@ -326,15 +326,16 @@ fn perform_command<
             }
             let order = second?;
             let story = &story_for(plain, settings, names, labels);
+            let picture = &picture_for(plain, settings, names, labels);
             perform_plain(
+                context,
                 image,
                 settings,
                 order,
                 story,
+                picture,
                 plain.records,
                 labels,
-                &mut context.out,
-                alloc,
             )
         }
         ProgramCommand::Schedule(_) => {

@@ -3,12 +3,14 @@
 //! A module a command: `plain` and `plain_rounds` (an order, and turns without one), `schedule` (the script that
 //! makes a core retire in an order), `all_outcomes` and `litmus` (both over `searching`). Beside the first of these
 //! stand `asking` (its question, and what is watched), `settling` (which outcome answers it) and `written_orders` (the
-//! order that it writes). `retiring` has the law that a printed schedule is retired. What each command comes to, and when each of its refusals comes, stands in
+//! order that it writes), and beside `plain` too `drawn_orders` (the picture of an order's story). `retiring` has the
+//! law that a printed schedule is retired. What each command comes to, and when each of its refusals comes, stands in
 //! `specs` under the command's name.
 #![tactic(auto)]
 
 mod all_outcomes;
 mod asking;
+mod drawn_orders;
 mod litmus;
 mod plain;
 mod plain_rounds;

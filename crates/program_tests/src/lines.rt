@@ -166,6 +166,7 @@ pub fn plain_line(records: bool) -> Line<'static> {
         names: false,
         records,
         story: false,
+        story_svg: None,
         all: false,
     },))
 }
@@ -233,6 +234,7 @@ pub fn outcomes_line(states: u32) -> Line<'static> {
         witness: None,
         script: None,
         story: None,
+        story_svg: None,
         all: false,
         lines: None,
     },))

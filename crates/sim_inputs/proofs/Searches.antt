@@ -21,6 +21,7 @@ pub record AsksOutcomes (rows : List Row) (outcomes : OutcomesCommand) : Type 0 
   pub witness : first_of (codes "witness") rows ≡ option_map (λ f. f.now) outcomes.witness
   pub script : first_of (codes "script") rows ≡ option_map (λ f. f.now) outcomes.script
   pub story : first_of (codes "story") rows ≡ option_map (λ f. f.now) outcomes.story
+  pub story_svg : first_of (codes "story-svg") rows ≡ option_map (λ f. f.now) outcomes.story_svg
   pub all : is_flag_set (codes "all") rows ≡ outcomes.all
   pub lines : first_of (codes "lines") rows ≡ option_map (λ f. f.now) outcomes.lines
 
@@ -34,6 +35,7 @@ asked_so rows outcomes is = record {
   witness = is.witness;
   script = is.script;
   story = is.story;
+  story_svg = is.story_svg;
   all = is.all;
   lines = is.lines;
 }
@@ -72,12 +74,14 @@ searched_alike rows a b one two =
     some_alike a.witness b.witness (sym one.witness ∙ two.witness) in
     let script : is_some a.script ≡ is_some b.script = some_alike a.script b.script (sym one.script ∙ two.script) in
     let story : is_some a.story ≡ is_some b.story = some_alike a.story b.story (sym one.story ∙ two.story) in
+    let drawn : is_some a.story_svg ≡ is_some b.story_svg =
+    some_alike a.story_svg b.story_svg (sym one.story_svg ∙ two.story_svg) in
     let lines : is_some a.lines ≡ is_some b.lines = some_alike a.lines b.lines (sym one.lines ∙ two.lines) in
     let asked : is_some a.question ≡ is_some b.question =
     asks_at_all rows a.question one.question ∙ sym (asks_at_all rows b.question two.question) in
     let condition : has_condition a.question ≡ has_condition b.question =
     asks_conditions rows a.question one.question ∙ sym (asks_conditions rows b.question two.question) in
-    rw (states, outcome, stuck, first, every, witness, script, story, lines, asked, condition) refl
+    rw (states, outcome, stuck, first, every, witness, script, story, drawn, lines, asked, condition) refl
 
 -- options that don't go together ask for no search
 pub no_search : (rows : List Row) (a : OutcomesCommand) → AsksOutcomes rows a → can_be_searched a ≡ false

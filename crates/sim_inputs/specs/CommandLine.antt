@@ -182,13 +182,16 @@ pub record IsCheck (rows : List Row) (check : CheckCommand) : Type 0 where
   pub together : can_be_told check.story check.all ≡ true
 
 -- There is either an order or rounds, of an instruction at least, and what says more of rounds is there
--- with them alone; a story is there with an order alone, and what says more of a story with one alone.
+-- with them alone; a story, told or drawn, is there with an order alone, and what tells more with one that is told.
+abbrev pub shows_story : PlainCommand → Bool
+shows_story plain = plain.story || is_some plain.story_svg
+
 abbrev pub can_be_plain : PlainCommand → Bool
 can_be_plain plain =
     let told = can_be_told plain.story plain.all in
     let ordered = is_some plain.order && (not (is_some plain.steps) && (not (is_some plain.seed) && told)) in
-    option_map_or (λ rounds. nat_le 1 rounds && (not (is_some plain.order) && (not plain.story && told))) plain.rounds
-    ordered
+    option_map_or (λ rounds. nat_le 1 rounds && (not (is_some plain.order) && (not (shows_story plain) && told)))
+    plain.rounds ordered
 
 pub record IsPlain (rows : List Row) (plain : PlainCommand) : Type 0 where
   pub image : IsFile rows (codes "IMAGE") plain.image
@@ -200,6 +203,7 @@ pub record IsPlain (rows : List Row) (plain : PlainCommand) : Type 0 where
   pub names : IsFlag rows (codes "names") plain.names
   pub records : IsFlag rows (codes "records") plain.records
   pub story : IsFlag rows (codes "story") plain.story
+  pub story_svg : IsFileOption rows (codes "story-svg") plain.story_svg
   pub all : IsFlag rows (codes "all") plain.all
   pub together : can_be_plain plain ≡ true
 
@@ -277,15 +281,22 @@ has_condition None = false
 has_condition (Some question.NeverStuck) = false
 has_condition (Some other) = true
 
--- An order has one file, as it is, as its script or as its story; or it has none.
+-- An order has one file, as it is, as its script, as its story or as a picture of that; or it has none.
+abbrev pub has_story : OutcomesCommand → Bool
+has_story outcomes = is_some outcomes.story || is_some outcomes.story_svg
+
+abbrev pub has_one_story : OutcomesCommand → Bool
+has_one_story outcomes =
+    if is_some outcomes.story then not (is_some outcomes.story_svg) else is_some outcomes.story_svg
+
 abbrev pub has_one_file : OutcomesCommand → Bool
 has_one_file outcomes =
-    if is_some outcomes.witness then not (is_some outcomes.script) && not (is_some outcomes.story)
-    else (if is_some outcomes.script then not (is_some outcomes.story) else is_some outcomes.story)
+    if is_some outcomes.witness then not (is_some outcomes.script) && not (has_story outcomes)
+    else (if is_some outcomes.script then not (has_story outcomes) else has_one_story outcomes)
 
 abbrev pub has_no_file : OutcomesCommand → Bool
 has_no_file outcomes =
-    not (is_some outcomes.witness) && not (is_some outcomes.script) && not (is_some outcomes.story)
+    not (is_some outcomes.witness) && not (is_some outcomes.script) && not (has_story outcomes)
 
 -- Some state is looked at. An order is written of an outcome, from 1, or of a state that is stuck, and
 -- of one of them alone; or of what answers the question.
@@ -297,11 +308,16 @@ are_orders_together outcomes =
     option_map_or (λ number. nat_le 1 number && not outcomes.stuck && has_one_file outcomes)
     outcomes.outcome without
 
--- The search ends at the first answer where a condition is asked; what a story shows is said of a story.
+-- What a story shows beside its rows is said of a story; each step has a row in one that is told, not drawn.
+abbrev pub are_stories_together : OutcomesCommand → Bool
+are_stories_together outcomes = is_some outcomes.story
+    || (not outcomes.all && (is_some outcomes.story_svg || not (is_some outcomes.lines)))
+
+-- The search ends at the first answer where a condition is asked.
 abbrev pub can_be_searched : OutcomesCommand → Bool
 can_be_searched outcomes = nat_le 1 outcomes.states && are_orders_together outcomes
     && (not outcomes.first || has_condition outcomes.question)
-    && (is_some outcomes.story || (not outcomes.all && not (is_some outcomes.lines)))
+    && are_stories_together outcomes
 
 pub record IsOutcomes (rows : List Row) (outcomes : OutcomesCommand) : Type 0 where
   pub image : IsFile rows (codes "IMAGE") outcomes.image
@@ -314,6 +330,7 @@ pub record IsOutcomes (rows : List Row) (outcomes : OutcomesCommand) : Type 0 wh
   pub witness : IsFileOption rows (codes "witness") outcomes.witness
   pub script : IsFileOption rows (codes "script") outcomes.script
   pub story : IsFileOption rows (codes "story") outcomes.story
+  pub story_svg : IsFileOption rows (codes "story-svg") outcomes.story_svg
   pub all : IsFlag rows (codes "all") outcomes.all
   pub lines : IsFileOption rows (codes "lines") outcomes.lines
   pub together : can_be_searched outcomes ≡ true

@@ -122,6 +122,12 @@ pub(crate) const STORY: Argument = Argument {
     help: "Tell what steps show to other harts, before the report",
 };
 
+pub(crate) const STORY_SVG: Argument = Argument {
+    kind: Kind::Option,
+    name: "story-svg",
+    help: "The file for a picture of that",
+};
+
 pub(crate) const ALL: Argument = Argument {
     kind: Kind::Flag,
     name: "all",
@@ -167,7 +173,7 @@ pub(crate) const KEEP: Argument = Argument {
 pub(crate) const ROUNDS: Argument = Argument {
     kind: Kind::Number,
     name: "rounds",
-    help: "Without an order: each hart makes so many steps in turn",
+    help: "Without an order: each hart makes N steps in turn",
 };
 
 pub(crate) const STEPS: Argument = Argument {

@@ -7,8 +7,8 @@ ghost use Rattle.sim_inputs.specs.CommandLine.{IsLitmus, IsMigrate, IsOutcomes, 
 ghost use Rattle.sim_inputs.specs.CommandLine.{IsScript, IsStep, IsQuestion, has_condition, has_no_file};
 ghost use Rattle.sim_inputs.specs.CommandLine.{are_orders_together, can_be_drawn};
 ghost use Rattle.sim_inputs.specs.CommandLine.{can_be_plain, can_be_run, can_be_searched, can_be_tested};
-ghost use Rattle.sim_inputs.specs.CommandLine.{can_be_told};
-ghost use Rattle.sim_inputs.specs.CommandLine.{has_named_folder, has_one_file, is_reported};
+ghost use Rattle.sim_inputs.specs.CommandLine.{are_stories_together, can_be_told, has_named_folder, has_one_file};
+ghost use Rattle.sim_inputs.specs.CommandLine.{has_one_story, has_story, is_reported, shows_story};
 
 use crate::chart_ends::{chart_end, do_ends_rise};
 use crate::files::is_standard_input;
@@ -162,6 +162,7 @@ pub(crate) fn plain_in<'a>(found: &ArgMatches<'a>) -> Option<PlainCommand<'a>>
         names: is_set(found, "names"),
         records: is_set(found, "records"),
         story: is_set(found, "story"),
+        story_svg: value_of(found, "story-svg"),
         all: is_set(found, "all"),
     };
     if !can_be_plain(&plain) {
@@ -177,11 +178,18 @@ fn can_be_plain(plain: &PlainCommand<'_>) -> bool
 {
     let is_told = can_be_told(plain.story, plain.all);
     match plain.rounds {
-        Some(rounds) => rounds >= 1 && plain.order.is_none() && !plain.story && is_told,
+        Some(rounds) => rounds >= 1 && plain.order.is_none() && !shows_story(plain) && is_told,
         None => {
             plain.order.is_some() && plain.steps.is_none() && plain.seed.is_none() && is_told
         }
     }
+}
+
+/// Whether a story is told or drawn.
+fn shows_story(plain: &PlainCommand<'_>) -> bool
+    ensures { result ≡ shows_story plain.now }
+{
+    plain.story || plain.story_svg.is_some()
 }
 
 pub(crate) fn schedule_in<'a>(found: &ArgMatches<'a>) -> Option<ScheduleCommand<'a>>
@@ -279,6 +287,7 @@ pub(crate) fn outcomes_in<'a>(found: &ArgMatches<'a>) -> Option<OutcomesCommand<
         witness: value_of(found, "witness"),
         script: value_of(found, "script"),
         story: value_of(found, "story"),
+        story_svg: value_of(found, "story-svg"),
         all: is_set(found, "all"),
         lines: value_of(found, "lines"),
     };
@@ -311,7 +320,17 @@ fn can_be_searched(outcomes: &OutcomesCommand<'_>) -> bool
     outcomes.states >= 1
         && are_orders_together(outcomes)
         && (!outcomes.first || has_condition(outcomes))
-        && (outcomes.story.is_some() || !outcomes.all && outcomes.lines.is_none())
+        && are_stories_together(outcomes)
+}
+
+/// Whether what says more of a story has one.
+fn are_stories_together(outcomes: &OutcomesCommand<'_>) -> bool
+    ensures { result ≡ are_stories_together outcomes.now }
+{
+    if outcomes.story.is_some() {
+        return true;
+    }
+    !outcomes.all && (outcomes.story_svg.is_some() || outcomes.lines.is_none())
 }
 
 /// Whether an order is written of one end alone, and into one file; or none is.
@@ -326,12 +345,23 @@ fn are_orders_together(outcomes: &OutcomesCommand<'_>) -> bool
     }
 }
 
-/// Whether an order is written in one way: as it is, as its script or as its story.
+/// Whether an order is written in one way: as it is, as its script, as its story or as a picture of that.
 fn has_one_file(outcomes: &OutcomesCommand<'_>) -> bool
     ensures { result ≡ has_one_file outcomes.now }
 {
-    match (outcomes.witness, outcomes.script, outcomes.story) {
-        (Some(_), None, None) | (None, Some(_), None) | (None, None, Some(_)) => true,
+    match (outcomes.witness, outcomes.script) {
+        (Some(_), None) | (None, Some(_)) => !has_story(outcomes),
+        (None, None) => has_one_story(outcomes),
+        (Some(_), Some(_)) => false,
+    }
+}
+
+/// Whether a story is written, or a picture of one, and not both.
+fn has_one_story(outcomes: &OutcomesCommand<'_>) -> bool
+    ensures { result ≡ has_one_story outcomes.now }
+{
+    match (outcomes.story, outcomes.story_svg) {
+        (Some(_), None) | (None, Some(_)) => true,
         _ => false,
     }
 }
@@ -339,7 +369,14 @@ fn has_one_file(outcomes: &OutcomesCommand<'_>) -> bool
 fn has_no_file(outcomes: &OutcomesCommand<'_>) -> bool
     ensures { result ≡ has_no_file outcomes.now }
 {
-    outcomes.witness.is_none() && outcomes.script.is_none() && outcomes.story.is_none()
+    outcomes.witness.is_none() && outcomes.script.is_none() && !has_story(outcomes)
+}
+
+/// Whether a story is written, or a picture of one.
+fn has_story(outcomes: &OutcomesCommand<'_>) -> bool
+    ensures { result ≡ has_story outcomes.now }
+{
+    outcomes.story.is_some() || outcomes.story_svg.is_some()
 }
 
 /// Whether a question is asked that has a condition.

@@ -146,6 +146,8 @@ pub struct PlainCommand<'a> {
     pub records: bool,
     /// `--story`: what the order's steps show to other harts is told before all else. There is none with rounds.
     pub story: bool,
+    /// `--story-svg FILE`: the file that a picture of it is written to. There is none with rounds.
+    pub story_svg: Option<&'a str>,
     /// `--all`: the story has a row for each step. There is none without a story.
     pub all: bool,
 }
@@ -248,9 +250,11 @@ pub struct OutcomesCommand<'a> {
     pub witness: Option<&'a str>,
     /// `--script FILE`: the file that the order's script is written to.
     pub script: Option<&'a str>,
-    /// `--story FILE`: the file that the order's story is written to. There is one of the three at
-    /// most.
+    /// `--story FILE`: the file that the order's story is written to.
     pub story: Option<&'a str>,
+    /// `--story-svg FILE`: the file that a picture of that story is written to. There is one of the
+    /// four at most.
+    pub story_svg: Option<&'a str>,
     /// `--all`: each instruction has a row in the story.
     pub all: bool,
     /// `--lines FILE`: the file of source lines, which stand behind the rows of the story.

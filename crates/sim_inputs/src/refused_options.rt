@@ -41,8 +41,17 @@ static NUMBERS: [NumberOption; 9] = [
 ];
 
 /// The options and the argument that name a file or a folder that is written, and so no dash.
-const WRITTEN: [&str; 9] = [
-    "trace", "keep", "svg", "kanata", "witness", "script", "story", "image", "OUT",
+const WRITTEN: [&str; 10] = [
+    "trace",
+    "keep",
+    "svg",
+    "kanata",
+    "witness",
+    "script",
+    "story",
+    "story-svg",
+    "image",
+    "OUT",
 ];
 
 /// Adds to a hint why these matches are no line. Fails only for want of memory.

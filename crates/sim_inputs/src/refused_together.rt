@@ -89,6 +89,9 @@ fn refused_of_plain(found: &ArgMatches<'_>) -> Option<RefusedOptions> {
         (true, false) if has(found, "steps") => refused("--steps", "--rounds K beside it"),
         (true, false) if has(found, "seed") => refused("--seed", "--rounds K beside it"),
         (false, true) if has(found, "story") => refused("--story", "ORDER in place of --rounds"),
+        (false, true) if has(found, "story-svg") => {
+            refused("--story-svg", "ORDER in place of --rounds")
+        }
         _ => refused_of_stories(found),
     }
 }
@@ -106,8 +109,8 @@ fn refused_of_outcomes(found: &ArgMatches<'_>) -> Option<RefusedOptions> {
     if has(found, "all") {
         return refused("--all", "--story FILE beside it");
     }
-    if has(found, "lines") {
-        return refused("--lines", "--story FILE beside it");
+    if has(found, "lines") && !has(found, "story-svg") {
+        return refused("--lines", "--story FILE or --story-svg FILE beside it");
     }
     None
 }
@@ -135,19 +138,10 @@ fn refused_of_questions(found: &ArgMatches<'_>) -> Option<RefusedOptions> {
 
 /// Orders of two ends, an order without its file or with two, and a file without an order.
 fn refused_of_orders(found: &ArgMatches<'_>) -> Option<RefusedOptions> {
-    let files = match (
-        has(found, "witness"),
-        has(found, "script"),
-        has(found, "story"),
-    ) {
-        (true, true, _) => return refused("--witness --script", ONE_OF_THEM),
-        (true, false, true) => return refused("--witness --story", ONE_OF_THEM),
-        (false, true, true) => return refused("--script --story", ONE_OF_THEM),
-        (true, false, false) => "--witness",
-        (false, true, false) => "--script",
-        (false, false, true) => "--story",
-        (false, false, false) => "",
-    };
+    if let Some(refused) = refused_of_files(found) {
+        return Some(refused);
+    }
+    let files = written_order(found);
     let words = match (has(found, "outcome"), has(found, "stuck")) {
         (true, true) => return refused("--outcome --stuck", ONE_OF_THEM),
         (false, false) if files.is_empty() || asks(found) => return None,
@@ -158,10 +152,41 @@ fn refused_of_orders(found: &ArgMatches<'_>) -> Option<RefusedOptions> {
     if files.is_empty() {
         return refused(
             words,
-            "--witness FILE, --script FILE or --story FILE beside it",
+            "--witness FILE, --script FILE, --story FILE or --story-svg FILE beside it",
         );
     }
     None
+}
+
+/// Two files for one order.
+fn refused_of_files(found: &ArgMatches<'_>) -> Option<RefusedOptions> {
+    let (witness, script) = (has(found, "witness"), has(found, "script"));
+    let (story, picture) = (has(found, "story"), has(found, "story-svg"));
+    let words = match (witness, script, story, picture) {
+        (true, true, _, _) => "--witness --script",
+        (true, false, true, _) => "--witness --story",
+        (true, false, false, true) => "--witness --story-svg",
+        (false, true, true, _) => "--script --story",
+        (false, true, false, true) => "--script --story-svg",
+        (false, false, true, true) => "--story --story-svg",
+        _ => return None,
+    };
+    refused(words, ONE_OF_THEM)
+}
+
+/// The option by which an order is written; nothing where none is.
+fn written_order(found: &ArgMatches<'_>) -> &'static str {
+    if has(found, "witness") {
+        "--witness"
+    } else if has(found, "script") {
+        "--script"
+    } else if has(found, "story") {
+        "--story"
+    } else if has(found, "story-svg") {
+        "--story-svg"
+    } else {
+        ""
+    }
 }
 
 /// Whether a question is asked.

@@ -66,6 +66,9 @@ smtsim plain a b --seed 1
 smtsim plain a --steps 1
 smtsim plain a --rounds 0
 smtsim plain a --rounds 4294967296
+smtsim plain a --rounds 1 --story-svg p
+smtsim plain --story-svg p a b --all
+smtsim plain --story-svg - a b
 smtsim plain --counts a b
 smtsim plain a b c
 smtsim plain --show a b
@@ -116,6 +119,12 @@ smtsim outcomes --never x=1 --script s --story t a
 smtsim outcomes --exists x=1 --all a
 smtsim outcomes --exists x=1 --lines l a
 smtsim outcomes --exists x=1 --story - a
+smtsim outcomes --story-svg s a
+smtsim outcomes --exists x=1 --story s --story-svg p a
+smtsim outcomes --exists x=1 --witness w --story-svg p a
+smtsim outcomes --stuck --script s --story-svg p a
+smtsim outcomes --stuck --story-svg p --all a
+smtsim outcomes --exists x=1 --story-svg - a
 smtsim litmus
 smtsim litmus a b
 smtsim litmus --states 0 a

@@ -1,0 +1,11 @@
+pub mod Form
+pub mod Accesses
+pub mod Relations
+pub mod Geometry
+pub mod Words
+pub mod Elements
+pub mod Arrows
+pub mod Boxes
+pub mod Style
+pub mod Picture
+pub mod Order

@@ -1,0 +1,182 @@
+#!/usr/bin/env python3
+"""The picture of a story, as docs/FORMATS.md says it, from the story's text: story_picture.py HARTS [THEME [stuck]]
+
+It reads the text of `smtsim plain --story` on standard input, and writes the SVG file, without the titles of rows. THEME
+is `automatic` (where none is given), `light` or `dark`; with `stuck` behind it, the order is one that ends in a stuck
+state. Two places are the same bytes where they have the same name, or both have none: so it is right where each place
+is told by one name.
+"""
+
+import re
+import sys
+from xml.sax.saxutils import escape
+
+LEFT, LANE, BOX = 64, 470, 320
+TOP, ROW, HEIGHT = 120, 34, 24
+
+LIGHT = """text{font:12px monospace;fill:#1b1b1b}
+.page{fill:#ffffff}
+.far{fill:#5b5b5b}
+.name{font:bold 13px monospace;text-anchor:middle}
+.count{fill:#5b5b5b;text-anchor:end}
+.lane{stroke:#c4c8ce;stroke-dasharray:2 4}
+.box{fill:#f4f4f4;stroke:#8a8a8a}
+.reads{fill:#e3f1fb;stroke:#0072b2}
+.writes{fill:#fdeed3;stroke:#b57b00}
+.both{fill:#ddf3eb;stroke:#009e73}
+.mark{font:bold 12px monospace;stroke:#ffffff;stroke-width:4;paint-order:stroke}
+.lost{fill:#ffffff;stroke:#c22f00;stroke-width:2.4;stroke-dasharray:6 3}
+.lost-is{fill:#c22f00}
+.stuck{stroke:#8e3a8c;stroke-width:2.6}
+.stuck-is{fill:#8e3a8c}
+.arrow{fill:none;stroke:#6b7280;stroke-width:1.5}
+.point{fill:#6b7280}
+"""
+DARK = """text{fill:#ececec}
+.page{fill:#16181d}
+.far,.count{fill:#a2a7b0}
+.lane{stroke:#434956}
+.box{fill:#23262e;stroke:#747b88}
+.reads{fill:#16303f;stroke:#56b4e9}
+.writes{fill:#3a2e14;stroke:#e6a830}
+.both{fill:#143329;stroke:#2fc79b}
+.mark{stroke:#16181d}
+.lost{fill:#16181d;stroke:#ff8257}
+.lost-is{fill:#ff8257}
+.stuck{stroke:#e08fdd}
+.stuck-is{fill:#e08fdd}
+.arrow{stroke:#9aa3b2}
+.point{fill:#9aa3b2}
+"""
+LEGEND = """</style>
+<rect class="page" width="100%" height="100%"/>
+<marker id="point" viewBox="0 0 8 8" refX="7" refY="4" markerUnits="userSpaceOnUse" markerWidth="11" \
+markerHeight="11" orient="auto"><path class="point" d="M0 0L8 4L0 8z"/></marker>
+<text class="far" x="16" y="22">Time goes down. An arrow leads from a write to each read that found its number.</text>
+<text class="far" x="16" y="40">A read without an arrow found what was there at the start.</text>
+<rect class="box reads" x="16" y="52" width="14" height="12"/><text class="far" x="36" y="62">reads</text>
+<rect class="box writes" x="92" y="52" width="14" height="12"/><text class="far" x="112" y="62">writes</text>
+<rect class="box both" x="176" y="52" width="14" height="12"/><text class="far" x="196" y="62">reads and writes</text>
+<rect class="box writes lost" x="332" y="52" width="14" height="12"/>\
+<text class="far" x="352" y="62">overwritten before anyone read it</text>
+"""
+SIZES = {"lb": 1, "lbu": 1, "lh": 2, "lhu": 2, "lw": 4, "sb": 1, "sh": 2, "sw": 4}
+
+
+class Step:
+    def __init__(self, number, hart, text):
+        self.number, self.hart = number, hart
+        self.text = re.sub(r" fails: .*", " fails", text)
+        self.ends = text.startswith(("ended ", "stopped "))
+        word, _, rest = text.partition(" ")
+        self.reads = word in ("lb", "lbu", "lh", "lhu", "lw", "lr.w") or word.startswith("amo")
+        self.writes = word in ("sb", "sh", "sw") or word.startswith("amo") or (word == "sc.w" and "fails" not in rest)
+        self.bytes = []
+        if self.reads or self.writes:
+            name, behind = self.place(rest.split(" ")[0])
+            self.bytes = [(name, behind + k) for k in range(SIZES.get(word, 4))]
+
+    @staticmethod
+    def place(text):
+        if re.fullmatch(r"[0-9a-f]{8}", text):
+            return "", int(text, 16)
+        name, _, behind = text.partition("+")
+        return name, int(behind or 0)
+
+    def kind(self):
+        return {(True, False): "box reads", (False, True): "box writes", (True, True): "box both"}.get(
+            (self.reads, self.writes), "box")
+
+
+def read(text):
+    """The rows of a story: their columns are those of the head."""
+    lines = text.split("\n")
+    columns = [m.start() for m in re.finditer("h", lines[0])]
+    for line in lines[1:]:
+        found = re.match(r"(\d+) +(.*?)(  .*)?$", line)
+        if found:
+            yield Step(int(found[1]), columns.index(found.start(2)), found[2])
+
+
+def reads_from(steps, i, j):
+    between = {at for step in steps[i + 1:j] if step.writes for at in step.bytes}
+    return i < j and steps[i].writes and steps[j].reads and bool(set(steps[i].bytes) & set(steps[j].bytes) - between)
+
+
+def is_overwritten(steps, i):
+    if not steps[i].writes:
+        return False
+    firsts = [next((s for s in steps[i + 1:] if at in s.bytes), None) for at in steps[i].bytes]
+    return all(s is not None and s.writes and not s.reads for s in firsts)
+
+
+def is_stuck(steps, i):
+    return not steps[i].ends and all(step.hart != steps[i].hart for step in steps[i + 1:])
+
+
+def left(hart):
+    return LEFT + LANE * hart
+
+
+def top(i):
+    return TOP + ROW * i
+
+
+def arrow(steps, i, j):
+    a, b = steps[i].hart, steps[j].hart
+    y, to_y = top(i) + 18, top(j) + 6
+    if a == b:
+        x = left(a) + BOX
+        far = x + 20 + 4 * min(j - i, 10)
+        way = f"M{x} {y}C{far} {y} {far} {to_y} {x} {to_y}"
+    elif a < b:
+        x, to_x = left(a) + BOX, left(b)
+        way = f"M{x} {y}C{x + 60} {y} {to_x - 60} {to_y} {to_x} {to_y}"
+    else:
+        x, to_x = left(a), left(b) + BOX
+        way = f"M{x} {y}C{x - 60} {y} {to_x + 60} {to_y} {to_x} {to_y}"
+    return f'<path class="arrow" marker-end="url(#point)" d="{way}"/>\n'
+
+
+def row(steps, i, ends_stuck):
+    step, base = steps[i], top(i) + 16
+    x, lost, stuck = left(step.hart), is_overwritten(steps, i), ends_stuck and is_stuck(steps, i)
+    kind = step.kind() + (" lost" if lost else "") + (" stuck" if stuck else "")
+    words = escape(step.text).replace("&gt;", ">")
+    yield f'<text class="count" x="46" y="{base}">{step.number}</text>\n'
+    yield f'<rect class="{kind}" x="{x}" y="{top(i)}" width="{BOX}" height="{HEIGHT}" rx="4"/>\n'
+    yield f'<svg x="{x}" y="{top(i)}" width="{BOX - 4}" height="{HEIGHT}"><text x="8" y="16">{words}</text></svg>\n'
+    if lost or stuck:
+        kind = "lost" if lost else "stuck"
+        word = {(True, True): "overwritten, stuck", (True, False): "overwritten"}.get((lost, stuck), "stuck here")
+        yield f'<text class="mark {kind}-is" x="{x + BOX + 14}" y="{base}">{word}</text>\n'
+
+
+def picture(steps, harts, theme, stuck):
+    """The file, without the titles of rows, which say what no text of a story does."""
+    width, height = 640 if harts < 2 else left(harts), top(len(steps)) + 12
+    yield f'<svg xmlns="http://www.w3.org/2000/svg" width="{width}" height="{height}" viewBox="0 0 {width} {height}">\n'
+    yield "<title>The story of an order of harts</title>\n<style>\n" + LIGHT
+    yield {"light": "", "dark": DARK, "automatic": "@media (prefers-color-scheme:dark){\n" + DARK + "}\n"}[theme]
+    yield LEGEND
+    for hart in range(harts):
+        middle = left(hart) + BOX // 2
+        yield f'<path class="lane" d="M{middle} 104V{height - 8}"/>\n'
+        yield f'<text class="name" x="{middle}" y="96">hart {hart}</text>\n'
+    for j in range(len(steps)):
+        for i in range(j):
+            if reads_from(steps, i, j):
+                yield arrow(steps, i, j)
+    for i in range(len(steps)):
+        yield from row(steps, i, stuck)
+    yield "</svg>\n"
+
+
+def main():
+    harts, theme = int(sys.argv[1]), sys.argv[2] if len(sys.argv) > 2 else "automatic"
+    steps = list(read(sys.stdin.read()))
+    sys.stdout.write("".join(picture(steps, harts, theme, sys.argv[3:] == ["stuck"])))
+
+
+if __name__ == "__main__":
+    main()
