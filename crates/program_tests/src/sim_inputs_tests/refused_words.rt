@@ -171,6 +171,6 @@ fn other_words_are_refused(rt: HostRuntime) {
         holds(&rt, text, are_refused(text, rt.alloc()) == Ok(true));
         rows = rows.wrapping_add(1);
     }
-    assert!(rt; rows == 133);
+    assert!(rt; rows == 147);
     assert!(rt; is_refusal(read_words(&[], rt.alloc())));
 }

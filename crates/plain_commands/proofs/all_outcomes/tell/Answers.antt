@@ -1,6 +1,6 @@
 use Rattle.std.proofs.Common.{sym, ◌∙◌}
 use Rattle.story_text.specs.Text.{plan_of}
-use Rattle.plain_commands.proofs.OfOutcomes.{told_so, unwanted_order}
+use Rattle.plain_commands.proofs.OfOutcomes.{has_so, lacks_so, never_lacking, never_of_text, told_so, unwanted_order}
 use Rattle.plain_commands.proofs.all_outcomes.tell.Goals as goal
 
 pub returns-in-Err-put_order-clause-unwanted : goal.returns-in-Err-put_order-clause-unwanted
