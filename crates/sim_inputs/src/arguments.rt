@@ -167,7 +167,7 @@ pub(crate) const TIMES: Argument = Argument {
 pub(crate) const KEEP: Argument = Argument {
     kind: Kind::Folder,
     name: "keep",
-    help: "The folder for a trace and an order of each end",
+    help: "The folder for trace, order and story of each end",
 };
 
 pub(crate) const ROUNDS: Argument = Argument {
