@@ -75,7 +75,7 @@ static OF_REPORTS: [Subcommand; 4] = [
             KEEP,
             WRITTEN_TRACE,
         ],
-        form: "",
+        form: OUTCOMES_FORM,
     },
     Subcommand {
         name: "check",

@@ -67,8 +67,7 @@ fn runs_of_one_end_are_counted_and_the_first_is_kept(rt: HostRuntime) {
     let text = text_of(&kept);
     assert!(rt; text.starts_with("smt-trace 3\nconfig "));
     assert!(rt; text.contains("- e00000005 - - -\n"));
-    assert!(rt; text.contains("\n0\n0\n0\n  row  hart 0\n"));
-    assert!(rt; text.ends_with("ended 5\n"));
+    assert!(rt; text.ends_with("\n0\n0\n0\n     h0\n     (2 steps)\n1    ended 5\n"));
 }
 
 /// What is answered to a question, and the exit status that goes with it.
