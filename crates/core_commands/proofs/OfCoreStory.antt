@@ -20,7 +20,7 @@ use Rattle.command_parts.specs.declared.refused.Refused.TheVariants.{NoUnit, Lim
 use Rattle.command_parts.specs.declared.refused.Refused.TheVariants.{Picture, Lines, NamesNothing, NamesSeveral}
 use Rattle.command_parts.specs.declared.refused.Refused.TheVariants.{NeverFetched, Turned, Watch, Condition}
 use Rattle.command_parts.specs.declared.refused.Refused.TheVariants.{ManyWatched, NoWord, NoOutcome, NotStuck}
-use Rattle.command_parts.specs.declared.refused.Refused.TheVariants.{NoAnswer, Litmus, NothingToDraw}
+use Rattle.command_parts.specs.declared.refused.Refused.TheVariants.{NoAnswer, LongStory, Litmus, NothingToDraw}
 use Rattle.core_commands.specs.Account.{story_of}
 use Rattle.core_commands.specs.Wanted.{StoryRows}
 
@@ -73,6 +73,7 @@ module _ (core : CoreView) (image : ProgramImage) (harts : â„•) (listed : List â
   story_refusal (NoOutcome number) never = absurd never
   story_refusal NotStuck never = absurd never
   story_refusal NoAnswer never = absurd never
+  story_refusal LongStory never = absurd never
   story_refusal (Litmus place fault) never = absurd never
   story_refusal NothingToDraw never = absurd never
   story_refusal Thread never = absurd never

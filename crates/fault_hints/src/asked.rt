@@ -126,6 +126,7 @@ pub(crate) fn add_condition(
 }
 
 /// By which options a command asks for what is watched.
+#[derive(Clone, Copy, Drop)]
 enum AskedBy {
     /// By its list alone.
     List,
