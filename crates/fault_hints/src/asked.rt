@@ -189,7 +189,9 @@ pub(crate) fn add_absent_word(
 ) -> Result<(), AllocError> {
     let address = bytes.address;
     let word = match options_of(&fault.line.command) {
-        Some(AskedBy::ListAnd(option)) => format!(in alloc; "{address:08x} in {option} or --watch")?,
+        Some(AskedBy::ListAnd(option)) => format!(in alloc;
+            "{address:08x} in {option} or --watch"
+        )?,
         Some(AskedBy::List) | None => format!(in alloc; "{address:08x} in --watch")?,
     };
     hint.add(Part::Word, word.as_bytes())?;

@@ -72,7 +72,11 @@ fn runs_of_one_end_are_counted_and_the_first_is_kept(rt: HostRuntime) {
 
 /// What is answered to a question, and the exit status that goes with it.
 const ANSWERS: [(QuestionText<'static>, &str, u8); 6] = [
-    (QuestionText::Exists("h0=5 & a0@0=5"), "exists: yes, ends 1\n", 0),
+    (
+        QuestionText::Exists("h0=5 & a0@0=5"),
+        "exists: yes, ends 1\n",
+        0,
+    ),
     (QuestionText::Exists("h0=4"), "exists: unknown\n", 3),
     (QuestionText::ForAll("h0=5"), "forall: unknown\n", 3),
     (QuestionText::ForAll("h0=4"), "forall: no, ends 1\n", 1),
