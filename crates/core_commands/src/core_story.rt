@@ -54,6 +54,7 @@ pub(crate) fn tell_story<W: Write>(
 
 /// The story of what a core has retired, as it is kept: a row for each retirement that other harts can see, with these
 /// names of the program and nothing behind its rows.
+#[inline(never)]
 pub(crate) fn kept_story(
     core: &Core,
     names: &Symbols<'_>,

@@ -273,6 +273,7 @@ impl<G: Gate + Sync, P: Predict + Copy + Send, R: Threads + Wait + Sync> Runs<'_
 }
 
 /// Has a run kept where that is wanted and its end is new, and so has this number. The story has these names.
+#[inline(never)]
 fn keep_first<F: EndFiles>(
     keep: bool,
     number: Option<u64>,
