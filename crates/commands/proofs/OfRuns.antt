@@ -25,9 +25,9 @@ module _ {S : Type 0} (begins : S → ℕ → Part → S → Type 0) (written : 
     (unbroken : OnOk answer (has_failed after ≡ false)) (is_finished : S → Bool)
     (finished : OnOk answer (is_finished after ≡ true)) (unreported : has_failed after ≡ true → new ≡ old) where
   pub many_performed : (times : ℕ) → run.times ≡ Some times
-      → IfErr answer (IsStressRefusal settings program names run.watch)
-      → IfOk answer (StressComesTo settings program names run.watch times
-      (AreEndsWritten begins written has_failed before after (is_some run.keep)) old new)
+      → IfErr answer (IsStressRefusal settings program names run)
+      → IfOk answer (StressComesTo settings program names run times
+      (AreEndsWritten begins written has_failed before after (is_some run.keep) names) old new)
       → (is_some run.keep ≡ false → after ≡ before)
       → IsPerformed begins is_finished written has_failed before after
       (commands.Run run) settings program names lines second old new answer

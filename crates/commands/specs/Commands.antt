@@ -39,7 +39,7 @@ use Rattle.plain_commands.specs.{Outcomes.IsOutcomesRefusal, Outcomes.OutcomesCo
 -- When each refusal of `run` comes: of one run, or of as many as are asked for.
 abbrev pub IsRunsRefusal : Option ℕ → RunCommand → Settings → ProgramImage → Table → Refused → Type 0
 IsRunsRefusal None run settings image names reason = IsRunRefusal settings reason
-IsRunsRefusal (Some times) run settings image names reason = IsStressRefusal settings image names run.watch reason
+IsRunsRefusal (Some times) run settings image names reason = IsStressRefusal settings image names run reason
 
 -- When each refusal of a command comes. One that has a second file is refused where that is unread;
 -- rounds have none.
@@ -69,8 +69,8 @@ abbrev pub RunsComeTo : Option ℕ → RunCommand → Settings → ProgramImage 
 RunsComeTo None run settings image names marks Traced old new status =
     RunComesTo settings image (run_wants run) marks (λ core. Traced (TraceOf (is_some run.trace) core)) old new status
 RunsComeTo (Some times) run settings image names marks Traced old new status =
-    StressComesTo settings image names run.watch times
-    (λ watch cores. Traced (EndsOf (is_some run.keep) watch cores)) old new status
+    StressComesTo settings image names run times
+    (λ watch cores. Traced (EndsOf (is_some run.keep) names watch cores)) old new status
 
 -- How the story of an order is told, where it is wanted.
 abbrev pub story_plan : PlainCommand → Settings → Table → Marks → Option Plan
@@ -168,7 +168,7 @@ abbrev pub wants_names : ProgramCommand → Bool
 wants_names (commands.Outcomes outcomes) = true
 wants_names (commands.Chart chart) = (chart.names || is_function chart.from) || is_function chart.to
 wants_names (commands.Step step) = step.names || step.story
-wants_names (commands.Run run) = run.names || is_some run.watch
+wants_names (commands.Run run) = run.names || is_some run.watch || is_some run.question || is_some run.keep
 wants_names (commands.Check check) = check.names || check.story
 wants_names (commands.Plain plain) = (plain.names || plain.story) || is_some plain.story_svg
 wants_names (commands.List list) = list.names

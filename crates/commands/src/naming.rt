@@ -21,7 +21,9 @@ pub(crate) fn wants_names(command: &ProgramCommand<'_>) -> bool
             chart.names || is_function(chart.from) || is_function(chart.to)
         }
         ProgramCommand::Step(step) => step.names || step.story,
-        ProgramCommand::Run(run) => run.names || run.watch.is_some(),
+        ProgramCommand::Run(run) => {
+            run.names || run.watch.is_some() || run.question.is_some() || run.keep.is_some()
+        }
         ProgramCommand::Check(check) => check.names || check.story,
         ProgramCommand::Plain(plain) => { plain.names || plain.story || plain.story_svg.is_some() }
         ProgramCommand::List(list) => list.names,

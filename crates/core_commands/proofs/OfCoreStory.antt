@@ -72,8 +72,8 @@ module _ (core : CoreView) (image : ProgramImage) (harts : â„•) (listed : List â
   story_refusal (NoWord address) never = absurd never
   story_refusal (NoOutcome number) never = absurd never
   story_refusal NotStuck never = absurd never
-  story_refusal LongStory never = absurd never
   story_refusal NoAnswer never = absurd never
+  story_refusal LongStory never = absurd never
   story_refusal (Litmus place fault) never = absurd never
   story_refusal NothingToDraw never = absurd never
   story_refusal Thread never = absurd never

@@ -10,7 +10,8 @@ use Rattle.event_text.specs.{Sinking.HasPut}
 use Rattle.text_fields.specs.{Printing.Prints}
 use Rattle.smt_model.specs.Touched.{looks, loads}
 use Rattle.history_counts.specs.{declared.counts.Counts.Counts, Numbers.counts_of}
-use Rattle.address_labels.specs.Labels.{Marks}
+use Rattle.symbols.specs.Tables.{Table}
+use Rattle.address_labels.specs.Labels.{Marks, no_marks}
 use Rattle.report_lines.specs.Lines.{records_text, status_number}
 use Rattle.reports.specs.Report.{looks_line, report_text}
 use Rattle.reports.specs.{CountLines.count_lines, Counts.idle_lines, Json.json_text, Traces.trace_of}
@@ -32,6 +33,10 @@ core_plan core marks story = record { harts = core.setup.harts; all = story.all;
 
 abbrev pub story_of : Option StoryRows → Marks → CoreView → List ℕ
 story_of story marks core = told_text (option_map (core_plan core marks) story) core.setup (order core.past)
+
+-- The story that is kept of a core: a row for each retirement that other harts can see, with these names.
+abbrev pub kept_story : Table → CoreView → List ℕ
+kept_story names core = story_of (Some (record { all = false; names = names })) no_marks core
 
 -- The tables' text: some text where they are wanted, and else none.
 abbrev pub AreTables : Bool → List ℕ → Type 0

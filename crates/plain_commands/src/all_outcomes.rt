@@ -73,7 +73,7 @@ pub fn perform_outcomes<R, G: Gate, P, S: EndFiles, W: Write>(
     ensures unreported { S.has_failed context.new.files ≡ true
         → W.contents context.new.out ≡ W.contents context.old.out }
 {
-    let question = match question_of(command, names, context.alloc) {
+    let question = match question_of(command.question, names, context.alloc) {
         Ok(question) => question,
         Err(refused) => return Err(refused),
     };

@@ -22,7 +22,9 @@ mod written_orders;
 mod written_stories;
 
 pub use all_outcomes::perform_outcomes;
+pub use asking::{question_of, see_harts, terms_asked};
 pub use litmus::{perform_litmus, perform_test};
 pub use plain::{perform_plain, tell_image};
 pub use plain_rounds::{MOST_STEPS, perform_rounds, rounds_of};
 pub use schedule::perform_schedule;
+pub use settling::status_of_answer;

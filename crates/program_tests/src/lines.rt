@@ -3,7 +3,7 @@
 use sim_inputs::{
     Beside, ChartCommand, ChartEnd, CheckCommand, Command, ExplainCommand, HintsWanted, Line,
     ListCommand, LitmusCommand, MigrateCommand, OutcomesCommand, PlainCommand, ProgramCommand,
-    RunCommand, ScheduleCommand, ScriptCommand, StepCommand,
+    QuestionText, RunCommand, ScheduleCommand, ScriptCommand, StepCommand,
 };
 
 macro_rules! line {
@@ -109,12 +109,17 @@ pub fn run_line(records: bool, trace: Option<&'static str>) -> Line<'static> {
         why: false,
         times: None,
         watch: None,
+        question: None,
         keep: None,
     },))
 }
 
-/// A line that makes so many runs, whose ends are kept, and of which this is watched.
-pub fn stress_line(times: u32, watch: Option<&'static str>) -> Line<'static> {
+/// A line that makes so many runs, whose ends are kept, and of which this is watched and asked.
+pub fn stress_line(
+    times: u32,
+    watch: Option<&'static str>,
+    question: Option<QuestionText<'static>>,
+) -> Line<'static> {
     program_line!(ProgramCommand::Run(RunCommand {
         image: "image",
         trace: None,
@@ -126,6 +131,7 @@ pub fn stress_line(times: u32, watch: Option<&'static str>) -> Line<'static> {
         why: false,
         times: Some(times),
         watch,
+        question,
         keep: Some("kept"),
     },))
 }

@@ -264,6 +264,7 @@ const LINES: [(&str, Line<'_>); 46] = [
                 why: false,
                 times: None,
                 watch: None,
+                question: None,
                 keep: None,
             })),
         },
@@ -285,6 +286,7 @@ const LINES: [(&str, Line<'_>); 46] = [
                 why: false,
                 times: None,
                 watch: None,
+                question: None,
                 keep: None,
             })),
         },
@@ -306,6 +308,7 @@ const LINES: [(&str, Line<'_>); 46] = [
                 why: false,
                 times: None,
                 watch: None,
+                question: None,
                 keep: None,
             })),
         },
@@ -467,7 +470,7 @@ const LINES: [(&str, Line<'_>); 46] = [
         },
     ),
     (
-        "smtsim run --times 1000000 --watch a0@1,counter a --keep=f",
+        "smtsim run --times 1000000 --watch a0@1,counter a --exists h0=1 --keep=f",
         Line {
             config: None,
             harts: None,
@@ -483,6 +486,7 @@ const LINES: [(&str, Line<'_>); 46] = [
                 why: false,
                 times: Some(1_000_000),
                 watch: Some("a0@1,counter"),
+                question: Some(QuestionText::Exists("h0=1")),
                 keep: Some("f"),
             })),
         },
@@ -504,6 +508,7 @@ const LINES: [(&str, Line<'_>); 46] = [
                 why: true,
                 times: None,
                 watch: None,
+                question: None,
                 keep: None,
             })),
         },
@@ -1024,7 +1029,9 @@ fn exists_in<'a>(question: Option<QuestionText<'a>>) -> Option<&'a str> {
 /// The texts of a line that asks for runs or outcomes, and whether its file is a script.
 fn texts_of<'a>(line: &Line<'a>) -> (Option<&'a str>, Option<&'a str>, bool) {
     match line.command {
-        Command::OfProgram(ProgramCommand::Run(run)) => (run.watch, None, false),
+        Command::OfProgram(ProgramCommand::Run(run)) => {
+            (run.watch, exists_in(run.question), false)
+        }
         Command::OfProgram(ProgramCommand::Outcomes(outcomes)) => {
             (
                 outcomes.watch,
@@ -1122,6 +1129,7 @@ const NAMED: [(Line<'_>, Named<'_>); 14] = [
                 why: false,
                 times: None,
                 watch: None,
+                question: None,
                 keep: None,
             })),
         },

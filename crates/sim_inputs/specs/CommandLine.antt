@@ -141,8 +141,22 @@ pub record IsStep (rows : List Row) (step : StepCommand) : Type 0 where
   pub why : IsFlag rows (codes "why") step.why
   pub together : can_be_told step.story step.all ≡ true
 
+-- What is asked of outcomes, or of many runs: one question, or none.
+pub record IsAskedAlone (rows : List Row) (exists forall never : Option Text) (never_stuck : Bool) : Type 0 where
+  pub has_exists : first_of (codes "exists") rows ≡ exists
+  pub has_forall : first_of (codes "forall") rows ≡ forall
+  pub has_never : first_of (codes "never") rows ≡ never
+  pub has_never_stuck : is_flag_set (codes "never-stuck") rows ≡ never_stuck
+
+abbrev pub IsQuestion : List Row → Option QuestionText → Type 0
+IsQuestion rows None = IsAskedAlone rows None None None false
+IsQuestion rows (Some (question.Exists text)) = IsAskedAlone rows (Some text.now) None None false
+IsQuestion rows (Some (question.ForAll text)) = IsAskedAlone rows None (Some text.now) None false
+IsQuestion rows (Some (question.Never text)) = IsAskedAlone rows None None (Some text.now) false
+IsQuestion rows (Some question.NeverStuck) = IsAskedAlone rows None None None true
+
 -- A run has an option of its report. Many runs have none, and a folder of theirs has a name, which is no dash; there
--- is one at least, and one alone has no folder, and nothing of it is watched.
+-- is one at least, and one alone has no folder, and nothing of it is watched or asked.
 abbrev pub is_reported : RunCommand → Bool
 is_reported run = is_some run.trace || run.counts || run.json || is_some run.lines || run.names || run.records || run.why
 
@@ -151,7 +165,7 @@ has_named_folder run =
     option_map_or (λ folder. not (length folder.now == 0) && not (is_standard_input folder.now)) run.keep true
 
 abbrev pub can_be_run : RunCommand → Bool
-can_be_run run = let once = not (is_some run.keep) && not (is_some run.watch) in
+can_be_run run = let once = not (is_some run.keep) && not (is_some run.watch) && not (is_some run.question) in
     option_map_or (λ times. nat_le 1 times && not (is_reported run) && has_named_folder run) run.times once
 
 pub record IsRun (rows : List Row) (run : RunCommand) : Type 0 where
@@ -165,6 +179,7 @@ pub record IsRun (rows : List Row) (run : RunCommand) : Type 0 where
   pub why : IsFlag rows (codes "why") run.why
   pub times : IsNumberOption rows (codes "times") most_times run.times
   pub watch : IsFileOption rows (codes "watch") run.watch
+  pub question : IsQuestion rows run.question
   pub keep : IsFileOption rows (codes "keep") run.keep
   pub together : can_be_run run ≡ true
 
@@ -262,20 +277,7 @@ pub record IsExplain (rows : List Row) (explain : ExplainCommand) : Type 0 where
   pub image : IsFile rows (codes "IMAGE") explain.image
   pub beside : IsBeside rows explain.beside
 
--- What is asked of outcomes: one question, or none.
-pub record IsAskedAlone (rows : List Row) (exists forall never : Option Text) (never_stuck : Bool) : Type 0 where
-  pub has_exists : first_of (codes "exists") rows ≡ exists
-  pub has_forall : first_of (codes "forall") rows ≡ forall
-  pub has_never : first_of (codes "never") rows ≡ never
-  pub has_never_stuck : is_flag_set (codes "never-stuck") rows ≡ never_stuck
-
-abbrev pub IsQuestion : List Row → Option QuestionText → Type 0
-IsQuestion rows None = IsAskedAlone rows None None None false
-IsQuestion rows (Some (question.Exists text)) = IsAskedAlone rows (Some text.now) None None false
-IsQuestion rows (Some (question.ForAll text)) = IsAskedAlone rows None (Some text.now) None false
-IsQuestion rows (Some (question.Never text)) = IsAskedAlone rows None None (Some text.now) false
-IsQuestion rows (Some question.NeverStuck) = IsAskedAlone rows None None None true
-
+-- A question is asked that has a condition.
 abbrev pub has_condition : Option QuestionText → Bool
 has_condition None = false
 has_condition (Some question.NeverStuck) = false

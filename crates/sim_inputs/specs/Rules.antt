@@ -186,10 +186,12 @@ step_command = subcommand (codes "step") (image_rule ∷ script_rule ∷ config_
     ∷ written_trace_rule ∷ [])
 
 -- `run IMAGE`, with `--config FILE`, `--harts N`, `--counts`, `--json`, `--lines FILE`, `--names`, `--records`,
--- `--why`, `--times N`, `--watch LIST`, `--keep FOLDER` and `--trace FILE`.
+-- `--why`, `--times N`, `--watch LIST`, `--exists CONDITION`, `--forall CONDITION`, `--never CONDITION`,
+-- `--keep FOLDER` and `--trace FILE`.
 abbrev pub run_command : App
 run_command = subcommand (codes "run") (image_rule ∷ config_rule ∷ harts_rule ∷ counts_rule ∷ json_rule ∷ lines_rule
-    ∷ names_rule ∷ records_rule ∷ why_rule ∷ times_rule ∷ watch_rule ∷ keep_rule ∷ written_trace_rule ∷ [])
+    ∷ names_rule ∷ records_rule ∷ why_rule ∷ times_rule ∷ watch_rule ∷ exists_rule ∷ forall_rule ∷ never_rule
+    ∷ keep_rule ∷ written_trace_rule ∷ [])
 
 -- `check IMAGE TRACE`, with `--config FILE`, `--harts N`, `--counts`, `--json`, `--lines FILE`, `--names`, `--records`,
 -- `--story`, `--all` and `--why`.

@@ -83,7 +83,7 @@ pub(crate) const HARTS_BESIDE_TRACE: Argument = Argument {
 pub(crate) const COUNTS: Argument = Argument {
     kind: Kind::Flag,
     name: "counts",
-    help: "Print how often each kind of event came, after the report",
+    help: "Count each kind of event, after the report",
 };
 
 pub(crate) const JSON: Argument = Argument {
@@ -149,7 +149,7 @@ pub(crate) const WHY: Argument = Argument {
 pub(crate) const WHY_ENDS: Argument = Argument {
     kind: Kind::Flag,
     name: "why",
-    help: "Tell why each hart that hasn't ended stands where it does",
+    help: "Tell where harts stand that haven't ended, and why",
 };
 
 pub(crate) const WHY_REFUSED: Argument = Argument {
@@ -167,7 +167,7 @@ pub(crate) const TIMES: Argument = Argument {
 pub(crate) const KEEP: Argument = Argument {
     kind: Kind::Folder,
     name: "keep",
-    help: "The folder for a trace and an order of each end",
+    help: "The folder for trace, order and story of each end",
 };
 
 pub(crate) const ROUNDS: Argument = Argument {

@@ -86,6 +86,7 @@ pub(crate) fn run_in<'a>(found: &ArgMatches<'a>) -> Option<RunCommand<'a>>
         why: is_set(found, "why"),
         times: number(found, "times", MOST_TIMES)?,
         watch: value_of(found, "watch"),
+        question: question_in(found)?,
         keep: value_of(found, "keep"),
     };
     if !can_be_run(&run) {
@@ -94,14 +95,14 @@ pub(crate) fn run_in<'a>(found: &ArgMatches<'a>) -> Option<RunCommand<'a>>
     Some(run)
 }
 
-/// Whether the options of a run go together: there is one run at least, only many are watched and have a
+/// Whether the options of a run go together: there is one run at least, only many are watched, asked and have a
 /// folder, which has a name, and only one has a report.
 fn can_be_run(run: &RunCommand<'_>) -> bool
     ensures { result ≡ can_be_run run.now }
 {
     match run.times {
         Some(times) => times >= 1 && !is_reported(run) && has_named_folder(run),
-        None => run.keep.is_none() && run.watch.is_none(),
+        None => run.keep.is_none() && run.watch.is_none() && run.question.is_none(),
     }
 }
 
@@ -297,7 +298,7 @@ pub(crate) fn outcomes_in<'a>(found: &ArgMatches<'a>) -> Option<OutcomesCommand<
     Some(outcomes)
 }
 
-/// The question that is asked of outcomes, if one is; none where it would be two.
+/// The question that is asked of outcomes or of runs, if one is; none where it would be two.
 fn question_in<'a>(found: &ArgMatches<'a>) -> Option<Option<QuestionText<'a>>>
     ensures { Finds (IsQuestion (rows_of (found_of found.now))) result }
 {

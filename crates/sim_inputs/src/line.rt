@@ -96,8 +96,10 @@ pub struct RunCommand<'a> {
     /// `--watch LIST`: what tells ends apart beside how the harts end and what was put out, as it is
     /// spelled. There is none without `times`.
     pub watch: Option<&'a str>,
-    /// `--keep FOLDER`: the folder for a trace and an order of each end. There is none without
-    /// `times`.
+    /// What is asked of their ends; none without `times`, and none about states that nothing ends.
+    pub question: Option<QuestionText<'a>>,
+    /// `--keep FOLDER`: the folder for a trace, an order and a story of each end. There is none
+    /// without `times`.
     pub keep: Option<&'a str>,
 }
 
@@ -261,7 +263,7 @@ pub struct OutcomesCommand<'a> {
     pub lines: Option<&'a str>,
 }
 
-/// A question about all outcomes, with its condition as it is spelled.
+/// A question about all outcomes, or about the ends of so many runs, with its condition as it is spelled.
 #[derive(Clone, Copy, Drop)]
 pub enum QuestionText<'a> {
     /// `--exists CONDITION`: does it hold of an outcome?

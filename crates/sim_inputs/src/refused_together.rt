@@ -43,13 +43,10 @@ fn has(found: &ArgMatches<'_>, name: &str) -> bool {
 
 fn refused_of_runs(found: &ArgMatches<'_>) -> Option<RefusedOptions> {
     if !has(found, "times") {
-        if has(found, "watch") {
-            return refused("--watch", "--times N beside it");
-        }
-        if has(found, "keep") {
-            return refused("--keep", "--times N beside it");
-        }
-        return None;
+        return refused_of_one_run(found);
+    }
+    if let Some(refused) = refused_of_questions(found) {
+        return Some(refused);
     }
     if found.get_str("keep") == Some("") {
         return refused("--keep ''", "the name of a folder");
@@ -72,6 +69,24 @@ fn refused_of_runs(found: &ArgMatches<'_>) -> Option<RefusedOptions> {
         return None;
     };
     refused(words, ONE_OF_THEM)
+}
+
+/// What is asked or kept of many runs, without them.
+fn refused_of_one_run(found: &ArgMatches<'_>) -> Option<RefusedOptions> {
+    let word = if has(found, "watch") {
+        "--watch"
+    } else if has(found, "exists") {
+        "--exists"
+    } else if has(found, "forall") {
+        "--forall"
+    } else if has(found, "never") {
+        "--never"
+    } else if has(found, "keep") {
+        "--keep"
+    } else {
+        return None;
+    };
+    refused(word, "--times N beside it")
 }
 
 /// What says more of a story, without one.
@@ -115,7 +130,7 @@ fn refused_of_outcomes(found: &ArgMatches<'_>) -> Option<RefusedOptions> {
     None
 }
 
-/// Two questions, and `--first` without a condition.
+/// Two questions, and `--first` without a condition. Of runs there are but three, and no `--first`.
 fn refused_of_questions(found: &ArgMatches<'_>) -> Option<RefusedOptions> {
     let exists = has(found, "exists");
     let (for_all, never) = (has(found, "forall"), has(found, "never"));

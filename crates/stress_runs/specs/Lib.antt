@@ -1,3 +1,4 @@
 pub mod Ends
 pub mod Table
+pub mod Answers
 pub mod Kept

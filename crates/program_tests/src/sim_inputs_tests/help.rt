@@ -26,7 +26,8 @@ explain|outcomes|litmus|migrate|--version|harts|extra|queue|ram|limit|turns|acto
     (
         "smtsim run --help",
         "Usage: smtsim run [OPTIONS] <IMAGE>|--config <FILE>|--harts <N>|--counts|--json|--lines <FILE>|\
---names|--records|--why|--times <N>|--watch <LIST>|--keep <FOLDER>|--trace <FILE>",
+--names|--records|--why|--times <N>|--watch <LIST>|--exists <CONDITION>|--forall <CONDITION>|--never <CONDITION>|\
+--keep <FOLDER>|--trace <FILE>",
     ),
     (
         "smtsim check --help",

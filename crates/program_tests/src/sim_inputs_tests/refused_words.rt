@@ -46,6 +46,15 @@ smtsim run --times 1000001 a
 smtsim run --keep f a
 smtsim run --watch a0@1 a
 smtsim run --times 2 --watch a0@1 --watch a1@1 a
+smtsim run --exists x=1 a
+smtsim run --forall x=1 a
+smtsim run --never x=1 a
+smtsim run --times 2 --exists x=1 --exists x=2 a
+smtsim run --times 2 --exists x=1 --forall x=1 a
+smtsim run --times 2 --exists x=1 --never x=1 a
+smtsim run --times 2 --forall x=1 --never x=1 a
+smtsim run --times 2 --never-stuck a
+smtsim run --times 2 --exists x=1 --first a
 smtsim run --times 2 --keep= a
 smtsim run --times 2 --trace t a
 smtsim run --times 2 --records a
@@ -171,6 +180,6 @@ fn other_words_are_refused(rt: HostRuntime) {
         holds(&rt, text, are_refused(text, rt.alloc()) == Ok(true));
         rows = rows.wrapping_add(1);
     }
-    assert!(rt; rows == 147);
+    assert!(rt; rows == 156);
     assert!(rt; is_refusal(read_words(&[], rt.alloc())));
 }
