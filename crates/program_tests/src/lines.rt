@@ -167,6 +167,7 @@ pub fn plain_line(records: bool) -> Line<'static> {
         records,
         story: false,
         story_svg: None,
+        theme: None,
         all: false,
     },))
 }
@@ -235,6 +236,7 @@ pub fn outcomes_line(states: u32) -> Line<'static> {
         script: None,
         story: None,
         story_svg: None,
+        theme: None,
         all: false,
         lines: None,
     },))

@@ -13,6 +13,7 @@ use sim_inputs::{
     QuestionText, RunCommand, ScheduleCommand, ScriptCommand, StepCommand, read_words,
 };
 use std::alloc::{AllocError, Global};
+use story_pictures::Theme;
 
 /// The words of a text: a space stands between two.
 fn words_of(text: &str, alloc: Global) -> Result<Vec<&str>, AllocError> {
@@ -367,12 +368,13 @@ const LINES: [(&str, Line<'_>); 46] = [
                 records: false,
                 story: false,
                 story_svg: None,
+                theme: None,
                 all: false,
             })),
         },
     ),
     (
-        "smtsim plain --config c a --records b --story-svg p",
+        "smtsim plain --config c a --records b --story-svg p --theme dark",
         Line {
             config: Some("c"),
             harts: None,
@@ -388,6 +390,7 @@ const LINES: [(&str, Line<'_>); 46] = [
                 records: true,
                 story: false,
                 story_svg: Some("p"),
+                theme: Some(Theme::Dark),
                 all: false,
             })),
         },
@@ -611,6 +614,7 @@ const LINES: [(&str, Line<'_>); 46] = [
                 records: false,
                 story: false,
                 story_svg: None,
+                theme: None,
                 all: false,
             })),
         },
@@ -632,6 +636,7 @@ const LINES: [(&str, Line<'_>); 46] = [
                 records: true,
                 story: false,
                 story_svg: None,
+                theme: None,
                 all: false,
             })),
         },
@@ -702,6 +707,7 @@ const LINES: [(&str, Line<'_>); 46] = [
                 script: None,
                 story: None,
                 story_svg: None,
+                theme: None,
                 all: false,
                 lines: None,
             })),
@@ -725,6 +731,7 @@ const LINES: [(&str, Line<'_>); 46] = [
                 script: None,
                 story: None,
                 story_svg: None,
+                theme: None,
                 all: false,
                 lines: None,
             })),
@@ -748,13 +755,14 @@ const LINES: [(&str, Line<'_>); 46] = [
                 script: None,
                 story: Some("t"),
                 story_svg: None,
+                theme: None,
                 all: true,
                 lines: Some("l"),
             })),
         },
     ),
     (
-        "smtsim outcomes a --never-stuck --story-svg p --lines l",
+        "smtsim outcomes a --theme=auto --never-stuck --story-svg p --lines l",
         Line {
             config: None,
             harts: None,
@@ -771,6 +779,7 @@ const LINES: [(&str, Line<'_>); 46] = [
                 script: None,
                 story: None,
                 story_svg: Some("p"),
+                theme: Some(Theme::Automatic),
                 all: false,
                 lines: Some("l"),
             })),
@@ -794,6 +803,7 @@ const LINES: [(&str, Line<'_>); 46] = [
                 script: None,
                 story: None,
                 story_svg: None,
+                theme: None,
                 all: false,
                 lines: None,
             })),
@@ -817,6 +827,7 @@ const LINES: [(&str, Line<'_>); 46] = [
                 script: Some("s"),
                 story: None,
                 story_svg: None,
+                theme: None,
                 all: false,
                 lines: None,
             })),
@@ -1036,6 +1047,21 @@ fn texts_of<'a>(line: &Line<'a>) -> (Option<&'a str>, Option<&'a str>, bool) {
     }
 }
 
+/// The colours that a line asks for.
+fn theme_of(line: &Line<'_>) -> &'static str {
+    let theme = match line.command {
+        Command::OfProgram(ProgramCommand::Plain(plain)) => plain.theme,
+        Command::OfProgram(ProgramCommand::Outcomes(outcomes)) => outcomes.theme,
+        _ => None,
+    };
+    match theme {
+        Some(Theme::Automatic) => "auto",
+        Some(Theme::Light) => "light",
+        Some(Theme::Dark) => "dark",
+        None => "",
+    }
+}
+
 /// Whether two lines have the same command, files and flags.
 fn is_same(read: &Line<'_>, line: &Line<'_>) -> bool {
     files_of(read) == files_of(line)
@@ -1044,6 +1070,7 @@ fn is_same(read: &Line<'_>, line: &Line<'_>) -> bool {
         && numbers_of(read) == numbers_of(line)
         && view_of(read) == view_of(line)
         && texts_of(read) == texts_of(line)
+        && theme_of(read) == theme_of(line)
 }
 
 /// Whether words ask for this, where there is memory for them.
@@ -1163,6 +1190,7 @@ const NAMED: [(Line<'_>, Named<'_>); 14] = [
                 records: false,
                 story: false,
                 story_svg: None,
+                theme: None,
                 all: false,
             })),
         },
@@ -1234,6 +1262,7 @@ const NAMED: [(Line<'_>, Named<'_>); 14] = [
                 script: None,
                 story: None,
                 story_svg: None,
+                theme: None,
                 all: false,
                 lines: None,
             })),
@@ -1257,6 +1286,7 @@ const NAMED: [(Line<'_>, Named<'_>); 14] = [
                 script: Some("s"),
                 story: None,
                 story_svg: None,
+                theme: None,
                 all: false,
                 lines: None,
             })),
