@@ -1,6 +1,6 @@
 -- What is owed on a command of a program, of its settings, its program image, the names that it wants of it and its
 -- second file as it was read: each row names the definitions of one command. (This project's own choice.)
-use Rattle.std.specs.Prelude.{◌≡◌, ℕ, Bool, true, false, List, Option, Some, None, is_some}
+use Rattle.std.specs.Prelude.{◌≡◌, ℕ, Bool, true, false, List, [], Option, Some, None, is_some}
 use Rattle.std.specs.Prelude.{if◌then◌else◌, ◌||◌, option_map}
 use Rattle.elf_image.specs.Image.{ProgramImage}
 use Rattle.core_state.specs.View.{CoreView}
@@ -23,8 +23,7 @@ use Rattle.core_commands.specs.Chart.{IsChartRefusal, ChartComesTo}
 use Rattle.plain_commands.specs.Plain.{IsPlainRefusal, PlainComesTo}
 use Rattle.sim_inputs.specs.declared.line.PlainCommand.{PlainCommand}
 use Rattle.story_text.specs.Text.{Plan}
-use Rattle.story_pictures.specs.Form.{Plan as DrawnPlan}
-use Rattle.story_pictures.specs.declared.form.Theme.TheVariants.{Automatic}
+use Rattle.story_pictures.specs.Form.{Plan as DrawnPlan, theme_or}
 use Rattle.plain_commands.specs.PlainRounds.{rounds_of, InRounds, IsRoundsRefusal, RoundsComeTo}
 use Rattle.plain_commands.specs.Schedule.{IsScheduleRefusal, ScheduleComesTo}
 use Rattle.core_commands.specs.Script.{IsScriptingRefusal, ScriptComesTo}
@@ -85,7 +84,8 @@ drawn_plan plain settings names marks = if is_some plain.story_svg
       names = names;
       marks = marks;
       is_stuck = false;
-      theme = Automatic;
+      foot = [];
+      theme = theme_or plain.theme;
     })
     else None
 

@@ -11,7 +11,7 @@ ghost use Rattle.sim_inputs.specs.Files.{shows_names};
 use address_labels::Labels;
 use sim_inputs::{PlainCommand, ProgramCommand, Settings};
 use source_lines::SourceLines;
-use story_pictures::{PictureForm, Theme};
+use story_pictures::{PictureForm, theme_or};
 use story_text::StoryForm;
 use symbols::Symbols;
 
@@ -81,6 +81,7 @@ pub(crate) fn picture_for<'a>(
         names,
         labels: *labels,
         is_stuck: false,
-        theme: Theme::Automatic,
+        foot: b"",
+        theme: theme_or(plain.theme),
     })
 }

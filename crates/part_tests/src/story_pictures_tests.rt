@@ -2,7 +2,7 @@
 
 use rv_instr::{LoadOp, StoreOp};
 use stories::{Deed, Row};
-use story_pictures::{is_overwritten, reads_from};
+use story_pictures::{Theme, is_overwritten, reads_from, theme_or};
 
 const COUNTER: u32 = 0x8000_0100;
 
@@ -52,4 +52,10 @@ fn the_lost_addition_is_overwritten(rt: HostRuntime) {
     assert!(rt; is_overwritten(&rows[3..], &store(0, 1)));
     assert!(rt; !is_overwritten(&rows[4..], &store(1, 1)));
     assert!(rt; !is_overwritten(&rows[1..], &load(0, 0)));
+}
+
+#[test]
+fn colours_that_are_wanted_are_taken(rt: HostRuntime) {
+    assert!(rt; matches!(theme_or(Some(Theme::Dark)), Theme::Dark));
+    assert!(rt; matches!(theme_or(None), Theme::Automatic));
 }

@@ -8,6 +8,7 @@ use Rattle.story_pictures.specs.declared.order.Undrawn.TheVariants as undrawn
 use Rattle.command_parts.specs.declared.refused.Refused.{Refused}
 use Rattle.command_parts.specs.declared.refused.Refused.TheVariants as reasons
 use Rattle.plain_commands.specs.DrawnOrders.{IsDrawingRefusal, IsPuttingRefusal, undrawn_for}
+use Rattle.plain_commands.specs.Plain.{IsMachineRefusal}
 use Rattle.plain_commands.proofs.OfPlain.{stopped_at}
 
 pub drawing_refusal : (image : ProgramImage) (harts : ℕ) (order : List ℕ) (first : Machine) (why : Undrawn)
@@ -26,3 +27,11 @@ putting_refusal image harts order is_drawn wanted (reasons.Step index stopped) i
 putting_refusal image harts order is_drawn wanted reasons.LongStory is = (wanted, is)
 putting_refusal image harts order is_drawn wanted reasons.Memory is = tt
 putting_refusal image harts order is_drawn wanted _ is = absurd is
+
+-- What stands at the foot of a picture is refused where its rows are.
+pub closing_refusal : (image : ProgramImage) (harts : ℕ) (order : List ℕ) (why : Refused)
+    → IsMachineRefusal image harts order why → IsDrawingRefusal image harts order why
+closing_refusal image harts order reasons.Config is = is
+closing_refusal image harts order (reasons.Step index stopped) is = is
+closing_refusal image harts order reasons.Memory is = tt
+closing_refusal image harts order _ is = absurd is

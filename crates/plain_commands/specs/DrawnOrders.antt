@@ -7,19 +7,21 @@ use Rattle.sc_machine.specs.{Steps.are_harts}
 use Rattle.smt_model.specs.Setup.{Setup}
 use Rattle.story_text.specs.Text.{Plan as StoryPlan}
 use Rattle.story_pictures.specs.{Form.Plan, Order.HasManyRows, Order.rows_told, Picture.picture_text}
-use Rattle.story_pictures.specs.declared.{form.Theme.TheVariants.Automatic, order.Undrawn.Undrawn}
+use Rattle.story_pictures.specs.declared.{form.Theme.Theme, order.Undrawn.Undrawn}
 use Rattle.story_pictures.specs.declared.order.Undrawn.TheVariants as undrawn
 use Rattle.command_parts.specs.{declared.refused.Refused.Refused}
 use Rattle.command_parts.specs.declared.refused.Refused.TheVariants as reasons
 
--- A picture has what its story has; where the order ends in a stuck state, that is marked.
-abbrev pub picture_plan : Bool → StoryPlan → Plan
-picture_plan is_stuck plan = record {
+-- A picture of an order that was found has what its story has, and at its foot what stands behind the story's text; where
+-- the order ends in a stuck state, that is marked.
+abbrev pub picture_plan : StoryPlan → List ℕ → Theme → Plan
+picture_plan plan foot theme = record {
   harts = plan.harts;
   names = plan.names;
   marks = plan.marks;
-  is_stuck = is_stuck;
-  theme = Automatic;
+  is_stuck = true;
+  foot = foot;
+  theme = theme;
 }
 
 -- The text is the picture of the order's story.

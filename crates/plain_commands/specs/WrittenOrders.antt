@@ -27,6 +27,7 @@ use Rattle.command_parts.specs.{declared.refused.Refused.Refused}
 use Rattle.command_parts.specs.declared.refused.Refused.TheVariants as reasons
 use Rattle.plain_commands.specs.{Plain.IsMachineRefusal, Questions.settles, Schedule.IsMakingRefusal}
 use Rattle.plain_commands.specs.DrawnOrders.{HasLongStory, IsPictureOf, picture_plan}
+use Rattle.story_pictures.specs.{Form.theme_or, declared.form.Theme.Theme}
 
 -- An order is written; and, where no outcome is named and none that is stuck, it is what settles the question.
 abbrev pub wants_order : OutcomesCommand → Bool
@@ -100,15 +101,21 @@ abbrev pub IsStoryOf : Setup → Plan → List ℕ → Option (List ℕ) → Lis
 IsStoryOf setup plan order line text =
     text ≡ story_text plan (steps setup (reverse order)) ++ closing_text plan.names setup order line
 
-abbrev pub IsTextBy : Bool → Bool → Bool → Setup → ℕ → Plan → List ℕ → Option (List ℕ) → List ℕ → Type 0
-IsTextBy true is_story is_drawn setup limit plan order line text = IsScheduleOf setup limit order text
-IsTextBy false true is_drawn setup limit plan order line text = IsStoryOf setup plan order line text
-IsTextBy false false true setup limit plan order line text = IsPictureOf (picture_plan true plan) setup order text
-IsTextBy false false false setup limit plan order line text = text ≡ order_text order
+-- The picture has these colours, and at its foot what stands behind the story.
+abbrev pub IsDrawnBy : Option Theme → Setup → Plan → List ℕ → Option (List ℕ) → List ℕ → Type 0
+IsDrawnBy theme setup plan order line text =
+    IsPictureOf (picture_plan plan (closing_text plan.names setup order line) (theme_or theme)) setup order text
+
+abbrev pub IsTextBy : Bool → Bool → Bool → Option Theme → Setup → ℕ → Plan → List ℕ → Option (List ℕ) → List ℕ → Type 0
+IsTextBy true is_story is_drawn theme setup limit plan order line text = IsScheduleOf setup limit order text
+IsTextBy false true is_drawn theme setup limit plan order line text = IsStoryOf setup plan order line text
+IsTextBy false false true theme setup limit plan order line text = IsDrawnBy theme setup plan order line text
+IsTextBy false false false theme setup limit plan order line text = text ≡ order_text order
 
 abbrev pub IsTextOf : OutcomesCommand → Setup → ℕ → Plan → List ℕ → Option (List ℕ) → List ℕ → Type 0
 IsTextOf command setup limit plan order line text =
-    IsTextBy (is_some command.script) (is_some command.story) (is_some command.story_svg) setup limit plan order line text
+    IsTextBy (is_some command.script) (is_some command.story) (is_some command.story_svg) command.theme setup limit plan
+    order line text
 
 -- The order is in the file, so written.
 pub record IsOrderPut {S : Type 0} (written : S → Option (List ℕ)) (has_failed : S → Bool) (old new : S)

@@ -4,35 +4,45 @@ ghost use Rattle.std.specs.Prelude.{◌≡◌, ◌≤◌, IfOk, IfErr, OnOk, tru
 ghost use Rattle.core_state.specs.Setup.{setup_of};
 ghost use Rattle.plain_run.specs.Orders.{OfEachSetup};
 ghost use Rattle.story_text.specs.Text.{plan_of};
-ghost use Rattle.story_pictures.specs.Form.{most_rows, plan_of as drawn_plan_of};
+ghost use Rattle.story_pictures.specs.Form.{most_rows, plan_of as drawn_plan_of, theme_or};
 ghost use Rattle.story_pictures.specs.Order.{rows_told};
 ghost use Rattle.plain_commands.specs.DrawnOrders.{HasPutPicture, IsDrawingRefusal, IsPictureOf, IsPuttingRefusal};
 ghost use Rattle.plain_commands.specs.DrawnOrders.{picture_plan, undrawn_for};
+ghost use Rattle.plain_commands.specs.WrittenOrders.{IsDrawnBy};
 
+use crate::written_stories::closing_of;
 use command_parts::{Refused, put_text};
 use elf_image::Image;
 use sc_machine::{Plain, PlainRefused};
 use sim_inputs::Settings;
 use std::alloc::Global;
 use stories::Row;
-use story_pictures::{PictureForm, Theme, Undrawn, rows_of_order, write_story_picture};
+use story_pictures::{PictureForm, Theme, Undrawn, rows_of_order, theme_or, write_story_picture};
 use story_text::StoryForm;
 use stress_runs::EndFiles;
 
-/// The picture of the story of an order that was found, which leads to an end or to a stuck state.
+/// The picture of the story of an order that was found, which leads to an end or to a stuck state, with what stands
+/// behind the story at its foot: `line`, or what each hart waits for.
 pub(crate) fn found_picture(
     image: &Image,
     settings: &Settings,
     order: &[u8],
+    line: &Option<Vec<u8>>,
     form: &StoryForm<'_>,
+    theme: Option<Theme>,
     alloc: Global,
 ) -> Result<Vec<u8>, Refused>
-    ensures text { IfOk result (λ text. IsPictureOf (picture_plan true (plan_of form.now))
-        (setup_of image.now settings.now.config) order.now text.items) }
+    ensures text { IfOk result (λ text. IsDrawnBy theme (setup_of image.now settings.now.config) (plan_of form.now)
+        order.now (option_map (λ it. it.items) line.now) text.items) }
     ensures refused { IfErr result (IsDrawingRefusal image.now settings.now.config.harts order.now) }
 {
-    let drawn = picture_form(true, form);
-    picture_of(image, settings.config.harts, order, &drawn, alloc)
+    let harts = settings.config.harts;
+    let foot = match closing_of(image, harts, order, line, form.names, alloc) {
+        Ok(foot) => foot,
+        Err(refused) => return Err(refused),
+    };
+    let drawn = picture_form(form, foot.as_slice(), theme);
+    picture_of(image, harts, order, &drawn, alloc)
 }
 
 /// Puts the picture of an order's story into a file, where one is wanted.
@@ -66,16 +76,17 @@ pub(crate) fn put_picture<S: EndFiles>(
     }
 }
 
-/// How the picture of a story is drawn that is told so.
-fn picture_form<'a>(is_stuck: bool, form: &StoryForm<'a>) -> PictureForm<'a>
-    ensures { drawn_plan_of result ≡ picture_plan is_stuck (plan_of form.now) }
+/// How the picture of a story is drawn that is told so, with this at its foot.
+fn picture_form<'a>(form: &StoryForm<'a>, foot: &'a [u8], theme: Option<Theme>) -> PictureForm<'a>
+    ensures { drawn_plan_of result ≡ picture_plan (plan_of form.now) foot.now (theme_or theme) }
 {
     PictureForm {
         harts: form.harts,
         names: form.names,
         labels: form.labels,
-        is_stuck,
-        theme: Theme::Automatic,
+        is_stuck: true,
+        foot,
+        theme: theme_or(theme),
     }
 }
 

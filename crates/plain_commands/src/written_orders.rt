@@ -226,7 +226,7 @@ fn text_of(
         return story_text(image, settings, order, line, form, alloc);
     }
     if command.story_svg.is_some() {
-        return found_picture(image, settings, order, form, alloc);
+        return found_picture(image, settings, order, line, form, command.theme, alloc);
     }
     order_text(order, alloc)
 }

@@ -173,6 +173,7 @@ pub fn plain_line(records: bool) -> Line<'static> {
         records,
         story: false,
         story_svg: None,
+        theme: None,
         all: false,
     },))
 }
@@ -241,6 +242,7 @@ pub fn outcomes_line(states: u32) -> Line<'static> {
         script: None,
         story: None,
         story_svg: None,
+        theme: None,
         all: false,
         lines: None,
     },))

@@ -13,6 +13,7 @@ use sim_inputs::{
     QuestionText, RunCommand, ScheduleCommand, ScriptCommand, StepCommand, read_words,
 };
 use std::alloc::{AllocError, Global};
+use story_pictures::Theme;
 
 /// The words of a text: a space stands between two.
 fn words_of(text: &str, alloc: Global) -> Result<Vec<&str>, AllocError> {
@@ -370,12 +371,13 @@ const LINES: [(&str, Line<'_>); 46] = [
                 records: false,
                 story: false,
                 story_svg: None,
+                theme: None,
                 all: false,
             })),
         },
     ),
     (
-        "smtsim plain --config c a --records b --story-svg p",
+        "smtsim plain --config c a --records b --story-svg p --theme dark",
         Line {
             config: Some("c"),
             harts: None,
@@ -391,6 +393,7 @@ const LINES: [(&str, Line<'_>); 46] = [
                 records: true,
                 story: false,
                 story_svg: Some("p"),
+                theme: Some(Theme::Dark),
                 all: false,
             })),
         },
@@ -616,6 +619,7 @@ const LINES: [(&str, Line<'_>); 46] = [
                 records: false,
                 story: false,
                 story_svg: None,
+                theme: None,
                 all: false,
             })),
         },
@@ -637,6 +641,7 @@ const LINES: [(&str, Line<'_>); 46] = [
                 records: true,
                 story: false,
                 story_svg: None,
+                theme: None,
                 all: false,
             })),
         },
@@ -707,6 +712,7 @@ const LINES: [(&str, Line<'_>); 46] = [
                 script: None,
                 story: None,
                 story_svg: None,
+                theme: None,
                 all: false,
                 lines: None,
             })),
@@ -730,6 +736,7 @@ const LINES: [(&str, Line<'_>); 46] = [
                 script: None,
                 story: None,
                 story_svg: None,
+                theme: None,
                 all: false,
                 lines: None,
             })),
@@ -753,13 +760,14 @@ const LINES: [(&str, Line<'_>); 46] = [
                 script: None,
                 story: Some("t"),
                 story_svg: None,
+                theme: None,
                 all: true,
                 lines: Some("l"),
             })),
         },
     ),
     (
-        "smtsim outcomes a --never-stuck --story-svg p --lines l",
+        "smtsim outcomes a --theme=auto --never-stuck --story-svg p --lines l",
         Line {
             config: None,
             harts: None,
@@ -776,6 +784,7 @@ const LINES: [(&str, Line<'_>); 46] = [
                 script: None,
                 story: None,
                 story_svg: Some("p"),
+                theme: Some(Theme::Automatic),
                 all: false,
                 lines: Some("l"),
             })),
@@ -799,6 +808,7 @@ const LINES: [(&str, Line<'_>); 46] = [
                 script: None,
                 story: None,
                 story_svg: None,
+                theme: None,
                 all: false,
                 lines: None,
             })),
@@ -822,6 +832,7 @@ const LINES: [(&str, Line<'_>); 46] = [
                 script: Some("s"),
                 story: None,
                 story_svg: None,
+                theme: None,
                 all: false,
                 lines: None,
             })),
@@ -1043,6 +1054,21 @@ fn texts_of<'a>(line: &Line<'a>) -> (Option<&'a str>, Option<&'a str>, bool) {
     }
 }
 
+/// The colours that a line asks for.
+fn theme_of(line: &Line<'_>) -> &'static str {
+    let theme = match line.command {
+        Command::OfProgram(ProgramCommand::Plain(plain)) => plain.theme,
+        Command::OfProgram(ProgramCommand::Outcomes(outcomes)) => outcomes.theme,
+        _ => None,
+    };
+    match theme {
+        Some(Theme::Automatic) => "auto",
+        Some(Theme::Light) => "light",
+        Some(Theme::Dark) => "dark",
+        None => "",
+    }
+}
+
 /// Whether two lines have the same command, files and flags.
 fn is_same(read: &Line<'_>, line: &Line<'_>) -> bool {
     files_of(read) == files_of(line)
@@ -1051,6 +1077,7 @@ fn is_same(read: &Line<'_>, line: &Line<'_>) -> bool {
         && numbers_of(read) == numbers_of(line)
         && view_of(read) == view_of(line)
         && texts_of(read) == texts_of(line)
+        && theme_of(read) == theme_of(line)
 }
 
 /// Whether words ask for this, where there is memory for them.
@@ -1171,6 +1198,7 @@ const NAMED: [(Line<'_>, Named<'_>); 14] = [
                 records: false,
                 story: false,
                 story_svg: None,
+                theme: None,
                 all: false,
             })),
         },
@@ -1242,6 +1270,7 @@ const NAMED: [(Line<'_>, Named<'_>); 14] = [
                 script: None,
                 story: None,
                 story_svg: None,
+                theme: None,
                 all: false,
                 lines: None,
             })),
@@ -1265,6 +1294,7 @@ const NAMED: [(Line<'_>, Named<'_>); 14] = [
                 script: Some("s"),
                 story: None,
                 story_svg: None,
+                theme: None,
                 all: false,
                 lines: None,
             })),

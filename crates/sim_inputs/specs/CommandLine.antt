@@ -39,6 +39,8 @@ use Rattle.sim_inputs.specs.ChartEnds.{do_ends_rise, IsEndOf}
 use Rattle.sim_inputs.specs.Rules.{smtsim}
 use Rattle.sim_inputs.specs.Files.{is_standard_input, reads_input_once, writes_no_dash}
 use Rattle.sim_inputs.specs.HintsWanted.{hints_in}
+use Rattle.sim_inputs.specs.Themes.{can_be_themed, theme_in}
+use Rattle.story_pictures.specs.declared.form.Theme.{Theme}
 
 -- The last event that a history may have; the last hart that a core may have; how often a program is
 -- run at the most; the most instructions of a turn and of all rounds, and the last seed; and how many
@@ -94,6 +96,10 @@ IsFile rows name file = first_of name rows ≡ Some file.now
 
 abbrev IsFileOption : List Row → Text → Option (Bor Text) → Type 0
 IsFileOption rows name file = first_of name rows ≡ option_map (λ f. f.now) file
+
+-- The colours of a picture, if some were given.
+abbrev IsTheme : List Row → Option Theme → Type 0
+IsTheme rows theme = theme_in (first_of (codes "theme") rows) ≡ Some theme
 
 -- What was found for a flag.
 abbrev IsFlag : List Row → Text → Bool → Type 0
@@ -197,13 +203,13 @@ pub record IsCheck (rows : List Row) (check : CheckCommand) : Type 0 where
   pub together : can_be_told check.story check.all ≡ true
 
 -- There is either an order or rounds, of an instruction at least, and what says more of rounds is there
--- with them alone; a story, told or drawn, is there with an order alone, and what tells more with one that is told.
+-- with them alone; a story, told or drawn, is there with an order alone, what tells more with one that is told, and colours with a picture.
 abbrev pub shows_story : PlainCommand → Bool
 shows_story plain = plain.story || is_some plain.story_svg
 
 abbrev pub can_be_plain : PlainCommand → Bool
 can_be_plain plain =
-    let told = can_be_told plain.story plain.all in
+    let told = can_be_told plain.story plain.all && can_be_themed (is_some plain.story_svg) (is_some plain.theme) in
     let ordered = is_some plain.order && (not (is_some plain.steps) && (not (is_some plain.seed) && told)) in
     option_map_or (λ rounds. nat_le 1 rounds && (not (is_some plain.order) && (not (shows_story plain) && told)))
     plain.rounds ordered
@@ -219,6 +225,7 @@ pub record IsPlain (rows : List Row) (plain : PlainCommand) : Type 0 where
   pub records : IsFlag rows (codes "records") plain.records
   pub story : IsFlag rows (codes "story") plain.story
   pub story_svg : IsFileOption rows (codes "story-svg") plain.story_svg
+  pub theme : IsTheme rows plain.theme
   pub all : IsFlag rows (codes "all") plain.all
   pub together : can_be_plain plain ≡ true
 
@@ -315,11 +322,12 @@ abbrev pub are_stories_together : OutcomesCommand → Bool
 are_stories_together outcomes = is_some outcomes.story
     || (not outcomes.all && (is_some outcomes.story_svg || not (is_some outcomes.lines)))
 
--- The search ends at the first answer where a condition is asked.
+-- The search ends at the first answer where a condition is asked; and a picture alone has colours.
 abbrev pub can_be_searched : OutcomesCommand → Bool
 can_be_searched outcomes = nat_le 1 outcomes.states && are_orders_together outcomes
     && (not outcomes.first || has_condition outcomes.question)
     && are_stories_together outcomes
+    && can_be_themed (is_some outcomes.story_svg) (is_some outcomes.theme)
 
 pub record IsOutcomes (rows : List Row) (outcomes : OutcomesCommand) : Type 0 where
   pub image : IsFile rows (codes "IMAGE") outcomes.image
@@ -333,6 +341,7 @@ pub record IsOutcomes (rows : List Row) (outcomes : OutcomesCommand) : Type 0 wh
   pub script : IsFileOption rows (codes "script") outcomes.script
   pub story : IsFileOption rows (codes "story") outcomes.story
   pub story_svg : IsFileOption rows (codes "story-svg") outcomes.story_svg
+  pub theme : IsTheme rows outcomes.theme
   pub all : IsFlag rows (codes "all") outcomes.all
   pub lines : IsFileOption rows (codes "lines") outcomes.lines
   pub together : can_be_searched outcomes ≡ true

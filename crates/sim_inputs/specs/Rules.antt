@@ -122,6 +122,9 @@ kanata_rule = file_option_rule (codes "kanata")
 abbrev pub states_rule : Rule
 states_rule = number_option_rule (codes "states")
 
+abbrev pub theme_rule : Rule
+theme_rule = text_option_rule (codes "theme")
+
 abbrev pub watch_rule : Rule
 watch_rule = text_option_rule (codes "watch")
 
@@ -200,10 +203,11 @@ check_command = subcommand (codes "check") (image_rule ∷ trace_rule ∷ config
     ∷ lines_rule ∷ names_rule ∷ records_rule ∷ story_rule ∷ all_rule ∷ why_rule ∷ [])
 
 -- `plain IMAGE ORDER`, with `--config FILE`, `--harts N`, `--lines FILE`, `--names`, `--records`, `--story`,
--- `--story-svg FILE` and `--all`; or without the order, and with `--rounds K`, `--steps N` and `--seed S`.
+-- `--story-svg FILE`, `--theme THEME` and `--all`; or without the order, and with `--rounds K`, `--steps N` and `--seed S`.
 abbrev pub plain_command : App
 plain_command = subcommand (codes "plain") (image_rule ∷ order_or_rounds_rule ∷ config_rule ∷ harts_rule ∷ lines_rule
-    ∷ names_rule ∷ records_rule ∷ rounds_rule ∷ steps_rule ∷ seed_rule ∷ story_rule ∷ story_svg_rule ∷ all_rule ∷ [])
+    ∷ names_rule ∷ records_rule ∷ rounds_rule ∷ steps_rule ∷ seed_rule ∷ story_rule ∷ story_svg_rule ∷ theme_rule ∷ all_rule
+    ∷ [])
 
 -- `schedule IMAGE ORDER`, with `--config FILE` and `--harts N`.
 abbrev pub schedule_command : App
@@ -231,11 +235,11 @@ explain_command = subcommand (codes "explain") (image_rule ∷ config_rule ∷ h
 
 -- `outcomes IMAGE`, with `--config FILE`, `--harts N`, `--states N`, `--watch LIST`, `--exists CONDITION`,
 -- `--forall CONDITION`, `--never CONDITION`, `--never-stuck`, `--first`, `--outcome N`, `--stuck`, `--witness FILE`,
--- `--script FILE`, `--story FILE`, `--story-svg FILE`, `--all` and `--lines FILE`.
+-- `--script FILE`, `--story FILE`, `--story-svg FILE`, `--theme THEME`, `--all` and `--lines FILE`.
 abbrev pub outcomes_command : App
 outcomes_command = subcommand (codes "outcomes") (image_rule ∷ config_rule ∷ harts_rule ∷ states_rule ∷ watch_rule
     ∷ exists_rule ∷ forall_rule ∷ never_rule ∷ never_stuck_rule ∷ first_rule ∷ outcome_rule ∷ stuck_rule ∷ witness_rule
-    ∷ written_script_rule ∷ written_story_rule ∷ story_svg_rule ∷ all_rule ∷ lines_rule ∷ [])
+    ∷ written_script_rule ∷ written_story_rule ∷ story_svg_rule ∷ theme_rule ∷ all_rule ∷ lines_rule ∷ [])
 
 -- `litmus TEST`, with `--config FILE`, `--states N`, `--image FILE`, `--why` and `--svg FILE`.
 abbrev pub litmus_command : App

@@ -22,6 +22,8 @@ pub(crate) enum Kind {
     Condition,
     /// `--name WHEN`, which may be there.
     When,
+    /// `--name THEME`, which may be there.
+    Theme,
 }
 
 /// An argument of a subcommand, as help describes it.
@@ -126,6 +128,12 @@ pub(crate) const STORY_SVG: Argument = Argument {
     kind: Kind::Option,
     name: "story-svg",
     help: "The file for a picture of that",
+};
+
+pub(crate) const THEME: Argument = Argument {
+    kind: Kind::Theme,
+    name: "theme",
+    help: "Its colours: auto, light or dark",
 };
 
 pub(crate) const ALL: Argument = Argument {

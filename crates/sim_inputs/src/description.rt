@@ -9,8 +9,8 @@ use crate::arguments::{
     ALL, Argument, CONFIG, COUNTS, EXISTS, EXPLAINED_ORDER, EXPLAINED_SCRIPT, EXPLAINED_TRACE,
     FIRST, FORALL, FROM, HART, HARTS, HARTS_BESIDE_TRACE, HINTS, IMAGE, JSON, KANATA, KEEP, Kind,
     LINES, LOOKS, NAMES, NEVER, NEVER_STUCK, ORDER, ORDER_OR_ROUNDS, OUTCOME, RECORDS, ROUNDS,
-    SCRIPT, SEED, SHOW, STATES, STEPS, STORY, STORY_SVG, STUCK, SVG, SVG_OF_WHY, TEST, TIMES, TO,
-    TRACE, WATCH, WHY, WHY_ENDS, WHY_NEVER, WHY_REFUSED, WIDTH, WITNESS, WRITTEN_IMAGE,
+    SCRIPT, SEED, SHOW, STATES, STEPS, STORY, STORY_SVG, STUCK, SVG, SVG_OF_WHY, TEST, THEME,
+    TIMES, TO, TRACE, WATCH, WHY, WHY_ENDS, WHY_NEVER, WHY_REFUSED, WIDTH, WITNESS, WRITTEN_IMAGE,
     WRITTEN_OUT, WRITTEN_SCRIPT, WRITTEN_STORY, WRITTEN_TRACE,
 };
 use crate::forms::{
@@ -112,6 +112,7 @@ static OF_REPORTS: [Subcommand; 4] = [
             SEED,
             STORY,
             STORY_SVG,
+            THEME,
             ALL,
         ],
         form: ORDER_FORM,
@@ -189,6 +190,7 @@ static OF_IMAGES: [Subcommand; 6] = [
             WRITTEN_SCRIPT,
             WRITTEN_STORY,
             STORY_SVG,
+            THEME,
             ALL,
             LINES,
         ],
@@ -302,5 +304,6 @@ fn argument_of<'a>(row: &'static Argument, alloc: Global) -> Arg<'a>
         Kind::List => argument.long(row.name).value_name("LIST"),
         Kind::Condition => argument.long(row.name).value_name("CONDITION"),
         Kind::When => argument.long(row.name).value_name("WHEN"),
+        Kind::Theme => argument.long(row.name).value_name("THEME"),
     }
 }

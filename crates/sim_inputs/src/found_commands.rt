@@ -18,6 +18,7 @@ use crate::line::{
     OutcomesCommand, PlainCommand, QuestionText, RunCommand, ScheduleCommand, ScriptCommand,
     StepCommand,
 };
+use crate::themes::{can_be_themed, theme_in};
 use clap::ArgMatches;
 use numbers::sizes::{MOST_EVENTS, MOST_HARTS};
 
@@ -164,6 +165,7 @@ pub(crate) fn plain_in<'a>(found: &ArgMatches<'a>) -> Option<PlainCommand<'a>>
         records: is_set(found, "records"),
         story: is_set(found, "story"),
         story_svg: value_of(found, "story-svg"),
+        theme: theme_in(found)?,
         all: is_set(found, "all"),
     };
     if !can_be_plain(&plain) {
@@ -173,11 +175,12 @@ pub(crate) fn plain_in<'a>(found: &ArgMatches<'a>) -> Option<PlainCommand<'a>>
 }
 
 /// Whether there is either an order or rounds, of an instruction at least, whether what says more
-/// of rounds has some, and whether a story has an order, and what says more of it a story.
+/// of rounds has some, and whether a story has an order, what says more of it a story, and colours a picture.
 fn can_be_plain(plain: &PlainCommand<'_>) -> bool
     ensures { result ≡ can_be_plain plain.now }
 {
-    let is_told = can_be_told(plain.story, plain.all);
+    let is_told = can_be_told(plain.story, plain.all)
+        && can_be_themed(plain.story_svg.is_some(), plain.theme.is_some());
     match plain.rounds {
         Some(rounds) => rounds >= 1 && plain.order.is_none() && !shows_story(plain) && is_told,
         None => {
@@ -289,6 +292,7 @@ pub(crate) fn outcomes_in<'a>(found: &ArgMatches<'a>) -> Option<OutcomesCommand<
         script: value_of(found, "script"),
         story: value_of(found, "story"),
         story_svg: value_of(found, "story-svg"),
+        theme: theme_in(found)?,
         all: is_set(found, "all"),
         lines: value_of(found, "lines"),
     };
@@ -314,7 +318,7 @@ fn question_in<'a>(found: &ArgMatches<'a>) -> Option<Option<QuestionText<'a>>>
     }
 }
 
-/// Whether some state is looked at, and the options of orders and of stories go together.
+/// Whether some state is looked at, and the options of orders, of stories and of pictures go together.
 fn can_be_searched(outcomes: &OutcomesCommand<'_>) -> bool
     ensures { result ≡ can_be_searched outcomes.now }
 {
@@ -322,6 +326,7 @@ fn can_be_searched(outcomes: &OutcomesCommand<'_>) -> bool
         && are_orders_together(outcomes)
         && (!outcomes.first || has_condition(outcomes))
         && are_stories_together(outcomes)
+        && can_be_themed(outcomes.story_svg.is_some(), outcomes.theme.is_some())
 }
 
 /// Whether what says more of a story has one.

@@ -1,5 +1,6 @@
 use crate::hart_count::HartCount;
 use crate::hints_wanted::HintsWanted;
+use story_pictures::Theme;
 use thiserror::Error;
 
 /// What the program is asked to do: a command, beside the options that most commands have.
@@ -150,6 +151,8 @@ pub struct PlainCommand<'a> {
     pub story: bool,
     /// `--story-svg FILE`: the file that a picture of it is written to. There is none with rounds.
     pub story_svg: Option<&'a str>,
+    /// `--theme THEME`: the colours of the picture. There are none without one.
+    pub theme: Option<Theme>,
     /// `--all`: the story has a row for each step. There is none without a story.
     pub all: bool,
 }
@@ -257,6 +260,8 @@ pub struct OutcomesCommand<'a> {
     /// `--story-svg FILE`: the file that a picture of that story is written to. There is one of the
     /// four at most.
     pub story_svg: Option<&'a str>,
+    /// `--theme THEME`: the colours of the picture. There are none without one.
+    pub theme: Option<Theme>,
     /// `--all`: each instruction has a row in the story.
     pub all: bool,
     /// `--lines FILE`: the file of source lines, which stand behind the rows of the story.

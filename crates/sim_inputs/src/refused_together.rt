@@ -107,8 +107,19 @@ fn refused_of_plain(found: &ArgMatches<'_>) -> Option<RefusedOptions> {
         (false, true) if has(found, "story-svg") => {
             refused("--story-svg", "ORDER in place of --rounds")
         }
-        _ => refused_of_stories(found),
+        _ => match refused_of_stories(found) {
+            Some(refused) => Some(refused),
+            None => refused_of_themes(found),
+        },
     }
+}
+
+/// Colours without a picture.
+fn refused_of_themes(found: &ArgMatches<'_>) -> Option<RefusedOptions> {
+    if has(found, "theme") && !has(found, "story-svg") {
+        return refused("--theme", "--story-svg FILE beside it");
+    }
+    None
 }
 
 fn refused_of_outcomes(found: &ArgMatches<'_>) -> Option<RefusedOptions> {
@@ -116,6 +127,9 @@ fn refused_of_outcomes(found: &ArgMatches<'_>) -> Option<RefusedOptions> {
         return Some(refused);
     }
     if let Some(refused) = refused_of_orders(found) {
+        return Some(refused);
+    }
+    if let Some(refused) = refused_of_themes(found) {
         return Some(refused);
     }
     if has(found, "story") {

@@ -30,12 +30,15 @@ row_leaving i = row_top i + 18
 abbrev pub row_coming : ℕ → ℕ
 row_coming i = row_top i + 6
 
--- The page: at least as wide as what stands over the lanes.
+-- The page has room for what is said beside the last lane; and where the lanes end, and the page without its foot.
 abbrev pub page_width : ℕ → ℕ
-page_width harts = if nat_lt harts 2 then 640 else lane_left harts
+page_width harts = lane_left harts + 310
 
-abbrev pub page_height : ℕ → ℕ
-page_height rows = row_top rows + 12
+abbrev pub lanes_end : ℕ → ℕ
+lanes_end rows = row_top rows + 4
+
+abbrev pub foot_top : ℕ → ℕ
+foot_top rows = row_top rows + 12
 
 -- How far an arrow between two rows of a lane goes out of it: further where there are more rows between them.
 abbrev pub bulge : ℕ → ℕ

@@ -1,22 +1,26 @@
 //! The boxes of rows.
 
-ghost use Rattle.std.specs.Prelude.{◌≡◌, ◌<◌, ◌≤◌, OnOk, length};
+ghost use Rattle.std.specs.Prelude.{◌≡◌, ◌<◌, ◌≤◌, OnOk, length, reverse};
 ghost use Rattle.std.specs.Io.KnownBytes.{Appends};
 ghost use Rattle.symbols.specs.Tables.{table_of};
 ghost use Rattle.address_labels.specs.Labels.{marks_of};
 ghost use Rattle.story_pictures.specs.Form.{most_rows, plan_of};
 ghost use Rattle.story_pictures.specs.Boxes.{
-  box_text,
   boxes_text,
+  class_if,
   count_text,
   frame_text,
   is_marked,
   kind_class,
   kind_of,
-  mark_class,
+  look_class,
+  look_classes,
+  look_of,
+  look_word,
+  looks_text,
   mark_text,
-  mark_word,
-  marked_text,
+  note_class,
+  noted_text,
   pc_text,
   row_back,
   row_front,
@@ -24,20 +28,30 @@ ghost use Rattle.story_pictures.specs.Boxes.{
   size_text,
   title_text,
   what_text,
-  word_class,
 };
+ghost use Rattle.story_pictures.specs.Notes.{is_place, last_fault};
 
 use crate::accesses::found_span;
 use crate::elements::{write_close_text, write_number, write_open_text, write_place_attributes};
 use crate::form::PictureForm;
 use crate::geometry::{lane_left, lane_right, row_base, row_top};
+use crate::notes::{Noting, has_words, last_fault, write_note};
 use crate::relations::{is_overwritten, is_stuck};
 use crate::words::{write_address, write_deed};
 use address_labels::{Form, Labels, write_labels};
 use std::io;
 use std::io::Write;
-use stories::{Deed, Row, written_span};
+use stories::{Deed, Note, Row, written_span};
 use symbols::Symbols;
+
+/// How a box looks: as a write that was overwritten before anyone read it, as where a stuck order ends, and as the one
+/// that strikes the eye.
+#[derive(Clone, Copy, Drop)]
+pub(crate) struct Look {
+    pub(crate) over: bool,
+    pub(crate) stuck: bool,
+    pub(crate) fault: bool,
+}
 
 /// Writes the boxes of all rows.
 pub(crate) fn write_boxes<W: Write>(
@@ -49,28 +63,43 @@ pub(crate) fn write_boxes<W: Write>(
     ensures { OnOk result (Appends (W.contents out.old) (W.contents out.new)
         (boxes_text (plan_of form.now) rows.now)) }
 {
+    let fault = last_fault(rows);
+    let mut noting = Noting::new();
     for (index, row) in rows.iter().enumerate() {
-        write_box(rows, form, index, row, out)?;
+        let look = look_of(rows, form, fault, index, row);
+        write_row(form, look, &noting.note_of(row), index, row, out)?;
+        noting.hear(row);
     }
     Ok(())
 }
 
-/// Writes the box of a row, and what marks it.
-fn write_box<W: Write>(
+/// How the box of the row at `index` looks; `fault` is the index of the one that strikes the eye.
+fn look_of(
     rows: &[Row],
     form: &PictureForm<'_>,
+    fault: Option<usize>,
     index: usize,
     row: &Row,
-    out: &mut W,
-) -> io::Result<()>
-    requires few { length rows.now ≤ most_rows }
+) -> Look
     requires there { index < length rows.now }
-    ensures { OnOk result (Appends (W.contents out.old) (W.contents out.new)
-        (box_text (plan_of form.now) rows.now index row.now)) }
+    requires fault { fault ≡ last_fault (reverse rows.now) }
+    ensures { result ≡ look_of (plan_of form.now) rows.now index row.now }
 {
     let later = &rows[index + 1..];
-    let (lost, stuck) = (is_overwritten(later, row), is_marked(form, later, row));
-    write_row(form, lost, stuck, index, row, out)
+    Look {
+        over: is_overwritten(later, row),
+        stuck: is_marked(form, later, row),
+        fault: is_place(fault, index),
+    }
+}
+
+fn is_place(place: Option<usize>, index: usize) -> bool
+    ensures { result ≡ is_place place index }
+{
+    match place {
+        Some(place) => place == index,
+        None => false,
+    }
 }
 
 /// Whether a stuck order ends in a row.
@@ -80,59 +109,58 @@ fn is_marked(form: &PictureForm<'_>, later: &[Row], row: &Row) -> bool
     form.is_stuck && is_stuck(later, row)
 }
 
+/// Writes the box of a row, and what stands beside it.
 #[tactic(auto, unfolding(crate::specs::Boxes::row_text))]
 fn write_row<W: Write>(
     form: &PictureForm<'_>,
-    lost: bool,
-    stuck: bool,
+    look: Look,
+    note: &Option<Note>,
     index: usize,
     row: &Row,
     out: &mut W,
 ) -> io::Result<()>
     requires { index ≤ most_rows }
     ensures { OnOk result (Appends (W.contents out.old) (W.contents out.new)
-        (row_text (plan_of form.now) lost stuck index row.now)) }
+        (row_text (plan_of form.now) look note.now index row.now)) }
 {
-    write_row_front(form, lost, stuck, index, row, out)?;
-    write_row_back(form, lost, stuck, index, row, out)
+    write_row_front(form, look, index, row, out)?;
+    write_row_back(form, look, note, index, row, out)
 }
 
 /// Writes the title of a row, its number and its frame.
 #[tactic(auto, unfolding(crate::specs::Boxes::row_front))]
 fn write_row_front<W: Write>(
     form: &PictureForm<'_>,
-    lost: bool,
-    stuck: bool,
+    look: Look,
     index: usize,
     row: &Row,
     out: &mut W,
 ) -> io::Result<()>
     requires { index ≤ most_rows }
     ensures { OnOk result (Appends (W.contents out.old) (W.contents out.new)
-        (row_front (plan_of form.now) lost stuck index row.now)) }
+        (row_front (plan_of form.now) look index row.now)) }
 {
     write_title(form.names, &form.labels, row, out)?;
     write_count(row.number, index, out)?;
-    let (kind, mark) = (kind_of(&row.deed), mark_class(lost, stuck));
-    write_frame(kind, mark, row.hart, index, out)
+    write_frame(&row.deed, look, row.hart, index, out)
 }
 
-/// Writes what a row shows, and what marks it.
+/// Writes what a row shows, and what stands beside it.
 #[tactic(auto, unfolding(crate::specs::Boxes::row_back))]
 fn write_row_back<W: Write>(
     form: &PictureForm<'_>,
-    lost: bool,
-    stuck: bool,
+    look: Look,
+    note: &Option<Note>,
     index: usize,
     row: &Row,
     out: &mut W,
 ) -> io::Result<()>
     requires { index ≤ most_rows }
     ensures { OnOk result (Appends (W.contents out.old) (W.contents out.new)
-        (row_back (plan_of form.now) lost stuck index row.now)) }
+        (row_back (plan_of form.now) look note.now index row.now)) }
 {
     write_what(form.names, &row.deed, row.hart, index, out)?;
-    write_mark(lost, stuck, row.hart, index, out)?;
+    write_mark(look, note, &row.deed, row.hart, index, out)?;
     out.write_all(b"</g>\n")
 }
 
@@ -175,20 +203,38 @@ fn write_count<W: Write>(number: u64, index: usize, out: &mut W) -> io::Result<(
 }
 
 fn write_frame<W: Write>(
-    kind: &str,
-    mark: &str,
+    deed: &Deed,
+    look: Look,
     hart: u8,
     index: usize,
     out: &mut W,
 ) -> io::Result<()>
     requires { index ≤ most_rows }
     ensures { OnOk result (Appends (W.contents out.old) (W.contents out.new)
-        (frame_text kind.now mark.now hart index)) }
+        (frame_text deed.now look hart index)) }
 {
     out.write_all(b"<rect class=\"box")?;
-    out.write_all(kind.as_bytes())?;
-    out.write_all(mark.as_bytes())?;
+    out.write_all(kind_of(deed).as_bytes())?;
+    write_look_classes(look, out)?;
     write_size(hart, index, out)
+}
+
+#[tactic(auto, unfolding(crate::specs::Boxes::look_classes))]
+fn write_look_classes<W: Write>(look: Look, out: &mut W) -> io::Result<()>
+    ensures { OnOk result (Appends (W.contents out.old) (W.contents out.new) (look_classes look)) }
+{
+    write_class_if(look.over, " over", out)?;
+    write_class_if(look.stuck, " stuck", out)?;
+    write_class_if(look.fault, " fault", out)
+}
+
+fn write_class_if<W: Write>(holds: bool, class: &str, out: &mut W) -> io::Result<()>
+    ensures { OnOk result (Appends (W.contents out.old) (W.contents out.new) (class_if holds class.now)) }
+{
+    if holds {
+        return out.write_all(class.as_bytes());
+    }
+    out.write_all(b"")
 }
 
 /// Writes where a box stands, and its size.
@@ -219,17 +265,6 @@ fn kind_class(reads: bool, writes: bool) -> &'static str
     }
 }
 
-fn mark_class(lost: bool, stuck: bool) -> &'static str
-    ensures { result.now ≡ mark_class lost stuck }
-{
-    match (lost, stuck) {
-        (true, true) => " lost stuck",
-        (true, false) => " lost",
-        (false, true) => " stuck",
-        (false, false) => "",
-    }
-}
-
 /// Writes what a row shows, in its box, at whose edge a longer text ends.
 fn write_what<W: Write>(
     names: &Symbols<'_>,
@@ -249,53 +284,70 @@ fn write_what<W: Write>(
     out.write_all(b"</text></svg>\n")
 }
 
-/// Writes the word beside the box of a row that is marked.
+/// Writes what stands beside the box of a row: what is said of it, or else the word of its look.
 fn write_mark<W: Write>(
-    lost: bool,
-    stuck: bool,
+    look: Look,
+    note: &Option<Note>,
+    deed: &Deed,
     hart: u8,
     index: usize,
     out: &mut W,
 ) -> io::Result<()>
     requires { index ≤ most_rows }
     ensures { OnOk result (Appends (W.contents out.old) (W.contents out.new)
-        (mark_text lost stuck hart index)) }
+        (mark_text look note.now deed.now hart index)) }
 {
-    if lost {
-        return write_marked(lost, stuck, hart, index, out);
+    if has_words(note, deed) {
+        return write_noted(look, note, deed, hart, index, out);
     }
-    if stuck {
-        return write_marked(lost, stuck, hart, index, out);
+    if look.over || look.stuck {
+        return write_look(look, hart, index, out);
     }
     out.write_all(b"")
 }
 
-#[tactic(auto, unfolding(crate::specs::Boxes::marked_text))]
-fn write_marked<W: Write>(
-    lost: bool,
-    stuck: bool,
+#[tactic(auto, unfolding(crate::specs::Boxes::noted_text))]
+fn write_noted<W: Write>(
+    look: Look,
+    note: &Option<Note>,
+    deed: &Deed,
     hart: u8,
     index: usize,
     out: &mut W,
 ) -> io::Result<()>
     requires { index ≤ most_rows }
     ensures { OnOk result (Appends (W.contents out.old) (W.contents out.new)
-        (marked_text lost stuck hart index)) }
+        (noted_text look note.now deed.now hart index)) }
 {
     write_open_text(
-        word_class(lost),
+        note_class(look),
         lane_right(hart) + 14,
         row_base(index),
         out,
     )?;
-    out.write_all(mark_word(lost, stuck).as_bytes())?;
+    write_note(note, deed, out)?;
     write_close_text(out)
 }
 
-fn mark_word(lost: bool, stuck: bool) -> &'static str
-    ensures { result.now ≡ mark_word lost stuck }
+#[tactic(auto, unfolding(crate::specs::Boxes::looks_text))]
+fn write_look<W: Write>(look: Look, hart: u8, index: usize, out: &mut W) -> io::Result<()>
+    requires { index ≤ most_rows }
+    ensures { OnOk result (Appends (W.contents out.old) (W.contents out.new) (looks_text look hart index)) }
 {
-    match (lost, stuck) {
+    write_open_text(
+        look_class(look),
+        lane_right(hart) + 14,
+        row_base(index),
+        out,
+    )?;
+    out.write_all(look_word(look).as_bytes())?;
+    write_close_text(out)
+}
+
+fn look_word(look: Look) -> &'static str
+    ensures { result.now ≡ look_word look }
+{
+    match (look.over, look.stuck) {
         (true, true) => "overwritten, stuck",
         (true, false) => "overwritten",
         (false, true) => "stuck here",
@@ -303,12 +355,18 @@ fn mark_word(lost: bool, stuck: bool) -> &'static str
     }
 }
 
-fn word_class(lost: bool) -> &'static str
-    ensures { result.now ≡ word_class lost }
+fn look_class(look: Look) -> &'static str
+    ensures { result.now ≡ look_class look }
 {
-    if lost {
-        "mark lost-is"
-    } else {
+    if look.stuck {
         "mark stuck-is"
+    } else {
+        "mark over-is"
     }
+}
+
+fn note_class(look: Look) -> &'static str
+    ensures { result.now ≡ note_class look }
+{
+    if look.fault { "mark fault-is" } else { "mark" }
 }

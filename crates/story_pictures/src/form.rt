@@ -1,5 +1,8 @@
 //! How a story is drawn.
 
+ghost use Rattle.std.specs.Prelude.{◌≡◌};
+ghost use Rattle.story_pictures.specs.Form.{theme_or};
+
 use address_labels::Labels;
 use symbols::Symbols;
 
@@ -15,6 +18,16 @@ pub enum Theme {
     Dark,
 }
 
+/// The colours that are wanted, or else those that whoever looks at the picture wants.
+pub fn theme_or(theme: Option<Theme>) -> Theme
+    ensures { result ≡ theme_or theme }
+{
+    match theme {
+        Some(theme) => theme,
+        None => Theme::Automatic,
+    }
+}
+
 /// How a story is drawn.
 #[derive(Clone, Copy, Drop)]
 pub struct PictureForm<'a> {
@@ -27,5 +40,7 @@ pub struct PictureForm<'a> {
     /// Whether the order ends in a state from which nothing can end: then the last row of each hart that goes on is
     /// marked.
     pub is_stuck: bool,
+    /// What stands behind the story's text, and below the lanes here; nothing where it is empty.
+    pub foot: &'a [u8],
     pub theme: Theme,
 }

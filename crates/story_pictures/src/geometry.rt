@@ -4,10 +4,11 @@ ghost use Rattle.std.specs.Prelude.{◌≡◌, ◌≤◌, ◌+◌, ◌-◌};
 ghost use Rattle.story_pictures.specs.Form.{most_rows};
 ghost use Rattle.story_pictures.specs.Geometry.{
   bulge,
+  foot_top,
   lane_left,
   lane_middle,
   lane_right,
-  page_height,
+  lanes_end,
   page_width,
   row_base,
   row_coming,
@@ -25,8 +26,8 @@ const LANE: u32 = 470;
 /// The width of a box.
 const BOX_WIDTH: u32 = 320;
 
-/// The width of a page with fewer than two lanes.
-const LEAST_WIDTH: u32 = 640;
+/// The room behind the last lane, for what is said beside its boxes.
+const BESIDE: u32 = 310;
 
 /// The room over the first row, and how far it is from a row to the next one.
 const TOP: u32 = 120;
@@ -98,20 +99,26 @@ pub(crate) fn row_coming(index: usize) -> u32
     row_top(index) + 6
 }
 
-/// The width of the page: there is a text over the lanes.
+/// The width of the page.
 pub(crate) fn page_width(harts: u8) -> u32
     ensures { result ≡ page_width harts }
 {
-    if harts < 2 {
-        return LEAST_WIDTH;
-    }
-    lane_left(harts)
+    lane_left(harts) + BESIDE
 }
 
-/// The height of the page, of so many rows.
-pub(crate) fn page_height(rows: usize) -> u32
+/// Where the lanes end, of so many rows.
+pub(crate) fn lanes_end(rows: usize) -> u32
     requires { rows ≤ most_rows }
-    ensures { result ≡ page_height rows }
+    ensures { result ≡ lanes_end rows }
+{
+    row_top(rows) + 4
+}
+
+/// Where the page ends, of so many rows, and its foot begins.
+pub(crate) fn foot_top(rows: usize) -> u32
+    requires { rows ≤ most_rows }
+    ensures value { result ≡ foot_top rows }
+    ensures few { result ≤ 40000 }
 {
     row_top(rows) + 12
 }

@@ -4,13 +4,14 @@ ghost use Rattle.std.specs.Prelude.{◌≡◌, ◌≤◌, OnOk, length};
 ghost use Rattle.std.specs.Io.KnownBytes.{Appends};
 ghost use Rattle.story_pictures.specs.Form.{most_rows, plan_of};
 ghost use Rattle.story_pictures.specs.Picture.{begin_text, lane_line, lane_name, lane_text, lanes_text};
-ghost use Rattle.story_pictures.specs.Picture.{picture_body, picture_head, picture_text, view_text};
+ghost use Rattle.story_pictures.specs.Picture.{page_height, picture_body, picture_head, picture_text, view_text};
 
 use crate::arrows::write_arrows;
 use crate::boxes::write_boxes;
 use crate::elements::{write_close_text, write_number, write_open_text, write_point};
+use crate::foot::{foot_height, write_foot};
 use crate::form::PictureForm;
-use crate::geometry::{lane_middle, page_height, page_width};
+use crate::geometry::{foot_top, lane_middle, lanes_end, page_width};
 use crate::style::{write_legend, write_style};
 use std::io;
 use std::io::Write;
@@ -39,21 +40,30 @@ fn write_head<W: Write>(rows: &[Row], form: &PictureForm<'_>, out: &mut W) -> io
     ensures { OnOk result (Appends (W.contents out.old) (W.contents out.new)
         (picture_head (plan_of form.now) rows.now)) }
 {
-    write_begin(page_width(form.harts), page_height(rows.len()), out)?;
+    write_begin(page_width(form.harts), page_height(form, rows.len()), out)?;
     write_style(form.theme, out)?;
     write_legend(out)
 }
 
-/// Writes the lanes and what is in them, and the end.
+/// The height of the page, of so many rows.
+fn page_height(form: &PictureForm<'_>, rows: usize) -> u32
+    requires { rows ≤ most_rows }
+    ensures { result ≡ page_height (plan_of form.now) rows }
+{
+    foot_top(rows) + foot_height(form.foot)
+}
+
+/// Writes the lanes and what is in them, the foot, and the end.
 #[tactic(auto, unfolding(crate::specs::Picture::picture_body))]
 fn write_body<W: Write>(rows: &[Row], form: &PictureForm<'_>, out: &mut W) -> io::Result<()>
     requires { length rows.now ≤ most_rows }
     ensures { OnOk result (Appends (W.contents out.old) (W.contents out.new)
         (picture_body (plan_of form.now) rows.now)) }
 {
-    write_lanes(page_height(rows.len()) - 8, form.harts, out)?;
+    write_lanes(lanes_end(rows.len()), form.harts, out)?;
     write_arrows(rows, out)?;
     write_boxes(rows, form, out)?;
+    write_foot(form.foot, foot_top(rows.len()), out)?;
     write_end(out)
 }
 

@@ -19,11 +19,13 @@ const LIGHT: &[u8] = b"text{font:12px monospace;fill:#1b1b1b}
 .reads{fill:#e3f1fb;stroke:#0072b2}
 .writes{fill:#fdeed3;stroke:#b57b00}
 .both{fill:#ddf3eb;stroke:#009e73}
-.mark{font:bold 12px monospace;stroke:#ffffff;stroke-width:4;paint-order:stroke}
-.lost{fill:#ffffff;stroke:#c22f00;stroke-width:2.4;stroke-dasharray:6 3}
-.lost-is{fill:#c22f00}
+.over{fill:#ffffff;stroke-dasharray:5 3}
 .stuck{stroke:#8e3a8c;stroke-width:2.6}
-.stuck-is{fill:#8e3a8c}
+.fault{fill:#fbd9cf;stroke:#c22f00;stroke-width:3}
+.mark{stroke:#ffffff;stroke-width:4;paint-order:stroke}
+.over-is{fill:#5b5b5b}
+.stuck-is{font:bold 12px monospace;fill:#8e3a8c}
+.fault-is{font:bold 12px monospace;fill:#c22f00}
 .arrow{fill:none;stroke:#6b7280;stroke-width:1.5}
 .point{fill:#6b7280}
 ";
@@ -37,11 +39,13 @@ const DARK: &[u8] = b"text{fill:#ececec}
 .reads{fill:#16303f;stroke:#56b4e9}
 .writes{fill:#3a2e14;stroke:#e6a830}
 .both{fill:#143329;stroke:#2fc79b}
-.mark{stroke:#16181d}
-.lost{fill:#16181d;stroke:#ff8257}
-.lost-is{fill:#ff8257}
+.over{fill:#16181d}
 .stuck{stroke:#e08fdd}
+.fault{fill:#4a1d10;stroke:#ff8257}
+.mark{stroke:#16181d}
+.over-is{fill:#a2a7b0}
 .stuck-is{fill:#e08fdd}
+.fault-is{fill:#ff8257}
 .arrow{stroke:#9aa3b2}
 .point{fill:#9aa3b2}
 ";
@@ -55,7 +59,8 @@ const LEGEND: &[u8] = b"</style>
 <rect class=\"box reads\" x=\"16\" y=\"52\" width=\"14\" height=\"12\"/><text class=\"far\" x=\"36\" y=\"62\">reads</text>
 <rect class=\"box writes\" x=\"92\" y=\"52\" width=\"14\" height=\"12\"/><text class=\"far\" x=\"112\" y=\"62\">writes</text>
 <rect class=\"box both\" x=\"176\" y=\"52\" width=\"14\" height=\"12\"/><text class=\"far\" x=\"196\" y=\"62\">reads and writes</text>
-<rect class=\"box writes lost\" x=\"332\" y=\"52\" width=\"14\" height=\"12\"/><text class=\"far\" x=\"352\" y=\"62\">overwritten before anyone read it</text>
+<rect class=\"box writes over\" x=\"332\" y=\"52\" width=\"14\" height=\"12\"/><text class=\"far\" x=\"352\" y=\"62\">overwritten before anyone read it</text>
+<rect class=\"box writes fault\" x=\"610\" y=\"52\" width=\"14\" height=\"12\"/><text class=\"far\" x=\"630\" y=\"62\">last lost update, or ABA</text>
 ";
 
 /// Writes the style.

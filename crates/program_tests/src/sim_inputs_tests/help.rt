@@ -39,7 +39,7 @@ F actor hart number pc word predicted|T actor number value next address data out
     (
         "smtsim plain --help",
         "Usage: smtsim plain [OPTIONS] <IMAGE> [ORDER]|--config <FILE>|--harts <N>|--lines <FILE>|\
---names|--records|--rounds <N>|--steps <N>|--seed <N>|--story-svg <FILE>|0 to 255",
+--names|--records|--rounds <N>|--steps <N>|--seed <N>|--story-svg <FILE>|--theme <THEME>|0 to 255",
     ),
     (
         "smtsim schedule --help",
@@ -57,7 +57,7 @@ F actor hart number pc word predicted|T actor number value next address data out
         "smtsim outcomes --help",
         "Usage: smtsim outcomes [OPTIONS] <IMAGE>|--config <FILE>|--harts <N>|--states <N>|--watch <LIST>|\
 --exists <CONDITION>|--forall <CONDITION>|--never <CONDITION>|--never-stuck|--first|--outcome <N>|--stuck|\
---witness <FILE>|--script <FILE>|--story <FILE>|--story-svg <FILE>|--all|--lines <FILE>|a0@1,counter,next[3],node+8|h0=1 & !(a0@1=2)",
+--witness <FILE>|--script <FILE>|--story <FILE>|--story-svg <FILE>|--theme <THEME>|--all|--lines <FILE>|a0@1,counter,next[3],node+8|h0=1 & !(a0@1=2)",
     ),
     (
         "smtsim litmus --help",

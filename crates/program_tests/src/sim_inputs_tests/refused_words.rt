@@ -78,6 +78,8 @@ smtsim plain a --rounds 4294967296
 smtsim plain a --rounds 1 --story-svg p
 smtsim plain --story-svg p a b --all
 smtsim plain --story-svg - a b
+smtsim plain --theme dark a b
+smtsim plain --story-svg p --theme Dark a b
 smtsim plain --counts a b
 smtsim plain a b c
 smtsim plain --show a b
@@ -134,6 +136,8 @@ smtsim outcomes --exists x=1 --witness w --story-svg p a
 smtsim outcomes --stuck --script s --story-svg p a
 smtsim outcomes --stuck --story-svg p --all a
 smtsim outcomes --exists x=1 --story-svg - a
+smtsim outcomes --exists x=1 --story s --theme light a
+smtsim outcomes --exists x=1 --story-svg p --theme black a
 smtsim litmus
 smtsim litmus a b
 smtsim litmus --states 0 a
@@ -180,6 +184,6 @@ fn other_words_are_refused(rt: HostRuntime) {
         holds(&rt, text, are_refused(text, rt.alloc()) == Ok(true));
         rows = rows.wrapping_add(1);
     }
-    assert!(rt; rows == 156);
+    assert!(rt; rows == 137);
     assert!(rt; is_refusal(read_words(&[], rt.alloc())));
 }

@@ -19,6 +19,7 @@ returns-then-not-can_be_searched c =
       script = c.value_of-4.result;
       story = c.value_of-5.result;
       story_svg = c.value_of-6.result;
+      theme = c.in_ok-theme_in.field-0;
       all = c.is_set-3.result;
       lines = c.value_of-7.result;
     } in
