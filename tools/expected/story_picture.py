@@ -89,7 +89,7 @@ class Step:
     @staticmethod
     def noted(text):
         """What stands beside the box, of what the text says behind the row."""
-        if lost := re.search(r", lost update: .* at row (\d+) came after its read at row (\d+)$", text):
+        if lost := re.search(r", lost update: .* at row (\d+) came after the read at row (\d+)$", text):
             return f"lost update: row {lost[1]} wrote since row {lost[2]}"
         if again := re.search(r", ABA: as at row (\d+), though .* at row (\d+) wrote since$", text):
             return f"ABA: as in row {again[1]}, though row {again[2]} wrote since"
