@@ -26,7 +26,8 @@ use Rattle.sim_inputs.specs.declared.line.ChartCommand.{ChartCommand}
 use Rattle.sim_inputs.specs.declared.line.OutcomesCommand.{OutcomesCommand}
 use Rattle.report_lines.specs.{Lines.status_number, Statuses.says_harts}
 use Rattle.watched_outcomes.specs.Endings.{Ending}
-use Rattle.stress_runs.specs.{Ends.end_of, Ends.worst_of}
+use Rattle.stress_runs.specs.{Ends.end_of, Ends.rows_of, Ends.tally_of, Ends.worst_of, Answers.sampled_answer}
+use Rattle.core_commands.specs.{Stress.stress_status}
 use Rattle.command_parts.specs.Refused.{AreAccepted, AreRefused}
 use Rattle.commands.specs.{Commands.RunsComeTo, Commands.IsRunsRefusal, Written.ToWrite}
 use Rattle.core_commands.specs.{Run.LackARole, Run.IsRunRefusal}
@@ -102,6 +103,17 @@ worst_says (end ∷ past) = elim (greater_of (worst_of past) (status_number end.
   | inr now ↦ status_says (worst_of (end ∷ past)) end.statuses now
 ]
 
+answer_says : (answer : Answer) → IsTrue (says_harts (status_of_answer answer))
+answer_says answers.Yes = refl
+answer_says answers.No = refl
+answer_says answers.Unknown = refl
+
+-- The exit status of many runs is that of the worst, or goes with what their ends answer.
+stress_says : (watch : Watch) (question : Option Question) (ends : List Ending)
+    → IsTrue (says_harts (stress_status watch question (tally_of ends)))
+stress_says watch None ends = worst_says ends
+stress_says watch (Some question) ends = answer_says (sampled_answer watch question (rows_of ends))
+
 -- One run, or as many as are asked for.
 module _ (run : RunCommand) (settings : Settings) (program : ProgramImage) (names : Table) (marks : Marks)
     (Traced : ToWrite → Type 0) (old : Option (List ℕ)) (status : ℕ) where
@@ -129,9 +141,10 @@ module _ (run : RunCommand) (settings : Settings) (program : ProgramImage) (name
   run_flushed (Some times) mid new flushed is = record {
     accepted = is.accepted;
     manned = is.manned;
+    question = is.question;
     all = is.all;
     watch = is.watch;
-    asked = is.asked;
+    asking = is.asking;
     watches = is.watches;
     there = is.there;
     cores = is.cores;
@@ -145,7 +158,8 @@ module _ (run : RunCommand) (settings : Settings) (program : ProgramImage) (name
   run_says : (times : Option ℕ) (new : Option (List ℕ))
       → RunsComeTo times run settings program names marks Traced old new status → IsTrue (says_harts status)
   run_says None new is = status_says status (statuses_of is.core) is.harts
-  run_says (Some times) new is = ap says_harts is.stands ∙ worst_says (map (end_of is.watch) is.cores)
+  run_says (Some times) new is =
+      ap says_harts is.stands ∙ stress_says is.watch is.question (map (end_of is.watch) is.cores)
 
 module _ (run : RunCommand) (settings : Settings) (program : ProgramImage) (names : Table) where
   run_no_image : (times : Option ℕ) (number : ℕ) → IsRunsRefusal times run settings program names (Image number) → ⊥
@@ -415,11 +429,6 @@ extent_says : (extent : Extent) → IsTrue (says_harts (status_of_extent extent)
 extent_says extents.Whole = refl
 extent_says extents.Beyond = refl
 extent_says extents.First = refl
-
-answer_says : (answer : Answer) → IsTrue (says_harts (status_of_answer answer))
-answer_says answers.Yes = refl
-answer_says answers.No = refl
-answer_says answers.Unknown = refl
 
 found_says : (watch : Watch) (question : Option Question) (found : Found)
     → IsTrue (says_harts (status_found watch question found))

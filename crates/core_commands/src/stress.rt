@@ -103,8 +103,8 @@ pub fn perform_stress<
     )
 }
 
-/// Writes the table of so many runs, of which all that was watched, and what their ends answer to the question. Answers
-/// the exit status.
+/// Writes the table of so many runs, with all that is watched of their ends, and what these answer to the question.
+/// Answers the exit status.
 #[inline(never)]
 fn report_runs<W: Write>(
     count: u32,

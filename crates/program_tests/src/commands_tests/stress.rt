@@ -9,6 +9,7 @@ use command_parts::Context;
 use event_text::Over;
 use sim_inputs::QuestionText;
 use std::alloc::Global;
+use std::process::Abort;
 use std::sync::Wait;
 use std::thread::Threads;
 use test_support::file_of;
@@ -84,24 +85,45 @@ const ANSWERS: [(QuestionText<'static>, &str, u8); 6] = [
     (QuestionText::Never("out= | h0=4"), "never: no, ends 1\n", 1),
 ];
 
+/// Asserts that the ends of three runs answer so.
+fn answers_so<R: Threads + Wait + Sync + Abort>(
+    rt: &R,
+    image: &[u8],
+    asked: (QuestionText<'static>, &str, u8),
+    alloc: Global,
+) {
+    let (question, answer, status) = asked;
+    let Stressed { out, ending, .. } = perform_stress(rt, image, None, Some(question), alloc);
+    holds(rt, answer, text_of(&out).ends_with(answer));
+    holds(rt, answer, ending.status == status);
+}
+
 #[test]
 fn ends_that_came_answer_a_question_and_those_that_did_not_none(rt: HostRuntime) {
     let image = file_of(ENDING, 0, rt.alloc()).expect(&rt, "an image");
-    for (question, answer, status) in ANSWERS {
-        let asked = perform_stress(&rt, &image, None, Some(question), rt.alloc());
-        holds(&rt, answer, text_of(&asked.out).ends_with(answer));
-        holds(&rt, answer, asked.ending.status == status);
+    for asked in &ANSWERS {
+        answers_so(&rt, &image, *asked, rt.alloc());
     }
+}
+
+/// Asserts that a condition is refused before any run.
+fn is_refused<R: Threads + Wait + Sync + Abort>(
+    rt: &R,
+    image: &[u8],
+    condition: &'static str,
+    alloc: Global,
+) {
+    let question = Some(QuestionText::Never(condition));
+    let Stressed { kept, out, ending } = perform_stress(rt, image, None, question, alloc);
+    holds(rt, condition, ending.status == 2);
+    holds(rt, condition, out.is_empty() && kept.is_empty());
 }
 
 #[test]
 fn a_condition_that_asks_for_what_is_not_there_is_refused_before_any_run(rt: HostRuntime) {
     let image = file_of(ENDING, 0, rt.alloc()).expect(&rt, "an image");
     for condition in ["h1=0", "a0@1=0", "80000001:4=0", "nowhere=1", "h0="] {
-        let question = Some(QuestionText::Never(condition));
-        let refused = perform_stress(&rt, &image, None, question, rt.alloc());
-        holds(&rt, condition, refused.ending.status == 2);
-        assert!(rt; refused.out.is_empty() && refused.kept.is_empty());
+        is_refused(&rt, &image, condition, rt.alloc());
     }
 }
 
