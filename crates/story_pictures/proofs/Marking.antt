@@ -1,6 +1,7 @@
 -- What earlier rows make of a row, a row after another.
 use Rattle.std.proofs.Common.{◌≡◌, ◌∙◌, ℕ, ◌+◌, ◌<◌, List, [], ◌∷◌, ◌++◌, Bool, true, false, Option, Some, None}
-use Rattle.std.proofs.Common.{get_or, refl, sym, ap, subst, arith, length, nat_lt, nat_tests, take, reverse, if◌then◌else◌}
+use Rattle.std.proofs.Common.{get_or, refl, sym, ap, subst, arith, length, nat_lt, take, reverse, if◌then◌else◌}
+use Rattle.std.proofs.lemmas.Bool.Decides.{nat_tests}
 use Rattle.std.proofs.lemmas.List.{length-reverse, length-take-le, reverse-append, take_more}
 use Rattle.numbers.specs.Sizes.{most_harts}
 use Rattle.stories.specs.{Notes.note_of, Story.rows as rows_of_steps}
