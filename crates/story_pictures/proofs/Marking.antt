@@ -1,9 +1,10 @@
 -- What earlier rows make of a row, a row after another.
 use Rattle.std.proofs.Common.{◌≡◌, ◌∙◌, ℕ, ◌+◌, ◌<◌, List, [], ◌∷◌, ◌++◌, Bool, true, false, Option, Some, None}
-use Rattle.std.proofs.Common.{get_or, refl, sym, ap, subst, arith, length, take, reverse, if◌then◌else◌}
+use Rattle.std.proofs.Common.{get_or, refl, sym, ap, subst, arith, length, nat_lt, take, reverse, if◌then◌else◌}
+use Rattle.std.proofs.lemmas.Bool.Decides.{nat_tests}
 use Rattle.std.proofs.lemmas.List.{length-reverse, length-take-le, reverse-append, take_more}
 use Rattle.numbers.specs.Sizes.{most_harts}
-use Rattle.stories.specs.{Notes.note_of, Story.rows}
+use Rattle.stories.specs.{Notes.note_of, Story.rows as rows_of_steps}
 use Rattle.stories.specs.declared.{deed.Deed.Deed, row.Row.Row, step.Step.Step, recent.Note.Note}
 use Rattle.stories.specs.declared.deed.Deed.TheVariants as deed
 use Rattle.story_text.specs.Text.{taken_or, taker_for}
@@ -33,12 +34,12 @@ fault_more rows i d noted last next inside so_far is more =
 -- ---- What the story's text says
 
 taker_told : (past : List Step) (h : ℕ) (d : Deed) → h < most_harts
-    → taker_in (rows false past) h d ≡ taker_for false past h (Some d)
+    → taker_in (rows_of_steps false past) h d ≡ taker_for false past h (Some d)
 taker_told past h (deed.Loaded op addr number) few = refl
 taker_told past h (deed.Reserved addr number) few = refl
 taker_told past h (deed.Stored op addr number) few = refl
 taker_told past h (deed.Conditional addr number) few = refl
-taker_told past h (deed.Failed addr) few = rw few refl
+taker_told past h (deed.Failed addr) few = let there : nat_lt h most_harts ≡ true = grind (arith, nat_tests) in rw there refl
 taker_told past h (deed.Atomic kind addr old new) few = refl
 taker_told past h (deed.Out byte) few = refl
 taker_told past h (deed.Ended number) few = refl
@@ -46,5 +47,5 @@ taker_told past h (deed.Stopped cause) few = refl
 
 pub told : NotesAreTold
 told past row few =
-    ap (λ taken. taken_or taken (note_of row.hart row.deed (rows false past)))
+    ap (λ taken. taken_or taken (note_of row.hart row.deed (rows_of_steps false past)))
     (taker_told past row.hart row.deed few)

@@ -38,7 +38,7 @@ is_fault (Some (note.Overwrites read write)) = true
 is_fault (Some (note.Again read write)) = true
 
 -- The index of the last of these, among rows of which the newest comes first.
-pub last_fault : List Row → Option ℕ
+abbrev pub last_fault : List Row → Option ℕ
 last_fault [] = None
 last_fault (row ∷ past) = if is_fault (note_in past row) then Some (length past) else last_fault past
 

@@ -72,7 +72,7 @@ fn foot_shown(foot: &[u8]) -> &[u8]
     ensures shown { result.now ≡ foot_shown foot.now }
     ensures few { length result.now ≤ most_foot }
 {
-    &foot[..foot.len().min(MOST_FOOT)]
+    &foot[..MOST_FOOT.min(foot.len())]
 }
 
 /// Where a text goes on behind its last byte.

@@ -12,6 +12,6 @@ loop-index-preserved g c =
     let noted = c.note_of.ensures _ c.loop-index.invariant.1 in
     let text = rw noted at (rw c.look_of-look.ensures at c.in_ok-write_row.ensures) in (
       each_step (box_text (plan_of c.args.form.now) rows) _ _ _ _ _ _ inside c.loop-index.invariant.0 text,
-      subst (λ past. HasNoted past c.hear.new.noting) (sym (past_more rows i _ inside))
+      subst (λ past. HasNoted past c.hear.new.self) (sym (past_more rows i _ inside))
           (c.hear.ensures _ c.loop-index.invariant.1),
     )

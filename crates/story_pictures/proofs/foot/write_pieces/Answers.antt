@@ -12,7 +12,7 @@ loop-index-preserved g c =
     let so_far = c.loop-index.invariant.1 in
     let piece = rw so_far at c.in_ok-write_piece.ensures in (
       each_step (piece_at text) _ _ _ _ _ _ inside c.loop-index.invariant.0 piece,
-      caret_more text i _ _ _ inside so_far c.next_caret.ensures.value,
-      omega (arith, c.next_caret.ensures.column, c.loop-index.invariant.2),
-      omega (arith, c.next_caret.ensures.lines, c.loop-index.invariant.3),
+      caret_more text i _ _ _ inside so_far c.next_caret-caret.ensures.value,
+      omega (arith, c.next_caret-caret.ensures.column, c.loop-index.invariant.2),
+      omega (arith, c.next_caret-caret.ensures.lines, c.loop-index.invariant.3),
     )
