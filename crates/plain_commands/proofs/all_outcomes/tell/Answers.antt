@@ -1,9 +1,6 @@
 use Rattle.std.proofs.Common.{sym, ◌∙◌}
 use Rattle.story_text.specs.Text.{plan_of}
-<<<<<<< HEAD
-=======
 use Rattle.plain_commands.specs.WrittenOrders.{IsTextRefusal}
->>>>>>> 2f1c3d31e56bceb8d373f2c6dc1d39ceca3f706a
 use Rattle.plain_commands.proofs.OfOutcomes.{has_so, lacks_so, never_lacking, never_of_text, told_so, unwanted_order}
 use Rattle.plain_commands.proofs.all_outcomes.tell.Goals as goal
 
