@@ -8,4 +8,3 @@ pub mod OfMigration
 pub mod OfRuns
 mod OfLabels
 mod OfCores
-mod OfUnanswered

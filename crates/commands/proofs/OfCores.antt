@@ -47,7 +47,6 @@ module _ {S : Type 0} (begins : S → ℕ → Part → S → Type 0) (is_finishe
     unbroken = unbroken;
     finished = finished;
     unreported = λ failed. let told = unreported failed in (told.0, told.1, marks, told.2);
-    unanswered = tt;
   }
 
   -- A check has written no file.

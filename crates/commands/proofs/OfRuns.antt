@@ -41,7 +41,6 @@ module _ {S : Type 0} (begins : S → ℕ → Part → S → Type 0) (written : 
     unbroken = unbroken;
     finished = finished;
     unreported = unreported;
-    unanswered = tt;
   }
 
   pub one_performed : (wanted : Wanted) → run.times ≡ None → wants_of wanted ≡ run_wants run
@@ -66,5 +65,4 @@ module _ {S : Type 0} (begins : S → ℕ → Part → S → Type 0) (written : 
     unbroken = unbroken;
     finished = finished;
     unreported = unreported;
-    unanswered = tt;
   }

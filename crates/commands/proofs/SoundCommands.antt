@@ -474,7 +474,6 @@ of_outcomes outcomes settings program names lines second = record {
       is_found = is.told.is_found;
       told = record {
         text = is.told.told.text;
-        answered = is.told.told.answered;
         printed = kept old mid new _ is.told.told.printed flushed;
         status = is.told.told.status;
         is_text = is.told.told.is_text;

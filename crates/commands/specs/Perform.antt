@@ -7,7 +7,6 @@ use Rattle.symbols.specs.Tables.{Table}
 use Rattle.sim_inputs.specs.{declared.line.Command.Command, declared.settings.Settings.Settings}
 use Rattle.command_parts.specs.{declared.refused.Refused.Refused}
 use Rattle.command_parts.specs.declared.refused.Refused.TheVariants.{Image, Config, Harts, Lines, Memory, File, Output}
-use Rattle.command_parts.specs.declared.refused.Refused.TheVariants.{NoAnswer}
 use Rattle.command_parts.specs.declared.refused.Unread.TheVariants as unread
 use Rattle.command_parts.specs.Refused.{IsFirstFailed, AreAccepted}
 use Rattle.source_lines.specs.Lines.{Origin}
@@ -26,8 +25,7 @@ use Rattle.event_text.specs.Refusals.{NamesCore}
 use Rattle.sim_inputs.specs.declared.line.LitmusCommand.{LitmusCommand}
 use Rattle.sim_inputs.specs.declared.line.ProgramCommand.{ProgramCommand}
 use Rattle.sim_inputs.specs.declared.line.Command.TheVariants as commands
-use Rattle.sim_inputs.specs.declared.line.ProgramCommand.TheVariants as programs
-use Rattle.plain_commands.specs.{Litmus.IsLitmusRefusal, Litmus.LitmusComesTo, Outcomes.IsUnanswered}
+use Rattle.plain_commands.specs.Litmus.{IsLitmusRefusal, LitmusComesTo}
 
 -- Harts are given beside a trace that says itself of what core it is.
 abbrev pub AreTwoCores : Option ℕ → Read → Type 0
@@ -173,22 +171,6 @@ IsUnreported (commands.Explain explain) second old new = ⊥
 IsUnreported (commands.Litmus litmus) second old new = new ≡ old
 IsUnreported (commands.Migrate migrate) second old new = new ≡ old
 
--- What a line has printed that is refused since nothing answers its question: of `outcomes` the list that was found,
--- with the answer; and no file was touched. No other is refused so.
-abbrev pub IsProgramUnanswered : {S : Type 0} → S → S → Option ℕ → ProgramCommand → Read → Read → Option (List ℕ)
-    → Option (List ℕ) → Type 0
-IsProgramUnanswered before after harts (programs.Outcomes outcomes) config image old new =
-    OfNamedProgram true config image
-    (λ settings program names. IsUnanswered (with_harts harts settings) program names outcomes old new)
-    × (after ≡ before)
-IsProgramUnanswered before after harts command config image old new = Unit {0}
-
-abbrev pub IsLineUnanswered : {S : Type 0} → S → S → Option ℕ → Command → Read → Read → Option (List ℕ)
-    → Option (List ℕ) → Type 0
-IsLineUnanswered before after harts (commands.OfProgram command) config image old new =
-    IsProgramUnanswered before after harts command config image old new
-IsLineUnanswered before after harts command config image old new = Unit {0}
-
 -- The line writes a file that it names: as its command of a program does, what is made of a litmus test, or a
 -- migrated trace.
 abbrev pub writes_file : Command → Bool
@@ -196,14 +178,6 @@ writes_file (commands.OfProgram command) = program_writes_file command
 writes_file (commands.Explain explain) = false
 writes_file (commands.Litmus litmus) = is_some (written_for_test litmus)
 writes_file (commands.Migrate migrate) = true
-
--- So it is of a command behind its answer, of its settings, its program image and its names.
-abbrev pub HasUnanswered : {S : Type 0} → S → S → ProgramCommand → Settings → ProgramImage → Table
-    → Option (List ℕ) → Option (List ℕ) → Result ℕ Refused → Type 0
-HasUnanswered before after (programs.Outcomes outcomes) settings program names old new answer =
-    IfErr answer
-    (λ why. why ≡ NoAnswer → IsUnanswered settings program names outcomes old new × (after ≡ before))
-HasUnanswered before after command settings program names old new answer = Unit {0}
 
 -- What a command has answered, of its settings, its program image, its names, its source lines and its second file,
 -- before the
@@ -223,4 +197,3 @@ pub record IsPerformed {S : Type 0} (begins : S → ℕ → Part → S → Type 
   pub unbroken : OnOk answer (has_failed after ≡ false)
   pub finished : OnOk answer (is_finished after ≡ true)
   pub unreported : has_failed after ≡ true → IsProgramUnreported command second old new
-  pub unanswered : HasUnanswered before after command settings program names old new answer

@@ -1,8 +1,8 @@
 //! All that the program does with a line once its files are read.
 
 ghost use Rattle.std.specs.Prelude.{◌≡◌, ◌⊎◌, IsTrue, IfOk, IfErr, OnOk, Err, is_some, true, false};
-ghost use Rattle.std.specs.Prelude.{IsSomeAnd, Some};
-ghost use Rattle.command_parts.specs.declared.refused.Refused.TheVariants.{NoAnswer, Output};
+ghost use Rattle.std.specs.Prelude.{IsSomeAnd};
+ghost use Rattle.command_parts.specs.declared.refused.Refused.TheVariants.{Output};
 ghost use Rattle.report_lines.specs.Statuses.{says_harts};
 ghost use Rattle.command_parts.specs.declared.refused.Refused.{Refused as AnyRefused};
 ghost use Rattle.command_parts.specs.Refused.{exit_status_of, refusal_of};
@@ -12,7 +12,6 @@ ghost use Rattle.symbols.specs.Tables.{table_of};
 ghost use Rattle.commands.specs.Commands.{IsProgramUnreported, origins_in, program_writes_file};
 ghost use Rattle.commands.specs.Perform.{IsRefusal, LineComesTo, IsLeft, IsUnreported, writes_file};
 ghost use Rattle.commands.specs.Perform.{IsProgramRefusal, ProgramComesTo, IsPerformed};
-ghost use Rattle.commands.specs.Perform.{IsLineUnanswered, IsProgramUnanswered};
 ghost use Rattle.commands.specs.Perform.{IsLitmusLineRefusal, LitmusLineComesTo};
 ghost use Rattle.commands.specs.Perform.{IsMigrateLineRefusal, MigrationComesTo};
 ghost use Rattle.event_text.specs.Sinking.{HasPut};
@@ -50,7 +49,7 @@ use symbols::Symbols;
 /// The configuration is looked at first, then the image, then of a trace whether it names its core beside harts of the
 /// line, then the lines of the image's sources, and then the script, the order or the trace; a file that couldn't be
 /// read is refused where it is looked at. All that is printed is flushed. The context keeps why the line was refused,
-/// if it was. Where that is a question that nothing answers, all that was found is printed.
+/// if it was.
 ///
 /// The trace of a core goes into `files`, a sink that hasn't failed, where the line names a file for it:
 /// behind the last ask, and before the tables and the report, and its file is finished. Where the sink fails,
@@ -86,10 +85,6 @@ pub fn perform<
     ensures unwanted { writes_file line.now.command ≡ false → context.new.files ≡ context.old.files }
     ensures unreported { S.has_failed context.new.files ≡ true → IsUnreported line.now.command
         (as_read inputs.now.second) (W.contents context.old.out) (W.contents context.new.out) }
-    ensures unanswered { says_harts result ≡ false → context.new.refused ≡ Some NoAnswer
-        → IsLineUnanswered context.old.files context.new.files line.now.harts line.now.command
-        (as_read inputs.now.config) (as_read inputs.now.program) (W.contents context.old.out)
-        (W.contents context.new.out) }
 {
     match perform_line(context, line, inputs) {
         Ok(status) => status,
@@ -136,10 +131,6 @@ fn perform_line<
     ensures unwanted { writes_file line.now.command ≡ false → context.new.files ≡ context.old.files }
     ensures unreported { S.has_failed context.new.files ≡ true → IsUnreported line.now.command
         (as_read inputs.now.second) (W.contents context.old.out) (W.contents context.new.out) }
-    ensures unanswered { IfErr result (λ why. why ≡ NoAnswer
-        → IsLineUnanswered context.old.files context.new.files line.now.harts line.now.command
-        (as_read inputs.now.config) (as_read inputs.now.program) (W.contents context.old.out)
-        (W.contents context.new.out)) }
 {
     let alloc = context.alloc;
     match &line.command {
@@ -249,9 +240,6 @@ fn read_and_perform<
     ensures unwanted { program_writes_file command.now ≡ false → context.new.files ≡ context.old.files }
     ensures unreported { S.has_failed context.new.files ≡ true → IsProgramUnreported command.now
         (as_read inputs.now.second) (W.contents context.old.out) (W.contents context.new.out) }
-    ensures unanswered { IfErr result (λ why. why ≡ NoAnswer
-        → IsProgramUnanswered context.old.files context.new.files harts.now command.now (as_read inputs.now.config)
-        (as_read inputs.now.program) (W.contents context.old.out) (W.contents context.new.out)) }
 {
     let config = inputs.config?;
     let own = settings_of(config, context.alloc)?;

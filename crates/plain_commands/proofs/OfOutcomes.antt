@@ -1,9 +1,9 @@
 -- What is refused of a search for outcomes is refused of the command, and so is what it found.
 use Rattle.std.specs.Prelude.{◌≡◌, ◌⊎◌, ℕ, ◌+◌, ◌<◌, Bool, Option, Some, None, List, ◌++◌, length, take, get_or}
-use Rattle.std.specs.Prelude.{[], true, false, not, ◌&&◌, is_some, option_map}
+use Rattle.std.specs.Prelude.{[], false}
 use Rattle.std.specs.Io.KnownBytes.{Appends}
 use Rattle.std.proofs.Common.{inl, inr, sym, ap, subst, refl, ◌∙◌}
-use Rattle.std.proofs.{lemmas.Bool.true≢false, lemmas.List.take_more, lemmas.List.flat_map_more}
+use Rattle.std.proofs.{lemmas.List.take_more, lemmas.List.flat_map_more}
 use Rattle.text_fields.proofs.Appending.{appends_more}
 use Rattle.stress_runs.specs.Kept.{order_line, order_text}
 use Rattle.elf_image.specs.Image.{ProgramImage}
@@ -20,13 +20,10 @@ use Rattle.address_labels.specs.Labels.{Marks}
 use Rattle.story_text.specs.Text.{Plan}
 use Rattle.outcome_queries.specs.{declared.term.Term.Term, Harts.IsHartThere}
 use Rattle.std.specs.List.{All}
-use Rattle.sim_inputs.specs.declared.line.QuestionText.{QuestionText}
-use Rattle.sim_inputs.specs.declared.line.QuestionText.TheVariants as texts
-use Rattle.plain_commands.specs.Questions.{IsConditionRefused, IsQuestionOf, terms_asked}
-use Rattle.plain_commands.specs.WrittenOrders.{HasPutOrder, IsTextRefusal, is_answer_wanted, line_wanted, order_wanted}
-use Rattle.plain_commands.specs.WrittenOrders.{wants_order}
-use Rattle.plain_commands.specs.Outcomes.{HasListed, HasPutText, HasTold, HasToldFound, IsAsked, IsUnanswered, LacksAnswer}
-use Rattle.plain_commands.specs.Outcomes.{OutcomesComeTo, found_text, plan_for, status_found}
+use Rattle.plain_commands.specs.Questions.{IsQuestionOf, terms_asked}
+use Rattle.plain_commands.specs.WrittenOrders.{HasPutOrder, line_wanted, order_wanted, wants_order}
+use Rattle.plain_commands.specs.Outcomes.{HasPutText, HasTold, HasToldFound, IsAsked, OutcomesComeTo, found_text}
+use Rattle.plain_commands.specs.Outcomes.{plan_for, status_found}
 use Rattle.plain_commands.specs.Outcomes.{IsAnyRefusal, IsAsking, IsFound, IsFoundRefusal, IsWatchOf, OfFound}
 use Rattle.plain_commands.specs.Outcomes.{IsSearchRefusal, IsOutcomesRefusal}
 use Rattle.plain_commands.proofs.OfWrittenOrders.{text_put}
@@ -208,78 +205,14 @@ module _ {S : Type 0} (written : S → Option (List ℕ)) (has_failed : S → Bo
       → order ≡ order_wanted command watch question found → line ≡ line_wanted command all watch question found
       → HasPutOrder written has_failed before after settings image command plan order line
       → Appends old new (found_text command all watch question found) → status ≡ status_found watch question found
-      → (LacksAnswer command watch question found → ⊥)
       → HasTold settings image command plan all watch question found (HasPutText written has_failed before after) old new
       status
-  told_so order line old new status wanted closed put printed is has =
+  told_so order line old new status wanted closed put printed is =
       let text = text_put written has_failed before after settings image command plan order line put in
       record {
         text = text.0;
-        answered = has;
         printed = printed;
         status = is;
         is_text = rw (sym wanted, sym closed) text.1;
         put = text.2;
       }
-
--- ---- Where nothing settles the question
-
-first_true : (a b : Bool) → (a && b) ≡ true → a ≡ true
-first_true true b both = refl
-first_true false b both = both
-
-second_true : (a b : Bool) → (a && b) ≡ true → b ≡ true
-second_true true b both = both
-second_true false b both = absurd (true≢false (sym both))
-
--- The code sees that the order of what settles the question is wanted and there is none, just where it is so.
-module _ {A : Type 0} (bytes : A → List ℕ) (command : OutcomesCommand) (watch : Watch) (question : Option Question)
-    (found : Found) where
-  pub lacks_so : (order : Option A) → option_map bytes order ≡ order_wanted command watch question found
-      → (is_answer_wanted command && not (is_some order)) ≡ true → LacksAnswer command watch question found
-  lacks_so None wanted lacks = (first_true _ _ lacks, sym wanted)
-  lacks_so (Some order) wanted lacks = absurd (true≢false (sym (second_true _ _ lacks)))
-
-  pub has_so : (order : Option A) → option_map bytes order ≡ order_wanted command watch question found
-      → (is_answer_wanted command && not (is_some order)) ≡ false → LacksAnswer command watch question found → ⊥
-  has_so None wanted has lacks = true≢false (sym (ap (λ b. b && true) lacks.0) ∙ has)
-  has_so (Some order) wanted has lacks =
-      let none : Some (bytes order) ≡ None = wanted ∙ lacks.1 in
-      cc
-
--- A refusal of another kind is none that no answer is there.
-pub never_lacking : (P : Refused → Type 0) (A : Type 0) (why : Refused) → P why → (P reason.NoAnswer → ⊥)
-    → why ≡ reason.NoAnswer → A
-never_lacking P A why is never same = absurd (never (subst P same is))
-
-pub never_of_text : (settings : Settings) (image : ProgramImage) (command : OutcomesCommand)
-    → IsTextRefusal settings image command reason.NoAnswer → ⊥
-never_of_text settings image command is = neither is
-
-pub never_of_condition : (names : Table) (question : Option QuestionText)
-    → IsConditionRefused names question reason.NoAnswer → ⊥
-never_of_condition names None is = is
-never_of_condition names (Some (texts.Exists text)) is = is
-never_of_condition names (Some (texts.ForAll text)) is = is
-never_of_condition names (Some (texts.Never text)) is = is
-never_of_condition names (Some texts.NeverStuck) is = is
-
--- What the search has found is what the command asks for.
-pub unanswered_so : {S : Type 0} (before after : S) (settings : Settings) (image : ProgramImage) (names : Table)
-    (command : OutcomesCommand) (question : Option Question) (all : List Asked) (watch : Watch)
-    → IsAsking settings names command question all watch → (old new : Option (List ℕ)) (why : Refused)
-    → (why ≡ reason.NoAnswer → (found : Found) × IsFound settings image command watch question found
-    × HasListed command all watch question found old new × (after ≡ before))
-    → why ≡ reason.NoAnswer → IsUnanswered settings image names command old new × (after ≡ before)
-unanswered_so before after settings image names command question all watch asking old new why is same =
-    let of = is same in
-    let unanswered : IsUnanswered settings image names command old new = record {
-      question = question;
-      all = all;
-      watch = watch;
-      found = of.0;
-      asking = asking;
-      is_found = of.1;
-      listed = of.2.0;
-    } in
-    (unanswered, of.2.1)

@@ -116,17 +116,11 @@ abbrev pub found_text : OutcomesCommand → List Asked → Watch → Option Ques
 found_text command all watch question found = outcomes_text (registers_asked all) (memory_asked all) found
     (is_some (stuck_told found)) command.states (question_text watch question found)
 
--- The order of what settles the question is wanted, and nothing does.
-abbrev pub LacksAnswer : OutcomesCommand → Watch → Option Question → Found → Type 0
-LacksAnswer command watch question found =
-    (is_answer_wanted command ≡ true) × (order_wanted command watch question found ≡ None)
-
 -- It is printed, and of the same an order is written, where one is wanted and there is one. `Put` says what was written.
 pub record HasTold (settings : Settings) (image : ProgramImage) (command : OutcomesCommand) (plan : Plan)
     (all : List Asked) (watch : Watch) (question : Option Question) (found : Found) (Put : Option (List ℕ) → Type 0)
     (old new : Option (List ℕ)) (exit_status : ℕ) : Type 0 where
   pub text : Option (List ℕ)
-  pub answered : LacksAnswer command watch question found → ⊥
   pub printed : Appends old new (found_text command all watch question found)
   pub status : exit_status ≡ status_found watch question found
   pub is_text : IsTextIf command (setup_of image settings.config) settings.limit plan
@@ -156,23 +150,6 @@ pub record OutcomesComeTo (settings : Settings) (image : ProgramImage) (names : 
   pub asking : IsAsking settings names command question all watch
   pub told : HasToldFound settings image command (plan_for settings names marks command) all watch question Put
       old new exit_status
-
--- What was found is printed, with the answer, and nothing of it settles the question whose order is wanted.
-pub record HasListed (command : OutcomesCommand) (all : List Asked) (watch : Watch) (question : Option Question)
-    (found : Found) (old new : Option (List ℕ)) : Type 0 where
-  pub lacks : LacksAnswer command watch question found
-  pub printed : Appends old new (found_text command all watch question found)
-
--- So it is of what the search has found that a command asks for.
-pub record IsUnanswered (settings : Settings) (image : ProgramImage) (names : Table) (command : OutcomesCommand)
-    (old new : Option (List ℕ)) : Type 0 where
-  pub question : Option Question
-  pub all : List Asked
-  pub watch : Watch
-  pub found : Found
-  pub asking : IsAsking settings names command question all watch
-  pub is_found : IsFound settings image command watch question found
-  pub listed : HasListed command all watch question found old new
 
 -- ---- Refusals
 
@@ -229,13 +206,18 @@ pub record OfFound (settings : Settings) (image : ProgramImage) (names : Table) 
   pub is_found : IsFound settings image command watch question found
   pub holds : Holds watch question found
 
--- The outcome that is wanted isn't there; or no state is stuck, of all.
+-- The outcome that is wanted isn't there; or no state is stuck, of all; or nothing settles the question whose order is
+-- wanted.
 abbrev pub LacksOutcome : OutcomesCommand → ℕ → Found → Type 0
 LacksOutcome command number found =
     (command.outcome ≡ Some number) × ((number ≡ 0) ⊎ (length found.listed < number))
 
 abbrev pub IsNotStuck : OutcomesCommand → Found → Type 0
 IsNotStuck command found = (command.stuck ≡ true) × (found.extent ≡ Whole) × (found.stuck ≡ None)
+
+abbrev pub LacksAnswer : OutcomesCommand → Watch → Option Question → Found → Type 0
+LacksAnswer command watch question found =
+    (is_answer_wanted command ≡ true) × (order_wanted command watch question found ≡ None)
 
 -- What is refused of a search that has found nothing.
 abbrev pub IsSearchRefusal : ProgramImage → ℕ → Watch → Refused → Type 0

@@ -1,7 +1,6 @@
 //! The command `outcomes`: every end that a program has on the plain machine.
 
-ghost use Rattle.std.specs.Prelude.{◌≡◌, ◌++◌, ◌&&◌, ℕ, List, IfOk, IfErr, OnOk, true, false, not, is_some};
-ghost use Rattle.std.specs.Prelude.{option_map};
+ghost use Rattle.std.specs.Prelude.{◌≡◌, ◌++◌, ℕ, List, IfOk, IfErr, OnOk, true, false, is_some, option_map};
 ghost use Rattle.std.specs.Io.KnownBytes.{Appends};
 ghost use Rattle.elf_image.specs.Image.{ProgramImage};
 ghost use Rattle.address_labels.specs.Labels.{marks_of};
@@ -9,12 +8,11 @@ ghost use Rattle.symbols.specs.Tables.{table_of};
 ghost use Rattle.story_text.specs.Text.{plan_of};
 ghost use Rattle.outcomes.specs.Refusals.{IsRefusedFor};
 ghost use Rattle.outcome_text.specs.Listing.{outcomes_text};
-ghost use Rattle.outcomes.specs.Found.{Found};
 ghost use Rattle.outcome_queries.specs.Watches.{memory_asked, registers_asked};
 ghost use Rattle.command_parts.specs.declared.refused.Refused.TheVariants.{Memory, NoAnswer};
 ghost use Rattle.plain_commands.specs.Outcomes.{IsOutcomesRefusal, OutcomesComeTo, IsSearchRefusal, IsFoundRefusal};
-ghost use Rattle.plain_commands.specs.Outcomes.{HasListed, HasPutText, HasTold, HasToldFound, IsAnyRefusal, IsFound};
-ghost use Rattle.plain_commands.specs.Outcomes.{IsUnanswered, IsWant, found_text, plan_for, question_text, status_found};
+ghost use Rattle.plain_commands.specs.Outcomes.{HasPutText, HasTold, HasToldFound, IsAnyRefusal, IsWant};
+ghost use Rattle.plain_commands.specs.Outcomes.{found_text, plan_for, question_text, status_found};
 ghost use Rattle.plain_commands.specs.WrittenOrders.{is_answer_wanted, order_wanted, stuck_told, wants_order};
 
 use crate::asking::{question_of, see_harts, terms_asked, watched_for};
@@ -46,8 +44,7 @@ use watched_outcomes::Watch;
 /// without a question 0 where these are all outcomes, else 3. Refused are, in this order, a condition or a list that is
 /// misspelled, more than can be watched, a hart that isn't there (of the condition first), a word that isn't, an outcome
 /// and a stuck state that aren't there, and what `perform_schedule` refuses; then nothing is printed. `NoAnswer` is
-/// answered where the order of what answers the question is wanted and nothing does; then all else is printed, and no
-/// file is touched.
+/// answered where the order of what answers the question is wanted and nothing does; then all else is printed.
 /// `Output` is answered where `out` or `files` failed. The gate is shown how far the search is.
 #[inline(never)]
 pub fn perform_outcomes<R, G: Gate, P, S: EndFiles, W: Write>(
@@ -64,9 +61,6 @@ pub fn perform_outcomes<R, G: Gate, P, S: EndFiles, W: Write>(
     ensures ended { IfOk result (OutcomesComeTo settings.now image.now (table_of names.now) (marks_of labels.now)
         command.now (HasPutText S.written S.has_failed context.old.files context.new.files)
         (W.contents context.old.out) (W.contents context.new.out)) }
-    ensures unanswered { IfErr result (λ why. why ≡ NoAnswer → IsUnanswered settings.now image.now
-        (table_of names.now) command.now (W.contents context.old.out) (W.contents context.new.out)
-        × (context.new.files ≡ context.old.files)) }
     ensures unwanted { wants_order command.now ≡ false → context.new.files ≡ context.old.files }
     ensures unbroken { OnOk result (S.has_failed context.new.files ≡ false) }
     ensures finished { OnOk result (S.is_finished context.new.files ≡ true) }
@@ -130,10 +124,6 @@ fn search<R, G: Gate, P, S: EndFiles, W: Write>(
     ensures told { IfOk result (HasToldFound settings.now image.now command.now (plan_of form.now) list.now.items
         watch.now question.now (HasPutText S.written S.has_failed context.old.files context.new.files)
         (W.contents context.old.out) (W.contents context.new.out)) }
-    ensures unanswered { IfErr result (λ why. why ≡ NoAnswer → (found : Found)
-        × IsFound settings.now image.now command.now watch.now question.now found
-        × HasListed command.now list.now.items watch.now question.now found (W.contents context.old.out)
-        (W.contents context.new.out) × (context.new.files ≡ context.old.files)) }
     ensures unwanted { wants_order command.now ≡ false → context.new.files ≡ context.old.files }
     ensures unbroken { OnOk result (S.has_failed context.new.files ≡ false) }
     ensures finished { OnOk result (S.is_finished context.new.files ≡ true) }
@@ -175,9 +165,6 @@ fn tell<R, G, P, S: EndFiles, W: Write>(
     ensures told { IfOk result (HasTold settings.now image.now command.now (plan_of form.now) list.now.items watch.now
         question.now outcomes.now (HasPutText S.written S.has_failed context.old.files context.new.files)
         (W.contents context.old.out) (W.contents context.new.out)) }
-    ensures unanswered { IfErr result (λ why. why ≡ NoAnswer → HasListed command.now list.now.items watch.now
-        question.now outcomes.now (W.contents context.old.out) (W.contents context.new.out)
-        × (context.new.files ≡ context.old.files)) }
     ensures unwanted { wants_order command.now ≡ false → context.new.files ≡ context.old.files }
     ensures unbroken { OnOk result (S.has_failed context.new.files ≡ false) }
     ensures finished { OnOk result (S.is_finished context.new.files ≡ true) }
@@ -223,17 +210,10 @@ fn tell<R, G, P, S: EndFiles, W: Write>(
         Ok(status) => status,
         Err(refused) => return Err(refused),
     };
-    if lacks_answer(command, &order) {
+    if is_answer_wanted(command) && order.is_none() {
         return Err(Refused::NoAnswer);
     }
     Ok(status)
-}
-
-/// Whether what settles the question is to be written, and nothing does.
-fn lacks_answer(command: &OutcomesCommand<'_>, order: &Option<Vec<u8>>) -> bool
-    ensures { result ≡ (is_answer_wanted command.now && not (is_some order.now)) }
-{
-    is_answer_wanted(command) && order.is_none()
 }
 
 /// Prints what was found, with the answer, and flushes it: a refusal may stand behind. Answers the exit status.

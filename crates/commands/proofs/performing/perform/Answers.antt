@@ -5,7 +5,6 @@ use mathlib.Core.Logic.{inl}
 use Rattle.command_parts.specs.{Inputs.as_read}
 use Rattle.commands.specs.{Written.IsWritten}
 use Rattle.commands.proofs.OfLine.{known_refusal, unset_refusal, refused_harts, was_read, status_says}
-use Rattle.commands.proofs.OfUnanswered.{kept_is}
 use Rattle.commands.proofs.performing.perform.Goals as goal
 
 pub returns-in-Ok : goal.returns-in-Ok
@@ -28,7 +27,6 @@ returns-in-Ok g c =
       finished = λ harts. has.finished;
       unwanted = has.unwanted;
       unreported = has.unreported;
-      unanswered = λ none. absurd (true≢false (sym says ∙ none));
     }
 
 pub returns-in-Err : goal.returns-in-Err
@@ -45,5 +43,4 @@ returns-in-Err g c =
       finished = λ harts. absurd (refused_harts c.in-Err.refused _ told.status harts);
       unwanted = rw told.kept has.unwanted;
       unreported = rw told.kept has.unreported;
-      unanswered = λ none lacks. rw told.kept (has.unanswered (kept_is _ _ (rw told.kept at lacks)));
     }

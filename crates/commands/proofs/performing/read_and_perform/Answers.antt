@@ -7,7 +7,6 @@ use Rattle.symbols.specs.Tables.{table_of}
 use Rattle.command_parts.specs.Inputs.{as_read}
 use Rattle.commands.specs.{Perform.HasTwoCores, Commands.origins_in, Commands.reads_lines, Written.IsWritten}
 use Rattle.commands.proofs.OfLine.{command_refusal, lines_refusal, output_refusal, comes_to}
-use Rattle.commands.proofs.OfUnanswered.{program_unanswered}
 use Rattle.commands.proofs.performing.read_and_perform.Goals as goal
 use Rattle.commands.proofs.performing.read_and_perform.Goals.{else-reads_trace-via-then-reads_trace+else-are_two_cores}
 use Rattle.commands.proofs.performing.read_and_perform.Goals.{else-reads_trace-via-else-reads_trace}
@@ -34,16 +33,6 @@ returns-in-Err-perform_command-clause-refused g c =
     c.in_ok-image.ensures.passed c.in_ok-image.ensures.image (rw c.wants_names.ensures at c.in_ok-names.ensures.names)
     (rw wants at c.in-Ok.ensures.lines) c.in-Err-perform_command.refused
     (rw with.value at c.in-Err-perform_command.ensures.refused))
-
-pub returns-in-Err-perform_command-clause-unanswered : goal.returns-in-Err-perform_command-clause-unanswered
-returns-in-Err-perform_command-clause-unanswered g c =
-    let with = c.settings_with-settings.ensures in
-    rw (c.in_ok-config.was, c.in_ok-file.was)
-    (program_unanswered c.args.context.now.files c.perform_command.new.context.files c.args.harts.now _ _ _ _
-    (table_of c.in_ok-names.names) _ _ c.in-Err-perform_command.refused c.in_ok-own.ensures.settings
-    c.in_ok-image.ensures.passed c.in_ok-image.ensures.image c.args.command.now
-    (rw c.wants_names.ensures at c.in_ok-names.ensures.names)
-    (rw with.value at c.in-Err-perform_command.ensures.unanswered))
 
 pub returns-clause-refused : goal.returns-clause-refused
 returns-clause-refused g c =

@@ -1,7 +1,6 @@
 use Rattle.std.proofs.Common.{sym, ◌∙◌}
 use Rattle.story_text.specs.Text.{plan_of}
-use Rattle.plain_commands.specs.WrittenOrders.{IsTextRefusal}
-use Rattle.plain_commands.proofs.OfOutcomes.{has_so, lacks_so, never_lacking, never_of_text, told_so, unwanted_order}
+use Rattle.plain_commands.proofs.OfOutcomes.{told_so, unwanted_order}
 use Rattle.plain_commands.proofs.all_outcomes.tell.Goals as goal
 
 pub returns-in-Err-put_order-clause-unwanted : goal.returns-in-Err-put_order-clause-unwanted
@@ -15,10 +14,3 @@ returns-clause-told g c =
     (plan_of c.args.form.now) c.args.list.now.items c.args.watch.now c.args.question.now c.args.outcomes.now _ _ _ _ _
     c.in-Ok.ensures.wanted c.in-Ok-line_wanted.ensures.line c.in-Ok-put_order.ensures.put c.in-Ok-print_found.ensures.printed
     c.in-Ok-print_found.ensures.status
-    (has_so _ c.args.command.now c.args.watch.now c.args.question.now c.args.outcomes.now c.in-Ok.order
-    c.in-Ok.ensures.wanted (sym c.lacks_answer.ensures ∙ c.if-lacks_answer.false))
-
-pub returns-in-Err-put_order-clause-unanswered : goal.returns-in-Err-put_order-clause-unanswered
-returns-in-Err-put_order-clause-unanswered g c =
-    never_lacking (IsTextRefusal c.args.settings.now c.args.image.now c.args.command.now) _ c.in-Err-put_order.refused
-    c.in-Err-put_order.ensures.refused (never_of_text c.args.settings.now c.args.image.now c.args.command.now)
