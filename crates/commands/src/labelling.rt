@@ -68,7 +68,7 @@ pub(crate) fn picture_for<'a>(
     settings: &Settings,
     names: &'a Symbols<'a>,
     labels: &'a Labels<'a>,
-) -> Option<PictureForm<'a>>
+) -> Option<PictureForm<'a, 'a>>
     ensures plan { option_map drawn_plan_of result
         ≡ drawn_plan plain.now settings.now (table_of names.now) (marks_of labels.now) }
     ensures drawn { is_some result ≡ is_some plain.now.story_svg }

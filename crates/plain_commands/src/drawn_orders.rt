@@ -50,7 +50,7 @@ pub(crate) fn put_picture<S: EndFiles>(
     image: &Image,
     harts: u8,
     order: &[u8],
-    picture: &Option<PictureForm<'_>>,
+    picture: &Option<PictureForm<'_, '_>>,
     file: &mut S,
     alloc: Global,
 ) -> Result<(), Refused>
@@ -77,7 +77,11 @@ pub(crate) fn put_picture<S: EndFiles>(
 }
 
 /// How the picture of a story is drawn that is told so, with this at its foot.
-fn picture_form<'a>(form: &StoryForm<'a>, foot: &'a [u8], theme: Option<Theme>) -> PictureForm<'a>
+fn picture_form<'a, 'b>(
+    form: &StoryForm<'a>,
+    foot: &'b [u8],
+    theme: Option<Theme>,
+) -> PictureForm<'a, 'b>
     ensures { drawn_plan_of result ≡ picture_plan (plan_of form.now) foot.now (theme_or theme) }
 {
     PictureForm {
@@ -95,7 +99,7 @@ pub(crate) fn picture_of(
     image: &Image,
     harts: u8,
     order: &[u8],
-    form: &PictureForm<'_>,
+    form: &PictureForm<'_, '_>,
     alloc: Global,
 ) -> Result<Vec<u8>, Refused>
     ensures drawn { IfOk result (λ text. OfEachSetup image.now harts

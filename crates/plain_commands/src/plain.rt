@@ -42,7 +42,7 @@ pub fn perform_plain<R, G, P, S: EndFiles, W: Write>(
     settings: &Settings,
     order: &[u8],
     story: &Option<StoryForm<'_>>,
-    picture: &Option<PictureForm<'_>>,
+    picture: &Option<PictureForm<'_, '_>>,
     records: bool,
     labels: &Labels<'_>,
 ) -> Result<u8, Refused>

@@ -56,7 +56,7 @@ pub(crate) struct Look {
 /// Writes the boxes of all rows.
 pub(crate) fn write_boxes<W: Write>(
     rows: &[Row],
-    form: &PictureForm<'_>,
+    form: &PictureForm<'_, '_>,
     out: &mut W,
 ) -> io::Result<()>
     requires { length rows.now ≤ most_rows }
@@ -76,7 +76,7 @@ pub(crate) fn write_boxes<W: Write>(
 /// How the box of the row at `index` looks; `fault` is the index of the one that strikes the eye.
 fn look_of(
     rows: &[Row],
-    form: &PictureForm<'_>,
+    form: &PictureForm<'_, '_>,
     fault: Option<usize>,
     index: usize,
     row: &Row,
@@ -103,7 +103,7 @@ fn is_place(place: Option<usize>, index: usize) -> bool
 }
 
 /// Whether a stuck order ends in a row.
-fn is_marked(form: &PictureForm<'_>, later: &[Row], row: &Row) -> bool
+fn is_marked(form: &PictureForm<'_, '_>, later: &[Row], row: &Row) -> bool
     ensures { result ≡ is_marked (plan_of form.now) later.now row.now }
 {
     form.is_stuck && is_stuck(later, row)
@@ -112,7 +112,7 @@ fn is_marked(form: &PictureForm<'_>, later: &[Row], row: &Row) -> bool
 /// Writes the box of a row, and what stands beside it.
 #[tactic(auto, unfolding(crate::specs::Boxes::row_text))]
 fn write_row<W: Write>(
-    form: &PictureForm<'_>,
+    form: &PictureForm<'_, '_>,
     look: Look,
     note: &Option<Note>,
     index: usize,
@@ -130,7 +130,7 @@ fn write_row<W: Write>(
 /// Writes the title of a row, its number and its frame.
 #[tactic(auto, unfolding(crate::specs::Boxes::row_front))]
 fn write_row_front<W: Write>(
-    form: &PictureForm<'_>,
+    form: &PictureForm<'_, '_>,
     look: Look,
     index: usize,
     row: &Row,
@@ -148,7 +148,7 @@ fn write_row_front<W: Write>(
 /// Writes what a row shows, and what stands beside it.
 #[tactic(auto, unfolding(crate::specs::Boxes::row_back))]
 fn write_row_back<W: Write>(
-    form: &PictureForm<'_>,
+    form: &PictureForm<'_, '_>,
     look: Look,
     note: &Option<Note>,
     index: usize,

@@ -30,7 +30,7 @@ pub fn theme_or(theme: Option<Theme>) -> Theme
 
 /// How a story is drawn.
 #[derive(Clone, Copy, Drop)]
-pub struct PictureForm<'a> {
+pub struct PictureForm<'a, 'b> {
     /// How many harts there are: each has a lane.
     pub harts: u8,
     /// The names of the program, by which places in memory are shown.
@@ -41,6 +41,6 @@ pub struct PictureForm<'a> {
     /// marked.
     pub is_stuck: bool,
     /// What stands behind the story's text, and below the lanes here; nothing where it is empty.
-    pub foot: &'a [u8],
+    pub foot: &'b [u8],
     pub theme: Theme,
 }

@@ -22,7 +22,7 @@ use svg_drawing::write_end;
 /// there are `MOST_ROWS` at the most. Errors: those of `out`.
 pub fn write_story_picture<W: Write>(
     rows: &[Row],
-    form: &PictureForm<'_>,
+    form: &PictureForm<'_, '_>,
     out: &mut W,
 ) -> io::Result<()>
     requires { length rows.now ≤ most_rows }
@@ -35,7 +35,7 @@ pub fn write_story_picture<W: Write>(
 
 /// Writes what stands over the lanes.
 #[tactic(auto, unfolding(crate::specs::Picture::picture_head))]
-fn write_head<W: Write>(rows: &[Row], form: &PictureForm<'_>, out: &mut W) -> io::Result<()>
+fn write_head<W: Write>(rows: &[Row], form: &PictureForm<'_, '_>, out: &mut W) -> io::Result<()>
     requires { length rows.now ≤ most_rows }
     ensures { OnOk result (Appends (W.contents out.old) (W.contents out.new)
         (picture_head (plan_of form.now) rows.now)) }
@@ -46,7 +46,7 @@ fn write_head<W: Write>(rows: &[Row], form: &PictureForm<'_>, out: &mut W) -> io
 }
 
 /// The height of the page, of so many rows.
-fn page_height(form: &PictureForm<'_>, rows: usize) -> u32
+fn page_height(form: &PictureForm<'_, '_>, rows: usize) -> u32
     requires { rows ≤ most_rows }
     ensures { result ≡ page_height (plan_of form.now) rows }
 {
@@ -55,7 +55,7 @@ fn page_height(form: &PictureForm<'_>, rows: usize) -> u32
 
 /// Writes the lanes and what is in them, the foot, and the end.
 #[tactic(auto, unfolding(crate::specs::Picture::picture_body))]
-fn write_body<W: Write>(rows: &[Row], form: &PictureForm<'_>, out: &mut W) -> io::Result<()>
+fn write_body<W: Write>(rows: &[Row], form: &PictureForm<'_, '_>, out: &mut W) -> io::Result<()>
     requires { length rows.now ≤ most_rows }
     ensures { OnOk result (Appends (W.contents out.old) (W.contents out.new)
         (picture_body (plan_of form.now) rows.now)) }
