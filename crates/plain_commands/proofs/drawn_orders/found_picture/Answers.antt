@@ -7,8 +7,8 @@ use Rattle.plain_commands.specs.DrawnOrders.{IsPictureOf, picture_plan}
 use Rattle.plain_commands.proofs.OfDrawnOrders.{closing_refusal}
 use Rattle.plain_commands.proofs.drawn_orders.found_picture.Goals as goal
 
-pub returns-in-Ok-clause-text : goal.returns-in-Ok-clause-text
-returns-in-Ok-clause-text c =
+pub returns-clause-text : goal.returns-clause-text
+returns-clause-text c =
     let setup = setup_of c.args.image.now c.args.settings.now.config in
     let drawn = rw c.picture_form-drawn.ensures at c.picture_of.ensures.drawn in
     IfOk-weaker c.picture_of.result _ _
