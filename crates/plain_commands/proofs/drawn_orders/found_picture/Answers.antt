@@ -1,4 +1,4 @@
-use Rattle.std.proofs.Common.{refl, subst}
+use Rattle.std.proofs.Common.{refl, subst, ◌∙◌}
 use Rattle.std.proofs.lemmas.Result.{IfOk-weaker}
 use Rattle.core_state.specs.Setup.{setup_of}
 use Rattle.story_text.specs.Text.{plan_of}
@@ -13,7 +13,7 @@ returns-clause-text c =
     let drawn = rw c.picture_form-drawn.ensures at c.picture_of.ensures.drawn in
     IfOk-weaker c.picture_of.result _ _
     (λ text has. subst (λ foot. IsPictureOf (picture_plan (plan_of c.args.form.now) foot (theme_or c.args.theme)) setup
-    c.args.order.now text.items) (c.in-Ok.ensures.text setup refl refl) (has setup refl refl)) drawn
+    c.args.order.now text.items) (c.as_slice.ensures.value ∙ c.in-Ok.ensures.text setup refl refl) (has setup refl refl)) drawn
 
 pub returns-in-Err-clause-refused : goal.returns-in-Err-clause-refused
 returns-in-Err-clause-refused c =
