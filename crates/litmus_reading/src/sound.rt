@@ -234,6 +234,8 @@ fn is_straight(instr: Instr) -> bool
             ..
         } => rd < 32 && rs1 < 32 && amount < 32,
         Instr::Register { rd, rs1, rs2, .. } => rd < 32 && rs1 < 32 && rs2 < 32,
+        Instr::MulDiv { rd, rs1, rs2, .. } => rd < 32 && rs1 < 32 && rs2 < 32,
+        Instr::Lui { rd, imm } => rd < 32 && imm % 4096 == 0,
         Instr::Fence => true,
         Instr::LoadReserved { rd, rs1, .. } => rd < 32 && rs1 < 32,
         Instr::StoreConditional { rd, rs1, rs2, .. } => rd < 32 && rs1 < 32 && rs2 < 32,

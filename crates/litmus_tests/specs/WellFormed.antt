@@ -39,7 +39,7 @@ IsObserved threads locations (observed.Location index) = index < locations
 abbrev pub IsStep : ℕ → LitmusStep → Type 0
 IsStep steps (Straight instruction) = IsInstructionInRange instruction × (is_straight instruction ≡ true)
 IsStep steps (Constant register value) = register < 32
-IsStep steps (Branch comparison left right target) = (left < 32) × (right < 32) × (target ≤ steps)
+IsStep steps (Branch op left right target) = (left < 32) × (right < 32) × (target ≤ steps)
 
 abbrev pub IsStart : ℕ → RegisterStart → Type 0
 IsStart locations start = (0 < start.register) × (start.register < 32) × IsValue locations start.value
@@ -54,7 +54,7 @@ pub record IsThread (locations : ℕ) (thread : Thread) : Type 0 where
 abbrev pub step_length : LitmusStep → ℕ
 step_length (Straight instruction) = 1
 step_length (Constant register value) = 2
-step_length (Branch comparison left right target) = 1
+step_length (Branch op left right target) = 1
 
 -- How many words of code a hart has: one before its starts, two for each of them, its steps, and one at its end.
 abbrev pub thread_length : Thread → ℕ
