@@ -11,11 +11,17 @@ TYPES = ("int", "unsigned", "int32_t", "uint32_t")
 KEYWORDS = ("not", "true", "exists", "forall", "locations", "filter", *TYPES)
 ATOMICS = [f"amo{name}.w" for name in ("swap", "add", "and", "or", "xor", "min", "max", "minu", "maxu")]
 ORDERED = [name + order for name in ("lr.w", "sc.w", *ATOMICS) for order in ("", ".aq", ".rl", ".aqrl", ".aq.rl")]
-IMMEDIATES = ("addi", "ori", "andi", "xori", "slli")
-THREE_REGISTERS = ("add", "sub", "xor", "or", "and")
-BRANCHES = ("beq", "bne", "beqz", "bnez")
-MNEMONICS = {"lw", "sw", "li", "mv", "nop", "fence", "fence.tso"}
-MNEMONICS |= {*ORDERED, *IMMEDIATES, *THREE_REGISTERS, *BRANCHES}
+LOADS, STORES = ("lb", "lh", "lw", "lbu", "lhu"), ("sb", "sh", "sw")
+SHIFTS = ("slli", "srli", "srai")
+IMMEDIATES = ("addi", "slti", "sltiu", "xori", "ori", "andi", *SHIFTS)
+THREE_REGISTERS = tuple("add sub sll slt sltu xor srl sra or and mul mulh mulhsu mulhu div divu rem remu".split())
+# What each branch is of its two registers, of the same in turn, of one and 0, and of 0 and one.
+BRANCHES = {name: name for name in ("beq", "bne", "blt", "bge", "bltu", "bgeu")}
+SWAPPED = {"bgt": "blt", "ble": "bge", "bgtu": "bltu", "bleu": "bgeu"}
+WITH_ZERO = {"beqz": "beq", "bnez": "bne", "bltz": "blt", "bgez": "bge"}
+ZERO_WITH = {"bgtz": "blt", "blez": "bge"}
+MNEMONICS = {*LOADS, *STORES, "li", "lui", "mv", "nop", "j", "fence", "fence.tso"}
+MNEMONICS |= {*ORDERED, *IMMEDIATES, *THREE_REGISTERS, *BRANCHES, *SWAPPED, *WITH_ZERO, *ZERO_WITH}
 REGISTERS = {f"x{k}": k for k in range(32)} | {name: k for k, name in enumerate(NAMES)} | {"fp": 8}
 
 SUBSET = "what stands there isn't of the subset"
