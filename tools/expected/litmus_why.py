@@ -217,7 +217,7 @@ def meets(test, registers, candidate):
             if access.location == what and rank > last:
                 number, last = access.writes, rank
         numbers.append(number)
-    return holds(test, test.question.condition, numbers)
+    return holds(test, test.question.filter, numbers) and holds(test, test.question.condition, numbers)
 
 
 def letter(event):

@@ -87,13 +87,15 @@ def kind_of_name(name):
 
 def number_of(at, text):
     """What a word is that begins with a digit."""
-    if re.fullmatch("0x[0-9a-f]{1,8}", text):
-        return int(text, 16)
-    if not re.fullmatch("[0-9]+", text):
+    if re.fullmatch("0[xX][0-9a-fA-F]+", text):
+        number = int(text, 16)
+    elif re.fullmatch("[0-9]+", text):
+        number = int(text)
+    else:
         raise Refused(at, SUBSET)
-    if (text[0] == "0" and text != "0") or int(text) >= 2**32:
+    if number >= 2**32:
         raise Refused(at, TOO_LARGE)
-    return int(text)
+    return number
 
 
 def word_of(text, at, end):
@@ -109,7 +111,7 @@ def words_of(text, at):
     found = []
     at = behind_blanks(text, at)
     while at < len(text):
-        spelled = re.compile(r"[A-Za-z0-9_][A-Za-z0-9_.]*|/\\|\\/|[,:;|=()\[\]{}~-]").match(text, at)
+        spelled = re.compile(r"[A-Za-z0-9_][A-Za-z0-9_.]*|<=>|=>|!=|/\\|\\/|[,:;|=()\[\]{}~-]").match(text, at)
         if not spelled:
             raise Refused(at, SUBSET)
         found.append(word_of(spelled.group(), *spelled.span()))

@@ -50,6 +50,9 @@ pub(crate) fn makes_sense(test: &LitmusTest) -> bool
     if !are_observed(test.observed.as_slice(), harts, locations) {
         return false;
     }
+    if !is_condition(&test.filter, locations, test.observed.as_slice()) {
+        return false;
+    }
     is_condition(&test.condition, locations, test.observed.as_slice())
 }
 
@@ -148,6 +151,18 @@ fn is_condition(condition: &Condition, locations: usize, observed: &[Observed]) 
             is_condition(right, locations, observed)
         }
         Condition::Either(left, right) => {
+            if !is_condition(left, locations, observed) {
+                return false;
+            }
+            is_condition(right, locations, observed)
+        }
+        Condition::Implies(left, right) => {
+            if !is_condition(left, locations, observed) {
+                return false;
+            }
+            is_condition(right, locations, observed)
+        }
+        Condition::Equivalent(left, right) => {
             if !is_condition(left, locations, observed) {
                 return false;
             }
