@@ -461,8 +461,8 @@ static REFUSED: [(&str, &str); 34] = [
         "line 5, column 1: no exists, ~exists or forall",
     ),
     (
-        "RISCV A\n{ }\nP0;\nfilter true\nexists true",
-        "line 4, column 1: what stands there isn't of the subset: filter",
+        "RISCV A\n{ }\nP0;\nfilter true\nfilter true\nexists true",
+        "line 5, column 1: no exists, ~exists or forall",
     ),
     (
         "RISCV A\n{ }\nP0;\nexists (z=1)",
