@@ -18,7 +18,10 @@ pub(crate) struct Ending<'test, 'runs, 'chosen, 'events> {
 impl Ending<'_, '_, '_, '_> {
     /// Whether it is a final state of the test, and its condition holds; none where what isn't chosen yet decides.
     pub fn is_asked_for(&self) -> Option<bool> {
-        both(self.meets(&self.test.filter), self.meets(&self.test.condition))
+        both(
+            self.meets(&self.test.filter),
+            self.meets(&self.test.condition),
+        )
     }
 
     /// Whether a condition holds; none where what isn't chosen yet decides.
