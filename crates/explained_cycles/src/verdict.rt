@@ -4,6 +4,17 @@ use litmus_cycles::{Explanation, Shown};
 use std::io;
 use std::io::Write;
 
+/// The powers of a thousand that 64 bits hold, the greatest first.
+const THOUSANDS: [u64; 7] = [
+    1_000_000_000_000_000_000,
+    1_000_000_000_000_000,
+    1_000_000_000_000,
+    1_000_000_000,
+    1_000_000,
+    1_000,
+    1,
+];
+
 /// Writes how many candidates there are, how many of them fit, and why none of these can come. Where not all were
 /// looked at, nothing is said of all.
 pub(crate) fn write_verdict<W: Write>(explanation: &Explanation, out: &mut W) -> io::Result<()> {
@@ -74,9 +85,15 @@ fn write_total<W: Write>(candidates: u64, out: &mut W) -> io::Result<()> {
 
 /// Writes a number in decimal, with a comma before each three digits.
 fn write_count<W: Write>(count: u64, out: &mut W) -> io::Result<()> {
-    if count < 1000 {
-        return write!(out, "{count}");
+    let mut is_begun = false;
+    for power in THOUSANDS {
+        let group = count / power % 1000;
+        if is_begun {
+            write!(out, ",{:03}", group)?;
+        } else if group > 0 || power == 1 {
+            write!(out, "{group}")?;
+            is_begun = true;
+        }
     }
-    write_count(count / 1000, out)?;
-    write!(out, ",{:03}", count % 1000)
+    Ok(())
 }

@@ -1,14 +1,15 @@
 //! What a search has found.
 
-ghost use Rattle.std.specs.Prelude.{◌≡◌, IfOk};
-ghost use Rattle.litmus_cycles.specs.Explained.{IsShown};
+ghost use Rattle.std.specs.Prelude.{◌≡◌};
+ghost use Rattle.litmus_cycles.specs.declared.explanation.Shown.TheVariants.{Nothing};
+ghost use Rattle.litmus_cycles.specs.Explained.{IsKept, IsShown};
 
-use crate::deciding::Asked;
 use crate::demand::Demand;
 use crate::event::MemoryEvent;
 use crate::explanation::Shown;
 use crate::related::Cost;
 use crate::showing::{Judged, judged};
+use litmus_tests::LitmusTest;
 use std::alloc::{AllocError, Global};
 
 /// How many choices are tried that something may come of.
@@ -36,7 +37,9 @@ pub(crate) struct Findings {
 }
 
 impl Findings {
-    pub fn new(demand: Demand, is_whole: bool) -> Findings {
+    pub fn new(demand: Demand, is_whole: bool) -> Findings
+        ensures { result.shown ≡ Nothing }
+    {
         Findings {
             demand,
             candidates: 0,
@@ -50,13 +53,17 @@ impl Findings {
     }
 
     /// Counts candidates of ways that are chosen, and the choice of these.
-    pub fn count(&mut self, candidates: u64) {
+    pub fn count(&mut self, candidates: u64)
+        ensures { self.new.shown ≡ self.old.shown }
+    {
         self.candidates = self.candidates.saturating_add(candidates);
         self.try_one();
     }
 
     /// Counts a choice; where there are too many, the search is over, and not whole.
-    pub fn try_one(&mut self) {
+    pub fn try_one(&mut self)
+        ensures { self.new.shown ≡ self.old.shown }
+    {
         self.tried = self.tried.saturating_add(1);
         if self.tried >= MOST_TRIED {
             self.is_whole = false;
@@ -68,14 +75,14 @@ impl Findings {
     /// kept, else the first.
     pub fn take(
         &mut self,
-        asked: &Asked<'_, '_, '_>,
+        test: &LitmusTest,
         events: &[MemoryEvent],
         alloc: Global,
-    ) -> Result<(), AllocError> {
-        if !asked.may_meet(events) {
-            return Ok(());
-        }
-        let Some(judged) = judged(asked.test, self.demand, events, self.cost, alloc)? else {
+    ) -> Result<(), AllocError>
+        requires { IsShown test.now self.old.shown }
+        ensures { IsShown test.now self.new.shown }
+    {
+        let Some(judged) = judged(test, self.demand, events, self.cost, alloc)? else {
             return Ok(());
         };
         self.fitting = self.fitting.saturating_add(1);
@@ -83,7 +90,10 @@ impl Findings {
         Ok(())
     }
 
-    fn keep(&mut self, judged: Judged) {
+    /// What is shown from here on is what was, or what this one shows.
+    fn keep(&mut self, judged: Judged)
+        ensures { IsKept judged self.old.shown self.new.shown }
+    {
         match judged {
             Judged::Less(shown, cost) => {
                 self.shown = shown;

@@ -1,6 +1,9 @@
 //! The search through all candidates of a demand: each hart's way, then one open choice after the other. What may not
 //! be decided so is given up with all that would come of it.
 
+ghost use Rattle.std.specs.Prelude.{◌≡◌, IfOk};
+ghost use Rattle.litmus_cycles.specs.Explained.{IsShown};
+
 use crate::deciding::{Asked, take_back};
 use crate::demand::Demand;
 use crate::ending::Ending;
@@ -17,7 +20,9 @@ pub(crate) fn search(
     runs: &AllRuns,
     demand: Demand,
     alloc: Global,
-) -> Result<Findings, AllocError> {
+) -> Result<Findings, AllocError>
+    ensures { IfOk result (λ findings. IsShown test.now findings.shown) }
+{
     let mut findings = Findings::new(demand, runs.is_whole);
     let mut chosen = Vec::new(alloc);
     let harts = runs.harts.as_slice();
@@ -33,7 +38,10 @@ fn choose_ways(
     chosen: &mut Vec<usize>,
     findings: &mut Findings,
     alloc: Global,
-) -> Result<(), AllocError> {
+) -> Result<(), AllocError>
+    requires { IsShown test.now findings.old.shown }
+    ensures { IsShown test.now findings.new.shown }
+{
     let [hart, rest @ ..] = left else {
         return relate(test, runs, chosen.as_slice(), findings, alloc);
     };
@@ -68,7 +76,10 @@ fn relate(
     chosen: &[usize],
     findings: &mut Findings,
     alloc: Global,
-) -> Result<(), AllocError> {
+) -> Result<(), AllocError>
+    requires { IsShown test.now findings.old.shown }
+    ensures { IsShown test.now findings.new.shown }
+{
     let mut events = Vec::new(alloc);
     if !add_events(runs, chosen, &mut events)? {
         findings.is_whole = false;
@@ -82,9 +93,9 @@ fn relate(
     };
     let locations = test.locations.len();
     findings.count(count_candidates(events.as_slice(), locations));
-    if are_possible(&asked, &mut events, findings, alloc)? {
+    if are_possible(&asked, test, &mut events, findings, alloc)? {
         let open = open_choices(events.as_slice(), locations, alloc)?;
-        decide(&asked, open.as_slice(), &mut events, findings, alloc)?;
+        decide(&asked, test, open.as_slice(), &mut events, findings, alloc)?;
     }
     Ok(())
 }
@@ -92,17 +103,21 @@ fn relate(
 /// Whether something may come of each location alone, so that none is gone through for each way of another in vain.
 fn are_possible(
     asked: &Asked<'_, '_, '_>,
+    test: &LitmusTest,
     events: &mut Vec<MemoryEvent>,
     findings: &mut Findings,
     alloc: Global,
-) -> Result<bool, AllocError> {
+) -> Result<bool, AllocError>
+    requires { IsShown test.now findings.old.shown }
+    ensures { IsShown test.now findings.new.shown }
+{
     if !asked.may_meet(events.as_slice()) || !asked.have_writes(events.as_slice()) {
         return Ok(false);
     }
-    for location in 0..asked.test.locations.len() {
+    for location in 0..test.locations.len() {
         let mut open = Vec::new(alloc);
         add_open(events.as_slice(), location, &mut open)?;
-        if !is_possible(asked, open.as_slice(), events, findings) {
+        if !is_possible(asked, test, open.as_slice(), events, findings) {
             return Ok(false);
         }
     }
@@ -112,10 +127,14 @@ fn are_possible(
 /// Whether what is open can be decided in some way that something may come of. All is left as it was.
 fn is_possible(
     asked: &Asked<'_, '_, '_>,
+    test: &LitmusTest,
     open: &[Open],
     events: &mut Vec<MemoryEvent>,
     findings: &mut Findings,
-) -> bool {
+) -> bool
+    requires { IsShown test.now findings.old.shown }
+    ensures { IsShown test.now findings.new.shown }
+{
     let [first, rest @ ..] = open else {
         return true;
     };
@@ -125,7 +144,7 @@ fn is_possible(
         let mut is_one = false;
         if !findings.is_over && asked.decide(*first, choice, events.as_mut_slice()) {
             findings.try_one();
-            is_one = is_possible(asked, rest, events, findings);
+            is_one = is_possible(asked, test, rest, events, findings);
         }
         take_back(*first, choice, events.as_mut_slice());
         if is_one {
@@ -180,16 +199,37 @@ fn add_accesses(
     Ok(())
 }
 
+/// Takes a candidate of which all is decided, where the condition holds at its end.
+fn take(
+    asked: &Asked<'_, '_, '_>,
+    test: &LitmusTest,
+    events: &[MemoryEvent],
+    findings: &mut Findings,
+    alloc: Global,
+) -> Result<(), AllocError>
+    requires { IsShown test.now findings.old.shown }
+    ensures { IsShown test.now findings.new.shown }
+{
+    if asked.may_meet(events) {
+        return findings.take(test, events, alloc);
+    }
+    Ok(())
+}
+
 /// Decides what is open in each way that something may come of, the last event first, and takes what comes of it.
 fn decide(
     asked: &Asked<'_, '_, '_>,
+    test: &LitmusTest,
     open: &[Open],
     events: &mut Vec<MemoryEvent>,
     findings: &mut Findings,
     alloc: Global,
-) -> Result<(), AllocError> {
+) -> Result<(), AllocError>
+    requires { IsShown test.now findings.old.shown }
+    ensures { IsShown test.now findings.new.shown }
+{
     let [first, rest @ ..] = open else {
-        return findings.take(asked, events.as_slice(), alloc);
+        return take(asked, test, events.as_slice(), findings, alloc);
     };
     let last = events.len();
     for turn in 0..=last {
@@ -199,7 +239,7 @@ fn decide(
         }
         if asked.decide(*first, choice, events.as_mut_slice()) {
             findings.try_one();
-            decide(asked, rest, events, findings, alloc)?;
+            decide(asked, test, rest, events, findings, alloc)?;
         }
         take_back(*first, choice, events.as_mut_slice());
     }

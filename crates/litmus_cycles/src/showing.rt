@@ -1,7 +1,7 @@
 //! What is shown of a candidate of which all is decided.
 
 ghost use Rattle.std.specs.Prelude.{◌≡◌, IfOk, IfSome};
-ghost use Rattle.litmus_cycles.specs.Explained.{IsShown, IsJudged};
+ghost use Rattle.litmus_cycles.specs.Explained.{fits, IsJudged};
 
 use crate::checking::{is_broken, is_candidate, is_cycle, is_order, stays_at_one_location};
 use crate::coherence::{is_coherent, is_whole};
@@ -55,8 +55,10 @@ fn is_less(cost: Cost, least: Option<Cost>) -> bool {
     }
 }
 
-/// Whether a candidate is coherent and whole.
-fn fits(test: &LitmusTest, events: &[MemoryEvent]) -> bool {
+/// Whether these events are a candidate that is coherent and whole.
+fn fits(test: &LitmusTest, events: &[MemoryEvent]) -> bool
+    ensures { result ≡ fits test.now events.now }
+{
     is_candidate(test, events) && is_coherent(events) && is_whole(events)
 }
 
@@ -73,7 +75,7 @@ fn cycle(
     if !is_cycle(events, edges.as_slice()) {
         return Ok(None);
     }
-    if is_candidate(test, events) && is_coherent(events) && is_whole(events) {
+    if fits(test, events) {
         let events = events.to_vec(alloc)?;
         return Ok(Some(Judged::Less(Shown::Cycle { events, edges }, cost)));
     }
@@ -92,7 +94,7 @@ fn execution(
     if !is_order(events, order.as_slice()) {
         return Ok(None);
     }
-    if is_candidate(test, events) && is_coherent(events) && is_whole(events) {
+    if fits(test, events) {
         let events = events.to_vec(alloc)?;
         return Ok(Some(Judged::Last(Shown::Execution { events, order })));
     }
