@@ -1,9 +1,7 @@
 //! What may be decided of a candidate, as far as the rest of it is: nothing that is refused here fits, whatever else
 //! is decided.
 
-use crate::coherence::{
-    is_others_write, keeps_order, load_of, parts, reads_older, writes_behind,
-};
+use crate::coherence::{is_others_write, keeps_order, load_of, parts, reads_older, writes_behind};
 use crate::demand::Demand;
 use crate::ending::Ending;
 use crate::event::MemoryEvent;
@@ -98,9 +96,7 @@ impl Asked<'_, '_, '_> {
         let source = events.get(choice).copied();
         let fits = match (event.reads, source) {
             (Some(number), Some(write)) => {
-                choice != index
-                    && write.location == event.location
-                    && write.writes == Some(number)
+                choice != index && write.location == event.location && write.writes == Some(number)
             }
             (Some(number), None) => initial_number(self.test, event.location) == Some(number),
             (None, Some(write)) => is_others_write(&event, &write),

@@ -50,11 +50,7 @@ impl Ways {
         Ways::among(events, true, alloc)
     }
 
-    fn among(
-        events: &[MemoryEvent],
-        stays: bool,
-        alloc: Global,
-    ) -> Result<Ways, AllocError> {
+    fn among(events: &[MemoryEvent], stays: bool, alloc: Global) -> Result<Ways, AllocError> {
         let mut rows = Vec::new(alloc);
         for (from, a) in events.iter().enumerate() {
             for (to, b) in events.iter().enumerate() {
@@ -130,12 +126,7 @@ impl Ways {
 }
 
 /// The edge from one to the other, where one is wanted and is there.
-fn edge_between(
-    events: &[MemoryEvent],
-    from: usize,
-    to: usize,
-    is_wanted: bool,
-) -> Option<Way> {
+fn edge_between(events: &[MemoryEvent], from: usize, to: usize, is_wanted: bool) -> Option<Way> {
     if !is_wanted || !is_related(events, from, to) {
         return None;
     }
