@@ -81,7 +81,8 @@ fn relate(
     ensures { IsShown test.now findings.new.shown }
 {
     let mut events = Vec::new(alloc);
-    if !add_events(runs, chosen, &mut events)? {
+    let locations = test.locations.len();
+    if !add_events(runs, chosen, &mut events)? || !are_at_locations(events.as_slice(), locations) {
         findings.is_whole = false;
         return Ok(());
     }
@@ -91,7 +92,6 @@ fn relate(
         chosen,
         demand: findings.demand,
     };
-    let locations = test.locations.len();
     findings.count(count_candidates(events.as_slice(), locations));
     if are_possible(&asked, test, &mut events, findings, alloc)? {
         let open = open_choices(events.as_slice(), locations, alloc)?;
@@ -214,6 +214,11 @@ fn take(
         return findings.take(test, events, alloc);
     }
     Ok(())
+}
+
+/// Whether all events are of locations that the test has.
+fn are_at_locations(events: &[MemoryEvent], locations: usize) -> bool {
+    events.iter().all(|event| event.location < locations)
 }
 
 /// Decides what is open in each way that something may come of, the last event first, and takes what comes of it.
