@@ -13,12 +13,14 @@ use Rattle.symbols.specs.Tables.{Table}
 use Rattle.watched_outcomes.specs.declared.watch.Watch.{Watch}
 use Rattle.outcome_queries.specs.{declared.watched.Asked.Asked, declared.term.Term.Term}
 use Rattle.outcome_queries.specs.declared.question.Question.{Question}
-use Rattle.outcome_queries.specs.{Watches.registers_in, Watches.words_in, Harts.IsHartThere, Harts.absent_hart}
+use Rattle.outcome_queries.specs.Watches.{registers_in, words_in, registers_asked, memory_asked}
+use Rattle.outcome_queries.specs.Harts.{IsHartThere, absent_hart}
 use Rattle.stress_runs.specs.declared.keeping.Part.{Part}
 use Rattle.stress_runs.specs.declared.tally.Row.{Row}
 use Rattle.stress_runs.specs.{Ends.TallyView, Ends.end_of, Ends.is_new, Ends.next_number, Ends.tally_of}
 use Rattle.stress_runs.specs.{Ends.rows_of, Kept.IsKept}
-use Rattle.stress_runs.specs.{Kept.IsNextKept}
+use Rattle.stress_runs.specs.{Kept.IsNextKept, Table.tally_text}
+use Rattle.text_fields.proofs.Appending.{appends_more}
 use Rattle.command_parts.specs.{Refused.AreAccepted, declared.refused.Refused.Refused}
 use Rattle.command_parts.specs.declared.refused.Refused.TheVariants as reasons
 use Rattle.core_commands.specs.{Account.kept_story, Run.LackARole, Run.IsRunRefusal}
@@ -27,7 +29,7 @@ use Rattle.plain_commands.specs.Questions.{IsConditionRefused, IsQuestionOf, IsT
 use Rattle.core_commands.specs.Watching.{IsAsking, IsAskedOnce, IsAskedRefusal, IsAllThere, IsListRefusal, IsAbsent}
 use Rattle.core_commands.specs.Watching.{LacksRoomFor}
 use Rattle.core_commands.specs.Stress.{StressComesTo, HasTallied, HasRunOnce, AreEndsWritten, IsEndWritten, runs_of}
-use Rattle.core_commands.specs.Stress.{IsStressRefusal, stress_status, stress_text}
+use Rattle.core_commands.specs.Stress.{IsStressRefusal, answer_told, stress_status, stress_text}
 
 module _ {S : Type 0} (begins : S → ℕ → Part → S → Type 0) (written : S → Option (List ℕ)) (has_failed : S → Bool)
     (names : Table) (watch : Watch) where
@@ -58,7 +60,8 @@ module _ {S : Type 0} (begins : S → ℕ → Part → S → Type 0) (written : 
 
   -- The end has come before; ends aren't kept; the end is new, and is kept.
   pub none_written : (keep : Bool) (rows : List Row) (core : CoreView) (s : S) (number : Option ℕ) → number ≡ None
-      → number ≡ next_number (end_of watch core) rows → IsEndWritten begins written has_failed s s keep names watch rows core
+      → number ≡ next_number (end_of watch core) rows
+      → IsEndWritten begins written has_failed s s keep names watch rows core
   none_written true rows core s number none is = old_end rows core s (sym none ∙ is)
   none_written false rows core s number none is = refl
 
@@ -152,15 +155,32 @@ asks_so harts names run question all terms same asks asked there = record {
   there = subst (λ (ts : List Term). All (IsHartThere harts) ts) same there;
 }
 
--- The table of the runs and the answer were printed, and the status goes with that.
+-- The table, and the answer behind it; what is watched is lent.
+module _ (all lent registers words : List Asked) (watch : Watch) (question : Option Question) (runs : ℕ)
+    (tally : TallyView) (old middle new : Option (List ℕ)) where
+  pub told_behind : (answer : Result ℕ Refused) → lent ≡ all → registers ≡ registers_asked lent
+      → words ≡ memory_asked lent → Appends old middle (tally_text registers words runs tally.rows)
+      → OnOk answer (Appends middle new (answer_told watch question tally.rows))
+      → OnOk answer (Appends old new (stress_text all watch question runs tally))
+  told_behind (Err why) same of_registers of_words table answered = tt
+  told_behind (Ok status) same of_registers of_words table answered =
+      appends_more old middle new _ _
+      (subst (λ (list : List Asked). Appends old middle
+      (tally_text (registers_asked list) (memory_asked list) runs tally.rows)) same
+      (rw (of_registers, of_words) at table)) answered
+
+-- The table of the runs and the answer were printed, and the status goes with that. Whether ends are kept is held as it
+-- was found, and what was printed before is as it was lent.
 module _ (settings : Settings) (image : ProgramImage) (names : Table) (run : RunCommand) (times : ℕ)
-    (Kept : Watch → List CoreView → Type 0) (question : Option Question) (all : List Asked) (watch : Watch)
-    (tally : TallyView) (old new : Option (List ℕ)) (runs : ℕ)
+    (Kept : Bool → Watch → List CoreView → Type 0) (question : Option Question) (all : List Asked) (watch : Watch)
+    (tally : TallyView) (lent old new : Option (List ℕ)) (runs : ℕ) (held keep : Bool)
     (asking : IsAsking settings.config.harts names run question all) (watches : IsWatchOf watch all)
     (there : IsAllThere image settings.config.harts watch)
-    (done : HasTallied settings image watch (Kept watch) runs tally) (same : runs ≡ runs_of times) where
+    (done : HasTallied settings image watch (Kept held watch) runs tally) (same : runs ≡ runs_of times)
+    (same_keep : held ≡ keep) (unprinted : lent ≡ old) where
   told_so : (status : ℕ) → Appends old new (stress_text all watch question runs tally)
-      → status ≡ stress_status watch question tally → StressComesTo settings image names run times Kept old new status
+      → status ≡ stress_status watch question tally
+      → StressComesTo settings image names run times (Kept keep) old new status
   told_so status printed is = record {
     accepted = done.accepted;
     manned = done.manned;
@@ -173,15 +193,17 @@ module _ (settings : Settings) (image : ProgramImage) (names : Table) (run : Run
     cores = done.cores;
     many = done.many ∙ same;
     are = done.are;
-    kept = done.kept;
+    kept = subst (λ (k : Bool). Kept k watch done.cores) same_keep done.kept;
     printed = rw (same, done.tallied) at printed;
     stands = is ∙ ap (λ (u : TallyView). stress_status watch question u) done.tallied;
   }
 
-  pub stress_ended : (answer : Result ℕ Refused) → OnOk answer (Appends old new (stress_text all watch question runs tally))
+  pub stress_ended : (answer : Result ℕ Refused)
+      → OnOk answer (Appends lent new (stress_text all watch question runs tally))
       → IfOk answer (λ status. status ≡ stress_status watch question tally)
-      → IfOk answer (StressComesTo settings image names run times Kept old new)
-  stress_ended (Ok status) printed is = told_so status printed is
+      → IfOk answer (StressComesTo settings image names run times (Kept keep) old new)
+  stress_ended (Ok status) printed is = told_so status
+      (subst (λ (o : Option (List ℕ)). Appends o new (stress_text all watch question runs tally)) unprinted printed) is
   stress_ended (Err why) printed is = tt
 
 -- ---- The refusals
@@ -238,7 +260,8 @@ module _ (harts : ℕ) (names : Table) (run : RunCommand) where
   by_text (Some texts.NeverStuck) same why is = absurd is
   by_text None same why is = absurd is
 
-  pub condition_refused : (why : Refused) → IsConditionRefused names run.question why → IsAskedRefusal harts names run why
+  pub condition_refused : (why : Refused) → IsConditionRefused names run.question why
+      → IsAskedRefusal harts names run why
   condition_refused why is = by_text run.question refl why is
 
   module _ (question : Option Question) (terms : List Term) (same : terms ≡ terms_asked question)
