@@ -19,7 +19,7 @@ ghost use Rattle.symbols.specs.Tables.{table_of};
 ghost use Rattle.address_labels.specs.Labels.{marks_where};
 
 use crate::labelling::labels_where;
-use crate::naming::names_where;
+use crate::naming::{names_where, step_wants_names};
 use crate::performing::refuse_line;
 use crate::settings::settings_with;
 use command_parts::{Context, Inputs, Refused, image_of, lines_where, settings_of};
@@ -93,7 +93,8 @@ fn read_and_prompt<R, G, P: Predict + Copy, B: BufRead, S: EndFiles, W: Write>(
     let settings = settings_with(own, harts);
     let file = inputs.program?;
     let image = image_of(file, ram, context.alloc)?;
-    let names = names_where(step.names || step.story, file, context.alloc)?;
+    let wants_names = step_wants_names(step);
+    let names = names_where(wants_names, file, context.alloc)?;
     let wants_lines = step.lines.is_some();
     let lines = match lines_where(wants_lines, inputs.lines, &image, context.alloc) {
         Ok(lines) => lines,
