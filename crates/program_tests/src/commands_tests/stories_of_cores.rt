@@ -3,10 +3,8 @@
 
 use super::{ENDING, SINGLE, TWO};
 use crate::lines::{check_story_line, step_story_line};
-use crate::performing::{Ending, inputs_of, perform_line};
+use crate::performing::{Performed, inputs_of, perform_whole};
 use crate::rows::{holds, text_of};
-use actors::StaticPredictor;
-use sim_inputs::Line;
 use std::alloc::Global;
 use std::sync::Wait;
 use std::thread::Threads;
@@ -46,30 +44,40 @@ T 0 1 0000005d p80000008 - - -
 T 0 2 - e00000005 - - -
 ";
 
-/// Whether a line prints this text somewhere, and nothing to standard error.
-fn prints<R: Threads + Wait + Sync>(
+/// What a script prints with its story.
+fn script_told<R: Threads + Wait + Sync>(
     rt: &R,
-    line: &Line<'_>,
-    config: &[u8],
     words: &[u32],
-    second: &str,
-    text: &str,
+    script: &str,
     alloc: Global,
-) -> bool {
-    let Ok(file) = file_of(words, 0, alloc) else {
-        return false;
+) -> Option<Performed> {
+    let Ok(image) = file_of(words, 0, alloc) else {
+        return None;
     };
-    let inputs = inputs_of(config, &file, Ok(second.as_bytes()));
-    let mut out = Vec::new(alloc);
-    let Ending { status: _, err } = perform_line(
-        rt,
-        line,
-        &inputs,
-        StaticPredictor,
-        &mut out,
-        alloc,
-    );
-    err.is_empty() && text_of(&out).contains(text)
+    let inputs = inputs_of(TWO, &image, Ok(script.as_bytes()));
+    Some(perform_whole(rt, &step_story_line(), &inputs, alloc))
+}
+
+/// What the check of a trace prints with its story.
+fn trace_told<R: Threads + Wait + Sync>(
+    rt: &R,
+    words: &[u32],
+    trace: &str,
+    alloc: Global,
+) -> Option<Performed> {
+    let Ok(image) = file_of(words, 0, alloc) else {
+        return None;
+    };
+    let inputs = inputs_of(SINGLE, &image, Ok(trace.as_bytes()));
+    Some(perform_whole(rt, &check_story_line(), &inputs, alloc))
+}
+
+/// Whether this was printed somewhere, and nothing to standard error.
+fn has_printed(performed: &Option<Performed>, text: &str) -> bool {
+    match performed {
+        Some(performed) => performed.err.is_empty() && text_of(&performed.out).contains(text),
+        None => false,
+    }
 }
 
 #[test]
@@ -82,10 +90,8 @@ fn a_script_tells_the_number_that_its_load_retired_with(rt: HostRuntime) {
      (1 step)
 events 67
 ";
-    let line = step_story_line();
-    let alloc = rt.alloc();
-    let is = prints(&rt, &line, TWO, OVERTAKEN, BEHIND_THE_STORE, text, alloc);
-    holds(&rt, "a load that is overtaken", is);
+    let told = script_told(&rt, OVERTAKEN, BEHIND_THE_STORE, rt.alloc());
+    holds(&rt, "a load that is overtaken", has_printed(&told, text));
 }
 
 #[test]
@@ -96,7 +102,6 @@ fn a_trace_tells_its_story_before_its_records(rt: HostRuntime) {
 3    ended 5
 0 80000000 00500513 00000005 p80000004 - - -
 ";
-    let line = check_story_line();
-    let is = prints(&rt, &line, SINGLE, ENDING, TRACE, text, rt.alloc());
-    holds(&rt, "the first program", is);
+    let told = trace_told(&rt, ENDING, TRACE, rt.alloc());
+    holds(&rt, "the first program", has_printed(&told, text));
 }
